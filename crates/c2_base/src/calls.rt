@@ -1,0 +1,89 @@
+// Calls over any source or sink.
+ghost use Rattle.std.specs.Prelude.{◌≡◌, ◌+◌, ◌<◌, ◌≤◌, length, OnOk, OnErr, IfOk, IfErr};
+ghost use Rattle.std.specs.Option.{ForSome};
+ghost use Rattle.c2_base.specs.Causes.{HasCause, Rose};
+ghost use Rattle.c2_base.specs.Source.{StaysSource, FilledAt};
+ghost use Rattle.c2_base.specs.declared.calls.ReadAllError.TheVariants.{ReadFault, NoMemory};
+ghost use Rattle.c2_base.specs.ReadAll.{HasReason};
+ghost use Rattle.c2_base.specs.Sink.{then_written, spare_less, OkWithinSpare, HasWrittenFront};
+
+use crate::{Blob, Failed, Sink, Source};
+use std::alloc::{AllocError, Global};
+use thiserror::Error;
+
+/// Fills `buf` with the bytes from `pos` on.
+pub fn fill_at<S: Source>(source: &mut S, pos: u64, buf: &mut [u8]) -> Result<(), Failed>
+    requires { pos + length buf.old ≤ S.len source.old }
+    ensures stays { StaysSource S.len S.told S.faults source.old source.new }
+    ensures cause { HasCause (S.faults source.old) (S.faults source.new) result }
+    ensures filled { OnOk result (FilledAt (S.told source.old) pos buf.new) }
+{
+    let mut done = 0;
+    'reads: while done < buf.len() {
+        let count = source.read_at(pos + done as u64, &mut buf[done..])?;
+        done += count;
+    }
+    Ok(())
+}
+
+/// Appends all of `bytes`.
+pub fn write_all<K: Sink>(sink: &mut K, bytes: &[u8]) -> Result<(), Failed>
+    ensures written { OnOk result (K.written sink.new ≡ then_written (K.written sink.old) bytes.now) }
+    ensures front { HasWrittenFront (K.written sink.old) (K.written sink.new) bytes.now }
+    ensures unfinished { K.finished sink.new ≡ K.finished sink.old }
+    ensures cause { HasCause (K.faults sink.old) (K.faults sink.new) result }
+    ensures within { OkWithinSpare (K.spare sink.old) (length bytes.now) result }
+    ensures spare { OnOk result (K.spare sink.new ≡ spare_less (K.spare sink.old) (length bytes.now)) }
+{
+    let mut done = 0;
+    'writes: while done < bytes.len() {
+        let count = sink.append(&bytes[done..])?;
+        done += count;
+    }
+    Ok(())
+}
+
+/// Why `read_all` gave no bytes.
+#[derive(Clone, Copy, Debug, PartialEq, Eq, Error)]
+pub enum ReadAllError {
+    #[error("the source has {0} bytes, which are too many")]
+    TooLong(u64),
+    #[error("the source failed")]
+    ReadFault,
+    #[error("memory ran out")]
+    NoMemory,
+}
+
+impl From<Failed> for ReadAllError {
+    ghost from_gives = { λ _ e. e ≡ ReadFault };
+
+    fn from(_error: Failed) -> ReadAllError {
+        ReadAllError::ReadFault
+    }
+}
+
+impl From<AllocError> for ReadAllError {
+    ghost from_gives = { λ _ e. e ≡ NoMemory };
+
+    fn from(_error: AllocError) -> ReadAllError {
+        ReadAllError::NoMemory
+    }
+}
+
+/// All bytes of the source, where these are at most `most`.
+pub fn read_all<S: Source>(alloc: Global, source: &mut S, most: u64) -> Result<Blob, ReadAllError>
+    ensures bytes { IfOk result (λ blob. ForSome (S.told source.old) (λ bytes. blob ≡ bytes)) }
+    ensures len { IfOk result (λ blob. length blob ≡ S.len source.old) }
+    ensures fits { OnOk result (S.len source.old ≤ most) }
+    ensures stays { StaysSource S.len S.told S.faults source.old source.new }
+    ensures count { OnOk result (S.faults source.new ≡ S.faults source.old) }
+    ensures reason { IfErr result (HasReason (S.len source.old) most (S.faults source.old) (S.faults source.new)) }
+{
+    let size = source.size()?;
+    if size > most {
+        return Err(ReadAllError::TooLong(size));
+    }
+    let mut bytes = vec![in alloc; 0; size as usize]?;
+    fill_at(source, 0, &mut bytes)?;
+    Ok(Blob::from_vec(bytes))
+}

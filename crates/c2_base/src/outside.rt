@@ -1,0 +1,90 @@
+// What the library knows of the outside.
+ghost use Rattle.std.specs.Prelude.{◌≡◌, ℕ, ◌+◌, ◌-◌, ◌*◌, ◌^◌, ◌<◌, ◌≤◌, Bool, true, List, length, IfOk, OnOk, OnErr, MatchResult};
+ghost use Rattle.std.specs.declared.option.Option.{Option};
+ghost use Rattle.std.specs.Option.{ForSome};
+ghost use Rattle.c2_base.specs.Causes.{HasCause};
+ghost use Rattle.c2_base.specs.Source.{StaysSource, IsReadCount, ReadsAt};
+ghost use Rattle.c2_base.specs.Sink.{taken, then_written, spare_less, OkWithinSpare, IsAppendCount};
+
+use std::alloc::{AllocError, AllocFailed};
+
+/// A source or a sink failed. Its count of faults rose then.
+#[derive(Clone, Copy, Debug, PartialEq, Eq)]
+pub struct Failed;
+
+/// Memory ran out.
+#[derive(Clone, Copy, Debug, PartialEq, Eq)]
+pub struct NoMemory;
+
+impl From<AllocError> for NoMemory {
+    fn from(_error: AllocError) -> NoMemory {
+        NoMemory
+    }
+}
+
+impl<T: Drop> From<AllocFailed<T>> for NoMemory {
+    fn from(_error: AllocFailed<T>) -> NoMemory {
+        NoMemory
+    }
+}
+
+/// Bytes at places, which may fail to come.
+pub trait Source {
+    // the number of bytes
+    ghost len: { Self → ℕ };
+
+    // the bytes, where the source tells them
+    ghost told: { Self → Option (List ℕ) };
+
+    // how often it has failed
+    ghost faults: { Self → ℕ };
+
+    /// The length in bytes.
+    fn size(&mut self) -> Result<u64, Failed>
+        ensures stays { StaysSource len told faults self.old self.new }
+        ensures cause { HasCause (faults self.old) (faults self.new) result }
+        ensures length { IfOk result (λ n. n ≡ len self.old) };
+
+    /// Puts bytes from `pos` on at the front of `buf`, and says how many.
+    fn read_at(&mut self, pos: u64, buf: &mut [u8]) -> Result<usize, Failed>
+        ensures stays { StaysSource len told faults self.old self.new }
+        ensures cause { HasCause (faults self.old) (faults self.new) result }
+        ensures count { IfOk result (IsReadCount (len self.old) pos (length buf.old)) }
+        ensures bytes { IfOk result (λ n. ReadsAt (told self.old) pos n buf.old buf.new) };
+
+    ghost told_len: { (s : Self) → ForSome (told s) (λ bytes. length bytes ≡ len s) };
+
+    ghost fits: { (s : Self) → len s < 2 ^ 64 };
+}
+
+/// Takes bytes in order, and may fail to.
+pub trait Sink {
+    // what was written, where the sink tells it
+    ghost written: { Self → Option (List ℕ) };
+
+    ghost finished: { Self → Bool };
+
+    // how often it has failed
+    ghost faults: { Self → ℕ };
+
+    // how many bytes it surely takes, where it states that
+    ghost spare: { Self → Option ℕ };
+
+    /// Takes bytes from the front of `bytes`, and says how many.
+    fn append(&mut self, bytes: &[u8]) -> Result<usize, Failed>
+        ensures count { IfOk result (IsAppendCount (length bytes.now)) }
+        ensures written { written self.new ≡ then_written (written self.old) (taken result bytes.now) }
+        ensures unfinished { finished self.new ≡ finished self.old }
+        ensures cause { HasCause (faults self.old) (faults self.new) result }
+        ensures within { OkWithinSpare (spare self.old) (length bytes.now) result }
+        ensures spare { spare self.new ≡ spare_less (spare self.old) (length (taken result bytes.now)) };
+
+    /// Says that nothing follows.
+    fn finish(&mut self) -> Result<(), Failed>
+        ensures written { written self.new ≡ written self.old }
+        ensures finished { OnOk result (finished self.new ≡ true) }
+        ensures unfinished { OnErr result (finished self.new ≡ finished self.old) }
+        ensures cause { HasCause (faults self.old) (faults self.new) result }
+        ensures within { OkWithinSpare (spare self.old) 0 result }
+        ensures spare { spare self.new ≡ spare self.old };
+}
