@@ -1,7 +1,7 @@
 pub mod Causes
 pub mod Source
 pub mod Sink
+pub mod Scripts
+pub mod Host
 pub mod ReadAll
-pub mod MemSink
 pub mod Media
-pub mod Sources

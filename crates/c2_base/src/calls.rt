@@ -5,13 +5,13 @@ ghost use Rattle.c2_base.specs.Causes.{HasCause, Rose};
 ghost use Rattle.c2_base.specs.Source.{StaysSource, FilledAt};
 ghost use Rattle.c2_base.specs.declared.calls.ReadAllError.TheVariants.{ReadFault, NoMemory};
 ghost use Rattle.c2_base.specs.ReadAll.{HasReason};
-ghost use Rattle.c2_base.specs.Sink.{then_written, spare_less, OkWithinSpare, HasWrittenFront};
+ghost use Rattle.c2_base.specs.Sink.{then_written, spare_less, OkWithinSpare, Takes};
 
 use crate::{Blob, Failed, Sink, Source};
 use std::alloc::{AllocError, Global};
 use thiserror::Error;
 
-/// Fills `buf` with the bytes from `pos` on.
+/// Fills `buf` with the bytes from `pos` on. Takes no memory. After `Failed` the buffer may hold some of them.
 pub fn fill_at<S: Source>(source: &mut S, pos: u64, buf: &mut [u8]) -> Result<(), Failed>
     requires { pos + length buf.old ≤ S.len source.old }
     ensures stays { StaysSource S.len S.told S.faults source.old source.new }
@@ -26,14 +26,14 @@ pub fn fill_at<S: Source>(source: &mut S, pos: u64, buf: &mut [u8]) -> Result<()
     Ok(())
 }
 
-/// Appends all of `bytes`.
+/// Appends all of `bytes`. Takes no memory. After `Failed` a front of them was appended.
 pub fn write_all<K: Sink>(sink: &mut K, bytes: &[u8]) -> Result<(), Failed>
     ensures written { OnOk result (K.written sink.new ≡ then_written (K.written sink.old) bytes.now) }
-    ensures front { HasWrittenFront (K.written sink.old) (K.written sink.new) bytes.now }
+    ensures spare { OnOk result (K.spare sink.new ≡ spare_less (K.spare sink.old) (length bytes.now)) }
+    ensures front { Takes bytes.now (K.written sink.old) (K.written sink.new) (K.spare sink.old) (K.spare sink.new) }
     ensures unfinished { K.finished sink.new ≡ K.finished sink.old }
     ensures cause { HasCause (K.faults sink.old) (K.faults sink.new) result }
     ensures within { OkWithinSpare (K.spare sink.old) (length bytes.now) result }
-    ensures spare { OnOk result (K.spare sink.new ≡ spare_less (K.spare sink.old) (length bytes.now)) }
 {
     let mut done = 0;
     'writes: while done < bytes.len() {
@@ -46,10 +46,15 @@ pub fn write_all<K: Sink>(sink: &mut K, bytes: &[u8]) -> Result<(), Failed>
 /// Why `read_all` gave no bytes.
 #[derive(Clone, Copy, Debug, PartialEq, Eq, Error)]
 pub enum ReadAllError {
+    /// The source has this many bytes, more than were asked for.
     #[error("the source has {0} bytes, which are too many")]
     TooLong(u64),
+
+    /// The source failed.
     #[error("the source failed")]
     ReadFault,
+
+    /// Memory ran out.
     #[error("memory ran out")]
     NoMemory,
 }
@@ -70,7 +75,7 @@ impl From<AllocError> for ReadAllError {
     }
 }
 
-/// All bytes of the source, where these are at most `most`.
+/// All bytes of the source, where these are at most `most`; `TooLong` exactly where they are more.
 pub fn read_all<S: Source>(alloc: Global, source: &mut S, most: u64) -> Result<Blob, ReadAllError>
     ensures bytes { IfOk result (λ blob. ForSome (S.told source.old) (λ bytes. blob ≡ bytes)) }
     ensures len { IfOk result (λ blob. length blob ≡ S.len source.old) }

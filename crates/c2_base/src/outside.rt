@@ -1,5 +1,5 @@
 // What the library knows of the outside.
-ghost use Rattle.std.specs.Prelude.{◌≡◌, ℕ, ◌+◌, ◌-◌, ◌*◌, ◌^◌, ◌<◌, ◌≤◌, Bool, true, List, length, IfOk, OnOk, OnErr, MatchResult};
+ghost use Rattle.std.specs.Prelude.{◌≡◌, ℕ, ◌-◌, ◌^◌, ◌<◌, ◌≤◌, Bool, true, List, All, length, IfOk, OnOk, OnErr};
 ghost use Rattle.std.specs.declared.option.Option.{Option};
 ghost use Rattle.std.specs.Option.{ForSome};
 ghost use Rattle.c2_base.specs.Causes.{HasCause};
@@ -8,7 +8,7 @@ ghost use Rattle.c2_base.specs.Sink.{taken, then_written, spare_less, OkWithinSp
 
 use std::alloc::{AllocError, AllocFailed};
 
-/// A source or a sink failed. Its count of faults rose then.
+/// A source or a sink failed. Its count of faults rose then, or stands at its counter's last value.
 #[derive(Clone, Copy, Debug, PartialEq, Eq)]
 pub struct Failed;
 
@@ -29,6 +29,8 @@ impl<T: Drop> From<AllocFailed<T>> for NoMemory {
 }
 
 /// Bytes at places, which may fail to come.
+///
+/// Its length never changes, and neither do its bytes, where it tells them. Its count of faults never falls.
 pub trait Source {
     // the number of bytes
     ghost len: { Self → ℕ };
@@ -45,7 +47,8 @@ pub trait Source {
         ensures cause { HasCause (faults self.old) (faults self.new) result }
         ensures length { IfOk result (λ n. n ≡ len self.old) };
 
-    /// Puts bytes from `pos` on at the front of `buf`, and says how many.
+    /// Puts bytes from `pos` on at the front of `buf`, and says how many: 0 only where `pos` isn't below the length, or
+    /// `buf` is empty. Where the bytes are told, the rest of `buf` stays as it was.
     fn read_at(&mut self, pos: u64, buf: &mut [u8]) -> Result<usize, Failed>
         ensures stays { StaysSource len told faults self.old self.new }
         ensures cause { HasCause (faults self.old) (faults self.new) result }
@@ -54,10 +57,12 @@ pub trait Source {
 
     ghost told_len: { (s : Self) → ForSome (told s) (λ bytes. length bytes ≡ len s) };
 
+    ghost told_bytes: { (s : Self) → ForSome (told s) (All (λ b. b < 2 ^ 8)) };
+
     ghost fits: { (s : Self) → len s < 2 ^ 64 };
 }
 
-/// Takes bytes in order, and may fail to.
+/// Takes bytes in order, and may fail to. Its count of faults never falls.
 pub trait Sink {
     // what was written, where the sink tells it
     ghost written: { Self → Option (List ℕ) };
@@ -70,7 +75,7 @@ pub trait Sink {
     // how many bytes it surely takes, where it states that
     ghost spare: { Self → Option ℕ };
 
-    /// Takes bytes from the front of `bytes`, and says how many.
+    /// Takes bytes from the front of `bytes`, and says how many: 0 only of an empty piece. `Failed` has taken none.
     fn append(&mut self, bytes: &[u8]) -> Result<usize, Failed>
         ensures count { IfOk result (IsAppendCount (length bytes.now)) }
         ensures written { written self.new ≡ then_written (written self.old) (taken result bytes.now) }
