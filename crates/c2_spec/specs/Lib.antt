@@ -1,0 +1,4 @@
+pub mod Digest
+pub mod Jpeg
+pub mod Located
+pub mod Reason

@@ -1,2 +1,13 @@
 //! What c2 promises: the definitions of the formats and of the rules, apart from the code that is proved to meet them.
+//!
+//! The definitions stand in `specs/`, one module for each format. Here are the plain types that they answer; the crates
+//! that make these answers hand the types on under their own names.
 #![tactic(auto)]
+
+mod digest;
+mod panel;
+mod reason;
+
+pub use digest::Alg;
+pub use panel::Verdict;
+pub use reason::Reason;

@@ -1,0 +1,7 @@
+pub mod Open
+pub mod Outcome
+pub mod Reply
+pub mod Run
+pub mod Status
+pub mod Texts
+pub mod Words

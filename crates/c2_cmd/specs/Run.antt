@@ -1,0 +1,51 @@
+-- What `run` promises by its status: what its report holds, what its faults come from, and what it leaves as it was.
+use Rattle.std.specs.Prelude.{◌≡◌, ℕ, Bool, true, List, IsSome, ⊤}
+use Rattle.std.specs.declared.option.Option.{Option}
+use Rattle.c2_base.specs.Causes.{Rose}
+use Rattle.c2_base.specs.Sink.{then_written, HasWrittenFront}
+use Rattle.c2_cmd.specs.Outcome.{Outcome, uses_media}
+use Rattle.c2_cmd.specs.declared.reply.Answer.{Answer}
+use Rattle.c2_cmd.specs.declared.reply.Answer.TheVariants as answer
+use Rattle.c2_cmd.specs.declared.types.Roles.{Roles}
+use Rattle.c2_cmd.specs.declared.types.Status.{Status}
+use Rattle.c2_cmd.specs.declared.types.Status.TheVariants.{Done, Refused, NoStore, Usage, InputFault, OutputFault, NoMemory}
+
+-- the status of an answer
+abbrev pub status_of : Answer → Status
+status_of answer.Done = Done
+status_of answer.Refused = Refused
+status_of answer.NoStore = NoStore
+status_of answer.Usage = Usage
+
+-- the sources that the command uses tell their bytes
+pub record Tells (roles : Option Roles) (media : Option (List ℕ)) : Type 0 where
+  pub media_told : uses_media roles ≡ true → IsSome media
+
+-- a sink took all of a text and is finished
+pub record Delivers (text : List ℕ) (old new : Option (List ℕ)) (finished : Bool) : Type 0 where
+  pub written : new ≡ then_written old text
+  pub is_finished : finished ≡ true
+
+-- a sink took a front of a text and wasn't finished
+pub record Leaves (text : List ℕ) (old new : Option (List ℕ)) (was finished : Bool) : Type 0 where
+  pub front : HasWrittenFront old new text
+  pub same : finished ≡ was
+
+-- the report after a run with this outcome and this status: all of the outcome's report, or after a fault or want of
+-- memory a front of it
+abbrev pub HasReport : Outcome → Option (List ℕ) → Option (List ℕ) → Bool → Bool → Status → Type 0
+HasReport expected old new was finished InputFault = Leaves expected.report old new was finished
+HasReport expected old new was finished OutputFault = Leaves expected.report old new was finished
+HasReport expected old new was finished NoMemory = Leaves expected.report old new was finished
+HasReport expected old new was finished status = (status ≡ status_of expected.answer) × Delivers expected.report old new finished
+
+-- an object that the command uses failed in this call
+abbrev pub HasFailed : Bool → ℕ → ℕ → Type 0
+HasFailed used before now = (used ≡ true) × Rose before now
+
+-- this holds after every answer but a fault and want of memory
+abbrev pub WithoutFault : Type 0 → Status → Type 0
+WithoutFault claim InputFault = ⊤
+WithoutFault claim OutputFault = ⊤
+WithoutFault claim NoMemory = ⊤
+WithoutFault claim status = claim

@@ -1,0 +1,36 @@
+// Replies: what a run without a fault comes to, before it is written.
+ghost use Rattle.std.specs.Prelude.{◌≡◌};
+ghost use Rattle.c2_cmd.specs.declared.reply.Fault.TheVariants.{Memory};
+
+use std::alloc::AllocError;
+
+/// What a run without a fault came to.
+#[derive(Clone, Copy, Debug, PartialEq, Eq)]
+pub enum Answer {
+    Done,
+    Refused,
+    NoStore,
+    Usage,
+}
+
+/// Why a run has no reply.
+#[derive(Clone, Copy, Debug, PartialEq, Eq)]
+pub enum Fault {
+    Input,
+    Memory,
+}
+
+/// An answer and its report.
+#[derive(Drop)]
+pub struct Reply {
+    pub answer: Answer,
+    pub text: String,
+}
+
+impl From<AllocError> for Fault {
+    ghost from_gives = { λ _ e. e ≡ Memory };
+
+    fn from(_error: AllocError) -> Fault {
+        Fault::Memory
+    }
+}

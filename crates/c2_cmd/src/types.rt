@@ -1,0 +1,80 @@
+// The types of this crate.
+
+/// A command.
+#[derive(Clone, Copy, Debug, PartialEq, Eq)]
+pub enum Command {
+    /// The embedded range, and the digest of all bytes outside it.
+    Digest,
+}
+
+/// Which word is which: the index of each name among the words.
+#[derive(Clone, Copy, Debug, PartialEq, Eq)]
+pub struct Roles {
+    /// The command.
+    pub command: Command,
+
+    /// The media file.
+    pub media: Option<usize>,
+
+    /// The second file that is read.
+    pub second: Option<usize>,
+
+    /// The third file that is read.
+    pub third: Option<usize>,
+
+    /// The file that is written.
+    pub out: Option<usize>,
+
+    /// Where names of judges begin: the number of words where there is none.
+    pub judges: usize,
+
+    /// A number.
+    pub count: Option<u32>,
+}
+
+/// Why words have no roles.
+#[derive(Clone, Copy, Debug, PartialEq, Eq)]
+pub enum RolesError {
+    /// The words don't fit any command.
+    Usage,
+
+    /// Memory ran out.
+    NoMemory,
+}
+
+/// How a run ended.
+#[derive(Clone, Copy, Debug, PartialEq, Eq)]
+pub enum Status {
+    /// Done.
+    Done = 0,
+
+    /// The container is refused.
+    Refused = 2,
+
+    /// The file has no store.
+    NoStore = 3,
+
+    /// The words don't fit.
+    Usage = 4,
+
+    /// A source that the command uses failed.
+    InputFault = 5,
+
+    /// The report failed.
+    OutputFault = 6,
+
+    /// Memory ran out.
+    NoMemory = 8,
+}
+
+impl Status {
+    ghost use Rattle.std.specs.Prelude.{◌≡◌};
+    ghost use Rattle.c2_cmd.specs.Status.{exit_status};
+
+    /// The exit status.
+    pub fn code(self) -> u8
+        ensures { result ≡ exit_status self }
+    {
+        self as u8
+    }
+}

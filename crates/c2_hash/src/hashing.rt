@@ -1,0 +1,100 @@
+// Hash functions.
+ghost use Rattle.std.specs.Prelude.{◌≡◌, ℕ, List, [], ◌++◌};
+
+use crate::{Alg, Digest};
+use sha2::{Digest as _, Sha256};
+
+/// A family of hash functions, one for each algorithm. A running hash stands for its algorithm and the bytes so far.
+pub trait Hashing {
+    ghost use Rattle.c2_spec.specs.declared.digest.Alg.{Alg};
+    ghost use Rattle.c2_spec.specs.Digest.{IsDigest};
+
+    type State: Drop;
+
+    // the digest of a list
+    ghost digest_of: { Alg → List ℕ → List ℕ };
+
+    // the state stands for this algorithm and this list
+    ghost holds: { Self.State → Alg → List ℕ → Type 0 };
+
+    /// A running hash of no bytes.
+    fn start(&self, alg: Alg) -> Self::State
+        ensures { holds result alg [] };
+
+    /// Takes in further bytes.
+    fn update(&self, state: &mut Self::State, bytes: &[u8])
+        ensures { (alg : Alg) (list : List ℕ) → holds state.old alg list → holds state.new alg (list ++ bytes.now) };
+
+    /// The digest of all that was taken in.
+    fn finish(&self, state: Self::State) -> Digest
+        ensures { (alg : Alg) (list : List ℕ) → holds state alg list → result ≡ digest_of alg list };
+
+    ghost is_digest: { (alg : Alg) (list : List ℕ) → IsDigest alg (digest_of alg list) };
+}
+
+/// SHA-256, by the crate `sha2`.
+#[derive(Clone, Copy, Debug)]
+pub struct Sha;
+
+impl Hashing for Sha {
+    ghost use Rattle.c2_hash.specs.Sha.{sha_digest, ShaHolds, sha-IsDigest};
+
+    type State = Sha256;
+
+    ghost digest_of = { sha_digest };
+
+    ghost holds = { ShaHolds };
+
+    ghost is_digest = { sha-IsDigest };
+
+    fn start(&self, alg: Alg) -> Sha256 {
+        match alg {
+            Alg::Sha256 => Sha256::new(),
+        }
+    }
+
+    fn update(&self, state: &mut Sha256, bytes: &[u8]) {
+        state.update(bytes);
+    }
+
+    fn finish(&self, state: Sha256) -> Digest {
+        Digest::from_array(state.finalize())
+    }
+}
+
+/// The digest of a list.
+pub fn digest_of<H: Hashing>(hashing: &H, alg: Alg, bytes: &[u8]) -> Digest
+    ensures { result ≡ H.digest_of alg bytes.now }
+{
+    let mut state = hashing.start(alg);
+    hashing.update(&mut state, bytes);
+    hashing.finish(state)
+}
+
+#[cfg(test)]
+mod tests {
+    use super::*;
+    use hex::decode_to_slice;
+
+    // The vectors of FIPS 180-4 that everybody tests with: no bytes, and "abc".
+    const VECTORS: [(&str, &str); 2] = [
+        (
+            "",
+            "e3b0c44298fc1c149afbf4c8996fb92427ae41e4649b934ca495991b7852b855",
+        ),
+        (
+            "abc",
+            "ba7816bf8f01cfea414140de5dae2223b00361a396177a9cb410ff61f20015ad",
+        ),
+    ];
+
+    #[test]
+    fn digests_are_those_of_the_standard(rt: HostRuntime) {
+        for (text, hex) in VECTORS {
+            let mut want = [0; 32];
+            assert!(rt; decode_to_slice(hex, &mut want).is_ok());
+            let digest = digest_of(&Sha, Alg::Sha256, text.as_bytes());
+            assert_eq!(rt; digest.as_slice(), want.as_slice(), "of {text}");
+        }
+    }
+}

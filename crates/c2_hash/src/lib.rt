@@ -1,0 +1,13 @@
+//! Digests behind a trait, so that all code above is proved for any hash.
+//!
+//! The names of the algorithms stand in `c2_spec`, module `Digest`. The crate takes no memory.
+#![tactic(auto)]
+
+mod digest;
+mod hashing;
+mod names;
+
+pub use c2_spec::Alg;
+pub use digest::Digest;
+pub use hashing::{Hashing, Sha, digest_of};
+pub use names::{alg_name, alg_of};

@@ -1,0 +1,51 @@
+// Runs in which a source or the report fails at each call in turn.
+use crate::files::{ONE_PACKET, ONE_PACKET_DIGEST, words};
+use c2_base::{Blob, MemSink, MemSource, SureSource};
+use c2_cmd::run;
+use c2_cmd::types::Status;
+use c2_hash::Sha;
+use std::test::Fail;
+
+// The media has 54 bytes, which take 8 reads of 7 bytes; the file is read twice, its length asked for first.
+const MEDIA_CALLS: u64 = 18;
+
+#[test]
+fn each_failing_read_is_told(rt: HostRuntime) -> Result<(), Fail> {
+    let alloc = rt.alloc();
+    let given = words(alloc, &["digest", "P"])?;
+    for fail_at in 1..MEDIA_CALLS + 2 {
+        let mut media = MemSource::new(Blob::copied(alloc, &ONE_PACKET)?, 7, fail_at);
+        let mut report = MemSink::with_room(alloc, 100, 0)?;
+        let status = run(alloc, &Sha, &given, &mut media, &mut report);
+        if fail_at <= MEDIA_CALLS {
+            assert_eq!(rt; status, Status::InputFault, "at call {fail_at}");
+            assert!(rt; report.bytes().is_empty(), "at call {fail_at}");
+        } else {
+            assert_eq!(rt; status, Status::Done, "at call {fail_at}");
+            assert_eq!(rt; report.bytes(), ONE_PACKET_DIGEST.as_bytes());
+        }
+    }
+    Ok(())
+}
+
+#[test]
+fn each_failing_write_is_told(rt: HostRuntime) -> Result<(), Fail> {
+    let alloc = rt.alloc();
+    let given = words(alloc, &["digest", "P"])?;
+    // One append, one finish, no third call. A report that is full has taken what it could.
+    let rows: [(usize, u64, usize, Status); 4] = [
+        (100, 1, 0, Status::OutputFault),
+        (100, 2, 70, Status::OutputFault),
+        (100, 3, 70, Status::Done),
+        (30, 0, 30, Status::OutputFault),
+    ];
+    for (room, fail_at, written, want) in rows {
+        let mut media = SureSource::new(Blob::copied(alloc, &ONE_PACKET)?);
+        let mut report = MemSink::with_room(alloc, room, fail_at)?;
+        let status = run(alloc, &Sha, &given, &mut media, &mut report);
+        assert_eq!(rt; status, want, "at call {fail_at}");
+        assert_eq!(rt; report.bytes(), &ONE_PACKET_DIGEST.as_bytes()[..written], "at call {fail_at}");
+        assert_eq!(rt; report.finished(), want == Status::Done, "at call {fail_at}");
+    }
+    Ok(())
+}
