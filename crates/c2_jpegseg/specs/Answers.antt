@@ -1,37 +1,38 @@
--- What `locate` says of a file, and the causes of its errors.
-use Rattle.std.specs.Prelude.{◌≡◌, ℕ, ◌^◌, ◌≤◌, Ok, Err, Some, None, ⊤}
-use Rattle.std.specs.declared.option.Option.{Option}
-use Rattle.std.specs.declared.result.Result.{Result}
-use Rattle.c2_base.specs.Causes.{Rose}
+-- What the search answers, by cases, for private clauses.
+use Rattle.std.specs.Prelude.{◌≡◌, ◌≢◌, ℕ, ◌<◌, ◌≤◌, ⊤, Bool, true, false, List, take, Option, Some, None, Result, Ok, Err}
 use Rattle.c2_base.specs.declared.media.Found.{Found}
 use Rattle.c2_base.specs.declared.media.MediaError.{MediaError}
-use Rattle.c2_base.specs.declared.media.MediaError.TheVariants.{NotMedia, FileTooLarge, Later, ReadFault, NoMemory}
-use Rattle.c2_spec.specs.declared.reason.Reason.TheVariants as reason
-use Rattle.c2_spec.specs.Located.{Located, refused, absent, here}
+use Rattle.c2_base.specs.declared.media.MediaError.TheVariants.{NotMedia, Truncated, BadMarker, BadSegment, BadPacket, TwoStores, StoreTooLarge, ReadFault, NoMemory}
+use Rattle.c2_spec.specs.JpegSegments.{start_of_image}
+use Rattle.c2_spec.specs.Jpeg.{HasJpegStore, HasNoJpegStore, SegmentFault, FirstJpegFault}
+use Rattle.c2_jpegseg.specs.Causes.{OrOutside}
+use Rattle.c2_jpegseg.specs.Walks.{Walks}
 
--- what an error says of the file: nothing where the source failed or memory ran out
-abbrev pub refusal : MediaError → Option Located
-refusal NotMedia = Some (refused reason.NotMedia 0)
-refusal (FileTooLarge n) = Some (refused reason.FileTooLarge n)
-refusal (Later at) = Some (refused reason.Later at)
-refusal ReadFault = None
-refusal NoMemory = None
+-- whether the file begins as a JPEG does
+abbrev pub IsBegun : List ℕ → Bool → Type 0
+IsBegun file true = Walks file 2 None
+IsBegun file false = take 2 file ≢ start_of_image
 
--- what an answer says of the file
-abbrev pub said : Result (Option Found) MediaError → Option Located
-said (Ok None) = Some absent
-said (Ok (Some found)) = Some (here found.start found.length found.store)
-said (Err e) = refusal e
+-- what the walk over the segments answers
+abbrev pub IsWalkedOr : List ℕ → Result (Option Found) MediaError → Type 0
+IsWalkedOr file (Ok None) = HasNoJpegStore file
+IsWalkedOr file (Ok (Some f)) = HasJpegStore file f.start f.length f.store
+IsWalkedOr file (Err e) = OrOutside e (SegmentFault file e)
 
--- the cause of an error, where the source has `len` bytes and its count of faults went from `before` to `now`
-abbrev pub HasReason : ℕ → ℕ → ℕ → MediaError → Type 0
-HasReason len before now ReadFault = Rose before now
-HasReason len before now NoMemory = ⊤
-HasReason len before now (FileTooLarge n) = (n ≡ len) × (2 ^ 62 ≤ len) × (now ≡ before)
-HasReason len before now e = now ≡ before
+-- what the whole search answers
+abbrev pub IsFoundOr : List ℕ → Result (Option Found) MediaError → Type 0
+IsFoundOr file (Ok None) = HasNoJpegStore file
+IsFoundOr file (Ok (Some f)) = HasJpegStore file f.start f.length f.store
+IsFoundOr file (Err e) = OrOutside e (FirstJpegFault file e)
 
--- for private clauses: an error that the bytes of a file of fewer than 2^62 give, or want of memory
-abbrev pub IsOfBytes : MediaError → Type 0
-IsOfBytes ReadFault = ⊥
-IsOfBytes (FileTooLarge n) = ⊥
-IsOfBytes e = ⊤
+-- the errors of the walk over a file of this size, where its bytes aren't known
+abbrev pub IsWalkError : ℕ → MediaError → Type 0
+IsWalkError size (Truncated n) = n ≡ size
+IsWalkError size (BadMarker p) = p < size
+IsWalkError size (BadSegment p) = p < size
+IsWalkError size (BadPacket p) = p < size
+IsWalkError size (TwoStores p) = p < size
+IsWalkError size (StoreTooLarge n) = 33554432 < n
+IsWalkError size ReadFault = ⊤
+IsWalkError size NoMemory = ⊤
+IsWalkError size _ = ⊥

@@ -1,1 +1,7 @@
+pub mod Causes
+pub mod Segments
+pub mod Packets
+pub mod Runs
+pub mod Walks
+pub mod Windows
 pub mod Answers

@@ -1,9 +1,16 @@
-//! The manifest store of a JPEG file (ITU-T T.81, annex B; ISO/IEC 18477-3).
+//! The segments of a JPEG file, and the C2PA store in its packets.
 //!
-//! What a file comes to stands in `c2_spec`, module `Jpeg`.
+//! What a segment, a packet, a store and a refusal are stands in `c2_spec`, in `Jpeg`, `JpegPackets` and `JpegSegments`.
 #![tactic(auto)]
 
+mod marker;
 mod packet;
+mod run;
 mod search;
+mod segment;
+mod window;
 
 pub use search::locate;
+
+#[cfg(test)]
+mod tests;

@@ -1,73 +1,125 @@
-// One packet with a whole store, right behind the start of image.
-ghost use Rattle.std.specs.Prelude.{◌≡◌, ◌+◌, ◌≤◌, length};
-ghost use Rattle.std.specs.Bool.{OnTrue};
-ghost use Rattle.c2_spec.specs.Jpeg as jpeg;
+// Box segments of APP11.
+ghost use Rattle.std.specs.Prelude.{◌≡◌, ◌==◌, ◌+◌, ◌<◌, ◌≤◌, length, take, drop, true, false, IfSome, IfNone};
+ghost use Rattle.std.specs.Int.{w16, w32, w64, from_be_bytes};
+ghost use Rattle.c2_spec.specs.JpegPackets as jpeg;
+ghost use Rattle.c2_jpegseg.specs.Packets.{view, bare, IsHeader, HasHeader, Reads};
 
-use byteorder::{BigEndian, ByteOrder};
+/// A box segment: its number, its place in the run, the header that each packet repeats, and its body.
+#[derive(Clone, Copy)]
+pub struct Packet<'a> {
+    pub en: u16,
+    pub z: u32,
+    pub header: &'a [u8],
+    pub body: &'a [u8],
+}
 
-const SOI: [u8; 2] = [0xFF, 0xD8];
+pub const APP11: u8 = 0xEB;
 
-const EOI: [u8; 2] = [0xFF, 0xD9];
+/// "JP", the common identifier of box segments.
+const COMMON_IDENTIFIER: u16 = 0x4A50;
 
-const SOS: [u8; 2] = [0xFF, 0xDA];
+/// "jumb".
+const JUMB: u32 = 0x6A756D62;
 
-const APP11: [u8; 2] = [0xFF, 0xEB];
-
-const FIRST_SEQUENCE_NUMBER: [u8; 4] = [0, 0, 0, 1];
-
-// The type of a description box, and the type UUID of a C2PA manifest store.
-const STORE_DESCRIPTION: [u8; 20] = [
+/// "jumd", and the type UUID of a C2PA manifest store.
+const DESCRIPTION: [u8; 20] = [
     0x6A, 0x75, 0x6D, 0x64, 0x63, 0x32, 0x70, 0x61, 0x00, 0x11, 0x00, 0x10, 0x80, 0x00, 0x00, 0xAA,
     0x00, 0x38, 0x9B, 0x71,
 ];
 
-// Whether these bytes stand at this place.
-fn stands_at(file: &[u8], at: usize, piece: &[u8]) -> bool
-    ensures { result ≡ jpeg.stands_at file.now at piece.now }
+fn u16_at(bytes: &[u8], at: usize) -> u16
+    requires { at + 2 ≤ length bytes.now }
+    ensures { result ≡ from_be_bytes w16 (take 2 (drop at bytes.now)) }
 {
-    let rest = if at <= file.len() { &file[at..] } else { &[] };
-    rest.starts_with(piece)
+    u16::from_be_bytes([bytes[at], bytes[at + 1]])
 }
 
-/// Whether the file begins as a JPEG.
-pub fn begins_image(file: &[u8]) -> bool
-    ensures { result ≡ jpeg.stands_at file.now 0 jpeg.start_of_image }
+fn u32_at(bytes: &[u8], at: usize) -> u32
+    requires { at + 4 ≤ length bytes.now }
+    ensures { result ≡ from_be_bytes w32 (take 4 (drop at bytes.now)) }
 {
-    stands_at(file, 0, &SOI)
+    u32::from_be_bytes([bytes[at], bytes[at + 1], bytes[at + 2], bytes[at + 3]])
 }
 
-/// Whether an end of image or a start of scan stands at this place.
-pub fn is_end(file: &[u8], at: usize) -> bool
-    ensures { result ≡ jpeg.is_end file.now at }
+fn u64_at(bytes: &[u8], at: usize) -> u64
+    requires { at + 8 ≤ length bytes.now }
+    ensures { result ≡ from_be_bytes w64 (take 8 (drop at bytes.now)) }
 {
-    stands_at(file, at, &EOI) || stands_at(file, at, &SOS)
+    u64::from_be_bytes([
+        bytes[at],
+        bytes[at + 1],
+        bytes[at + 2],
+        bytes[at + 3],
+        bytes[at + 4],
+        bytes[at + 5],
+        bytes[at + 6],
+        bytes[at + 7],
+    ])
 }
 
-/// The length field of the segment at place 2.
-pub fn segment_length(file: &[u8]) -> u16
-    requires { 6 ≤ length file.now }
-    ensures { result ≡ jpeg.segment_length file.now }
+/// The packet that a segment is.
+#[tactic(auto, using(crate::proofs::PacketLemmas::whole_header))]
+pub fn packet_in(marker: u8, payload: &[u8]) -> Option<Packet<'_>>
+    ensures reads { Reads (bare marker payload.now) result }
+    ensures headed { HasHeader result }
 {
-    BigEndian::read_u16(&file[4..])
-}
-
-/// Whether a packet with a whole store stands at place 2.
-#[tactic(auto, unfolding(c2_spec::specs::Jpeg::has_whole_store))]
-pub fn has_whole_store(file: &[u8]) -> bool
-    ensures value { result ≡ jpeg.has_whole_store file.now }
-    ensures long { OnTrue result (42 ≤ jpeg.segment_length file.now) }
-    ensures within { OnTrue result (4 + jpeg.segment_length file.now ≤ length file.now) }
-{
-    if file.len() < 46 {
-        return false;
+    if marker != APP11 || payload.len() < 16 {
+        return None;
     }
-    let length = segment_length(file) as usize;
-    stands_at(file, 2, &APP11)
-        && 42 <= length
-        && 4 + length <= file.len()
-        && stands_at(file, 6, b"JP")
-        && stands_at(file, 10, &FIRST_SEQUENCE_NUMBER)
-        && BigEndian::read_u32(&file[14..]) as usize == length - 10
-        && stands_at(file, 18, b"jumb")
-        && stands_at(file, 26, &STORE_DESCRIPTION)
+    if u16_at(payload, 0) != COMMON_IDENTIFIER {
+        return None;
+    }
+    let header_len: usize = if u32_at(payload, 8) == 1 { 16 } else { 8 };
+    if payload.len() < 8 + header_len {
+        return None;
+    }
+    Some(Packet {
+        en: u16_at(payload, 2),
+        z: u32_at(payload, 4),
+        header: &payload[8..8 + header_len],
+        body: &payload[8 + header_len..],
+    })
+}
+
+/// Whether TBox of a box header is "jumb".
+#[tactic(auto, using(crate::proofs::PacketLemmas::at_least_8))]
+fn is_jumb(header: &[u8]) -> bool
+    requires { IsHeader header.now }
+    ensures { result ≡ (jpeg.header_tbox header.now == jpeg.jumb_tbox) }
+{
+    u32_at(header, 4) == JUMB
+}
+
+/// Whether the packet is the first one of a C2PA store.
+#[tactic(auto, unfolding(c2_spec::specs::JpegPackets::is_first_packet))]
+pub fn is_first(packet: &Packet<'_>) -> bool
+    requires { IsHeader packet.now.header.now }
+    ensures { result ≡ jpeg.is_first_packet (view packet.now) }
+{
+    packet.z == 1
+        && is_jumb(packet.header)
+        && packet.body.len() >= 24
+        && packet.body[4..24] == DESCRIPTION[..]
+}
+
+/// Whether the packet is a further one of a JUMBF box under this number.
+#[tactic(auto, unfolding(c2_spec::specs::JpegPackets::is_further_packet))]
+pub fn is_further(en: u16, packet: &Packet<'_>) -> bool
+    requires { IsHeader packet.now.header.now }
+    ensures { result ≡ jpeg.is_further_packet en (view packet.now) }
+{
+    is_jumb(packet.header) && packet.en == en && packet.z != 1
+}
+
+/// The length that a box header states.
+#[tactic(auto, using(crate::proofs::PacketLemmas::at_least_8, crate::proofs::PacketLemmas::wide_header))]
+pub fn stated_length(header: &[u8]) -> u64
+    requires { IsHeader header.now }
+    ensures { result ≡ jpeg.stated_length header.now }
+{
+    if u32_at(header, 0) == 1 {
+        u64_at(header, 8)
+    } else {
+        u32_at(header, 0) as u64
+    }
 }

@@ -1,61 +1,179 @@
-// The search for the store.
-ghost use Rattle.std.specs.Prelude.{◌≡◌, ◌+◌, ◌^◌, ◌<◌, ◌≤◌, length, IfErr, IfOk, IfSome, OnOk};
+// The C2PA store of a JPEG file.
+ghost use Rattle.std.specs.Prelude.{◌≡◌, ℕ, ◌+◌, ◌-◌, ◌^◌, ◌<◌, ◌≤◌, true, List, length, OnOk, IfOk, IfErr, IfSome, None, Some};
 ghost use Rattle.std.specs.Option.{ForSome};
+ghost use Rattle.c2_base.specs.Causes.{HasCause};
 ghost use Rattle.c2_base.specs.Source.{StaysSource};
-ghost use Rattle.c2_spec.specs.Located.{Located};
-ghost use Rattle.c2_spec.specs.Jpeg.{IsLocated};
-ghost use Rattle.c2_jpegseg.specs.Answers.{said, HasReason, IsOfBytes};
+ghost use Rattle.c2_spec.specs.Located.{Located, said, HasErrorCause, IsWithin};
+ghost use Rattle.c2_spec.specs.JpegSegments.{EndsSegments};
+ghost use Rattle.c2_spec.specs.Jpeg.{IsJpegOutcome, IsJpegRefusal};
+ghost use Rattle.c2_jpegseg.specs.Answers.{IsBegun, IsWalkedOr, IsFoundOr, IsWalkError};
+ghost use Rattle.c2_jpegseg.specs.Causes.{IsCaused, OrOutside};
+ghost use Rattle.c2_jpegseg.specs.Packets.{PacketOf, HasHeader};
+ghost use Rattle.c2_jpegseg.specs.Runs.{all_collected, EndsBy};
+ghost use Rattle.c2_jpegseg.specs.Segments.{IsExtent, IsExtentBy};
+ghost use Rattle.c2_jpegseg.specs.Walks.{Walks};
+ghost use Rattle.c2_jpegseg.specs.Windows.{Shows, Covers};
 
-use crate::packet::{begins_image, has_whole_store, is_end, segment_length};
-use c2_base::{Blob, Found, MediaError, Source, read_all};
+use crate::marker::{self, Extent, Next};
+use crate::packet::{self, APP11, Packet};
+use crate::run::Run;
+use crate::segment;
+use crate::window::Window;
+use c2_base::{Blob, Failed, Found, MediaError, Source};
 use std::alloc::Global;
 
-// A file of 2^62 bytes or more is refused.
-const MOST_BYTES: u64 = (1 << 62) - 1;
+/// The number of bytes from which on a file is too large: 2^62.
+const TOO_LARGE: u64 = 4_611_686_018_427_387_904;
 
-/// The embedded range and the store of a JPEG file, and none where it has none.
-///
-/// The refusals are those of the format, each with its place; `FileTooLarge` comes of a length of 2^62 bytes or more, and
-/// `ReadFault` only where the source failed in this call.
-pub fn locate<S: Source>(alloc: Global, source: &mut S) -> Result<Option<Found>, MediaError>
-    // What is answered holds, and what holds is answered.
-    ensures found { ForSome (S.told source.old) (λ file. IfSome (said result) (IsLocated file)) }
-    ensures only { ForSome (S.told source.old) (λ file. (what : Located) → IsLocated file what → IfSome (said result) (λ s. s ≡ what)) }
-
-    ensures within { IfOk result (λ found. IfSome found (λ f. f.start + f.length ≤ S.len source.old)) }
-    ensures small { OnOk result (S.len source.old < 2 ^ 62) }
+/// Whether the file begins with SOI.
+fn is_jpeg<S: Source>(source: &mut S, window: &mut Window, size: u64) -> Result<bool, Failed>
+    requires size { size ≡ S.len source.old }
+    requires shows { Shows (S.len source.old) (S.told source.old) window.old }
     ensures stays { StaysSource S.len S.told S.faults source.old source.new }
-    ensures count { OnOk result (S.faults source.new ≡ S.faults source.old) }
-    ensures reason { IfErr result (HasReason (S.len source.old) (S.faults source.old) (S.faults source.new)) }
+    ensures cause { HasCause (S.faults source.old) (S.faults source.new) result }
+    ensures shows { OnOk result (Shows (S.len source.old) (S.told source.old) window.new) }
+    ensures inside { IfOk result (λ b. b ≡ true → 2 ≤ size) }
+    ensures begun { IfOk result (λ b. ForSome (S.told source.old) (λ file. IsBegun file b)) }
 {
-    let file = read_all(alloc, source, MOST_BYTES)?;
-    let found = locate_in(alloc, file.as_slice())?;
-    Ok(found)
+    if size < 2 {
+        return Ok(false);
+    }
+    let first = window.byte_at(source, 0)?;
+    let second = window.byte_at(source, 1)?;
+    Ok(first == 0xFF && second == 0xD8)
 }
 
-// The same of the file's bytes.
-fn locate_in(alloc: Global, file: &[u8]) -> Result<Option<Found>, MediaError>
-    requires { length file.now < 2 ^ 62 }
-    ensures found { IfSome (said result) (IsLocated file.now) }
-    ensures within { IfOk result (λ found. IfSome found (λ f. f.start + f.length ≤ length file.now)) }
-    ensures reason { IfErr result IsOfBytes }
+/// Makes the window show the segment's payload, where it may be a packet.
+fn load_packet<S: Source>(
+    source: &mut S,
+    window: &mut Window,
+    extent: Extent,
+) -> Result<(), Failed>
+    requires inside { extent.end ≤ S.len source.old }
+    requires ordered { extent.body ≤ extent.end }
+    requires short { extent.end ≤ extent.body + 65533 }
+    requires shows { Shows (S.len source.old) (S.told source.old) window.old }
+    ensures stays { StaysSource S.len S.told S.faults source.old source.new }
+    ensures cause { HasCause (S.faults source.old) (S.faults source.new) result }
+    ensures shows { OnOk result (Shows (S.len source.old) (S.told source.old) window.new) }
+    ensures covers { OnOk result (extent.marker ≡ 0xEB → Covers window.new extent.body (extent.end - extent.body)) }
 {
-    if !begins_image(file) {
-        return Err(MediaError::NotMedia);
+    if extent.marker != APP11 {
+        return Ok(());
     }
-    if is_end(file, 2) {
+    window.load(source, extent.body, (extent.end - extent.body) as usize)?;
+    Ok(())
+}
+
+/// The packet that the segment is.
+fn packet_at(window: &Window, extent: Extent) -> Option<Packet<'_>>
+    requires ordered { extent.body ≤ extent.end }
+    requires short { extent.end ≤ extent.body + 65533 }
+    requires covers { extent.marker ≡ 0xEB → Covers window.now extent.body (extent.end - extent.body) }
+    ensures headed { HasHeader result }
+    ensures packet { (file : List ℕ) → Shows (length file) (Some file) window.now → PacketOf file extent result }
+{
+    if extent.marker != APP11 {
+        return None;
+    }
+    let payload = window.slice(extent.body, (extent.end - extent.body) as usize);
+    let packet = packet::packet_in(extent.marker, payload);
+    packet
+}
+
+/// The walk over the segments of a file of `size` bytes that begins with SOI.
+fn walk<S: Source>(
+    alloc: Global,
+    source: &mut S,
+    window: &mut Window,
+    size: u64,
+) -> Result<Option<Found>, MediaError>
+    requires size { size ≡ S.len source.old }
+    requires inside { 2 ≤ size }
+    requires bounded { size < 4611686018427387904 }
+    requires shows { Shows (S.len source.old) (S.told source.old) window.old }
+    requires begun { ForSome (S.told source.old) (λ file. Walks file 2 None) }
+    ensures stays { StaysSource S.len S.told S.faults source.old source.new }
+    ensures count { OnOk result (S.faults source.new ≡ S.faults source.old) }
+    ensures cause { IfErr result (IsCaused (S.faults source.old) (S.faults source.new)) }
+    ensures within { IfOk result (λ o. IfSome o (IsWithin size)) }
+    ensures error { IfErr result (IsWalkError size) }
+    ensures walked { ForSome (S.told source.old) (λ file. IsWalkedOr file result) }
+{
+    let mut at: u64 = 2;
+    let mut run = None;
+    'segments: loop {
+        let extent = match marker::segment_at(source, window, at, size) {
+            Ok(Next::Segment(extent)) => extent,
+            Ok(Next::End) => break,
+            Err(error) => return Err(error),
+        };
+        load_packet(source, window, extent)?;
+        let packet = packet_at(window, extent);
+        run = match segment::step(alloc, at, extent.end, size, packet, run) {
+            Ok(next) => next,
+            Err(error) => return Err(error),
+        };
+        at = extent.end;
+    }
+    let Some(run) = run else {
         return Ok(None);
-    }
-    if !has_whole_store(file) {
-        return Err(MediaError::Later(2));
-    }
-    let end = 4 + segment_length(file) as usize;
-    if !is_end(file, end) {
-        return Err(MediaError::Later(end as u64));
+    };
+    if (run.store.len() as u64) < run.total {
+        return Err(MediaError::BadPacket(at));
     }
     Ok(Some(Found {
-        start: 2,
-        length: (end - 2) as u64,
-        store: Blob::copied(alloc, &file[14..end])?,
+        start: run.start,
+        length: run.end - run.start,
+        store: Blob::from_vec(run.store),
     }))
+}
+
+/// The search, told by cases.
+fn search<S: Source>(alloc: Global, source: &mut S) -> Result<Option<Found>, MediaError>
+    ensures stays { StaysSource S.len S.told S.faults source.old source.new }
+    ensures count { OnOk result ((S.len source.old < 2 ^ 62) × (S.faults source.new ≡ S.faults source.old)) }
+    ensures cause { IfErr result (HasErrorCause (S.len source.old) (S.faults source.old) (S.faults source.new)) }
+    ensures refusal { IfErr result (IsJpegRefusal (S.len source.old)) }
+    ensures within { IfOk result (λ o. IfSome o (IsWithin (S.len source.old))) }
+    ensures found { ForSome (S.told source.old) (λ file. IsFoundOr file result) }
+{
+    let size = source.size()?;
+    if size >= TOO_LARGE {
+        return Err(MediaError::FileTooLarge(size));
+    }
+    let mut window = Window::new(alloc, size)?;
+    if !is_jpeg(source, &mut window, size)? {
+        return Err(MediaError::NotMedia);
+    }
+    match walk(alloc, source, &mut window, size) {
+        Ok(found) => Ok(found),
+        Err(error) => Err(error),
+    }
+}
+
+/// The C2PA store of a JPEG file and the range of the file that its packets fill; nothing where no segment begins a store.
+///
+/// The file is read from its start up to the first scan (SOS) or the end of the image (EOI), 65,536 bytes at once, and only
+/// what the markers, their lengths and the packets of APP11 ask for.
+///
+/// The error is the first test that fails, in the order of the file:
+/// - `FileTooLarge`: the file has 2^62 bytes or more; `NotMedia`: it doesn't begin with SOI.
+/// - `Truncated`, `BadMarker`, `BadSegment`: a segment's marker or length (ITU-T T.81, B.1.1).
+/// - `TwoStores`, `BadPacket`, `StoreTooLarge`: the packets of a store (ISO/IEC 18477-3).
+/// - `ReadFault`: the source failed; `NoMemory`: memory ran out.
+#[tactic(auto, using(crate::proofs::Answers::said_is, crate::proofs::Answers::only_said))]
+pub fn locate<S: Source>(alloc: Global, source: &mut S) -> Result<Option<Found>, MediaError>
+    // Where the source tells its bytes, the answer is what the file is, and the file is nothing else.
+    ensures outcome { ForSome (S.told source.old) (λ file. IfSome (said result) (IsJpegOutcome file)) }
+    ensures only { ForSome (S.told source.old) (λ file. (o : Located) → IsJpegOutcome file o → IfSome (said result) (λ p. p ≡ o)) }
+
+    // These hold of every source, also of one that tells no bytes.
+    ensures within { IfOk result (λ o. IfSome o (IsWithin (S.len source.old))) }
+    ensures refusal { IfErr result (IsJpegRefusal (S.len source.old)) }
+    ensures count { OnOk result ((S.len source.old < 2 ^ 62) × (S.faults source.new ≡ S.faults source.old)) }
+    ensures cause { IfErr result (HasErrorCause (S.len source.old) (S.faults source.old) (S.faults source.new)) }
+    ensures stays { StaysSource S.len S.told S.faults source.old source.new }
+{
+    search(alloc, source)
 }

@@ -1,0 +1,11 @@
+pub mod Outside
+pub mod Markers
+pub mod PacketLemmas
+pub mod SegmentLists
+pub mod Steps
+pub mod Outcomes
+pub mod Starts
+pub mod Reading
+pub mod Unique
+pub mod Answers
+pub mod WindowLemmas

@@ -1,0 +1,36 @@
+-- What a window shows of its source.
+use Rattle.std.proofs.Common.{◌≡◌, ℕ, ◌+◌, ◌-◌, ◌<◌, ◌≤◌, List, ◌++◌, length, get_or, take, drop, refl, sym, ap, ◌∙◌, subst, arith}
+use Rattle.std.proofs.lemmas.List.{drop-take, drop-drop, take-take, take_at, get_or-take, get_or-drop}
+use Rattle.std.specs.declared.option.Option.{Option}
+use Rattle.c2_jpegseg.specs.declared.window.Window.{Window}
+use Rattle.c2_jpegseg.specs.Windows.{Shows}
+
+-- a part of a front is a part of the whole
+part_of_front : (items : List ℕ) (used d count : ℕ) → d + count ≤ used → take count (drop d (take used items)) ≡ take count (drop d items)
+part_of_front items used d count le =
+    let split : used ≡ d + (used - d) = omega arith in
+    ap (λ n. take count (drop d (take n items))) split ∙ ap (λ (x : List ℕ). take count x) (drop-take d (used - d) items) ∙ take-take count (used - d) (drop d items) (omega arith)
+
+-- a part of the window is that part of the file
+pub shown : (file items : List ℕ) (from used pos count : ℕ) → take used items ≡ take used (drop from file) → from ≤ pos → pos + count ≤ from + used → take count (drop (pos - from) items) ≡ take count (drop pos file)
+shown file items from used pos count same low high =
+    let there : from + (pos - from) ≡ pos = omega arith in
+    let inside : pos - from + count ≤ used = omega arith in
+    sym (part_of_front items used (pos - from) count inside) ∙ ap (λ (x : List ℕ). take count (drop (pos - from) x)) same ∙ part_of_front (drop from file) used (pos - from) count inside
+    ∙ ap (λ (x : List ℕ). take count x) (drop-drop (pos - from) from file ∙ ap (λ n. drop n file) there)
+
+-- and a byte of it that byte
+pub shown_byte : (file items : List ℕ) (from used pos : ℕ) → take used items ≡ take used (drop from file) → from ≤ pos → pos + 1 ≤ from + used → get_or items (pos - from) 0 ≡ get_or file pos 0
+shown_byte file items from used pos same low high =
+    let there : from + (pos - from) ≡ pos = omega arith in
+    let inside : pos - from < used = omega arith in
+    sym (get_or-take used items (pos - from) 0 inside) ∙ ap (λ (x : List ℕ). get_or x (pos - from) 0) same ∙ get_or-take used (drop from file) (pos - from) 0 inside
+    ∙ get_or-drop from file (pos - from) 0 ∙ ap (λ n. get_or file n 0) there
+
+-- a front that was filled
+pub filled_front : (file buf rest : List ℕ) (room pos : ℕ) → length buf ≡ room → buf ≡ take (length buf) (drop pos file) → take room (buf ++ rest) ≡ take room (drop pos file)
+filled_front file buf rest room pos len is = take_at buf rest room len ∙ is ∙ ap (λ n. take n (drop pos file)) len
+
+-- a source that stayed is still shown
+pub shows_same : (len len' : ℕ) (told told' : Option (List ℕ)) (w : Window) → len ≡ len' → told ≡ told' → Shows len told w → Shows len' told' w
+shows_same len len' told told' w same_len same_told shows = subst (λ n. Shows n told' w) same_len (subst (λ t. Shows len t w) same_told shows)

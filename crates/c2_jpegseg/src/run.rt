@@ -1,0 +1,130 @@
+// The run of packets that holds a store.
+ghost use Rattle.std.specs.Prelude.{◌≡◌, ◌+◌, ◌-◌, ◌<◌, ◌≤◌, length, take, vec_len, true, None, Some, IfOk, IfErr};
+ghost use Rattle.c2_spec.specs.Jpeg as jpeg;
+ghost use Rattle.c2_jpegseg.specs.Causes.{OrOutside};
+ghost use Rattle.c2_jpegseg.specs.Packets.{view, IsHeader};
+
+use crate::packet::{self, Packet};
+use c2_base::MediaError;
+use std::alloc::Global;
+
+/// How many bytes a store may have.
+const LARGEST_STORE: u64 = 33_554_432;
+
+/// A store whose packets are being collected: where they begin and end in the file, their number, how many there are, how
+/// long the store will be, and its bytes so far. The header that each packet repeats is at their front.
+#[derive(Drop)]
+pub struct Run {
+    pub start: u64,
+    pub end: u64,
+    pub en: u16,
+    pub count: u64,
+    pub total: u64,
+    pub header_len: usize,
+    pub store: Vec<u8>,
+    ghost ordered: { start ≤ end },
+    ghost headed: { header_len ≤ vec_len store },
+    ghost counted: { count ≤ vec_len store },
+    ghost fits: { vec_len store ≤ total },
+    ghost small: { total ≤ 33554432 },
+}
+
+impl Run {
+    ghost use Rattle.c2_jpegseg.specs.Runs.{collected, IsStarted, IsContinued, IsSegmentError};
+
+    /// A run of the first packet alone, which stands from `at` to `end` in a file of `size` bytes.
+    ///
+    /// Room for the whole store is taken at once, but no more than there are bytes left in the file: what a header states is no
+    /// reason to take memory.
+    #[tactic(auto, using(crate::proofs::PacketLemmas::at_least_8, crate::proofs::PacketLemmas::header_first), unfolding(c2_spec::specs::Jpeg::first_packet_fault))]
+    pub fn start(
+        alloc: Global,
+        at: u64,
+        end: u64,
+        size: u64,
+        first: Packet<'_>,
+    ) -> Result<Run, MediaError>
+        requires headed { IsHeader first.header.now }
+        requires ordered { at ≤ end }
+        ensures passes { IfOk result (λ run. jpeg.first_packet_fault at (view first.entry) ≡ None) }
+        ensures started { IfOk result (λ run. IsStarted at end (view first.entry) (collected run)) }
+        ensures fails { IfErr result (λ e. OrOutside e (jpeg.first_packet_fault at (view first.entry) ≡ Some e)) }
+        ensures error { IfErr result (IsSegmentError at) }
+    {
+        let total = packet::stated_length(first.header);
+        if total < first.header.len() as u64 {
+            return Err(MediaError::BadPacket(at));
+        }
+        if total > LARGEST_STORE {
+            return Err(MediaError::StoreTooLarge(total));
+        }
+        if total - (first.header.len() as u64) < first.body.len() as u64 {
+            return Err(MediaError::BadPacket(at));
+        }
+        let room = total.min(size.saturating_sub(at));
+        let Ok(mut store) = Vec::with_capacity(alloc, room as usize) else {
+            return Err(MediaError::NoMemory);
+        };
+        let Ok(()) = store.extend_from_slice(first.header) else {
+            return Err(MediaError::NoMemory);
+        };
+        let Ok(()) = store.extend_from_slice(first.body) else {
+            return Err(MediaError::NoMemory);
+        };
+        Ok(Run {
+            start: at,
+            end,
+            en: first.en,
+            count: 1,
+            total,
+            header_len: first.header.len(),
+            store,
+        })
+    }
+
+    /// The run with the next packet, which ends at `end`.
+    #[tactic(auto, using(crate::proofs::PacketLemmas::header_kept))]
+    pub fn append(self, end: u64, next: &Packet<'_>) -> Result<Run, MediaError>
+        requires ordered { self.start ≤ end }
+        requires some { 0 < length next.now.body.now }
+        requires fits { length next.now.body.now ≤ self.total - length self.store.items }
+        ensures ok { IfOk result (λ new. IsContinued end (view next.now) (collected self) (collected new)) }
+        ensures err { IfErr result (λ e. e ≡ MediaError.NoMemory) }
+    {
+        let Run {
+            start,
+            en,
+            count,
+            total,
+            header_len,
+            mut store,
+            ..
+        } = self;
+        let Ok(()) = store.extend_from_slice(next.body) else {
+            return Err(MediaError::NoMemory);
+        };
+        Ok(Run {
+            start,
+            end,
+            en,
+            count: count + 1,
+            total,
+            header_len,
+            store,
+        })
+    }
+
+    /// Whether the packet goes on with the run.
+    #[tactic(auto, unfolding(c2_spec::specs::Jpeg::goes_on))]
+    pub fn goes_on(&self, packet: &Packet<'_>) -> bool
+        ensures goes { result ≡ jpeg.goes_on self.now.en (take self.now.header_len self.now.store.items) (self.now.count + 1) (self.now.total - length self.now.store.items) (view packet.now) }
+        ensures some { result ≡ true → 0 < length packet.now.body.now }
+        ensures fits { result ≡ true → length packet.now.body.now ≤ self.now.total - length self.now.store.items }
+    {
+        packet.en == self.en
+            && packet.header == &self.store[..self.header_len]
+            && packet.z as u64 == self.count + 1
+            && packet.body.len() >= 1
+            && packet.body.len() as u64 <= self.total - self.store.len() as u64
+    }
+}

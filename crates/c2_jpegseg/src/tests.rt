@@ -1,0 +1,260 @@
+// Worked files. What is expected was computed by `tests/real/locate.py`, which shares nothing with this crate.
+use crate::locate;
+use c2_base::{Blob, Found, MediaError, MemSource, VastSource};
+use std::alloc::Global;
+use std::test::Fail;
+
+/// SOI, and EOI.
+const START: [u8; 2] = [0xFF, 0xD8];
+const END: [u8; 2] = [0xFF, 0xD9];
+
+/// One packet with a whole store of 38 bytes: a superbox with its description alone.
+const SEGMENT: [u8; 50] = [
+    0xFF, 0xEB, 0x00, 0x30, 0x4A, 0x50, 0x02, 0x11, 0, 0, 0, 1, 0, 0, 0, 0x26, 0x6A, 0x75, 0x6D,
+    0x62, 0, 0, 0, 0x1E, 0x6A, 0x75, 0x6D, 0x64, 0x63, 0x32, 0x70, 0x61, 0x00, 0x11, 0x00, 0x10,
+    0x80, 0x00, 0x00, 0xAA, 0x00, 0x38, 0x9B, 0x71, 0x03, 0x63, 0x32, 0x70, 0x61, 0x00,
+];
+
+/// The first 24 bytes of a store's body: the description's length, "jumd", and the type.
+const DESCRIPTION: [u8; 24] = [
+    0, 0, 0, 0x1E, 0x6A, 0x75, 0x6D, 0x64, 0x63, 0x32, 0x70, 0x61, 0x00, 0x11, 0x00, 0x10, 0x80,
+    0x00, 0x00, 0xAA, 0x00, 0x38, 0x9B, 0x71,
+];
+
+/// What is found: where the range begins, its length, and the store's.
+#[derive(Clone, Copy, Debug, PartialEq, Eq)]
+enum Seen {
+    Store(u64, u64, usize),
+    Nothing,
+    Refused(MediaError),
+}
+
+fn summary(answer: &Result<Option<Found>, MediaError>) -> Seen {
+    match answer {
+        Ok(Some(found)) => Seen::Store(found.start, found.length, found.store.as_slice().len()),
+        Ok(None) => Seen::Nothing,
+        Err(error) => Seen::Refused(*error),
+    }
+}
+
+/// What is found in the file by reads of at most 1, 7 and 65,536 bytes.
+fn is_seen(alloc: Global, file: &[u8], expected: Seen) -> Result<bool, Fail> {
+    let mut source = MemSource::new(Blob::copied(alloc, file)?, 1, 0);
+    let one = summary(&locate(alloc, &mut source));
+    let mut source = MemSource::new(Blob::copied(alloc, file)?, 7, 0);
+    let seven = summary(&locate(alloc, &mut source));
+    let mut source = MemSource::new(Blob::copied(alloc, file)?, 65_536, 0);
+    let many = summary(&locate(alloc, &mut source));
+    Ok(one == expected && seven == expected && many == expected)
+}
+
+/// The numbers of a packet: the low byte of its En, its Z, its LBox, and the last byte of its TBox, which is 62 for "jumb".
+#[derive(Clone, Copy)]
+struct Numbers {
+    en: u8,
+    z: u8,
+    total: u32,
+    kind: u8,
+}
+
+/// Puts a packet behind a file.
+fn push_packet(file: &mut Vec<u8>, numbers: Numbers, body: &[u8]) -> Result<(), Fail> {
+    let length = body.len().min(65_000) as u16 + 18;
+    file.extend_from_slice(&[0xFF, 0xEB])?;
+    file.extend_from_slice(&length.to_be_bytes())?;
+    file.extend_from_slice(&[0x4A, 0x50, 0x02, numbers.en, 0, 0, 0, numbers.z])?;
+    file.extend_from_slice(&numbers.total.to_be_bytes())?;
+    file.extend_from_slice(&[0x6A, 0x75, 0x6D, numbers.kind])?;
+    file.extend_from_slice(body)?;
+    Ok(())
+}
+
+/// A packet of a store of `total` bytes.
+fn of_store(z: u8, total: u32) -> Numbers {
+    Numbers {
+        en: 0x11,
+        z,
+        total,
+        kind: 0x62,
+    }
+}
+
+/// A file with SOI, these pieces, and EOI.
+fn framed(alloc: Global, first: &[u8], second: &[u8]) -> Result<Vec<u8>, Fail> {
+    let mut file = Vec::from_slice(alloc, &START)?;
+    file.extend_from_slice(first)?;
+    file.extend_from_slice(second)?;
+    file.extend_from_slice(&END)?;
+    Ok(file)
+}
+
+#[test]
+fn one_packet_is_found(rt: HostRuntime) -> Result<(), Fail> {
+    let alloc = rt.alloc();
+    let file = framed(alloc, &SEGMENT, &[])?;
+    assert!(rt; is_seen(alloc, &file, Seen::Store(2, 50, 38))?);
+    let mut source = MemSource::new(Blob::copied(alloc, &file)?, 7, 0);
+    match locate(alloc, &mut source)? {
+        Some(found) => assert!(rt; found.store.as_slice() == &SEGMENT[12..]),
+        None => assert!(rt; false),
+    }
+    Ok(())
+}
+
+#[test]
+fn small_files(rt: HostRuntime) -> Result<(), Fail> {
+    let alloc = rt.alloc();
+    assert!(rt; is_seen(alloc, &[], Seen::Refused(MediaError::NotMedia))?);
+    assert!(rt; is_seen(alloc, &START, Seen::Refused(MediaError::Truncated(2)))?);
+    assert!(rt; is_seen(alloc, &[0xFF, 0xD8, 0xFF, 0xD9], Seen::Nothing)?);
+    assert!(rt; is_seen(alloc, &[0xFF, 0xD8, 0xFF, 0xFF, 0xFF, 0xDA, 0], Seen::Nothing)?);
+    assert!(rt; is_seen(alloc, &[0xFF, 0xD8, 0xFF, 0x00], Seen::Refused(MediaError::BadMarker(2)))?);
+    assert!(rt; is_seen(alloc, &[0xFF, 0xD8, 0xFF, 0xD0, 0], Seen::Refused(MediaError::BadMarker(4)))?);
+    assert!(rt; is_seen(alloc, &[0xFF, 0xD8, 0xFF, 0xFE, 0, 1], Seen::Refused(MediaError::BadSegment(2)))?);
+    Ok(())
+}
+
+#[test]
+fn another_type_is_passed(rt: HostRuntime) -> Result<(), Fail> {
+    let alloc = rt.alloc();
+    let mut other = framed(alloc, &SEGMENT, &[])?;
+    assert!(rt; other.len() == 54);
+    other[30] = 0x64;
+    assert!(rt; is_seen(alloc, &other, Seen::Nothing)?);
+    Ok(())
+}
+
+#[test]
+fn a_second_store_and_a_large_one(rt: HostRuntime) -> Result<(), Fail> {
+    let alloc = rt.alloc();
+    let twice = framed(alloc, &SEGMENT, &SEGMENT)?;
+    assert!(rt; is_seen(alloc, &twice, Seen::Refused(MediaError::TwoStores(52)))?);
+    let mut large = framed(alloc, &SEGMENT, &[])?;
+    assert!(rt; large.len() == 54);
+    large[14] = 2;
+    large[17] = 1;
+    assert!(rt; is_seen(alloc, &large, Seen::Refused(MediaError::StoreTooLarge(33_554_433)))?);
+    Ok(())
+}
+
+/// A store of 130,000 bytes in three packets, the last of them with `last` body bytes, in the order of these numbers.
+fn long_file(alloc: Global, numbers: [u8; 3], last: usize) -> Result<Vec<u8>, Fail> {
+    let mut first = Vec::from_slice(alloc, &DESCRIPTION)?;
+    let rest = vec![in alloc; 0; 63_960]?;
+    first.extend_from_slice(&rest)?;
+    let second = vec![in alloc; 0; 63_984]?;
+    let third = vec![in alloc; 0; last]?;
+    let mut file = Vec::from_slice(alloc, &START)?;
+    for number in numbers {
+        if number == 1 {
+            push_packet(&mut file, of_store(1, 130_000), &first)?;
+        } else if number == 2 {
+            push_packet(&mut file, of_store(2, 130_000), &second)?;
+        } else {
+            push_packet(&mut file, of_store(3, 130_000), &third)?;
+        }
+    }
+    file.extend_from_slice(&END)?;
+    Ok(file)
+}
+
+#[test]
+fn three_long_packets(rt: HostRuntime) -> Result<(), Fail> {
+    let alloc = rt.alloc();
+    let file = long_file(alloc, [1, 2, 3], 2024)?;
+    assert!(rt; is_seen(alloc, &file, Seen::Store(2, 130_052, 130_000))?);
+    let cut = file.len().min(130_000);
+    assert!(rt; is_seen(alloc, &file[..cut], Seen::Refused(MediaError::Truncated(130_000)))?);
+    let turned = long_file(alloc, [1, 3, 2], 2024)?;
+    assert!(rt; is_seen(alloc, &turned, Seen::Refused(MediaError::BadPacket(64_006)))?);
+    let short = long_file(alloc, [1, 2, 3], 2023)?;
+    assert!(rt; is_seen(alloc, &short, Seen::Refused(MediaError::BadPacket(130_053)))?);
+    Ok(())
+}
+
+/// A first packet with 24 of a store's 40 body bytes, and a packet with these numbers and so many body bytes.
+fn with_second(alloc: Global, numbers: Numbers, body: usize) -> Result<Vec<u8>, Fail> {
+    let mut first = Vec::new(alloc);
+    push_packet(&mut first, of_store(1, 48), &DESCRIPTION)?;
+    let mut second = Vec::new(alloc);
+    let zeros = vec![in alloc; 0; body]?;
+    push_packet(&mut second, numbers, &zeros)?;
+    framed(alloc, &first, &second)
+}
+
+#[test]
+fn the_second_packet_goes_on(rt: HostRuntime) -> Result<(), Fail> {
+    let alloc = rt.alloc();
+    let right = of_store(2, 48);
+    let refused = Seen::Refused(MediaError::BadPacket(46));
+    for (numbers, body, expected) in [
+        (right, 16, Seen::Store(2, 80, 48)),
+        (right, 8, Seen::Refused(MediaError::BadPacket(74))),
+        (right, 17, refused),
+        (right, 0, refused),
+        (of_store(3, 48), 16, refused),
+        (of_store(2, 47), 16, refused),
+        (Numbers { en: 0x12, ..right }, 16, refused),
+        (Numbers { kind: 0x63, ..right }, 16, refused),
+    ] {
+        let file = with_second(alloc, numbers, body)?;
+        assert!(rt; is_seen(alloc, &file, expected)?);
+    }
+    Ok(())
+}
+
+#[test]
+fn packets_behind_a_whole_store(rt: HostRuntime) -> Result<(), Fail> {
+    let alloc = rt.alloc();
+    let stray = of_store(2, 48);
+    let refused = Seen::Refused(MediaError::BadPacket(52));
+    let passed = Seen::Store(2, 50, 38);
+    for (numbers, expected) in [
+        (stray, refused),
+        (of_store(0, 48), refused),
+        (of_store(1, 48), passed),
+        (Numbers { en: 0x12, ..stray }, passed),
+        (Numbers { kind: 0x63, ..stray }, passed),
+    ] {
+        let mut behind = Vec::new(alloc);
+        push_packet(&mut behind, numbers, &[0x78])?;
+        let file = framed(alloc, &SEGMENT, &behind)?;
+        assert!(rt; is_seen(alloc, &file, expected)?);
+    }
+    Ok(())
+}
+
+#[test]
+fn three_short_packets_out_of_order(rt: HostRuntime) -> Result<(), Fail> {
+    let alloc = rt.alloc();
+    let mut file = Vec::from_slice(alloc, &START)?;
+    push_packet(&mut file, of_store(1, 48), &DESCRIPTION)?;
+    push_packet(&mut file, of_store(3, 48), b"cccccccc")?;
+    push_packet(&mut file, of_store(2, 48), b"bbbbbbbb")?;
+    file.extend_from_slice(&END)?;
+    assert!(rt; is_seen(alloc, &file, Seen::Refused(MediaError::BadPacket(46)))?);
+    Ok(())
+}
+
+#[test]
+fn faults_and_vast_files(rt: HostRuntime) -> Result<(), Fail> {
+    let alloc = rt.alloc();
+    let file = framed(alloc, &SEGMENT, &[])?;
+    // Of the calls the first asks for the length, and the second reads the file's 54 bytes.
+    for (fail_at, expected) in [
+        (1, Seen::Refused(MediaError::ReadFault)),
+        (2, Seen::Refused(MediaError::ReadFault)),
+        (3, Seen::Store(2, 50, 38)),
+    ] {
+        let mut source = MemSource::new(Blob::copied(alloc, &file)?, 65_536, fail_at);
+        assert_eq!(rt; summary(&locate(alloc, &mut source)), expected);
+    }
+    let mut vast = VastSource::new(Blob::copied(alloc, &[])?, 1 << 62);
+    let too_large = Seen::Refused(MediaError::FileTooLarge(1 << 62));
+    assert_eq!(rt; summary(&locate(alloc, &mut vast)), too_large);
+    let front = Blob::copied(alloc, &file)?;
+    assert!(rt; front.as_slice().len() == 54);
+    let mut vast = VastSource::new(front, 1 << 61);
+    assert_eq!(rt; summary(&locate(alloc, &mut vast)), Seen::Store(2, 50, 38));
+    Ok(())
+}
