@@ -1,6 +1,7 @@
 // Why a media file, a box or a store is refused.
 
-/// Why a media file, a box or a store is refused, as reports print it beside a number.
+/// Why a media file, a box or a store is refused, as reports print it beside a number. The number is a place in the media
+/// file where nothing else is said.
 #[derive(Clone, Copy, Debug, PartialEq, Eq)]
 pub enum Reason {
     /// The file doesn't begin as one that is known; the number is 0.
@@ -9,6 +10,30 @@ pub enum Reason {
     /// The file has 2^62 bytes or more; the number is its length.
     FileTooLarge,
 
-    /// What a later version reads; the number is its place.
-    Later,
+    /// The file ends too early; the number is its length.
+    Truncated,
+
+    /// No marker stands where a segment of a JPEG has to begin.
+    BadMarker,
+
+    /// A segment of a JPEG has a length that can't be one.
+    BadSegment,
+
+    /// A packet of a JPEG's store, or what stands in its place, doesn't fit into the store.
+    BadPacket,
+
+    /// A second store begins.
+    TwoStores,
+
+    /// A box of a BMFF file has a length that can't be one.
+    BadBox,
+
+    /// A C2PA box of a BMFF file hasn't its form.
+    BadProvenanceBox,
+
+    /// A store is longer than a store may be; the number is the length that it states.
+    StoreTooLarge,
+
+    /// A BMFF file has too many root boxes; the number is 0.
+    TooManyBoxes,
 }
