@@ -2,10 +2,9 @@
 ghost use Rattle.std.specs.Prelude.{◌≡◌, ℕ, ◌+◌, ◌≤◌, Ok, Some, IfSome, IfOk, IfErr, OnOk};
 ghost use Rattle.std.specs.Option.{ForSome};
 ghost use Rattle.c2_base.specs.Source.{StaysSource};
-ghost use Rattle.c2_spec.specs.Located.{Located};
+ghost use Rattle.c2_spec.specs.Located.{Located, said, refusal};
 ghost use Rattle.c2_spec.specs.Jpeg.{IsLocated};
 ghost use Rattle.c2_cmd.specs.Reply.{HasReason};
-ghost use Rattle.c2_jpegseg.specs.Answers.{said, refusal};
 ghost use Rattle.c2_cmd.specs.Open.{located_of, IsWithin, IsFaultOf};
 
 use crate::reply::Fault;
@@ -63,7 +62,15 @@ fn refused(error: MediaError) -> Result<Opened, Fault>
     let (reason, number) = match error {
         MediaError::NotMedia => (Reason::NotMedia, 0),
         MediaError::FileTooLarge(size) => (Reason::FileTooLarge, size),
-        MediaError::Later(at) => (Reason::Later, at),
+        MediaError::Truncated(size) => (Reason::Truncated, size),
+        MediaError::BadMarker(at) => (Reason::BadMarker, at),
+        MediaError::BadSegment(at) => (Reason::BadSegment, at),
+        MediaError::BadPacket(at) => (Reason::BadPacket, at),
+        MediaError::TwoStores(at) => (Reason::TwoStores, at),
+        MediaError::BadBox(at) => (Reason::BadBox, at),
+        MediaError::BadProvenanceBox(at) => (Reason::BadProvenanceBox, at),
+        MediaError::StoreTooLarge(size) => (Reason::StoreTooLarge, size),
+        MediaError::TooManyBoxes => (Reason::TooManyBoxes, 0),
         MediaError::ReadFault => return Err(Fault::Input),
         MediaError::NoMemory => return Err(Fault::Memory),
     };

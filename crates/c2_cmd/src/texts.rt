@@ -63,6 +63,14 @@ fn reason_name(reason: Reason) -> &'static str
     match reason {
         Reason::NotMedia => "NotMedia",
         Reason::FileTooLarge => "FileTooLarge",
-        Reason::Later => "Later",
+        Reason::Truncated => "Truncated",
+        Reason::BadMarker => "BadMarker",
+        Reason::BadSegment => "BadSegment",
+        Reason::BadPacket => "BadPacket",
+        Reason::TwoStores => "TwoStores",
+        Reason::BadBox => "BadBox",
+        Reason::BadProvenanceBox => "BadProvenanceBox",
+        Reason::StoreTooLarge => "StoreTooLarge",
+        Reason::TooManyBoxes => "TooManyBoxes",
     }
 }

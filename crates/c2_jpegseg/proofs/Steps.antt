@@ -22,7 +22,7 @@ use borrow.Author.Tests.{lt-ltb, le-ltb, leb-true, eqb-true}
 pub from_start-run : (segments : List Segment) (r : Collected) (h : IsRunOf segments r) → from_start segments ≡ h.first ∷ (h.others ++ h.after)
 from_start-run segments r h = ap from_start h.split ∙ from_start-skip h.before (h.first ∷ h.others ++ h.after) h.none_before ∙ from_start-here h.first (h.others ++ h.after) h.starts
 
--- the bytes that are missing_bytes
+-- the bytes that are missing
 pub missing-run : (segments : List Segment) (r : Collected) (h : IsRunOf segments r) → missing_bytes h.first (h.others ++ h.after) ≡ r.total - length r.store
 missing-run segments r h =
     let held : length r.store ≡ length (packet_in h.first).header + sum_by body_len (h.first ∷ h.others) = run-length h.first h.others r.store h.is_run in

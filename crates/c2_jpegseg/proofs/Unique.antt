@@ -8,8 +8,8 @@ use Rattle.c2_base.specs.declared.media.MediaError.{MediaError}
 use Rattle.c2_base.specs.declared.media.MediaError.TheVariants.{NotMedia, FileTooLarge, BadPacket, StoreTooLarge}
 use Rattle.c2_spec.specs.JpegSegments.{Segment, IsSegment, EndsSegments, HasSegments, place_after, segment_bytes, start_of_image}
 use Rattle.c2_spec.specs.JpegPackets.{Packet, packet_in, is_packet, is_store_start, is_stray, stated_length}
-use Rattle.c2_spec.specs.Located.{Located, refused, absent, here}
-use Rattle.c2_spec.specs.Jpeg.{AllPass, HoldsStore, FailsAfter, at_marker, at_segment, at_end, too_large, not_media, segment, IsJpegOutcome, goes_on, first_packet_fault, fault_after, is_open, is_open_from, missing_bytes}
+use Rattle.c2_jpegseg.specs.Answers.{Finding, refusing, lacking, holding, IsFinding}
+use Rattle.c2_spec.specs.Jpeg.{AllPass, HoldsStore, FailsAfter, at_marker, at_segment, at_end, too_large, not_media, segment, goes_on, first_packet_fault, fault_after, is_open, is_open_from, missing_bytes}
 use Rattle.c2_jpegseg.specs.Runs.{Collected}
 use Rattle.c2_jpegseg.specs.Walks.{IsRunOf}
 use Rattle.c2_jpegseg.proofs.SegmentLists.{each-front, each-back, passing-push, from_start-none}
@@ -39,10 +39,10 @@ compare (x ∷ xs) (y ∷ ys) r s hx hy e =
     extend x y same (second_on z zs a b c) = second_on z zs (ap (λ t. t ∷ xs) same ∙ ap (λ (ts : List Segment). y ∷ ts) a) b c
 
 -- how a file's segments end, and with what outcome
-pub data Stops (segments : List Segment) (rest : List ℕ) : Located → Type 0 where
-  fault : {e : MediaError} → FailsAfter segments rest e → Stops segments rest (refused e)
-  none : EndsSegments rest → AllByRecursion (λ s. is_store_start s ≡ false) segments → Stops segments rest absent
-  found : {start len : ℕ} {store : List ℕ} → EndsSegments rest → HoldsStore segments start len store → Stops segments rest (here start len store)
+pub data Stops (segments : List Segment) (rest : List ℕ) : Finding → Type 0 where
+  fault : {e : MediaError} → FailsAfter segments rest e → Stops segments rest (refusing e)
+  none : EndsSegments rest → AllByRecursion (λ s. is_store_start s ≡ false) segments → Stops segments rest lacking
+  found : {start len : ℕ} {store : List ℕ} → EndsSegments rest → HoldsStore segments start len store → Stops segments rest (holding start len store)
 
 -- each segment passes where none begins a store
 pub none-passing : (segments : List Segment) → AllByRecursion (λ s. is_store_start s ≡ false) segments → AllPass segments
@@ -155,7 +155,7 @@ first_passes p q fits small =
     ∙ ap (λ b. cond b (Some (StoreTooLarge (stated_length q.header))) (cond (ltb (stated_length q.header) (length q.header + length q.body)) (Some (BadPacket p)) None)) (le-ltb 33554432 (stated_length q.header) small)
     ∙ ap (λ b. cond b (Some (BadPacket p)) None) (le-ltb (stated_length q.header) (length q.header + length q.body) fits)
 
--- the tests pass on each segment of a file with a store, and no byte is missing_bytes
+-- the tests pass on each segment of a file with a store, and no byte is missing
 store_whole : (segments : List Segment) (start len : ℕ) (store : List ℕ) → HoldsStore segments start len store → Whole segments
 store_whole segments start len store h =
     let g : Grown ((h.before ++ h.first ∷ []) ++ h.others) h.first = grow (h.before ++ h.first ∷ []) h.first [] h.others ((h.before ++ h.first ∷ []) ++ h.others) r1 k1 f1 refl in
@@ -237,7 +237,7 @@ others_same (x ∷ o1) (y ∷ o2) a1 a2 e h1 h2 n =
     let b : length (packet_in x).body ≡ length (packet_in y).body = ap (λ s. length (packet_in s).body) head in
     ap (λ z. z ∷ o1) head ∙ ap (λ (zs : List Segment). y ∷ zs) (others_same o1 o2 a1 a2 tail h1.1 h2.1 (omega (arith, n, l1, l2, b)))
 
-store_same : (segments : List Segment) (s1 l1 s2 l2 : ℕ) (b1 b2 : List ℕ) → HoldsStore segments s1 l1 b1 → HoldsStore segments s2 l2 b2 → here s1 l1 b1 ≡ here s2 l2 b2
+store_same : (segments : List Segment) (s1 l1 s2 l2 : ℕ) (b1 b2 : List ℕ) → HoldsStore segments s1 l1 b1 → HoldsStore segments s2 l2 b2 → holding s1 l1 b1 ≡ holding s2 l2 b2
 store_same segments s1 l1 s2 l2 b1 b2 g h =
     let one = first_split g.before h.before g.first h.first (g.others ++ g.after) (h.others ++ h.after) (sym g.split ∙ h.split) g.none_before h.none_before g.starts h.starts in
     let size1 : length b1 ≡ length (packet_in g.first).header + length ((packet_in g.first).body ++ bodies g.others) = ap length g.is_run.bytes ∙ length-append (packet_in g.first).header (bodies (g.first ∷ g.others)) in
@@ -251,7 +251,7 @@ store_same segments s1 l1 s2 l2 b1 b2 g h =
     let start : s1 ≡ s2 = g.from ∙ ap place_after one.0 ∙ sym h.from in
     let len : l1 ≡ l2 = g.for ∙ ap (λ f. length (flat_map segment_bytes (f ∷ g.others))) one.1 ∙ ap (λ (o : List Segment). length (flat_map segment_bytes (h.first ∷ o))) others ∙ sym h.for in
     let store : b1 ≡ b2 = g.is_run.bytes ∙ ap (λ f. (packet_in f).header ++ bodies (f ∷ g.others)) one.1 ∙ ap (λ (o : List Segment). (packet_in h.first).header ++ bodies (h.first ∷ o)) others ∙ sym h.is_run.bytes in
-    ap (λ n. here n l1 b1) start ∙ ap (λ n. here s2 n b1) len ∙ ap (here s2 l2) store
+    ap (λ n. holding n l1 b1) start ∙ ap (λ n. holding s2 n b1) len ∙ ap (holding s2 l2) store
 
 -- behind the same segments the same test fails
 fails_same : (segments : List Segment) (rest : List ℕ) (e f : MediaError) → FailsAfter segments rest e → FailsAfter segments rest f → e ≡ f
@@ -267,7 +267,7 @@ fails_same segments rest e f (at_end last _ _) (at_marker b) = let h : fails f �
 fails_same segments rest e f (at_end last _ _) (at_segment s more legal shape test) = let h : finds s more ≡ ends = sym (read-segment (place_after segments) s more legal) ∙ ap (read (place_after segments)) (sym shape) ∙ read-end (place_after segments) rest last in cc (h)
 fails_same segments rest e f (at_end _ _ a) (at_end _ _ b) = a ∙ sym b
 
--- where the segments end and no byte is missing_bytes, nothing fails
+-- where the segments end and no byte is missing, nothing fails
 fails_not : (segments : List Segment) (rest : List ℕ) (e : MediaError) → FailsAfter segments rest e → EndsSegments rest → is_open segments ≡ false → ⊥
 fails_not segments rest e (at_marker a) last closed = let h : fails e ≡ ends = sym (read-fault (place_after segments) rest e a) ∙ read-end (place_after segments) rest last in cc (h)
 fails_not segments rest e (at_segment s more legal shape test) last closed = let h : finds s more ≡ ends = sym (read-segment (place_after segments) s more legal) ∙ ap (read (place_after segments)) (sym shape) ∙ read-end (place_after segments) rest last in cc (h)
@@ -278,8 +278,8 @@ store_not_none segments start len store h clear =
     let all = subst (AllByRecursion (λ t. is_store_start t ≡ false)) h.split clear in
     both_ways _ (each-back (λ t. is_store_start t ≡ false) h.before (h.first ∷ h.others ++ h.after) all).0 h.starts
 
-stops_same : (segments : List Segment) (rest : List ℕ) (o p : Located) → Stops segments rest o → Stops segments rest p → o ≡ p
-stops_same segments rest _ _ (fault {e = e} a) (fault {e = f} b) = ap refused (fails_same segments rest e f a b)
+stops_same : (segments : List Segment) (rest : List ℕ) (o p : Finding) → Stops segments rest o → Stops segments rest p → o ≡ p
+stops_same segments rest _ _ (fault {e = e} a) (fault {e = f} b) = ap refusing (fails_same segments rest e f a b)
 stops_same segments rest _ _ (fault {e = e} a) (none last clear) = absurd (fails_not segments rest e a last (none_closed segments clear))
 stops_same segments rest _ _ (fault {e = e} a) (found last store) = absurd (fails_not segments rest e a last (whole_closed segments (store_whole segments _ _ _ store)))
 stops_same segments rest _ _ (none last clear) (fault {e = e} a) = absurd (fails_not segments rest e a last (none_closed segments clear))
@@ -290,7 +290,7 @@ stops_same segments rest _ _ (found _ store) (none _ clear) = absurd (store_not_
 stops_same segments rest _ _ (found _ a) (found _ b) = store_same segments _ _ _ _ _ _ a b
 
 -- where another segment that passes stands, nothing stops
-stops_not : (xs zs : List Segment) (z : Segment) (rest more : List ℕ) (o : Located) → Stops xs rest o → IsSegment z → rest ≡ segment_bytes z ++ more → fault_after xs z ≡ None → ⊥
+stops_not : (xs zs : List Segment) (z : Segment) (rest more : List ℕ) (o : Finding) → Stops xs rest o → IsSegment z → rest ≡ segment_bytes z ++ more → fault_after xs z ≡ None → ⊥
 stops_not xs zs z rest more _ (fault {e = e} (at_marker a)) legal shape passes = let h : fails e ≡ finds z more = sym (read-fault (place_after xs) rest e a) ∙ ap (read (place_after xs)) shape ∙ read-segment (place_after xs) z more legal in cc (h)
 stops_not xs zs z rest more _ (fault {e = e} (at_segment s others proper form test)) legal shape passes =
     let one = same_front s z others more proper legal (sym form ∙ shape) in
@@ -300,22 +300,22 @@ stops_not xs zs z rest more _ (none last _) legal shape passes = let h : ends �
 stops_not xs zs z rest more _ (found last _) legal shape passes = let h : ends ≡ finds z more = sym (read-end 0 rest last) ∙ ap (read 0) shape ∙ read-segment 0 z more legal in cc (h)
 
 -- what a file looks like, whichever its outcome is
-data Shape (file : List ℕ) : Located → Type 0 where
-  large : 2 ^ 62 ≤ length file → Shape file (refused (FileTooLarge (length file)))
-  other : length file < 2 ^ 62 → take 2 file ≢ start_of_image → Shape file (refused NotMedia)
-  walked : {o : Located} → length file < 2 ^ 62 → (segments : List Segment) (rest : List ℕ) → HasSegments file segments rest → AllPass segments → Stops segments rest o → Shape file o
+data Shape (file : List ℕ) : Finding → Type 0 where
+  large : 2 ^ 62 ≤ length file → Shape file (refusing (FileTooLarge (length file)))
+  other : length file < 2 ^ 62 → take 2 file ≢ start_of_image → Shape file (refusing NotMedia)
+  walked : {o : Finding} → length file < 2 ^ 62 → (segments : List Segment) (rest : List ℕ) → HasSegments file segments rest → AllPass segments → Stops segments rest o → Shape file o
 
-shape_of : (file : List ℕ) (o : Located) → IsJpegOutcome file o → Shape file o
-shape_of file (refused _) (too_large h) = large h
-shape_of file (refused _) (not_media fits h) = other fits h
-shape_of file (refused e) (segment _ fits h) = walked fits h.before h.rest h.begins h.passing (fault h.fails)
-shape_of file absent h = walked h.fits h.segments h.rest h.begins (none-passing h.segments h.none) (none h.ends h.none)
-shape_of file (here start len store) h = walked h.fits h.segments h.rest h.begins (store_whole h.segments start len store h.holds).passing (found h.ends h.holds)
+shape_of : (file : List ℕ) (o : Finding) → IsFinding file o → Shape file o
+shape_of file (refusing _) (too_large h) = large h
+shape_of file (refusing _) (not_media fits h) = other fits h
+shape_of file (refusing e) (segment _ fits h) = walked fits h.before h.rest h.begins h.passing (fault h.fails)
+shape_of file lacking h = walked h.fits h.segments h.rest h.begins (none-passing h.segments h.none) (none h.ends h.none)
+shape_of file (holding start len store) h = walked h.fits h.segments h.rest h.begins (store_whole h.segments start len store h.holds).passing (found h.ends h.holds)
 
 begins_media : (file : List ℕ) (segments : List Segment) (rest : List ℕ) → HasSegments file segments rest → take 2 file ≡ start_of_image
 begins_media file segments rest b = ap (take 2) b.bytes
 
-walks_same : (file : List ℕ) (xs ys : List Segment) (r s : List ℕ) (o p : Located) → HasSegments file xs r → HasSegments file ys s → AllPass xs → AllPass ys → Stops xs r o → Stops ys s p → o ≡ p
+walks_same : (file : List ℕ) (xs ys : List Segment) (r s : List ℕ) (o p : Finding) → HasSegments file xs r → HasSegments file ys s → AllPass xs → AllPass ys → Stops xs r o → Stops ys s p → o ≡ p
 walks_same file xs ys r s o p bx by px py sx sy = go (compare xs ys r s bx.each by.each inner)
   where
     outer : start_of_image ++ (flat_map segment_bytes xs ++ r) ≡ start_of_image ++ (flat_map segment_bytes ys ++ s)
@@ -329,7 +329,7 @@ walks_same file xs ys r s o p bx by px py sx sy = go (compare xs ys r s bx.each 
     go (first_on (z ∷ zs) same shape legal) = absurd (stops_not xs zs z r (flat_map segment_bytes zs ++ s) o sx legal.0 (shape ∙ append_assoc (segment_bytes z) (flat_map segment_bytes zs) s) (py xs zs z same))
     go (second_on z zs same shape legal) = absurd (stops_not ys zs z s (flat_map segment_bytes zs ++ r) p sy legal.0 (shape ∙ append_assoc (segment_bytes z) (flat_map segment_bytes zs) r) (px ys zs z same))
 
-shape_same : (file : List ℕ) (o p : Located) → Shape file o → Shape file p → o ≡ p
+shape_same : (file : List ℕ) (o p : Finding) → Shape file o → Shape file p → o ≡ p
 shape_same file _ _ (large a) (large b) = refl
 shape_same file _ _ (large a) (other b _) = absurd (omega arith)
 shape_same file _ _ (large a) (walked b _ _ _ _ _) = absurd (omega arith)
@@ -341,5 +341,5 @@ shape_same file _ _ (walked _ segments rest b _ _) (other _ a) = absurd (a (begi
 shape_same file o p (walked _ xs r bx px sx) (walked _ ys s by py sy) = walks_same file xs ys r s o p bx by px py sx sy
 
 -- A file has one outcome.
-pub one_outcome : (file : List ℕ) (o p : Located) → IsJpegOutcome file o → IsJpegOutcome file p → o ≡ p
+pub one_outcome : (file : List ℕ) (o p : Finding) → IsFinding file o → IsFinding file p → o ≡ p
 one_outcome file o p a b = shape_same file o p (shape_of file o a) (shape_of file p b)

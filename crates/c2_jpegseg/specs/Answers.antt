@@ -4,6 +4,7 @@ use Rattle.c2_base.specs.declared.media.Found.{Found}
 use Rattle.c2_base.specs.declared.media.MediaError.{MediaError}
 use Rattle.c2_base.specs.declared.media.MediaError.TheVariants.{NotMedia, Truncated, BadMarker, BadSegment, BadPacket, TwoStores, StoreTooLarge, ReadFault, NoMemory}
 use Rattle.c2_spec.specs.JpegSegments.{start_of_image}
+use Rattle.c2_spec.specs.Located.{Located, absent, here, refusal}
 use Rattle.c2_spec.specs.Jpeg.{HasJpegStore, HasNoJpegStore, SegmentFault, FirstJpegFault}
 use Rattle.c2_jpegseg.specs.Causes.{OrOutside}
 use Rattle.c2_jpegseg.specs.Walks.{Walks}
@@ -36,3 +37,19 @@ IsWalkError size (StoreTooLarge n) = 33554432 < n
 IsWalkError size ReadFault = ⊤
 IsWalkError size NoMemory = ⊤
 IsWalkError size _ = ⊥
+
+-- What a file comes to, by the error itself.
+pub data Finding : Type 0 where
+  refusing : MediaError → Finding
+  lacking : Finding
+  holding : ℕ → ℕ → List ℕ → Finding
+
+abbrev pub IsFinding : List ℕ → Finding → Type 0
+IsFinding file (refusing e) = FirstJpegFault file e
+IsFinding file lacking = HasNoJpegStore file
+IsFinding file (holding start len store) = HasJpegStore file start len store
+
+abbrev pub located_of : Finding → Option Located
+located_of (refusing e) = refusal e
+located_of lacking = Some absent
+located_of (holding start len store) = Some (here start len store)

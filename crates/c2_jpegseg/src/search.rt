@@ -3,9 +3,9 @@ ghost use Rattle.std.specs.Prelude.{◌≡◌, ℕ, ◌+◌, ◌-◌, ◌^◌, �
 ghost use Rattle.std.specs.Option.{ForSome};
 ghost use Rattle.c2_base.specs.Causes.{HasCause};
 ghost use Rattle.c2_base.specs.Source.{StaysSource};
-ghost use Rattle.c2_spec.specs.Located.{Located, said, HasErrorCause, IsWithin};
+ghost use Rattle.c2_spec.specs.Located.{Located, said, HasReason};
 ghost use Rattle.c2_spec.specs.JpegSegments.{EndsSegments};
-ghost use Rattle.c2_spec.specs.Jpeg.{IsJpegOutcome, IsJpegRefusal};
+ghost use Rattle.c2_spec.specs.Jpeg.{IsLocated, IsJpegRefusal};
 ghost use Rattle.c2_jpegseg.specs.Answers.{IsBegun, IsWalkedOr, IsFoundOr, IsWalkError};
 ghost use Rattle.c2_jpegseg.specs.Causes.{IsCaused, OrOutside};
 ghost use Rattle.c2_jpegseg.specs.Packets.{PacketOf, HasHeader};
@@ -96,7 +96,8 @@ fn walk<S: Source>(
     ensures stays { StaysSource S.len S.told S.faults source.old source.new }
     ensures count { OnOk result (S.faults source.new ≡ S.faults source.old) }
     ensures cause { IfErr result (IsCaused (S.faults source.old) (S.faults source.new)) }
-    ensures within { IfOk result (λ o. IfSome o (IsWithin size)) }
+    ensures within { IfOk result (λ found. IfSome found (λ f. f.start + f.length ≤ size)) }
+    ensures store { IfOk result (λ found. IfSome found (λ f. length f.store ≤ 33554432)) }
     ensures error { IfErr result (IsWalkError size) }
     ensures walked { ForSome (S.told source.old) (λ file. IsWalkedOr file result) }
 {
@@ -131,12 +132,14 @@ fn walk<S: Source>(
 
 /// The search, told by cases.
 fn search<S: Source>(alloc: Global, source: &mut S) -> Result<Option<Found>, MediaError>
-    ensures stays { StaysSource S.len S.told S.faults source.old source.new }
-    ensures count { OnOk result ((S.len source.old < 2 ^ 62) × (S.faults source.new ≡ S.faults source.old)) }
-    ensures cause { IfErr result (HasErrorCause (S.len source.old) (S.faults source.old) (S.faults source.new)) }
-    ensures refusal { IfErr result (IsJpegRefusal (S.len source.old)) }
-    ensures within { IfOk result (λ o. IfSome o (IsWithin (S.len source.old))) }
     ensures found { ForSome (S.told source.old) (λ file. IsFoundOr file result) }
+    ensures within { IfOk result (λ found. IfSome found (λ f. f.start + f.length ≤ S.len source.old)) }
+    ensures store { IfOk result (λ found. IfSome found (λ f. length f.store ≤ 33554432)) }
+    ensures refusal { IfErr result (IsJpegRefusal (S.len source.old)) }
+    ensures small { OnOk result (S.len source.old < 2 ^ 62) }
+    ensures stays { StaysSource S.len S.told S.faults source.old source.new }
+    ensures count { OnOk result (S.faults source.new ≡ S.faults source.old) }
+    ensures reason { IfErr result (HasReason (S.len source.old) (S.faults source.old) (S.faults source.new)) }
 {
     let size = source.size()?;
     if size >= TOO_LARGE {
@@ -164,16 +167,18 @@ fn search<S: Source>(alloc: Global, source: &mut S) -> Result<Option<Found>, Med
 /// - `ReadFault`: the source failed; `NoMemory`: memory ran out.
 #[tactic(auto, using(crate::proofs::Answers::said_is, crate::proofs::Answers::only_said))]
 pub fn locate<S: Source>(alloc: Global, source: &mut S) -> Result<Option<Found>, MediaError>
-    // Where the source tells its bytes, the answer is what the file is, and the file is nothing else.
-    ensures outcome { ForSome (S.told source.old) (λ file. IfSome (said result) (IsJpegOutcome file)) }
-    ensures only { ForSome (S.told source.old) (λ file. (o : Located) → IsJpegOutcome file o → IfSome (said result) (λ p. p ≡ o)) }
+    // Where the source tells its bytes: what is answered holds, and what holds is answered.
+    ensures found { ForSome (S.told source.old) (λ file. IfSome (said result) (IsLocated file)) }
+    ensures only { ForSome (S.told source.old) (λ file. (what : Located) → IsLocated file what → IfSome (said result) (λ s. s ≡ what)) }
 
     // These hold of every source, also of one that tells no bytes.
-    ensures within { IfOk result (λ o. IfSome o (IsWithin (S.len source.old))) }
+    ensures within { IfOk result (λ found. IfSome found (λ f. f.start + f.length ≤ S.len source.old)) }
+    ensures store { IfOk result (λ found. IfSome found (λ f. length f.store ≤ 33554432)) }
     ensures refusal { IfErr result (IsJpegRefusal (S.len source.old)) }
-    ensures count { OnOk result ((S.len source.old < 2 ^ 62) × (S.faults source.new ≡ S.faults source.old)) }
-    ensures cause { IfErr result (HasErrorCause (S.len source.old) (S.faults source.old) (S.faults source.new)) }
+    ensures small { OnOk result (S.len source.old < 2 ^ 62) }
     ensures stays { StaysSource S.len S.told S.faults source.old source.new }
+    ensures count { OnOk result (S.faults source.new ≡ S.faults source.old) }
+    ensures reason { IfErr result (HasReason (S.len source.old) (S.faults source.old) (S.faults source.new)) }
 {
     search(alloc, source)
 }

@@ -29,9 +29,9 @@ fn digest_refuses_with_the_place(rt: HostRuntime) -> Result<(), Fail> {
     let rows: [(&[u8], &str, Status); 5] = [
         (&[], "refused NotMedia 0\n", Status::Refused),
         (&[0xFF, 0xD8, 0xFF, 0xD9], "none\n", Status::NoStore),
-        (&[0xFF, 0xD8], "refused Later 2\n", Status::Refused),
-        (&JFIF, "refused Later 2\n", Status::Refused),
-        (&no_end, "refused Later 52\n", Status::Refused),
+        (&[0xFF, 0xD8], "refused Truncated 2\n", Status::Refused),
+        (&JFIF, "none\n", Status::NoStore),
+        (&no_end, "refused BadMarker 52\n", Status::Refused),
     ];
     for (file, report, status) in rows {
         comes_to(&rt, alloc, &given, file, report, status)?;
