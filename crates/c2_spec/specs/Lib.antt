@@ -1,0 +1,3 @@
+pub mod Jumbf
+pub mod JumbfFaults
+pub mod JumbfBoxes
