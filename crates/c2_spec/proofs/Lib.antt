@@ -1,0 +1,5 @@
+pub mod JumbfHeads
+pub mod JumbfParts
+pub mod JumbfOneTree
+pub mod JumbfNoFault
+pub mod JumbfOneFault
