@@ -3,3 +3,4 @@ pub mod JumbfParts
 pub mod JumbfOneTree
 pub mod JumbfNoFault
 pub mod JumbfOneFault
+pub mod JumbfCode
