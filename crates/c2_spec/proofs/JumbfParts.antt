@@ -42,7 +42,7 @@ fixed_once on size bytes (Some t) (Some u) r s p q = go t u (p.legal ∙ sym q.l
     go (x ∷ t) (y ∷ u) l e = go t u (omega arith) (cc (e))
 
 -- bits of the toggles
-abbrev one : Bool → ℕ
+abbrev pub one : Bool → ℕ
 one b = toggle b 1
 
 one_small : (b : Bool) → one b ≤ 1
@@ -65,7 +65,7 @@ scale_16 : (b : Bool) → toggle b 16 ≡ 16 * one b
 scale_16 true = refl
 scale_16 false = refl
 
-one_eqb : (x : ℕ) → x < 2 → one (eqb x 1) ≡ x
+pub one_eqb : (x : ℕ) → x < 2 → one (eqb x 1) ≡ x
 one_eqb zero h = refl
 one_eqb (suc zero) h = refl
 one_eqb (suc (suc x)) h = absurd (omega arith)
@@ -75,7 +75,7 @@ eqb_one true = refl
 eqb_one false = refl
 
 -- the toggles as a sum
-sum_is : (d : Description) → toggles d ≡ one d.requestable + 2 * one (is_some d.label) + 4 * one (is_some d.id) + 8 * one (is_some d.digest) + 16 * one (is_some d.private)
+pub sum_is : (d : Description) → toggles d ≡ one d.requestable + 2 * one (is_some d.label) + 4 * one (is_some d.id) + 8 * one (is_some d.digest) + 16 * one (is_some d.private)
 sum_is d = omega (arith, scale_2 (is_some d.label), scale_4 (is_some d.id), scale_8 (is_some d.digest), scale_16 (is_some d.private))
 
 pub record Bits (d : Description) (t : ℕ) : Type 0 where
@@ -97,10 +97,10 @@ bits_of d t e =
       private = sym (ap (λ n. eqb n 1) g.3 ∙ eqb_one (is_some d.private));
     }
 
-parts_sum : (t : ℕ) → t < 32 → t % 2 + 2 * (t / 2 % 2) + 4 * (t / 4 % 2) + 8 * (t / 8 % 2) + 16 * (t / 16 % 2) ≡ t
+pub parts_sum : (t : ℕ) → t < 32 → t % 2 + 2 * (t / 2 % 2) + 4 * (t / 4 % 2) + 8 * (t / 8 % 2) + 16 * (t / 16 % 2) ≡ t
 parts_sum t h = omega arith
 
-small_bit : (x : ℕ) → x % 2 < 2
+pub small_bit : (x : ℕ) → x % 2 < 2
 small_bit x = omega arith
 
 -- the payload in its parts

@@ -1,7 +1,14 @@
 -- The boxes of a tree by their indices in preorder: places, depths, contents, labels, children, and where labels lead.
 use Rattle.std.specs.Prelude.{◌≡◌, ℕ, ◌+◌, Bool, List, [], ◌∷◌, ◌++◌, length, get_or, Option, Some, None, ◌==◌}
 use Rattle.std.specs.List.{Contains, slice_split}
+use Rattle.std.specs.Int.{w32, to_be_bytes}
+use Rattle.c2_spec.specs.declared.jumbf.Head.{Head}
+use Rattle.c2_spec.specs.JumbfFaults.{tells_wide, told_total, told_kind}
 use Rattle.c2_spec.specs.Jumbf.{jumb_kind, jumd_kind, head_len, PlainBox, Description, description_payload, description_bytes, Tree, Trees, leaf, super, none, more, tree_bytes, trees_bytes}
+
+-- What the head of the box at the front of a region tells.
+abbrev pub told_head : List ℕ → Head
+told_head region = record { header = head_len (tells_wide region); total = told_total region; kind = to_be_bytes w32 (told_kind region) }
 
 -- A box that has an index: a box of the tree, or the description box of a superbox.
 pub data AnyBox : Type 0 where

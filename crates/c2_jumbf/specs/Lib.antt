@@ -1,0 +1,5 @@
+pub mod Heads
+pub mod Fields
+pub mod Labels
+pub mod Flat
+pub mod Parsed

@@ -1,0 +1,13 @@
+//! Box trees (JUMBF, ISO/IEC 19566-5), read over the bytes that spell them and written.
+#![tactic(auto)]
+
+mod fields;
+mod front;
+mod labels;
+mod parse;
+mod rows;
+mod tree;
+
+pub use c2_spec::{Head, JumbfError, WriteError};
+pub use front::head;
+pub use tree::Tree;
