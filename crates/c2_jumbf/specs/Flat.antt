@@ -63,4 +63,4 @@ pub record Opened (earlier : List (Option (List ℕ))) (next : Siblings) (depth 
   pub new_label : IsNewLabel description.label earlier
   pub held : Holds next (earlier ++ description.label ∷ [])
   pub added : new ≡ old ++ record { place = at; total = head.total; after = length old; header = head.header; depth = depth }
-      ∷ record { place = at + head.header; total = from; after = length old + 2; header = head_len description.wide; depth = depth + 1 } ∷ []
+      ∷ record { place = at + head.header; total = from; after = length old + 1 + 1; header = head_len description.wide; depth = depth + 1 } ∷ []

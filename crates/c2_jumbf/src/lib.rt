@@ -4,10 +4,11 @@
 mod fields;
 mod front;
 mod labels;
-mod parse;
+mod reading;
 mod rows;
-mod tree;
+mod borrowed;
 
 pub use c2_spec::{Head, JumbfError, WriteError};
 pub use front::head;
-pub use tree::Tree;
+pub use reading::parse;
+pub use borrowed::Tree;
