@@ -5,3 +5,6 @@ pub mod Trees
 pub mod Whole
 pub mod Opening
 pub mod Roots
+pub mod BoxLemmas
+pub mod DescriptionLemmas
+pub mod Chains

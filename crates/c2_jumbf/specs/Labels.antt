@@ -42,3 +42,8 @@ pub record Holds (s : Siblings) (os : List (Option (List ℕ))) : Type 0 where
 pub record IsAdded (next : Siblings) (earlier : List (Option (List ℕ))) (label : Option (List ℕ)) (added : Bool) : Type 0 where
   pub new : OnTrue added (IsNewLabel label earlier × Holds next (earlier ++ label ∷ []))
   pub old : OnFalse added (IsNewLabel label earlier → ⊥)
+
+-- a box's label is this one
+abbrev pub is_label : List ℕ → Option (List ℕ) → Bool
+is_label q None = false
+is_label q (Some t) = bytes_eq t q

@@ -3,3 +3,4 @@ pub mod Fields
 pub mod Labels
 pub mod Flat
 pub mod Parsed
+pub mod Described

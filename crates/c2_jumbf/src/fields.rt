@@ -63,7 +63,7 @@ fn label_at(bytes: &[u8]) -> Option<Labelled<'_>>
 }
 
 /// The label behind the toggles, where there is one, and the rest.
-fn label_part(on: bool, bytes: &[u8]) -> Option<Part<'_>>
+pub fn label_part(on: bool, bytes: &[u8]) -> Option<Part<'_>>
     ensures found { IfSome result (λ p. IsLabelPart on bytes.now (text_of p.label) p.rest.now) }
     ensures none { IfNone result ((on ≡ true) × LabelFault bytes.now) }
 {

@@ -1,14 +1,18 @@
 //! Box trees (JUMBF, ISO/IEC 19566-5), read over the bytes that spell them and written.
 #![tactic(auto)]
 
+mod borrowed;
+mod boxes;
+mod children;
 mod fields;
 mod front;
 mod labels;
 mod reading;
 mod rows;
-mod borrowed;
 
+pub use borrowed::Tree;
+pub use boxes::{contents, count, depth, kind, label_of, place, total, uuid_of};
+pub use children::child;
 pub use c2_spec::{Head, JumbfError, WriteError};
 pub use front::head;
 pub use reading::parse;
-pub use borrowed::Tree;

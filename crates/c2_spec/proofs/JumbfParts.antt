@@ -171,7 +171,7 @@ shown_size on size bytes rest None is_on p = let h : false ≡ true = p.shown �
 shown_size on size bytes rest (Some v) is_on p = let n : length bytes ≡ length v + length rest = ap length p.split ∙ length-append v rest in omega (arith, n, p.legal)
 
 -- what stands behind the parts of fields
-own_label : (payload : List ℕ) (d : Description) → IsFields d → payload ≡ description_payload d → IsLabelPart (is_set 2 payload) (drop 17 payload) d.label (fixed_bytes d.id ++ (fixed_bytes d.digest ++ private_bytes d.private))
+pub own_label : (payload : List ℕ) (d : Description) → IsFields d → payload ≡ description_payload d → IsLabelPart (is_set 2 payload) (drop 17 payload) d.label (fixed_bytes d.id ++ (fixed_bytes d.digest ++ private_bytes d.private))
 own_label payload d legal e =
     let s : Split payload d = split_of payload d legal.uuid e in
     let t : Bits d (get_or payload 16 0) = bits_of d _ s.byte in
