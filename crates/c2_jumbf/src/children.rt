@@ -51,3 +51,21 @@ fn labelled_child(tree: &Tree<'_>, i: usize, label: &str) -> Option<usize>
     }
     None
 }
+
+/// The box that a path leads to from a box: its labels, separated by `/`, are those of child superboxes, one inside the
+/// other. The empty path is one empty label.
+pub fn find(tree: &Tree<'_>, start: usize, path: &str) -> Option<usize>
+    requires { start < tree_count tree.now }
+    ensures within { IfSome result (λ i. i < tree_count tree.now) }
+    ensures found { IfSome result (LabelsLead tree.now start (path_labels path.now)) }
+    ensures none { IfNone result ((i : ℕ) → LabelsLead tree.now start (path_labels path.now) i → ⊥) }
+{
+    let mut at = start;
+    for label in path.split('/') {
+        match labelled_child(tree, at, label) {
+            Some(next) => at = next,
+            None => return None,
+        }
+    }
+    Some(at)
+}

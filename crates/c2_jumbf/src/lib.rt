@@ -12,7 +12,7 @@ mod rows;
 
 pub use borrowed::Tree;
 pub use boxes::{contents, count, depth, kind, label_of, place, total, uuid_of};
-pub use children::child;
+pub use children::{child, find};
 pub use c2_spec::{Head, JumbfError, WriteError};
 pub use front::head;
 pub use reading::parse;
