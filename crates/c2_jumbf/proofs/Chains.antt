@@ -25,13 +25,13 @@ abbrev first_box : Tree → IndexedBox
 first_box t = record { index = 0; place = 0; depth = 1; box = node t }
 
 -- the box at the front of what stands from an index on
-front_box_is : (t : Tree) (i : ℕ) (b : IndexedBox) (rest : List IndexedBox) → drop i (boxes_of t) ≡ b ∷ rest → (box_at t i ≡ b) × (i < tree_count t)
+pub front_box_is : (t : Tree) (i : ℕ) (b : IndexedBox) (rest : List IndexedBox) → drop i (boxes_of t) ≡ b ∷ rest → (box_at t i ≡ b) × (i < tree_count t)
 front_box_is t i b rest e =
     let n : length (boxes_of t) - i ≡ suc (length rest) = sym (length-drop i (boxes_of t)) ∙ ap length e in
     let z : i + 0 ≡ i = omega arith in
     (sym (get_or-drop i (boxes_of t) 0 (first_box t) ∙ ap (λ k. get_or (boxes_of t) k (first_box t)) z) ∙ ap (λ (x : List IndexedBox). get_or x 0 (first_box t)) e, omega (arith, n, count_is t))
 
-head_of : (u : Tree) (at depth i : ℕ) → (rest : List IndexedBox) × (boxes_from at depth i u ≡ record { index = i; place = at; depth = depth; box = node u } ∷ rest)
+pub head_of : (u : Tree) (at depth i : ℕ) → (rest : List IndexedBox) × (boxes_from at depth i u ≡ record { index = i; place = at; depth = depth; box = node u } ∷ rest)
 head_of (leaf b) at depth i = ([], refl)
 head_of (super wide d us) at depth i = (_, refl)
 

@@ -8,3 +8,4 @@ pub mod Roots
 pub mod BoxLemmas
 pub mod DescriptionLemmas
 pub mod Chains
+pub mod Leading

@@ -1,6 +1,7 @@
 // The children of a box, and where labels lead.
 ghost use Rattle.std.specs.Prelude.{◌≡◌, ◌+◌, ◌<◌, ◌≤◌, ℕ, List, Option, Some, None, IfSome, IfNone};
 ghost use Rattle.std.specs.List.{slice_get, Contains};
+ghost use Rattle.c2_spec.specs.Jumbf.{IsLegalTree};
 ghost use Rattle.c2_spec.specs.JumbfBoxes.{tree_count, box_at, any_label, child_indices, path_labels, LabelsLead};
 ghost use Rattle.c2_jumbf.specs.Labels.{is_label};
 
@@ -37,7 +38,7 @@ fn is_labelled(tree: &Tree<'_>, i: usize, label: &str) -> bool
 /// The child superbox with a label.
 fn labelled_child(tree: &Tree<'_>, i: usize, label: &str) -> Option<usize>
     requires { i < tree_count tree.now }
-    ensures within { IfSome result (λ k. k < tree_count tree.now) }
+    ensures legal { IsLegalTree 1 tree.now }
     ensures found { IfSome result (λ k. Contains (child_indices tree.now i) k × (any_label (box_at tree.now k).box ≡ Some label.now)) }
     ensures none { IfNone result ((k : ℕ) → Contains (child_indices tree.now i) k → any_label (box_at tree.now k).box ≡ Some label.now → ⊥) }
 {
@@ -59,7 +60,9 @@ pub fn find(tree: &Tree<'_>, start: usize, path: &str) -> Option<usize>
     ensures within { IfSome result (λ i. i < tree_count tree.now) }
     ensures found { IfSome result (LabelsLead tree.now start (path_labels path.now)) }
     ensures none { IfNone result ((i : ℕ) → LabelsLead tree.now start (path_labels path.now) i → ⊥) }
+    ensures only { (i : ℕ) → LabelsLead tree.now start (path_labels path.now) i → result ≡ Some i }
 {
+    let _rows = &tree.rows;
     let mut at = start;
     for label in path.split('/') {
         match labelled_child(tree, at, label) {

@@ -28,7 +28,7 @@ pub struct Part<'a> {
 }
 
 /// The first place whose byte no label holds, or the length.
-fn label_end(bytes: &[u8]) -> usize
+pub fn label_end(bytes: &[u8]) -> usize
     ensures within { result ≤ length bytes.now }
     ensures before { (k : ℕ) → k < result → IsLabelByte (slice_index bytes.now k) }
     ensures at { result < length bytes.now → IsLabelByte (slice_index bytes.now result) → ⊥ }

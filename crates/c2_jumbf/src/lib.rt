@@ -9,10 +9,12 @@ mod front;
 mod labels;
 mod reading;
 mod rows;
+mod writing;
 
 pub use borrowed::Tree;
 pub use boxes::{contents, count, depth, kind, label_of, place, total, uuid_of};
-pub use children::{child, find};
 pub use c2_spec::{Head, JumbfError, WriteError};
+pub use children::{child, find};
 pub use front::head;
 pub use reading::parse;
+pub use writing::{write, write_leaf, write_super};

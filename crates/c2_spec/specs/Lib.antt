@@ -1,3 +1,4 @@
 pub mod Jumbf
 pub mod JumbfFaults
 pub mod JumbfBoxes
+pub mod JumbfWriting

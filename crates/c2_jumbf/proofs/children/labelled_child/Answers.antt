@@ -9,9 +9,6 @@ loop-at-init c = sought_start c.args.tree.now c.args.i c.row_at-end.result.after
 pub is_labelled-requires : goal.is_labelled-requires
 is_labelled-requires c = (sought_inside c.args.tree.now c.args.i c.row_at-end.result.after c.args.label.now c.loop-at.at c.loop-at.invariant c.loop-at-test.true).0
 
-pub returns-then-is_labelled-clause-within : goal.returns-then-is_labelled-clause-within
-returns-then-is_labelled-clause-within c = (sought_inside c.args.tree.now c.args.i c.row_at-end.result.after c.args.label.now c.loop-at.at c.loop-at.invariant c.loop-at-test.true).0
-
 pub returns-then-is_labelled-clause-found : goal.returns-then-is_labelled-clause-found
 returns-then-is_labelled-clause-found c = sought_here c.args.tree.now c.args.i c.row_at-end.result.after c.args.label.now c.loop-at.at c.loop-at.invariant c.loop-at-test.true (sym c.if-is_labelled.ensures)
 
