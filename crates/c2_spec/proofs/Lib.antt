@@ -1,1 +1,7 @@
 mod JpegRows
+pub mod JumbfHeads
+pub mod JumbfParts
+pub mod JumbfOneTree
+pub mod JumbfNoFault
+pub mod JumbfOneFault
+pub mod JumbfCode

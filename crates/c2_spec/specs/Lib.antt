@@ -4,3 +4,7 @@ pub mod JpegPackets
 pub mod JpegSegments
 pub mod Located
 pub mod Reason
+pub mod Jumbf
+pub mod JumbfFaults
+pub mod JumbfBoxes
+pub mod JumbfWriting

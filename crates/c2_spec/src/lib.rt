@@ -5,9 +5,11 @@
 #![tactic(auto)]
 
 mod digest;
+mod jumbf;
 mod panel;
 mod reason;
 
 pub use digest::Alg;
+pub use jumbf::{Head, JumbfError, WriteError};
 pub use panel::Verdict;
 pub use reason::Reason;

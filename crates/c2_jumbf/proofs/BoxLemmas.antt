@@ -1,0 +1,199 @@
+-- The boxes of a tree by their indices: their bytes, and those inside them.
+use Rattle.std.proofs.Common.{◌≡◌, ◌≢◌, ℕ, zero, suc, ◌+◌, ◌-◌, ◌<◌, ◌≤◌, Bool, true, false, List, [], ◌∷◌, ◌++◌, length, get_or, take, drop, map, Option, Some, None, refl, sym, ap, ◌∙◌, subst, append_assoc, arith, lit<, lit≤, length-append}
+use Rattle.std.specs.Int.{w32, to_be_bytes}
+use Rattle.std.proofs.lemmas.List.{drop-drop, drop_at, get_or-drop, get_or-map, length-drop, length-map, append-nil, take_at}
+use Rattle.std.specs.List.{AllByRecursion}
+use Rattle.c2_spec.specs.Jumbf.{Description, IsDescription, description_bytes, Tree, Trees, leaf, super, none, more, tree_bytes, trees_bytes, head_len, boxed, jumb_kind, jumd_kind, description_payload, IsLegalTree, AreLegalTrees, SpellsTree}
+use Rattle.c2_spec.specs.JumbfBoxes.{AnyBox, node, described, IndexedBox, tree_count, trees_count, boxes_from, boxes_from_all, boxes_of, box_at, any_bytes, any_wide, any_kind, any_contents, indices_from, children_of, child_indices}
+use Rattle.c2_jumbf.specs.declared.rows.Row.{Row}
+use Rattle.c2_jumbf.specs.Flat.{any_count, row_of, rows}
+use Rattle.c2_jumbf.specs.Parsed.{IsParsed}
+use Rattle.c2_jumbf.proofs.Trees.{length-boxes, length-boxes_all}
+
+all-append : {X : Type 0} (P : X → Type 0) (xs ys : List X) → AllByRecursion P xs → AllByRecursion P ys → AllByRecursion P (xs ++ ys)
+all-append P [] ys h k = k
+all-append P (x ∷ xs) ys h k = (h.0, all-append P xs ys h.1 k)
+
+all_at : {X : Type 0} (P : X → Type 0) (xs : List X) (i : ℕ) (d : X) → i < length xs → AllByRecursion P xs → P (get_or xs i d)
+all_at P [] i d l h = absurd (omega arith)
+all_at P (x ∷ xs) zero d l h = h.0
+all_at P (x ∷ xs) (suc i) d l h = all_at P xs i d (omega arith) h.1
+
+-- A box stands at its place, and is legal.
+abbrev pub IsLegalBox : ℕ → AnyBox → Type 0
+IsLegalBox depth (node t) = IsLegalTree depth t
+IsLegalBox depth (described d) = IsDescription d
+
+pub record Stands (bytes : List ℕ) (b : IndexedBox) : Type 0 where
+  pub rest : List ℕ
+  pub there : drop b.place bytes ≡ any_bytes b.box ++ rest
+  pub legal : IsLegalBox b.depth b.box
+
+cut_head : (kind : ℕ) (wide : Bool) (payload rest : List ℕ) → drop (head_len wide) (boxed kind wide payload ++ rest) ≡ payload ++ rest
+cut_head kind true payload rest = refl
+cut_head kind false payload rest = refl
+
+mutual
+  stand : (t : Tree) (bytes rest : List ℕ) (at depth i : ℕ) → drop at bytes ≡ tree_bytes t ++ rest → IsLegalTree depth t → AllByRecursion (Stands bytes) (boxes_from at depth i t)
+  stand (leaf b) bytes rest at depth i e h = (record { rest = rest; there = e; legal = h }, tt)
+  stand (super wide d us) bytes rest at depth i e h =
+      let first : drop (at + head_len wide) bytes ≡ description_bytes d ++ (trees_bytes us ++ rest) =
+        sym (drop-drop (head_len wide) at bytes) ∙ ap (drop (head_len wide)) e ∙ cut_head jumb_kind wide (description_bytes d ++ trees_bytes us) rest ∙ append_assoc (description_bytes d) (trees_bytes us) rest in
+      let second : drop (at + head_len wide + length (description_bytes d)) bytes ≡ trees_bytes us ++ rest =
+        sym (drop-drop (length (description_bytes d)) (at + head_len wide) bytes) ∙ ap (drop (length (description_bytes d))) first ∙ drop_at (description_bytes d) (trees_bytes us ++ rest) (length (description_bytes d)) refl in
+      (record { rest = rest; there = e; legal = h }, (record { rest = trees_bytes us ++ rest; there = first; legal = h.1 }, stand_all us bytes rest (at + head_len wide + length (description_bytes d)) (depth + 1) (i + 2) second h.3))
+
+  stand_all : (ts : Trees) (bytes rest : List ℕ) (at depth i : ℕ) → drop at bytes ≡ trees_bytes ts ++ rest → AreLegalTrees depth ts → AllByRecursion (Stands bytes) (boxes_from_all at depth i ts)
+  stand_all none bytes rest at depth i e h = tt
+  stand_all (more t ts) bytes rest at depth i e h =
+      let whole : drop at bytes ≡ tree_bytes t ++ (trees_bytes ts ++ rest) = e ∙ append_assoc (tree_bytes t) (trees_bytes ts) rest in
+      let behind : drop (at + length (tree_bytes t)) bytes ≡ trees_bytes ts ++ rest = sym (drop-drop (length (tree_bytes t)) at bytes) ∙ ap (drop (length (tree_bytes t))) whole ∙ drop_at (tree_bytes t) (trees_bytes ts ++ rest) (length (tree_bytes t)) refl in
+      all-append (Stands bytes) (boxes_from at depth i t) (boxes_from_all (at + length (tree_bytes t)) depth (i + tree_count t) ts) (stand t bytes (trees_bytes ts ++ rest) at depth i whole h.0) (stand_all ts bytes rest (at + length (tree_bytes t)) depth (i + tree_count t) behind h.1)
+
+-- The boxes of a list are numbered from an index on.
+abbrev Numbered : ℕ → List IndexedBox → Type 0
+Numbered i [] = Unit {0}
+Numbered i (b ∷ bs) = (b.index ≡ i) × Numbered (i + 1) bs
+
+numbered-append : (i : ℕ) (xs ys : List IndexedBox) → Numbered i xs → Numbered (i + length xs) ys → Numbered i (xs ++ ys)
+numbered-append i [] ys h k = let e : i + 0 ≡ i = omega arith in subst (λ n. Numbered n ys) e k
+numbered-append i (x ∷ xs) ys h k = let e : i + suc (length xs) ≡ i + 1 + length xs = omega arith in (h.0, numbered-append (i + 1) xs ys h.1 (subst (λ n. Numbered n ys) e k))
+
+mutual
+  numbered : (t : Tree) (at depth i j : ℕ) → i ≡ j → Numbered j (boxes_from at depth i t)
+  numbered (leaf b) at depth i j e = (e, tt)
+  numbered (super wide d us) at depth i j e = (e, (ap (λ n. n + 1) e, numbered_all us (at + head_len wide + length (description_bytes d)) (depth + 1) (i + 2) (j + 1 + 1) (omega (arith, e))))
+
+  numbered_all : (ts : Trees) (at depth i j : ℕ) → i ≡ j → Numbered j (boxes_from_all at depth i ts)
+  numbered_all none at depth i j e = tt
+  numbered_all (more t ts) at depth i j e = numbered-append j (boxes_from at depth i t) (boxes_from_all (at + length (tree_bytes t)) depth (i + tree_count t) ts) (numbered t at depth i j e) (numbered_all ts (at + length (tree_bytes t)) depth (i + tree_count t) (j + length (boxes_from at depth i t)) (omega (arith, e, length-boxes t at depth i)))
+
+numbered_at : (i k : ℕ) (xs : List IndexedBox) (d : IndexedBox) → k < length xs → Numbered i xs → (get_or xs k d).index ≡ i + k
+numbered_at i k [] d l h = absurd (omega arith)
+numbered_at i zero (x ∷ xs) d l h = h.0 ∙ (let e : i ≡ i + 0 = omega arith in e)
+numbered_at i (suc k) (x ∷ xs) d l h = numbered_at (i + 1) k xs d (omega arith) h.1 ∙ (let e : i + 1 + k ≡ i + suc k = omega arith in e)
+
+-- Behind each box stand those inside it.
+abbrev pub inner_boxes : ℕ → ℕ → ℕ → AnyBox → List IndexedBox
+inner_boxes i at depth (node t) = boxes_from at depth i t
+inner_boxes i at depth (described d) = record { index = i; place = at; depth = depth; box = described d } ∷ []
+
+abbrev pub own_boxes : IndexedBox → List IndexedBox
+own_boxes b = inner_boxes b.index b.place b.depth b.box
+
+abbrev Nested : List IndexedBox → Type 0
+Nested [] = Unit {0}
+Nested (b ∷ bs) = ((rest : List IndexedBox) × (b ∷ bs ≡ own_boxes b ++ rest)) × Nested bs
+
+mutual
+  nested : (t : Tree) (at depth i : ℕ) (rest : List IndexedBox) → Nested rest → Nested (boxes_from at depth i t ++ rest)
+  nested (leaf b) at depth i rest h = ((rest, refl), h)
+  nested (super wide d us) at depth i rest h =
+      ((rest, refl), ((boxes_from_all (at + head_len wide + length (description_bytes d)) (depth + 1) (i + 2) us ++ rest, refl), nested_all us (at + head_len wide + length (description_bytes d)) (depth + 1) (i + 2) rest h))
+
+  nested_all : (ts : Trees) (at depth i : ℕ) (rest : List IndexedBox) → Nested rest → Nested (boxes_from_all at depth i ts ++ rest)
+  nested_all none at depth i rest h = h
+  nested_all (more t ts) at depth i rest h =
+      subst Nested (sym (append_assoc (boxes_from at depth i t) (boxes_from_all (at + length (tree_bytes t)) depth (i + tree_count t) ts) rest))
+      (nested t at depth i (boxes_from_all (at + length (tree_bytes t)) depth (i + tree_count t) ts ++ rest) (nested_all ts (at + length (tree_bytes t)) depth (i + tree_count t) rest h))
+
+nested_at : (xs : List IndexedBox) (k : ℕ) (d : IndexedBox) → k < length xs → Nested xs → (rest : List IndexedBox) × (drop k xs ≡ own_boxes (get_or xs k d) ++ rest)
+nested_at [] k d l h = absurd (omega arith)
+nested_at (x ∷ xs) zero d l h = h.0
+nested_at (x ∷ xs) (suc k) d l h = nested_at xs k d (omega arith) h.1
+
+-- The box of an index.
+pub count_is : (t : Tree) → length (boxes_of t) ≡ tree_count t
+count_is t = length-boxes t 0 1 0
+
+within : (t : Tree) (i : ℕ) → i < tree_count t → i < length (boxes_of t)
+within t i l = omega (arith, l, count_is t)
+
+pub box_stands : (t : Tree) (i : ℕ) → i < tree_count t → IsLegalTree 1 t → Stands (tree_bytes t) (box_at t i)
+box_stands t i l h = all_at (Stands (tree_bytes t)) (boxes_of t) i _ (within t i l) (stand t (tree_bytes t) [] 0 1 0 (sym (append-nil (tree_bytes t))) h)
+
+pub box_index : (t : Tree) (i : ℕ) → i < tree_count t → (box_at t i).index ≡ i
+box_index t i l = numbered_at 0 i (boxes_of t) _ (within t i l) (numbered t 0 1 0 0 refl) ∙ (let e : 0 + i ≡ i = omega arith in e)
+
+pub box_inside : (t : Tree) (i : ℕ) → i < tree_count t → (rest : List IndexedBox) × (drop i (boxes_of t) ≡ own_boxes (box_at t i) ++ rest)
+box_inside t i l = nested_at (boxes_of t) i _ (within t i l) (subst Nested (append-nil (boxes_of t)) (nested t 0 1 0 [] tt))
+
+-- The record of an index, as the tree's type keeps it.
+row_is : (bytes : List ℕ) (all : List Row) (p : IsParsed bytes all) (i : ℕ) (d : Row) → i < tree_count p.tree → get_or all i d ≡ row_of (box_at p.tree i)
+row_is bytes all p i d l = ap (λ (x : List Row). get_or x i d) p.rows_are ∙ get_or-map row_of (boxes_of p.tree) i _ d (within p.tree i l)
+
+pub row_here : (bytes : List ℕ) (all : List Row) (p : IsParsed bytes all) (t : Tree) (i : ℕ) (d : Row) → p.tree ≡ t → i < tree_count t → get_or all i d ≡ row_of (box_at t i)
+row_here bytes all p t i d same l = row_is bytes all p i d (subst (λ u. i < tree_count u) (sym same) l) ∙ ap (λ u. row_of (box_at u i)) same
+
+pub rows_count : (bytes : List ℕ) (all : List Row) (p : IsParsed bytes all) (t : Tree) → p.tree ≡ t → length all ≡ tree_count t
+rows_count bytes all p t same = ap length p.rows_are ∙ length-map (boxes_of p.tree) row_of ∙ count_is p.tree ∙ ap tree_count same
+
+pub legal_here : (bytes : List ℕ) (all : List Row) (p : IsParsed bytes all) (t : Tree) → p.tree ≡ t → IsLegalTree 1 t
+legal_here bytes all p t same = subst (IsLegalTree 1) same p.spells.legal
+
+pub bytes_here : (bytes : List ℕ) (all : List Row) (p : IsParsed bytes all) (t : Tree) → p.tree ≡ t → bytes ≡ tree_bytes t
+bytes_here bytes all p t same = p.spells.whole ∙ ap tree_bytes same
+
+-- a tree has a box
+pub some_box : (t : Tree) → 0 < tree_count t
+some_box (leaf b) = lit< tt
+some_box (super wide d us) = omega arith
+
+boxed_long : (kind : ℕ) (wide : Bool) (payload : List ℕ) → length (boxed kind wide payload) ≡ head_len wide + length payload
+boxed_long kind true payload = omega arith
+boxed_long kind false payload = omega arith
+
+-- the length of a box, and what stands behind its header
+pub any_size : (b : AnyBox) → length (any_bytes b) ≡ head_len (any_wide b) + length (any_contents b)
+any_size (node (leaf b)) = boxed_long b.kind b.wide b.payload
+any_size (node (super wide d us)) = boxed_long jumb_kind wide (description_bytes d ++ trees_bytes us)
+any_size (described d) = boxed_long jumd_kind d.wide (description_payload d)
+
+pub head_size : (w : Bool) → 8 ≤ head_len w
+head_size true = lit≤ tt
+head_size false = lit≤ tt
+
+cut_own : (kind : ℕ) (wide : Bool) (payload : List ℕ) → drop (head_len wide) (boxed kind wide payload) ≡ payload
+cut_own kind true payload = refl
+cut_own kind false payload = refl
+
+pub any_behind : (b : AnyBox) → drop (head_len (any_wide b)) (any_bytes b) ≡ any_contents b
+any_behind (node (leaf b)) = cut_own b.kind b.wide b.payload
+any_behind (node (super wide d us)) = cut_own jumb_kind wide (description_bytes d ++ trees_bytes us)
+any_behind (described d) = cut_own jumd_kind d.wide (description_payload d)
+
+boxed_kind : (kind : ℕ) (wide : Bool) (payload : List ℕ) → get_or (boxed kind wide payload) 4 0 ∷ get_or (boxed kind wide payload) 5 0 ∷ get_or (boxed kind wide payload) 6 0 ∷ get_or (boxed kind wide payload) 7 0 ∷ [] ≡ to_be_bytes w32 kind
+boxed_kind kind true payload = refl
+boxed_kind kind false payload = refl
+
+pub any_kind_bytes : (b : AnyBox) → get_or (any_bytes b) 4 0 ∷ get_or (any_bytes b) 5 0 ∷ get_or (any_bytes b) 6 0 ∷ get_or (any_bytes b) 7 0 ∷ [] ≡ to_be_bytes w32 (any_kind b)
+any_kind_bytes (node (leaf b)) = boxed_kind b.kind b.wide b.payload
+any_kind_bytes (node (super wide d us)) = boxed_kind jumb_kind wide (description_bytes d ++ trees_bytes us)
+any_kind_bytes (described d) = boxed_kind jumd_kind d.wide (description_payload d)
+
+-- the box's bytes as they are borrowed
+pub box_ends : (bytes : List ℕ) (t : Tree) (i : ℕ) → bytes ≡ tree_bytes t → i < tree_count t → IsLegalTree 1 t → (box_at t i).place + length (any_bytes (box_at t i).box) ≤ length bytes
+box_ends bytes t i same l h =
+    let s : Stands (tree_bytes t) (box_at t i) = box_stands t i l h in
+    let n : length (tree_bytes t) - (box_at t i).place ≡ length (any_bytes (box_at t i).box) + length s.rest = sym (length-drop (box_at t i).place (tree_bytes t)) ∙ ap length s.there ∙ length-append (any_bytes (box_at t i).box) s.rest in
+    omega (arith, n, ap length same, any_size (box_at t i).box, head_size (any_wide (box_at t i).box))
+
+pub box_bytes_are : (bytes : List ℕ) (t : Tree) (i : ℕ) → bytes ≡ tree_bytes t → i < tree_count t → IsLegalTree 1 t → take (length (any_bytes (box_at t i).box)) (drop (box_at t i).place bytes) ≡ any_bytes (box_at t i).box
+box_bytes_are bytes t i same l h =
+    let s : Stands (tree_bytes t) (box_at t i) = box_stands t i l h in
+    ap (λ (x : List ℕ). take (length (any_bytes (box_at t i).box)) (drop (box_at t i).place x)) same ∙ ap (take (length (any_bytes (box_at t i).box))) s.there ∙ take_at (any_bytes (box_at t i).box) s.rest (length (any_bytes (box_at t i).box)) refl
+
+-- the row of an index ends within the bytes
+pub row_ends : (bytes : List ℕ) (all : List Row) (p : IsParsed bytes all) (t : Tree) (i : ℕ) (r : Row) → p.tree ≡ t → i < tree_count t → r ≡ row_of (box_at t i) → r.place + r.total ≤ length bytes
+row_ends bytes all p t i r same l is = subst (λ x. x.place + x.total ≤ length bytes) (sym is) (box_ends bytes t i (bytes_here bytes all p t same) l (legal_here bytes all p t same))
+
+pub row_bytes : (bytes : List ℕ) (all : List Row) (p : IsParsed bytes all) (t : Tree) (i : ℕ) (r : Row) → p.tree ≡ t → i < tree_count t → r ≡ row_of (box_at t i) → take (r.place + r.total - r.place) (drop r.place bytes) ≡ any_bytes (box_at t i).box
+row_bytes bytes all p t i r same l is =
+    let n : r.place + r.total - r.place ≡ r.total = omega arith in
+    ap (λ k. take k (drop r.place bytes)) n ∙ ap (λ (x : Row). take x.total (drop x.place bytes)) is ∙ box_bytes_are bytes t i (bytes_here bytes all p t same) l (legal_here bytes all p t same)
+
+pub any_long : (b : AnyBox) → head_len (any_wide b) ≤ length (any_bytes b)
+any_long b = omega (arith, any_size b)
+
+pub any_least : (b : AnyBox) → 8 ≤ length (any_bytes b)
+any_least b = omega (arith, any_size b, head_size (any_wide b))

@@ -1,0 +1,145 @@
+-- Labels lead to one box: siblings with one label are one.
+use Rattle.std.proofs.Common.{◌≡◌, ◌≢◌, ◌⊎◌, inl, inr, ℕ, zero, suc, ◌+◌, ◌-◌, ◌<◌, ◌≤◌, Bool, true, false, List, [], ◌∷◌, ◌++◌, length, get_or, take, drop, map, Option, Some, None, refl, sym, ap, ◌∙◌, subst, append_assoc, arith, length-append}
+use Rattle.std.proofs.lemmas.List.{drop-drop, drop_at, drop_more, drop_all, get_or-map, length-map}
+use Rattle.std.specs.List.{AllByRecursion, Contains}
+use Rattle.c2_spec.specs.Jumbf.{description_bytes, head_len, Tree, Trees, leaf, super, none, more, tree_bytes, tree_label, tree_labels, IsNewLabel, AreDistinctLabels, IsLegalTree}
+use Rattle.c2_spec.specs.JumbfBoxes.{AnyBox, node, described, IndexedBox, tree_count, trees_count, boxes_from, boxes_from_all, boxes_of, box_at, any_label, indices_from, children_of, child_indices, LabelsLead}
+use Rattle.c2_jumbf.proofs.Trees.{length-boxes}
+use Rattle.c2_jumbf.proofs.BoxLemmas.{Stands, IsLegalBox, own_boxes, inner_boxes, box_stands, box_index, box_inside}
+use Rattle.c2_jumbf.proofs.Chains.{Chain, chain_of, after_of, front_box_is, head_of}
+
+-- the labels of boxes by their indices
+abbrev label_at : Tree → ℕ → Option (List ℕ)
+label_at t k = any_label (box_at t k).box
+
+node_label : (u : Tree) → any_label (node u) ≡ tree_label u
+node_label (leaf b) = refl
+node_label (super wide d us) = refl
+
+labels_all : (us : Trees) (t : Tree) (at depth i : ℕ) (rest : List IndexedBox) → drop i (boxes_of t) ≡ boxes_from_all at depth i us ++ rest → map (label_at t) (indices_from i us) ≡ tree_labels us
+labels_all none t at depth i rest e = refl
+labels_all (more u us) t at depth i rest e =
+    let h : (others : List IndexedBox) × (boxes_from at depth i u ≡ record { index = i; place = at; depth = depth; box = node u } ∷ others) = head_of u at depth i in
+    let whole : drop i (boxes_of t) ≡ boxes_from at depth i u ++ (boxes_from_all (at + length (tree_bytes u)) depth (i + tree_count u) us ++ rest) = e ∙ append_assoc (boxes_from at depth i u) (boxes_from_all (at + length (tree_bytes u)) depth (i + tree_count u) us) rest in
+    let f = front_box_is t i (record { index = i; place = at; depth = depth; box = node u }) (h.0 ++ (boxes_from_all (at + length (tree_bytes u)) depth (i + tree_count u) us ++ rest)) (whole ∙ ap (λ (x : List IndexedBox). x ++ (boxes_from_all (at + length (tree_bytes u)) depth (i + tree_count u) us ++ rest)) h.1) in
+    let next : drop (i + tree_count u) (boxes_of t) ≡ boxes_from_all (at + length (tree_bytes u)) depth (i + tree_count u) us ++ rest =
+      sym (drop-drop (tree_count u) i (boxes_of t)) ∙ ap (drop (tree_count u)) whole ∙ drop_at (boxes_from at depth i u) (boxes_from_all (at + length (tree_bytes u)) depth (i + tree_count u) us ++ rest) (tree_count u) (length-boxes u at depth i) in
+    ap (λ o. o ∷ map (label_at t) (indices_from (i + tree_count u) us)) (ap (λ b. any_label b.box) f.0 ∙ node_label u)
+    ∙ ap (λ (x : List (Option (List ℕ))). tree_label u ∷ x) (labels_all us t (at + length (tree_bytes u)) depth (i + tree_count u) rest next)
+
+-- The labels of a box's children are distinct.
+pub distinct_children : (t : Tree) (i : ℕ) → i < tree_count t → IsLegalTree 1 t → AreDistinctLabels (map (label_at t) (child_indices t i))
+distinct_children t i l h = go (box_at t i).box refl
+  where
+    s : (rest : List IndexedBox) × (drop i (boxes_of t) ≡ own_boxes (box_at t i) ++ rest)
+    s = box_inside t i l
+
+    go : (b : AnyBox) → (box_at t i).box ≡ b → AreDistinctLabels (map (label_at t) (children_of i (box_at t i).box))
+    go (node (leaf b)) is = subst (λ c. AreDistinctLabels (map (label_at t) (children_of i c))) (sym is) tt
+    go (described d) is = subst (λ c. AreDistinctLabels (map (label_at t) (children_of i c))) (sym is) tt
+    go (node (super wide d us)) is = subst (λ c. AreDistinctLabels (map (label_at t) (children_of i c))) (sym is) (subst AreDistinctLabels (sym labels) (tt, legal.4))
+      where
+        legal : IsLegalTree (box_at t i).depth (super wide d us)
+        legal = subst (IsLegalBox (box_at t i).depth) is (box_stands t i l h).legal
+
+        place : ℕ
+        place = (box_at t i).place + head_len wide
+
+        deeper : ℕ
+        deeper = (box_at t i).depth + 1
+
+        there : drop i (boxes_of t) ≡ inner_boxes (box_at t i).index (box_at t i).place (box_at t i).depth (node (super wide d us)) ++ s.0
+        there = s.1 ∙ ap (λ b. inner_boxes (box_at t i).index (box_at t i).place (box_at t i).depth b ++ s.0) is
+
+        third : drop (i + 2) (boxes_of t) ≡ boxes_from_all (place + length (description_bytes d)) deeper (i + 2) us ++ s.0
+        third = sym (drop-drop 2 i (boxes_of t)) ∙ ap (drop 2) there ∙ ap (λ n. boxes_from_all (place + length (description_bytes d)) deeper (n + 2) us ++ s.0) (box_index t i l)
+
+        second : box_at t (i + 1) ≡ record { index = (box_at t i).index + 1; place = place; depth = deeper; box = described d }
+        second = (front_box_is t (i + 1) (record { index = (box_at t i).index + 1; place = place; depth = deeper; box = described d }) (boxes_from_all (place + length (description_bytes d)) deeper ((box_at t i).index + 2) us ++ s.0) (sym (drop-drop 1 i (boxes_of t)) ∙ ap (drop 1) there)).0
+
+        labels : map (label_at t) ((i + 1) ∷ indices_from (i + 2) us) ≡ None ∷ tree_labels us
+        labels = ap (λ o. o ∷ map (label_at t) (indices_from (i + 2) us)) (ap (λ b. any_label b.box) second) ∙ ap (λ (x : List (Option (List ℕ))). None ∷ x) (labels_all us t (place + length (description_bytes d)) deeper (i + 2) s.0 third)
+
+not_among : (label : List ℕ) (os : List (Option (List ℕ))) (n : ℕ) → AllByRecursion (λ o. o ≢ Some label) os → n < length os → get_or os n None ≡ Some label → ⊥
+not_among label [] n h l e = omega (arith, l)
+not_among label (o ∷ os) zero h l e = h.0 e
+not_among label (o ∷ os) (suc n) h l e = not_among label os n h.1 (omega arith) e
+
+new_among : (label : List ℕ) (o : Option (List ℕ)) (os : List (Option (List ℕ))) (n : ℕ) → IsNewLabel o os → o ≡ Some label → n < length os → get_or os n None ≡ Some label → ⊥
+new_among label None os n h e l k = cc (e)
+new_among label (Some t) os n h e l k = not_among t os n h l (k ∙ sym e)
+
+distinct_at : (label : List ℕ) (os : List (Option (List ℕ))) (m n : ℕ) → AreDistinctLabels os → m < length os → n < length os → get_or os m None ≡ Some label → get_or os n None ≡ Some label → m ≡ n
+distinct_at label [] m n h l k d e = absurd (omega (arith, l))
+distinct_at label (o ∷ os) zero zero h l k d e = refl
+distinct_at label (o ∷ os) zero (suc n) h l k d e = absurd (new_among label o os n h.0 d (omega arith) e)
+distinct_at label (o ∷ os) (suc m) zero h l k d e = absurd (new_among label o os m h.0 e (omega arith) d)
+distinct_at label (o ∷ os) (suc m) (suc n) h l k d e = ap suc (distinct_at label os m n h.1 (omega arith) (omega arith) d e)
+
+label_of_place : (t : Tree) (cs : List ℕ) (n k : ℕ) → n < length cs → get_or cs n k ≡ k → get_or (map (label_at t) cs) n None ≡ label_at t k
+label_of_place t cs n k l e = get_or-map (label_at t) cs n k None l ∙ ap (label_at t) e
+
+-- A label is that of one child.
+pub child_once : (t : Tree) (i : ℕ) (label : List ℕ) (j k : ℕ) → i < tree_count t → IsLegalTree 1 t → Contains (child_indices t i) j → Contains (child_indices t i) k → any_label (box_at t j).box ≡ Some label → any_label (box_at t k).box ≡ Some label → j ≡ k
+child_once t i label j k l h a b p q =
+    let cs : List ℕ = child_indices t i in
+    let size : length (map (label_at t) cs) ≡ length cs = length-map cs (label_at t) in
+    let same : a.0 ≡ b.0 = distinct_at label (map (label_at t) cs) a.0 b.0 (distinct_children t i l h) (omega (arith, size, a.1)) (omega (arith, size, b.1)) (label_of_place t cs a.0 j a.1 a.2 ∙ p) (label_of_place t cs b.0 k b.1 b.2 ∙ q) in
+    sym a.2 ∙ other cs a.0 j k a.1 ∙ ap (λ n. get_or cs n k) same ∙ b.2
+  where
+    other : (xs : List ℕ) (n d e : ℕ) → n < length xs → get_or xs n d ≡ get_or xs n e
+    other [] n d e l = absurd (omega (arith, l))
+    other (x ∷ xs) zero d e l = refl
+    other (x ∷ xs) (suc n) d e l = other xs n d e (omega arith)
+
+chain_within : (t : Tree) (end i : ℕ) (cs : List ℕ) (n k : ℕ) → Chain t end i cs → n < length cs → get_or cs n k ≡ k → k < tree_count t
+chain_within t end i [] n k h l e = absurd (omega (arith, l))
+chain_within t end i (c ∷ cs) zero k h l e = omega (arith, sym h.0 ∙ e, h.1.1.0)
+chain_within t end i (c ∷ cs) (suc n) k h l e = chain_within t end (after_of t i) cs n k h.1.1.1.1.1 (omega arith) e
+
+pub child_within : (t : Tree) (i k : ℕ) → i < tree_count t → Contains (child_indices t i) k → k < tree_count t
+child_within t i k l a = chain_within t (after_of t i) (i + 1) (child_indices t i) a.0 k (chain_of t i l) a.1 a.2
+
+-- Labels lead to one box.
+pub lead_once : (labels : List (List ℕ)) (t : Tree) (i j k : ℕ) → i < tree_count t → IsLegalTree 1 t → LabelsLead t i labels j → LabelsLead t i labels k → j ≡ k
+lead_once [] t i j k l h a b = a ∙ sym b
+lead_once (label ∷ labels) t i j k l h a b =
+    let same : a.0 ≡ b.0 = child_once t i label a.0 b.0 l h a.1 b.1 a.2 b.2 in
+    lead_once labels t b.0 j k (child_within t i b.0 l b.1) h (subst (λ m. LabelsLead t m labels j) same a.3) b.3
+
+-- Some labels of a path were followed to a box.
+pub record Walked (t : Tree) (start : ℕ) (all : List (List ℕ)) (n at : ℕ) : Type 0 where
+  pub inside : at < tree_count t
+  pub down : (j : ℕ) → LabelsLead t at (drop n all) j → LabelsLead t start all j
+  pub up : (j : ℕ) → LabelsLead t start all j → LabelsLead t at (drop n all) j
+
+pub walked_start : (t : Tree) (start : ℕ) (all : List (List ℕ)) → start < tree_count t → Walked t start all 0 start
+walked_start t start all l = record { inside = l; down = λ j h. h; up = λ j h. h }
+
+front_label : (all : List (List ℕ)) (n : ℕ) (label : List ℕ) → n < length all → label ≡ get_or all n label → drop n all ≡ label ∷ drop (n + 1) all
+front_label all n label l e = drop_more all n label l ∙ ap (λ (x : List ℕ). x ∷ drop (n + 1) all) (sym e)
+
+pub walked_next : (t : Tree) (start : ℕ) (all : List (List ℕ)) (n at k : ℕ) (label : List ℕ) → Walked t start all n at → IsLegalTree 1 t → (n < length all) × (label ≡ get_or all n label)
+    → Contains (child_indices t at) k × (any_label (box_at t k).box ≡ Some label) → Walked t start all (n + 1) k
+walked_next t start all n at k label w h turn found =
+    let front : drop n all ≡ label ∷ drop (n + 1) all = front_label all n label turn.0 turn.1 in
+    record {
+      inside = child_within t at k w.inside found.0;
+      down = λ j lead. w.down j (subst (λ (x : List (List ℕ)). LabelsLead t at x j) (sym front) (k, found.0, found.1, lead));
+      up = λ j lead.
+          let a : LabelsLead t at (label ∷ drop (n + 1) all) j = subst (λ (x : List (List ℕ)). LabelsLead t at x j) front (w.up j lead) in
+          subst (λ m. LabelsLead t m (drop (n + 1) all) j) (child_once t at label a.0 k w.inside h a.1 found.0 a.2 found.1) a.3;
+    }
+
+pub walked_none : (t : Tree) (start : ℕ) (all : List (List ℕ)) (n at : ℕ) (label : List ℕ) → Walked t start all n at → (n < length all) × (label ≡ get_or all n label)
+    → ((k : ℕ) → Contains (child_indices t at) k → any_label (box_at t k).box ≡ Some label → ⊥) → (j : ℕ) → LabelsLead t start all j → ⊥
+walked_none t start all n at label w turn nothing j lead =
+    let a : LabelsLead t at (label ∷ drop (n + 1) all) j = subst (λ (x : List (List ℕ)). LabelsLead t at x j) (front_label all n label turn.0 turn.1) (w.up j lead) in
+    nothing a.0 a.1 a.2
+
+pub walked_end : (t : Tree) (start : ℕ) (all : List (List ℕ)) (n at : ℕ) → Walked t start all n at → n ≡ length all → LabelsLead t start all at
+walked_end t start all n at w e = w.down at (subst (λ (x : List (List ℕ)). LabelsLead t at x at) (sym (drop_all n all (omega (arith, e)))) refl)
+
+-- what is found is the one box that the labels lead to
+pub only_lead : (t : Tree) (start : ℕ) (all : List (List ℕ)) (at : ℕ) → start < tree_count t → IsLegalTree 1 t → LabelsLead t start all at → (j : ℕ) → LabelsLead t start all j → Some at ≡ Some j
+only_lead t start all at l h found j lead = ap Some (lead_once all t start at j l h found lead)

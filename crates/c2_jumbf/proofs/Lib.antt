@@ -1,0 +1,11 @@
+pub mod HeadLaws
+pub mod FieldLemmas
+pub mod LabelSets
+pub mod Trees
+pub mod Whole
+pub mod Opening
+pub mod Roots
+pub mod BoxLemmas
+pub mod DescriptionLemmas
+pub mod Chains
+pub mod Leading

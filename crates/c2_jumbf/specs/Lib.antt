@@ -1,0 +1,6 @@
+pub mod Heads
+pub mod Fields
+pub mod Labels
+pub mod Flat
+pub mod Parsed
+pub mod Described

@@ -1,0 +1,122 @@
+// Trees and boxes are written.
+ghost use Rattle.std.specs.Prelude.{◌≡◌, ◌+◌, ◌<◌, ◌≤◌, ◌⊎◌, ◌++◌, ℕ, List, length, true, false, IfOk, IfErr};
+ghost use Rattle.std.specs.Int.{w32, from_be_bytes};
+ghost use Rattle.std.specs.Bool.{OnTrue, OnFalse};
+ghost use Rattle.c2_spec.specs.Jumbf.{SpellsTree, tree_bytes, boxed, IsDescription};
+ghost use Rattle.c2_spec.specs.JumbfWriting.{most_bytes, IsWrittenLabel, fresh_description, fresh_super, super_size, SuperRefused};
+
+use crate::borrowed::Tree;
+use crate::fields::label_end;
+use crate::reading::{JUMB, JUMD};
+use c2_base::{Blob, NoMemory};
+use c2_spec::WriteError;
+use std::alloc::Global;
+
+/// The most bytes of a box that is written.
+const MOST: u64 = 33_554_432;
+
+/// The toggles of a requestable description with a label.
+const LABELLED: u8 = 0x03;
+
+/// The bytes that a tree spells, which are those that it was read from.
+pub fn write(alloc: Global, tree: &Tree<'_>) -> Result<Blob, NoMemory>
+    ensures written { IfOk result (λ bytes. bytes ≡ tree_bytes tree.now) }
+
+    // So reading them gives the tree again.
+    ensures again { IfOk result (λ bytes. SpellsTree bytes tree.now) }
+{
+    Blob::copied(alloc, tree.bytes)
+}
+
+/// A box with a 4-byte length: its kind and its payload.
+pub fn write_leaf(alloc: Global, kind: [u8; 4], bytes: &[u8]) -> Result<Blob, WriteError>
+    ensures ok { IfOk result (λ leaf. (leaf ≡ boxed (from_be_bytes w32 kind) false bytes.now) × (8 + length bytes.now ≤ most_bytes)) }
+    ensures err { IfErr result (λ e. (e ≡ WriteError.NoMemory) ⊎ ((e ≡ WriteError.TooLarge (8 + length bytes.now)) × (most_bytes < 8 + length bytes.now))) }
+{
+    let total = 8 + bytes.len() as u64;
+    if total > MOST {
+        return Err(WriteError::TooLarge(total));
+    }
+    match leaf_of(alloc, total as u32, kind, bytes) {
+        Ok(leaf) => Ok(Blob::from_vec(leaf)),
+        Err(_) => Err(WriteError::NoMemory),
+    }
+}
+
+/// The header and the payload of a box of this length.
+fn leaf_of(alloc: Global, total: u32, kind: [u8; 4], bytes: &[u8]) -> Result<Vec<u8>, NoMemory>
+    requires { total ≡ 8 + length bytes.now }
+    ensures { IfOk result (λ leaf. leaf.items ≡ boxed (from_be_bytes w32 kind) false bytes.now) }
+{
+    let mut leaf = Vec::with_capacity(alloc, total as usize)?;
+    leaf.extend_from_slice(&total.to_be_bytes())?;
+    leaf.extend_from_slice(&kind)?;
+    leaf.extend_from_slice(bytes)?;
+    Ok(leaf)
+}
+
+/// Whether a label may be written: it isn't empty and has no control byte.
+fn is_written_label(label: &str) -> bool
+    ensures good { OnTrue result (IsWrittenLabel label.now) }
+    ensures bad { OnFalse result (IsWrittenLabel label.now → ⊥) }
+{
+    let bytes = label.as_bytes();
+    if bytes.is_empty() {
+        return false;
+    }
+    label_end(bytes) == bytes.len()
+}
+
+/// A superbox with a 4-byte length, its description with this type UUID and label and toggles 0x03, and these contents
+/// behind it.
+pub fn write_super(
+    alloc: Global,
+    uuid: [u8; 16],
+    label: &str,
+    contents: &[u8],
+) -> Result<Blob, WriteError>
+    ensures ok { IfOk result (λ superbox. (superbox ≡ fresh_super uuid label.now contents.now) × (IsWrittenLabel label.now × (super_size label.now contents.now ≤ most_bytes))) }
+    ensures described { IfOk result (λ _. IsDescription (fresh_description uuid label.now)) }
+
+    // A label that may not be written is told even where the box is too large.
+    ensures err { IfErr result (λ e. (e ≡ WriteError.NoMemory) ⊎ SuperRefused label.now contents.now e) }
+{
+    if !is_written_label(label) {
+        return Err(WriteError::BadLabel);
+    }
+    let own = 26 + label.len() as u64;
+    let total = own.saturating_add(8).saturating_add(contents.len() as u64);
+    if total > MOST {
+        return Err(WriteError::TooLarge(total));
+    }
+    match super_of(alloc, total as u32, own as u32, uuid, label, contents) {
+        Ok(superbox) => Ok(Blob::from_vec(superbox)),
+        Err(_) => Err(WriteError::NoMemory),
+    }
+}
+
+/// The two headers of a superbox and of its description of these lengths, the description and the contents.
+fn super_of(
+    alloc: Global,
+    total: u32,
+    own: u32,
+    uuid: [u8; 16],
+    label: &str,
+    contents: &[u8],
+) -> Result<Vec<u8>, NoMemory>
+    requires own { own ≡ 26 + length label.now }
+    requires total { total ≡ 34 + length label.now + length contents.now }
+    ensures { IfOk result (λ superbox. superbox.items ≡ fresh_super uuid label.now contents.now) }
+{
+    let mut superbox = Vec::with_capacity(alloc, total as usize)?;
+    superbox.extend_from_slice(&total.to_be_bytes())?;
+    superbox.extend_from_slice(&JUMB.to_be_bytes())?;
+    superbox.extend_from_slice(&own.to_be_bytes())?;
+    superbox.extend_from_slice(&JUMD.to_be_bytes())?;
+    superbox.extend_from_slice(&uuid)?;
+    superbox.push(LABELLED)?;
+    superbox.extend_from_slice(label.as_bytes())?;
+    superbox.push(0)?;
+    superbox.extend_from_slice(contents)?;
+    Ok(superbox)
+}
