@@ -1,0 +1,17 @@
+pub mod Views
+pub mod Keys
+pub mod Shorter
+pub mod Loops
+pub mod Heads
+pub mod Sound
+pub mod Complete
+pub mod Unique
+pub mod Fine
+pub mod HeadFaults
+pub mod FaultTold
+pub mod FaultFound
+pub mod Decoded
+pub mod Sorting
+pub mod Plain
+pub mod EqualKeys
+pub mod Writable

@@ -1,0 +1,5 @@
+pub mod Reading
+pub mod Placed
+pub mod Keyed
+pub mod Fine
+pub mod Entries
