@@ -15,3 +15,4 @@ pub mod Sorting
 pub mod Plain
 pub mod EqualKeys
 pub mod Writable
+pub mod Lengths
