@@ -1,5 +1,6 @@
 pub mod Views
 pub mod Keys
+pub mod Tracks
 pub mod Shorter
 pub mod Loops
 pub mod Heads

@@ -6,13 +6,13 @@ ghost use Rattle.c2_spec.specs.Cbor.Legal.{HasDistinctKeys, ItemsHaveDistinctKey
 ghost use Rattle.c2_cbor.specs.Fine.{Fine, FineItems, FinePairs};
 ghost use Rattle.c2_spec.specs.Cbor.Unwritable.{HasEqualKeys, ItemsHaveEqualKeys, PairsHaveEqualKeys};
 
-use crate::preferred::preferred_bytes;
 use crate::seen::Seen;
 use c2_spec::Cbor;
-use std::alloc::{AllocError, Global};
+use c2_base::NoMemory;
+use std::alloc::Global;
 
 #[cycle(equal)]
-pub fn has_equal_keys(alloc: Global, item: &Cbor) -> Result<bool, AllocError>
+pub fn has_equal_keys(alloc: Global, item: &Cbor) -> Result<bool, NoMemory>
     ensures yes { IfOk result (λ b. Fine (view item.now) → IsTrue b → HasEqualKeys (view item.now)) }
     ensures no { IfOk result (λ b. Fine (view item.now) → b ≡ false → HasDistinctKeys (view item.now)) }
 {
@@ -34,7 +34,7 @@ pub fn has_equal_keys(alloc: Global, item: &Cbor) -> Result<bool, AllocError>
 }
 
 #[cycle(equal)]
-fn items_equal(alloc: Global, items: &[Cbor]) -> Result<bool, AllocError>
+fn items_equal(alloc: Global, items: &[Cbor]) -> Result<bool, NoMemory>
     ensures yes { IfOk result (λ b. FineItems (items_view items.now) → IsTrue b → ItemsHaveEqualKeys (items_view items.now)) }
     ensures no { IfOk result (λ b. FineItems (items_view items.now) → b ≡ false → ItemsHaveDistinctKeys (items_view items.now)) }
 {
@@ -47,20 +47,20 @@ fn items_equal(alloc: Global, items: &[Cbor]) -> Result<bool, AllocError>
 }
 
 #[cycle(equal)]
-fn pairs_equal(alloc: Global, pairs: &[(Cbor, Cbor)]) -> Result<bool, AllocError>
+fn pairs_equal(alloc: Global, pairs: &[(Cbor, Cbor)]) -> Result<bool, NoMemory>
     ensures yes { IfOk result (λ b. FinePairs (pairs_view pairs.now) → IsTrue b → PairsHaveEqualKeys (pairs_view pairs.now)) }
     ensures no { IfOk result (λ b. FinePairs (pairs_view pairs.now) → b ≡ false → PairsHaveDistinctKeys (pairs_view pairs.now)) }
 {
     let mut seen = Seen::new(alloc);
-    for pair in pairs {
+    for i in 0..pairs.len() {
+        let pair = &pairs[i];
         if has_equal_keys(alloc, &pair.0)? {
             return Ok(true);
         }
         if has_equal_keys(alloc, &pair.1)? {
             return Ok(true);
         }
-        let spelled = preferred_bytes(alloc, &pair.0)?;
-        let is_new = seen.add(spelled)?;
+        let is_new = seen.add(alloc, &pairs[..i], &pair.0)?;
         if !is_new {
             return Ok(true);
         }

@@ -1,6 +1,6 @@
 //! Reading an item.
 
-ghost use Rattle.std.specs.Prelude.{◌≡◌, suc, map, length, option_map, string_bytes, [], Err};
+ghost use Rattle.std.specs.Prelude.{◌≡◌, ◌∷◌, ◌++◌, OnOk, suc, map, length, option_map, string_bytes, [], Err};
 ghost use Rattle.std.specs.Str.{is_utf8};
 ghost use Rattle.c2_spec.specs.Cbor.View.{view};
 ghost use Rattle.c2_cbor.specs.Reading.{pairs_seen};
@@ -9,10 +9,9 @@ ghost use Rattle.c2_spec.specs.Cbor.Spelling.{any_bytes};
 
 use crate::fault::{Fault, ReadError};
 use crate::head::{Count, Head, read_head};
-use crate::preferred::preferred_bytes;
 use crate::seen::Seen;
 use crate::strings::{byte_chunk, bytes_of, text_chunk, text_of};
-use c2_base::{Blob, Text};
+use c2_base::{Blob, NoMemory, Text};
 use c2_spec::Cbor;
 use std::alloc::Global;
 
@@ -71,6 +70,31 @@ fn one_fewer(count: Count) -> Count
     }
 }
 
+// The members that are told at most, and for which room is taken before they come.
+const ROOM: usize = 256;
+
+/// The room to take where `len` members are there and more are due: as much again, and never more than is told.
+fn more_room(due: Count, len: usize) -> usize {
+    match due {
+        Count::Left(left) => {
+            let room = len.max(ROOM);
+            if left < room as u64 { left as usize } else { room }
+        }
+        Count::Open => len.max(1),
+    }
+}
+
+/// Adds a member, where so many are due.
+fn push_member<T: Drop>(members: &mut Vec<T>, member: T, due: Count) -> Result<(), NoMemory>
+    ensures { OnOk result (members.new.items ≡ members.old.items ++ member ∷ []) }
+{
+    if members.len() == members.capacity() {
+        members.reserve_exact(more_room(due, members.len()))?;
+    }
+    members.push(member)?;
+    Ok(())
+}
+
 /// The fault where no level is left.
 #[tactic(auto, unfolding(crate::specs::Reading::item_at))]
 fn fault_below(bytes: &[u8]) -> Fault
@@ -101,7 +125,7 @@ fn read_items(
             None => {}
         }
         let (item, after) = read_item(alloc, rest, levels)?;
-        found.push(item)?;
+        push_member(&mut found, item, due)?;
         rest = after;
         due = one_fewer(due);
     }
@@ -127,12 +151,12 @@ fn read_pairs(
             None => {}
         }
         let (key, behind_key) = read_item(alloc, rest, levels)?;
-        let is_new = seen.add(preferred_bytes(alloc, &key)?)?;
+        let is_new = seen.add(alloc, found.as_slice(), &key)?;
         if !is_new {
             return Err(ReadError::Fault(Fault::DuplicateKey(rest.len())));
         }
         let (value, after) = read_item(alloc, behind_key, levels)?;
-        found.push((key, value))?;
+        push_member(&mut found, (key, value), due)?;
         rest = after;
         due = one_fewer(due);
     }

@@ -1,4 +1,4 @@
-use Rattle.std.proofs.Common.{◌≡◌, ◌++◌, ◌∷◌, ℕ, List, suc, length, map, [], not, true, false, Bool, ap, ◌∙◌, sym, arith, ◌<◌}
+use Rattle.std.proofs.Common.{◌≡◌, ◌++◌, ◌∷◌, suc, length, map, [], ap, ◌∙◌, sym, arith, ◌<◌}
 use Rattle.std.proofs.lemmas.Result.{err_from_is_err_and}
 use Rattle.std.proofs.lemmas.List.{map_push}
 use Rattle.c2_spec.specs.Cbor.Deterministic.{preferred}
@@ -6,7 +6,9 @@ use Rattle.c2_spec.specs.Cbor.View.{view}
 use Rattle.c2_cbor.specs.Reading.{pairs_seen}
 use Rattle.c2_cbor.specs.Reading.{is_known, with_key, items, pairs, item_at}
 use Rattle.c2_cbor.proofs.Shorter.{under_ok, item_at-under}
-use Rattle.c2_cbor.proofs.Loops.{items_on, items_wrong, items_out, pairs_on, pairs_wrong, pairs_known, pairs_wrong_value, pairs_out, item_at-step, item_at-wrong}
+use Rattle.c2_cbor.specs.Tracking.{keys_of}
+use Rattle.c2_cbor.proofs.Tracks.{key_fresh, key_old, still_tracks, tracks_pushed, keys_push}
+use Rattle.c2_cbor.proofs.Loops.{items_on, items_wrong, items_out, pairs_on, pairs_wrong, pairs_known, pairs_wrong_value, pairs_out, pairs_same, item_at-step, item_at-wrong}
 use Rattle.c2_cbor.proofs.read.+read.Goals as goal
 
 pub read_item-returns-in_err-head : goal.read_item-returns-in_err-head
@@ -35,44 +37,33 @@ read_items-loop-after-smaller t c = under_ok _ (item_at is_known c.args.levels c
 
 pub read_items-loop-after-preserved : goal.read_items-loop-after-preserved
 read_items-loop-after-preserved t c =
-    let e : map view c.push.new.self.items ≡ map view c.loop-after.found.items ++ view c.in_ok-item.item ∷ [] = rw c.in_ok-push.ensures.items (map_push view c.loop-after.found.items c.in_ok-item.item) in
+    let e : map view c.push_member.new.members.items ≡ map view c.loop-after.found.items ++ view c.in_ok-item.item ∷ [] = ap (map view) c.in_ok-push_member.ensures ∙ map_push view c.loop-after.found.items c.in_ok-item.item in
     rw (e, c.one_fewer-due.ensures) (items_on (item_at is_known c.args.levels) (item_at-under is_known c.args.levels) (items (item_at is_known c.args.levels) (suc (length c.args.bytes.now)) c.args.count c.args.bytes.now)
     (map view c.loop-after.found.items) c.loop-after.rest.now c.loop-after.due (view c.in_ok-item.item) c.in_ok-item.after.now (sym c.in-None.ensures) c.in_ok-item.ensures c.loop-after.invariant)
 
 pub read_pairs-returns-in-Some : goal.read_pairs-returns-in-Some
 read_pairs-returns-in-Some t c =
     pairs_out is_known (item_at is_known c.args.levels) (item_at-under is_known c.args.levels) (pairs is_known (item_at is_known c.args.levels) (suc (length c.args.bytes.now)) c.args.count [] c.args.bytes.now)
-    (pairs_seen c.loop-after.found.items) c.loop-after.seen c.loop-after.rest.now c.loop-after.due c.in-Some.after.now (sym c.in-Some.ensures) c.loop-after.invariant
+    (pairs_seen c.loop-after.found.items) (keys_of c.loop-after.found.items) c.loop-after.rest.now c.loop-after.due c.in-Some.after.now (sym c.in-Some.ensures) c.loop-after.invariant.0
 
 pub read_pairs-returns-in_err-key : goal.read_pairs-returns-in_err-key
 read_pairs-returns-in_err-key t c =
     let p = err_from_is_err_and c.from_residual.result c.from_residual.ensures.1 in
     rw (p.1, p.2) (pairs_wrong is_known (item_at is_known c.args.levels) (item_at-under is_known c.args.levels) (pairs is_known (item_at is_known c.args.levels) (suc (length c.args.bytes.now)) c.args.count [] c.args.bytes.now)
-    (pairs_seen c.loop-after.found.items) c.loop-after.seen c.loop-after.rest.now c.loop-after.due c.in_err-key.field-0.0 (sym c.in-None.ensures) c.in_err-key.ensures c.loop-after.invariant)
-
-flip : (b d : Bool) → not b ≡ d → b ≡ not d
-flip true d e = ap not e
-flip false d e = ap not e
-
--- a key that the set said to be new
-was_new : (new : Bool) (k w : List ℕ) (seen : List (List ℕ)) → new ≡ not (is_known k seen) → k ≡ w → new ≡ true → is_known w seen ≡ false
-was_new new k w seen e f h = rw (← f) (flip (is_known k seen) true (sym e ∙ h))
-
-was_old : (new : Bool) (k w : List ℕ) (seen : List (List ℕ)) → new ≡ not (is_known k seen) → k ≡ w → new ≡ false → is_known w seen ≡ true
-was_old new k w seen e f h = rw (← f) (flip (is_known k seen) false (sym e ∙ h))
+    (pairs_seen c.loop-after.found.items) (keys_of c.loop-after.found.items) c.loop-after.rest.now c.loop-after.due c.in_err-key.field-0.0 (sym c.in-None.ensures) c.in_err-key.ensures c.loop-after.invariant.0)
 
 pub read_pairs-returns-then-not-is_new : goal.read_pairs-returns-then-not-is_new
 read_pairs-returns-then-not-is_new t c =
-    let old = was_old c.in_ok-is_new.is_new _ (preferred (view c.in_ok-key.key)) c.loop-after.seen c.in_ok-is_new.ensures.new c.in_ok-preferred_bytes.ensures c.if-not-is_new.true in
+    let old = key_old c.loop-after.seen _ c.loop-after.found.items c.in_ok-is_new.is_new (preferred (view c.in_ok-key.key)) c.as_slice.ensures.value c.loop-after.invariant.1 c.in_ok-is_new.ensures.new c.if-not-is_new.true in
     pairs_known is_known (item_at is_known c.args.levels) (item_at-under is_known c.args.levels) (pairs is_known (item_at is_known c.args.levels) (suc (length c.args.bytes.now)) c.args.count [] c.args.bytes.now)
-    (pairs_seen c.loop-after.found.items) c.loop-after.seen c.loop-after.rest.now c.loop-after.due (view c.in_ok-key.key) c.in_ok-key.behind_key.now (sym c.in-None.ensures) c.in_ok-key.ensures old c.loop-after.invariant
+    (pairs_seen c.loop-after.found.items) (keys_of c.loop-after.found.items) c.loop-after.rest.now c.loop-after.due (view c.in_ok-key.key) c.in_ok-key.behind_key.now (sym c.in-None.ensures) c.in_ok-key.ensures old c.loop-after.invariant.0
 
 pub read_pairs-returns-in_err-value : goal.read_pairs-returns-in_err-value
 read_pairs-returns-in_err-value t c =
     let p = err_from_is_err_and c.from_residual-in_err-value.result c.from_residual-in_err-value.ensures.1 in
-    let fresh = was_new c.in_ok-is_new.is_new _ (preferred (view c.in_ok-key.key)) c.loop-after.seen c.in_ok-is_new.ensures.new c.in_ok-preferred_bytes.ensures c.if-not-is_new.false in
+    let fresh = key_fresh c.loop-after.seen _ c.loop-after.found.items c.in_ok-is_new.is_new (preferred (view c.in_ok-key.key)) c.as_slice.ensures.value c.loop-after.invariant.1 c.in_ok-is_new.ensures.new c.if-not-is_new.false in
     rw (p.1, p.2) (pairs_wrong_value is_known (item_at is_known c.args.levels) (item_at-under is_known c.args.levels) (pairs is_known (item_at is_known c.args.levels) (suc (length c.args.bytes.now)) c.args.count [] c.args.bytes.now)
-    (pairs_seen c.loop-after.found.items) c.loop-after.seen c.loop-after.rest.now c.loop-after.due c.in_err-value.field-0.0 (view c.in_ok-key.key) c.in_ok-key.behind_key.now (sym c.in-None.ensures) c.in_ok-key.ensures fresh c.in_err-value.ensures c.loop-after.invariant)
+    (pairs_seen c.loop-after.found.items) (keys_of c.loop-after.found.items) c.loop-after.rest.now c.loop-after.due c.in_err-value.field-0.0 (view c.in_ok-key.key) c.in_ok-key.behind_key.now (sym c.in-None.ensures) c.in_ok-key.ensures fresh c.in_err-value.ensures c.loop-after.invariant.0)
 
 pub read_pairs-loop-after-smaller : goal.read_pairs-loop-after-smaller
 read_pairs-loop-after-smaller t c =
@@ -82,8 +73,13 @@ read_pairs-loop-after-smaller t c =
 
 pub read_pairs-loop-after-preserved : goal.read_pairs-loop-after-preserved
 read_pairs-loop-after-preserved t c =
-    let fresh = was_new c.in_ok-is_new.is_new _ (preferred (view c.in_ok-key.key)) c.loop-after.seen c.in_ok-is_new.ensures.new c.in_ok-preferred_bytes.ensures c.if-not-is_new.false in
-    let e : pairs_seen c.push.new.self.items ≡ pairs_seen c.loop-after.found.items ++ (view c.in_ok-key.key, view c.in_ok-value.value) ∷ [] = rw c.in_ok-push.ensures.items (map_push (λ p. (view p.0, view p.1)) c.loop-after.found.items (c.in_ok-key.key, c.in_ok-value.value)) in
-    let keys : c.add.new.self ≡ with_key c.loop-after.seen (preferred (view c.in_ok-key.key)) = c.in_ok-is_new.ensures.keys ∙ ap (with_key c.loop-after.seen) c.in_ok-preferred_bytes.ensures in
-    rw (e, c.one_fewer-due.ensures, keys) (pairs_on is_known (item_at is_known c.args.levels) (item_at-under is_known c.args.levels) (pairs is_known (item_at is_known c.args.levels) (suc (length c.args.bytes.now)) c.args.count [] c.args.bytes.now)
-    (pairs_seen c.loop-after.found.items) c.loop-after.seen c.loop-after.rest.now c.loop-after.due (view c.in_ok-key.key) (view c.in_ok-value.value) c.in_ok-key.behind_key.now c.in_ok-value.after.now (sym c.in-None.ensures) c.in_ok-key.ensures fresh c.in_ok-value.ensures c.loop-after.invariant)
+    let fresh = key_fresh c.loop-after.seen _ c.loop-after.found.items c.in_ok-is_new.is_new (preferred (view c.in_ok-key.key)) c.as_slice.ensures.value c.loop-after.invariant.1 c.in_ok-is_new.ensures.new c.if-not-is_new.false in
+    let pushed : c.push_member.new.members.items ≡ c.loop-after.found.items ++ (c.in_ok-key.key, c.in_ok-value.value) ∷ [] = c.in_ok-push_member.ensures in
+    let e : pairs_seen c.push_member.new.members.items ≡ pairs_seen c.loop-after.found.items ++ (view c.in_ok-key.key, view c.in_ok-value.value) ∷ [] = ap pairs_seen pushed ∙ map_push (λ p. (view p.0, view p.1)) c.loop-after.found.items (c.in_ok-key.key, c.in_ok-value.value) in
+    let keys : keys_of c.push_member.new.members.items ≡ with_key (keys_of c.loop-after.found.items) (preferred (view c.in_ok-key.key)) = ap keys_of pushed ∙ keys_push c.loop-after.found.items [] (c.in_ok-key.key, c.in_ok-value.value) in (
+      pairs_same is_known (item_at is_known c.args.levels) (item_at-under is_known c.args.levels) (pairs is_known (item_at is_known c.args.levels) (suc (length c.args.bytes.now)) c.args.count [] c.args.bytes.now) _ _ _ _ c.in_ok-value.after.now _ _
+      e keys c.one_fewer-due.ensures (pairs_on is_known (item_at is_known c.args.levels) (item_at-under is_known c.args.levels) (pairs is_known (item_at is_known c.args.levels) (suc (length c.args.bytes.now)) c.args.count [] c.args.bytes.now)
+      (pairs_seen c.loop-after.found.items) (keys_of c.loop-after.found.items) c.loop-after.rest.now c.loop-after.due (view c.in_ok-key.key) (view c.in_ok-value.value) c.in_ok-key.behind_key.now c.in_ok-value.after.now (sym c.in-None.ensures) c.in_ok-key.ensures fresh c.in_ok-value.ensures c.loop-after.invariant.0),
+      tracks_pushed c.add.new.self c.loop-after.found.items c.push_member.new.members.items (c.in_ok-key.key, c.in_ok-value.value) pushed
+      (still_tracks c.loop-after.seen _ c.loop-after.found.items c.in_ok-is_new.is_new (preferred (view c.in_ok-key.key)) c.as_slice.ensures.value c.loop-after.invariant.1 c.add.new.self c.in_ok-is_new.ensures.kept c.if-not-is_new.false),
+    )

@@ -2,6 +2,7 @@ use Rattle.std.proofs.Common.{◌*◌, ◌+◌, suc, map, length, []}
 use Rattle.c2_spec.specs.Cbor.View.{view}
 use Rattle.c2_cbor.specs.Reading.{pairs_seen}
 use Rattle.c2_cbor.specs.Reading.{is_known, items, pairs, item_at}
+use Rattle.c2_cbor.specs.Tracking.{keys_of, Tracks}
 use Rattle.c2_cbor.proofs.Loops.{ItemsGo, PairsGo}
 use Rattle.c2_cbor.proofs.Shorter.{item_at-under}
 use Rattle.c2_cbor.proofs.read.+read.Given as goal
@@ -26,8 +27,9 @@ abbrev pub decreases-read_items-loop-after : goal.decreases-read_items-loop-afte
 decreases-read_items-loop-after l = length l.rest
 
 abbrev pub invariant-read_pairs-loop-after : goal.invariant-read_pairs-loop-after
-invariant-read_pairs-loop-after l =
-    PairsGo is_known (item_at is_known l.levels) (item_at-under is_known l.levels) (pairs is_known (item_at is_known l.levels) (suc (length l.bytes)) l.fn.count [] l.bytes) (pairs_seen l.found.items) l.seen l.rest l.due
+invariant-read_pairs-loop-after l = (
+  PairsGo is_known (item_at is_known l.levels) (item_at-under is_known l.levels) (pairs is_known (item_at is_known l.levels) (suc (length l.bytes)) l.fn.count [] l.bytes) (pairs_seen l.found.items) (keys_of l.found.items) l.rest l.due
+) × Tracks l.seen (keys_of l.found.items)
 
 abbrev pub decreases-read_pairs-loop-after : goal.decreases-read_pairs-loop-after
 decreases-read_pairs-loop-after l = length l.rest
