@@ -1,10 +1,11 @@
+pub mod Cbor
 pub mod Digest
 pub mod Jpeg
 pub mod JpegPackets
 pub mod JpegSegments
+pub mod Jumbf
+pub mod JumbfBoxes
+pub mod JumbfFaults
+pub mod JumbfWriting
 pub mod Located
 pub mod Reason
-pub mod Jumbf
-pub mod JumbfFaults
-pub mod JumbfBoxes
-pub mod JumbfWriting

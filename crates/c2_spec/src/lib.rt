@@ -4,11 +4,13 @@
 //! that make these answers hand the types on under their own names.
 #![tactic(auto)]
 
+mod cbor;
 mod digest;
 mod jumbf;
 mod panel;
 mod reason;
 
+pub use cbor::{Cbor, CborError, EncodeError, Ref, Refs};
 pub use digest::Alg;
 pub use jumbf::{Head, JumbfError, WriteError};
 pub use panel::Verdict;
