@@ -9,3 +9,4 @@ pub mod BoxLemmas
 pub mod DescriptionLemmas
 pub mod Chains
 pub mod Leading
+pub mod WritingLemmas
