@@ -1,2 +1,4 @@
+mod Listing
 mod Replying
 mod Saying
+mod Taking

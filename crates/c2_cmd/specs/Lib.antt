@@ -1,5 +1,7 @@
+pub mod Listing
 pub mod Open
 pub mod Outcome
+pub mod Pieces
 pub mod Reply
 pub mod Run
 pub mod Status

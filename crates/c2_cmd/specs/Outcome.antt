@@ -8,7 +8,9 @@ use Rattle.c2_spec.specs.declared.panel.Verdict.{Verdict}
 use Rattle.c2_spec.specs.declared.panel.Verdict.TheVariants as verdict
 use Rattle.c2_spec.specs.Located.{Located, refused, absent, here}
 use Rattle.c2_spec.specs.Jpeg.{IsLocated}
-use Rattle.c2_cmd.specs.Texts.{usage_line, refused_line, none_line, digest_line}
+use Rattle.c2_spec.specs.StoreTree.{StoreTree, IsStoreTree}
+use Rattle.c2_spec.specs.StoreTree as tree
+use Rattle.c2_cmd.specs.Texts.{usage_line, refused_line, none_line, digest_line, listing}
 use Rattle.c2_cmd.specs.declared.reply.Answer.{Answer}
 use Rattle.c2_cmd.specs.declared.reply.Answer.TheVariants as answer
 use Rattle.c2_cmd.specs.declared.types.Command.{Command}
@@ -52,9 +54,30 @@ digest_outcome hash file (refused reason number) = reports answer.Refused (refus
 digest_outcome hash file absent = reports answer.NoStore none_line
 digest_outcome hash file (here start len store) = reports answer.Done (digest_line start len (hash (outside start len file)))
 
+abbrev pub IsDigestOutcome : (List ℕ → List ℕ) → List ℕ → Outcome → Type 0
+IsDigestOutcome hash file expected = (what : Located) × IsLocated file what × (expected ≡ digest_outcome hash file what)
+
+-- the outcome of `list` over a store that comes to this
+abbrev pub tree_outcome : StoreTree → Outcome
+tree_outcome (tree.refused reason number) = reports answer.Refused (refused_line reason number)
+tree_outcome (tree.spelled t) = reports answer.Done (listing t)
+
+abbrev pub IsTreeOutcome : List ℕ → Outcome → Type 0
+IsTreeOutcome store expected = (what : StoreTree) × IsStoreTree store what × (expected ≡ tree_outcome what)
+
+-- the outcome of `list` over a file that comes to this: a refused container first, then a refused box
+abbrev pub IsListing : Located → Outcome → Type 0
+IsListing (refused reason number) expected = expected ≡ reports answer.Refused (refused_line reason number)
+IsListing absent expected = expected ≡ reports answer.NoStore none_line
+IsListing (here start len store) expected = IsTreeOutcome store expected
+
+abbrev pub IsListOutcome : List ℕ → Outcome → Type 0
+IsListOutcome file expected = (what : Located) × IsLocated file what × IsListing what expected
+
 -- the outcome of a command
 abbrev pub IsCommandOutcome : Command → Inputs → Outcome → Type 0
-IsCommandOutcome command.Digest i expected = (what : Located) × IsLocated i.media what × (expected ≡ digest_outcome (i.hash Sha256) i.media what)
+IsCommandOutcome command.Digest i expected = IsDigestOutcome (i.hash Sha256) i.media expected
+IsCommandOutcome command.List i expected = IsListOutcome i.media expected
 
 -- the outcome of words with these roles, or with none
 abbrev pub IsOutcome : Option Roles → Inputs → Outcome → Type 0

@@ -1,8 +1,12 @@
 -- The lines of reports.
-use Rattle.std.specs.Prelude.{ℕ, List, [], ◌∷◌, ◌++◌, codes, decimal}
+use Rattle.std.specs.Prelude.{ℕ, ◌==◌, ◌||◌, nat_lt, List, [], ◌∷◌, ◌++◌, length, map, codes, decimal, Option, Some, None, if◌then◌else◌}
+use Rattle.std.specs.Int.{w32, to_be_bytes}
+use Rattle.std.specs.List.{flat_map}
 use Rattle.hex.specs.Hex.{encode_lower}
 use Rattle.c2_spec.specs.declared.reason.Reason.{Reason}
 use Rattle.c2_spec.specs.Reason.{reason_name}
+use Rattle.c2_spec.specs.Jumbf.{Tree}
+use Rattle.c2_spec.specs.JumbfBoxes.{IndexedBox, boxes_of, any_bytes, any_kind, any_label}
 
 -- a line of text ends with a line feed
 abbrev pub line : List ℕ → List ℕ
@@ -10,7 +14,7 @@ line text = text ++ 0x0A ∷ []
 
 -- where the words don't fit
 abbrev pub usage_line : List ℕ
-usage_line = line (codes "usage: c2 digest MEDIA")
+usage_line = line (codes "usage: c2 digest|list MEDIA")
 
 -- a refusal, with its number
 abbrev pub refused_line : Reason → ℕ → List ℕ
@@ -23,3 +27,31 @@ none_line = line (codes "none")
 -- an embedded range, and the digest of what stands outside it
 abbrev pub digest_line : ℕ → ℕ → List ℕ → List ℕ
 digest_line start length digest = line (decimal start ++ codes " " ++ decimal length ++ codes " " ++ encode_lower digest)
+
+-- a control byte is printed as a question mark
+abbrev pub printable_byte : ℕ → ℕ
+printable_byte b = if nat_lt b 0x20 || b == 0x7F then 0x3F else b
+
+abbrev pub printable : List ℕ → List ℕ
+printable text = map printable_byte text
+
+-- a label, and a dash where it is missing or empty
+abbrev pub label_column : Option (List ℕ) → List ℕ
+label_column None = codes "-"
+label_column (Some []) = codes "-"
+label_column (Some (first ∷ rest)) = printable (first ∷ rest)
+
+-- the depth, the place and the length of a box
+abbrev pub box_numbers : ℕ → ℕ → ℕ → List ℕ
+box_numbers depth place total = decimal depth ++ codes " " ++ decimal place ++ codes " " ++ decimal total
+
+-- a line of these numbers, the type in hex, and the label
+abbrev pub box_row : List ℕ → List ℕ → List ℕ → List ℕ
+box_row numbers kind label = numbers ++ codes " " ++ encode_lower kind ++ codes " " ++ label ++ codes "\n"
+
+abbrev pub box_line : IndexedBox → List ℕ
+box_line b = box_row (box_numbers b.depth b.place (length (any_bytes b.box))) (to_be_bytes w32 (any_kind b.box)) (label_column (any_label b.box))
+
+-- the boxes of a tree in preorder, a line each
+abbrev pub listing : Tree → List ℕ
+listing t = flat_map box_line (boxes_of t)

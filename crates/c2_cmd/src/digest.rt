@@ -2,15 +2,19 @@
 ghost use Rattle.std.specs.Prelude.{◌≡◌, ◌≢◌, ◌+◌, ◌≤◌, Ok, Some, IfOk, IfErr, OnOk, length};
 ghost use Rattle.std.specs.Option.{ForSome};
 ghost use Rattle.c2_base.specs.Source.{StaysSource};
-ghost use Rattle.c2_cmd.specs.Outcome.{outside};
-ghost use Rattle.c2_cmd.specs.Reply.{RepliesToDigest, HasReason};
+ghost use Rattle.c2_cmd.specs.Outcome.{IsDigestOutcome};
+ghost use Rattle.c2_cmd.specs.Reply.{IsReply, HasReason};
 
 use crate::open::{Opened, open};
+use crate::pieces::digest_outside;
 use crate::reply::{Answer, Fault, Reply};
 use crate::texts::{digest_reply, none_reply, refused_reply};
-use c2_base::{Found, ReadAllError, Source, read_all};
-use c2_hash::{Alg, Digest, Hashing};
+use c2_base::{Failed, Source};
+use c2_hash::{Alg, Hashing};
 use std::alloc::Global;
+
+// How many bytes are hashed at once.
+const PIECE: usize = 65_536;
 
 /// The reply to `digest`.
 pub fn reply_to_digest<H: Hashing, S: Source>(
@@ -18,7 +22,7 @@ pub fn reply_to_digest<H: Hashing, S: Source>(
     hashing: &H,
     media: &mut S,
 ) -> Result<Reply, Fault>
-    ensures reply { IfOk result (λ reply. ForSome (S.told media.old) (λ file. RepliesToDigest (H.digest_of Alg.Sha256) file reply)) }
+    ensures reply { IfOk result (λ reply. ForSome (S.told media.old) (λ file. IsReply (IsDigestOutcome (H.digest_of Alg.Sha256) file) reply)) }
     ensures words { IfOk result (λ reply. reply.answer ≢ Answer.Usage) }
     ensures stays { StaysSource S.len S.told S.faults media.old media.new }
     ensures count { OnOk result (S.faults media.new ≡ S.faults media.old) }
@@ -35,23 +39,12 @@ pub fn reply_to_digest<H: Hashing, S: Source>(
             return Ok(reply);
         }
     };
-    let file = match read_all(alloc, media, u64::MAX) {
-        Ok(file) => file,
-        Err(ReadAllError::NoMemory) => return Err(Fault::Memory),
-        Err(_) => return Err(Fault::Input),
-    };
-    let digest = outside_digest(hashing, file.as_slice(), &found);
-    let reply = digest_reply(alloc, found.start, found.length, &digest)?;
-    Ok(reply)
-}
-
-// The digest of the bytes outside a range.
-fn outside_digest<H: Hashing>(hashing: &H, file: &[u8], found: &Found) -> Digest
-    requires { found.now.start + found.now.length ≤ length file.now }
-    ensures { result ≡ H.digest_of Alg.Sha256 (outside found.now.start found.now.length file.now) }
-{
-    let mut state = hashing.start(Alg::Sha256);
-    hashing.update(&mut state, &file[..found.start as usize]);
-    hashing.update(&mut state, &file[(found.start + found.length) as usize..]);
-    hashing.finish(state)
+    let mut buf = vec![in alloc; 0; PIECE]?;
+    match digest_outside(hashing, media, found.start, found.length, &mut buf) {
+        Ok(digest) => {
+            let reply = digest_reply(alloc, found.start, found.length, &digest)?;
+            Ok(reply)
+        }
+        Err(Failed) => Err(Fault::Input),
+    }
 }

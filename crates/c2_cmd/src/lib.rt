@@ -4,7 +4,9 @@
 #![tactic(auto)]
 
 mod digest;
+mod list;
 mod open;
+mod pieces;
 mod reply;
 mod run_command;
 mod texts;

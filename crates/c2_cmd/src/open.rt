@@ -70,7 +70,7 @@ fn refused(error: MediaError) -> Result<Opened, Fault>
         MediaError::BadBox(at) => (Reason::BadBox, at),
         MediaError::BadProvenanceBox(at) => (Reason::BadProvenanceBox, at),
         MediaError::StoreTooLarge(size) => (Reason::StoreTooLarge, size),
-        MediaError::TooManyBoxes => (Reason::TooManyBoxes, 0),
+        MediaError::TooManyBoxes => (Reason::TooManyBoxes, 1_048_576),
         MediaError::ReadFault => return Err(Fault::Input),
         MediaError::NoMemory => return Err(Fault::Memory),
     };

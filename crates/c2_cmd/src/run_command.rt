@@ -6,9 +6,10 @@ ghost use Rattle.c2_base.specs.Sink.{HasWrittenFront};
 ghost use Rattle.c2_cmd.specs.Words.{roles_of};
 ghost use Rattle.c2_cmd.specs.Outcome.{Outcome, IsOutcome, all_silent, inputs, uses_media};
 ghost use Rattle.c2_cmd.specs.Run.{Tells, Delivers, HasReport, HasFailed, WithoutFault};
-ghost use Rattle.c2_cmd.specs.Reply.{Replies, HasReason};
+ghost use Rattle.c2_cmd.specs.Reply.{IsReply, HasReason};
 
 use crate::digest::reply_to_digest;
+use crate::list::reply_to_list;
 use crate::reply::{Answer, Fault, Reply};
 use crate::roles;
 use crate::texts::usage_reply;
@@ -73,7 +74,7 @@ fn reply_to<H: Hashing, A: Source>(
     media: &mut A,
 ) -> Result<Reply, Fault>
     ensures reply { Tells (roles_of (map string_bytes words.now.items)) (A.told media.old)
-        → IfOk result (Replies (roles_of (map string_bytes words.now.items)) (inputs (A.told media.old) None None all_silent H.digest_of)) }
+        → IfOk result (IsReply (IsOutcome (roles_of (map string_bytes words.now.items)) (inputs (A.told media.old) None None all_silent H.digest_of))) }
     ensures usage { IfOk result (λ reply. reply.answer ≡ Answer.Usage → roles_of (map string_bytes words.now.items) ≡ None) }
     ensures unnamed { uses_media (roles_of (map string_bytes words.now.items)) ≡ false → media.new ≡ media.old }
     ensures named { IfErr result (λ e. e ≡ Fault.Input → uses_media (roles_of (map string_bytes words.now.items)) ≡ true) }
@@ -85,6 +86,10 @@ fn reply_to<H: Hashing, A: Source>(
         Ok(found) => match found.command {
             Command::Digest => {
                 let reply = reply_to_digest(alloc, hashing, media)?;
+                Ok(reply)
+            }
+            Command::List => {
+                let reply = reply_to_list(alloc, media)?;
                 Ok(reply)
             }
         },

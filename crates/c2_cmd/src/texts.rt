@@ -17,7 +17,7 @@ pub fn usage_reply(alloc: Global) -> Result<Reply, Fault>
 {
     Ok(Reply {
         answer: Answer::Usage,
-        text: String::from_str(alloc, "usage: c2 digest MEDIA\n")?,
+        text: String::from_str(alloc, "usage: c2 digest|list MEDIA\n")?,
     })
 }
 
@@ -72,5 +72,12 @@ fn reason_name(reason: Reason) -> &'static str
         Reason::BadProvenanceBox => "BadProvenanceBox",
         Reason::StoreTooLarge => "StoreTooLarge",
         Reason::TooManyBoxes => "TooManyBoxes",
+        Reason::BadHead => "BadHead",
+        Reason::Overrun => "Overrun",
+        Reason::Trailing => "Trailing",
+        Reason::NoDescription => "NoDescription",
+        Reason::BadDescription => "BadDescription",
+        Reason::DuplicateLabel => "DuplicateLabel",
+        Reason::TooDeep => "TooDeep",
     }
 }

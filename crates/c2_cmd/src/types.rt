@@ -5,6 +5,9 @@
 pub enum Command {
     /// The embedded range, and the digest of all bytes outside it.
     Digest,
+
+    /// The boxes of the store.
+    List,
 }
 
 /// Which word is which: the index of each name among the words.
@@ -48,7 +51,7 @@ pub enum Status {
     /// Done.
     Done = 0,
 
-    /// The container is refused.
+    /// The container or a box of the store is refused.
     Refused = 2,
 
     /// The file has no store.

@@ -9,3 +9,4 @@ pub mod JumbfFaults
 pub mod JumbfWriting
 pub mod Located
 pub mod Reason
+pub mod StoreTree

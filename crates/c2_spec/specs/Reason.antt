@@ -1,7 +1,7 @@
 -- The names of refusals, as reports print them.
 use Rattle.std.specs.Prelude.{ℕ, List, codes}
 use Rattle.c2_spec.specs.declared.reason.Reason.{Reason}
-use Rattle.c2_spec.specs.declared.reason.Reason.TheVariants.{NotMedia, FileTooLarge, Truncated, BadMarker, BadSegment, BadPacket, TwoStores, BadBox, BadProvenanceBox, StoreTooLarge, TooManyBoxes}
+use Rattle.c2_spec.specs.declared.reason.Reason.TheVariants.{NotMedia, FileTooLarge, Truncated, BadMarker, BadSegment, BadPacket, TwoStores, BadBox, BadProvenanceBox, StoreTooLarge, TooManyBoxes, BadHead, Overrun, Trailing, NoDescription, BadDescription, DuplicateLabel, TooDeep}
 
 abbrev pub reason_name : Reason → List ℕ
 reason_name NotMedia = codes "NotMedia"
@@ -15,3 +15,10 @@ reason_name BadBox = codes "BadBox"
 reason_name BadProvenanceBox = codes "BadProvenanceBox"
 reason_name StoreTooLarge = codes "StoreTooLarge"
 reason_name TooManyBoxes = codes "TooManyBoxes"
+reason_name BadHead = codes "BadHead"
+reason_name Overrun = codes "Overrun"
+reason_name Trailing = codes "Trailing"
+reason_name NoDescription = codes "NoDescription"
+reason_name BadDescription = codes "BadDescription"
+reason_name DuplicateLabel = codes "DuplicateLabel"
+reason_name TooDeep = codes "TooDeep"

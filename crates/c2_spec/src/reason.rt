@@ -1,7 +1,7 @@
 // Why a media file, a box or a store is refused.
 
 /// Why a media file, a box or a store is refused, as reports print it beside a number. The number is a place in the media
-/// file where nothing else is said.
+/// file, in bytes, where nothing else is said.
 #[derive(Clone, Copy, Debug, PartialEq, Eq)]
 pub enum Reason {
     /// The file doesn't begin as one that is known; the number is 0.
@@ -34,6 +34,27 @@ pub enum Reason {
     /// A store is longer than a store may be; the number is the length that it states.
     StoreTooLarge,
 
-    /// A BMFF file has too many root boxes; the number is 0.
+    /// A BMFF file has too many root boxes; the number is the most that it may have, 1,048,576.
     TooManyBoxes,
+
+    /// No box header stands at a place of the store, or one with a length that can't be one.
+    BadHead,
+
+    /// The box at a place of the store ends behind its parent's end.
+    Overrun,
+
+    /// The root box ends at a place of the store, before the store's end.
+    Trailing,
+
+    /// The superbox at a place of the store has no description box.
+    NoDescription,
+
+    /// The description box at a place of the store hasn't the form of one.
+    BadDescription,
+
+    /// The superbox at a place of the store has the label of an earlier sibling.
+    DuplicateLabel,
+
+    /// The superbox at a place of the store lies too deep.
+    TooDeep,
 }
