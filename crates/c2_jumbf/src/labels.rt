@@ -121,7 +121,7 @@ pub fn add_any<'t>(
 {
     match label {
         Some(text) => match add(alloc, siblings, text) {
-            Ok(added) => Ok(added),
+            Ok(is_new) => Ok(is_new),
             Err(fault) => Err(fault),
         },
         None => Ok(true),
