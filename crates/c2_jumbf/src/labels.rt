@@ -87,11 +87,7 @@ fn add_mixed<'t>(siblings: &mut Siblings<'t>, label: &'t str) -> Result<bool, Ju
 }
 
 /// Adds a label, and answers whether it was new.
-fn add<'t>(
-    alloc: Global,
-    siblings: &mut Siblings<'t>,
-    label: &'t str,
-) -> Result<bool, JumbfError>
+fn add<'t>(alloc: Global, siblings: &mut Siblings<'t>, label: &'t str) -> Result<bool, JumbfError>
     ensures ok { (earlier : List (Option (List ℕ))) → Holds siblings.old earlier → IfOk result (IsAdded siblings.new earlier (Some label.now)) }
     ensures err { IfErr result (λ e. e ≡ JumbfError.NoMemory) }
 {

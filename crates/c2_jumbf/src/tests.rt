@@ -88,7 +88,9 @@ const FALLING: [u8; 219] = [
 const NEST: usize = 33;
 
 #[test]
-fn one_byte_changed_in_a_bare_superbox_is_refused_at_its_place(rt: HostRuntime) -> Result<(), Fail> {
+fn one_byte_changed_in_a_bare_superbox_is_refused_at_its_place(
+    rt: HostRuntime,
+) -> Result<(), Fail> {
     for (at, byte, want) in [
         (3, 7, JumbfError::BadHead(0)),
         (3, 0, JumbfError::BadHead(0)),
@@ -132,9 +134,18 @@ fn other_lists_are_refused_at_their_places(rt: HostRuntime) -> Result<(), Fail> 
     twice[3] = 0x6C;
     for (bytes, want) in [
         (&[][..], JumbfError::BadHead(0)),
-        (&[0, 0, 0, 1, 0x66, 0x72, 0x65, 0x65, 0, 0, 0, 0][..], JumbfError::BadHead(0)),
-        (&[0, 0, 0, 1, 0x66, 0x72, 0x65, 0x65, 0, 0, 0, 0, 0, 0, 0, 15][..], JumbfError::BadHead(0)),
-        (&[0, 0, 0, 8, 0x6A, 0x75, 0x6D, 0x62][..], JumbfError::NoDescription(0)),
+        (
+            &[0, 0, 0, 1, 0x66, 0x72, 0x65, 0x65, 0, 0, 0, 0][..],
+            JumbfError::BadHead(0),
+        ),
+        (
+            &[0, 0, 0, 1, 0x66, 0x72, 0x65, 0x65, 0, 0, 0, 0, 0, 0, 0, 15][..],
+            JumbfError::BadHead(0),
+        ),
+        (
+            &[0, 0, 0, 8, 0x6A, 0x75, 0x6D, 0x62][..],
+            JumbfError::NoDescription(0),
+        ),
         (&longer[..], JumbfError::Trailing(38)),
         (&twice[..], JumbfError::DuplicateLabel(73)),
         (&TWO_EMPTY_LABELS[..], JumbfError::DuplicateLabel(77)),
@@ -201,17 +212,27 @@ fn boxes_have_their_places_in_preorder(rt: HostRuntime) -> Result<(), Fail> {
         Ok(tree) => tree,
         Err(_) => return Ok(assert!(rt; false)),
     };
-    compare(&rt, &tree, &[
-        (1, 0, 73, *b"jumb", Some("c2pa")),
-        (2, 8, 30, *b"jumd", None),
-        (2, 38, 35, *b"jumb", Some("m")),
-        (3, 46, 27, *b"jumd", None),
-    ]);
+    compare(
+        &rt,
+        &tree,
+        &[
+            (1, 0, 73, *b"jumb", Some("c2pa")),
+            (2, 8, 30, *b"jumd", None),
+            (2, 38, 35, *b"jumb", Some("m")),
+            (3, 46, 27, *b"jumd", None),
+        ],
+    );
     assert!(rt; count(&tree) == 4);
     assert!(rt; contents(&tree, 2) == &STORE[46..]);
     assert!(rt; uuid_of(&tree, 2).is_some_and(|uuid| uuid[..] == STORE[54..70]));
     assert!(rt; uuid_of(&tree, 3).is_none());
-    for (i, k, want) in [(0, 0, Some(1)), (0, 1, Some(2)), (0, 2, None), (1, 0, None), (2, 0, Some(3))] {
+    for (i, k, want) in [
+        (0, 0, Some(1)),
+        (0, 1, Some(2)),
+        (0, 2, None),
+        (1, 0, None),
+        (2, 0, Some(3)),
+    ] {
         assert!(rt; child(&tree, i, k) == want, "child {k} of {i}");
     }
     assert!(rt; find(&tree, 0, "m") == Some(2));
@@ -230,12 +251,16 @@ fn wide_headers_and_all_fields_are_read(rt: HostRuntime) -> Result<(), Fail> {
         Ok(tree) => tree,
         Err(_) => return Ok(assert!(rt; false)),
     };
-    compare(&rt, &tree, &[
-        (1, 0, 138, *b"jumb", Some("a")),
-        (2, 16, 95, *b"jumd", None),
-        (2, 111, 18, *b"json", None),
-        (2, 129, 9, *b"jumd", None),
-    ]);
+    compare(
+        &rt,
+        &tree,
+        &[
+            (1, 0, 138, *b"jumb", Some("a")),
+            (2, 16, 95, *b"jumd", None),
+            (2, 111, 18, *b"json", None),
+            (2, 129, 9, *b"jumd", None),
+        ],
+    );
     assert!(rt; count(&tree) == 4);
     assert!(rt; contents(&tree, 2) == b"{}".as_slice());
     assert!(rt; contents(&tree, 0).len() == FULL.len() - 16);
@@ -244,7 +269,9 @@ fn wide_headers_and_all_fields_are_read(rt: HostRuntime) -> Result<(), Fail> {
         Err(_) => assert!(rt; false),
     }
     match head(&FULL, 0) {
-        Ok(front) => assert!(rt; front.header == 16 && front.total == FULL.len() && front.kind == *b"jumb"),
+        Ok(front) => assert!(rt;
+            front.header == 16 && front.total == FULL.len() && front.kind == *b"jumb"
+        ),
         Err(_) => assert!(rt; false),
     }
     Ok(())
@@ -256,17 +283,21 @@ fn an_empty_label_is_a_label(rt: HostRuntime) -> Result<(), Fail> {
         Ok(tree) => tree,
         Err(_) => return Ok(assert!(rt; false)),
     };
-    compare(&rt, &tree, &[
-        (1, 0, 144, *b"jumb", Some("r")),
-        (2, 8, 27, *b"jumd", None),
-        (2, 35, 43, *b"jumb", Some("")),
-        (3, 43, 26, *b"jumd", None),
-        (3, 69, 9, *b"cbor", None),
-        (2, 78, 33, *b"jumb", None),
-        (3, 86, 25, *b"jumd", None),
-        (2, 111, 33, *b"jumb", None),
-        (3, 119, 25, *b"jumd", None),
-    ]);
+    compare(
+        &rt,
+        &tree,
+        &[
+            (1, 0, 144, *b"jumb", Some("r")),
+            (2, 8, 27, *b"jumd", None),
+            (2, 35, 43, *b"jumb", Some("")),
+            (3, 43, 26, *b"jumd", None),
+            (3, 69, 9, *b"cbor", None),
+            (2, 78, 33, *b"jumb", None),
+            (3, 86, 25, *b"jumd", None),
+            (2, 111, 33, *b"jumb", None),
+            (3, 119, 25, *b"jumd", None),
+        ],
+    );
     assert!(rt; 0 < count(&tree));
     assert!(rt; find(&tree, 0, "") == Some(2));
     Ok(())
@@ -278,21 +309,25 @@ fn labels_lead_to_boxes_inside_boxes(rt: HostRuntime) -> Result<(), Fail> {
         Ok(tree) => tree,
         Err(_) => return Ok(assert!(rt; false)),
     };
-    compare(&rt, &tree, &[
-        (1, 0, 219, *b"jumb", Some("r")),
-        (2, 8, 27, *b"jumd", None),
-        (2, 35, 70, *b"jumb", Some("b")),
-        (3, 43, 27, *b"jumd", None),
-        (3, 70, 35, *b"jumb", Some("x")),
-        (4, 78, 27, *b"jumd", None),
-        (2, 105, 79, *b"jumb", Some("a")),
-        (3, 113, 27, *b"jumd", None),
-        (3, 140, 44, *b"jumb", Some("y")),
-        (4, 148, 27, *b"jumd", None),
-        (4, 175, 9, *b"cbor", None),
-        (2, 184, 35, *b"jumb", Some("c")),
-        (3, 192, 27, *b"jumd", None),
-    ]);
+    compare(
+        &rt,
+        &tree,
+        &[
+            (1, 0, 219, *b"jumb", Some("r")),
+            (2, 8, 27, *b"jumd", None),
+            (2, 35, 70, *b"jumb", Some("b")),
+            (3, 43, 27, *b"jumd", None),
+            (3, 70, 35, *b"jumb", Some("x")),
+            (4, 78, 27, *b"jumd", None),
+            (2, 105, 79, *b"jumb", Some("a")),
+            (3, 113, 27, *b"jumd", None),
+            (3, 140, 44, *b"jumb", Some("y")),
+            (4, 148, 27, *b"jumd", None),
+            (4, 175, 9, *b"cbor", None),
+            (2, 184, 35, *b"jumb", Some("c")),
+            (3, 192, 27, *b"jumd", None),
+        ],
+    );
     assert!(rt; 6 < count(&tree));
     for (start, path, want) in [
         (0, "b", Some(2)),
@@ -325,7 +360,9 @@ fn boxes_are_written(rt: HostRuntime) -> Result<(), Fail> {
         Err(_) => assert!(rt; false),
     }
     match write_leaf(rt.alloc(), *b"json", b"\"ab\"") {
-        Ok(leaf) => assert!(rt; leaf.as_slice() == &[0, 0, 0, 12, 0x6A, 0x73, 0x6F, 0x6E, 0x22, 0x61, 0x62, 0x22][..]),
+        Ok(leaf) => assert!(rt;
+            leaf.as_slice() == &[0, 0, 0, 12, 0x6A, 0x73, 0x6F, 0x6E, 0x22, 0x61, 0x62, 0x22][..]
+        ),
         Err(_) => assert!(rt; false),
     }
     for label in ["", "a\u{1f}", "\u{7f}"] {
