@@ -1,14 +1,14 @@
 -- The boxes of a tree by their indices: their bytes, and those inside them.
-use Rattle.std.proofs.Common.{◌≡◌, ◌≢◌, ℕ, zero, suc, ◌+◌, ◌-◌, ◌<◌, ◌≤◌, Bool, true, false, List, [], ◌∷◌, ◌++◌, length, get_or, take, drop, map, Option, Some, None, refl, sym, ap, ◌∙◌, subst, append_assoc, arith, lit<, lit≤, length-append}
+use Rattle.std.proofs.Common.{◌≡◌, ℕ, zero, suc, ◌+◌, ◌-◌, ◌<◌, ◌≤◌, Bool, true, false, List, [], ◌∷◌, ◌++◌, length, get_or, take, drop, refl, sym, ap, ◌∙◌, subst, append_assoc, arith, lit<, lit≤, length-append}
 use Rattle.std.specs.Int.{w32, to_be_bytes}
-use Rattle.std.proofs.lemmas.List.{drop-drop, drop_at, get_or-drop, get_or-map, length-drop, length-map, append-nil, take_at}
+use Rattle.std.proofs.lemmas.List.{drop-drop, drop_at, get_or-map, length-drop, length-map, append-nil, take_at}
 use Rattle.std.specs.List.{AllByRecursion}
-use Rattle.c2_spec.specs.Jumbf.{Description, IsDescription, description_bytes, Tree, Trees, leaf, super, none, more, tree_bytes, trees_bytes, head_len, boxed, jumb_kind, jumd_kind, description_payload, IsLegalTree, AreLegalTrees, SpellsTree}
-use Rattle.c2_spec.specs.JumbfBoxes.{AnyBox, node, described, IndexedBox, tree_count, trees_count, boxes_from, boxes_from_all, boxes_of, box_at, any_bytes, any_wide, any_kind, any_contents, indices_from, children_of, child_indices}
+use Rattle.c2_spec.specs.Jumbf.{IsDescription, description_bytes, Tree, Trees, leaf, super, none, more, tree_bytes, trees_bytes, head_len, boxed, jumb_kind, jumd_kind, description_payload, IsLegalTree, AreLegalTrees}
+use Rattle.c2_spec.specs.JumbfBoxes.{AnyBox, node, described, IndexedBox, tree_count, boxes_from, boxes_from_all, boxes_of, box_at, any_bytes, any_wide, any_kind, any_contents}
 use Rattle.c2_jumbf.specs.declared.rows.Row.{Row}
-use Rattle.c2_jumbf.specs.Flat.{any_count, row_of, rows}
+use Rattle.c2_jumbf.specs.Flat.{row_of}
 use Rattle.c2_jumbf.specs.Parsed.{IsParsed}
-use Rattle.c2_jumbf.proofs.Trees.{length-boxes, length-boxes_all}
+use Rattle.c2_jumbf.proofs.Trees.{length-boxes}
 
 all-append : {X : Type 0} (P : X → Type 0) (xs ys : List X) → AllByRecursion P xs → AllByRecursion P ys → AllByRecursion P (xs ++ ys)
 all-append P [] ys h k = k
@@ -38,9 +38,9 @@ mutual
   stand (leaf b) bytes rest at depth i e h = (record { rest = rest; there = e; legal = h }, tt)
   stand (super wide d us) bytes rest at depth i e h =
       let first : drop (at + head_len wide) bytes ≡ description_bytes d ++ (trees_bytes us ++ rest) =
-        sym (drop-drop (head_len wide) at bytes) ∙ ap (drop (head_len wide)) e ∙ cut_head jumb_kind wide (description_bytes d ++ trees_bytes us) rest ∙ append_assoc (description_bytes d) (trees_bytes us) rest in
+      sym (drop-drop (head_len wide) at bytes) ∙ ap (drop (head_len wide)) e ∙ cut_head jumb_kind wide (description_bytes d ++ trees_bytes us) rest ∙ append_assoc (description_bytes d) (trees_bytes us) rest in
       let second : drop (at + head_len wide + length (description_bytes d)) bytes ≡ trees_bytes us ++ rest =
-        sym (drop-drop (length (description_bytes d)) (at + head_len wide) bytes) ∙ ap (drop (length (description_bytes d))) first ∙ drop_at (description_bytes d) (trees_bytes us ++ rest) (length (description_bytes d)) refl in
+      sym (drop-drop (length (description_bytes d)) (at + head_len wide) bytes) ∙ ap (drop (length (description_bytes d))) first ∙ drop_at (description_bytes d) (trees_bytes us ++ rest) (length (description_bytes d)) refl in
       (record { rest = rest; there = e; legal = h }, (record { rest = trees_bytes us ++ rest; there = first; legal = h.1 }, stand_all us bytes rest (at + head_len wide + length (description_bytes d)) (depth + 1) (i + 2) second h.3))
 
   stand_all : (ts : Trees) (bytes rest : List ℕ) (at depth i : ℕ) → drop at bytes ≡ trees_bytes ts ++ rest → AreLegalTrees depth ts → AllByRecursion (Stands bytes) (boxes_from_all at depth i ts)

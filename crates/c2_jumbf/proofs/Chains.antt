@@ -1,11 +1,11 @@
 -- The children of a box are reached from one record to the next.
-use Rattle.std.proofs.Common.{◌≡◌, ◌≢◌, ◌⊎◌, inl, inr, ℕ, zero, suc, ◌+◌, ◌-◌, ◌<◌, ◌≤◌, Bool, true, false, List, [], ◌∷◌, ◌++◌, length, get_or, take, drop, Option, Some, None, refl, sym, ap, ◌∙◌, subst, append_assoc, arith, length-append}
+use Rattle.std.proofs.Common.{◌≡◌, ℕ, zero, suc, ◌+◌, ◌-◌, ◌<◌, ◌≤◌, true, false, List, [], ◌∷◌, ◌++◌, length, get_or, drop, Option, Some, None, refl, sym, ap, ◌∙◌, subst, append_assoc, arith, length-append}
 use Rattle.std.proofs.lemmas.List.{get_or-drop, length-drop, drop-drop, drop_at, get_or_at, append-nil}
 use Rattle.std.proofs.lemmas.Option.{slice_get_past}
 use Rattle.std.specs.List.{slice_get, Contains, AllByRecursion}
 use Rattle.std.proofs.lemmas.Slice.Eq.{bytes_eq-Decides}
 use borrow.Author.Tests.{both_ways}
-use Rattle.c2_spec.specs.Jumbf.{Description, description_bytes, head_len, Tree, Trees, leaf, super, none, more, tree_bytes}
+use Rattle.c2_spec.specs.Jumbf.{description_bytes, head_len, Tree, Trees, leaf, super, none, more, tree_bytes}
 use Rattle.c2_spec.specs.JumbfBoxes.{AnyBox, node, described, IndexedBox, tree_count, trees_count, boxes_from, boxes_from_all, boxes_of, box_at, indices_from, children_of, child_indices, any_label}
 use Rattle.c2_jumbf.specs.Flat.{any_count, row_of}
 use Rattle.c2_jumbf.specs.Labels.{is_label}
@@ -46,7 +46,7 @@ chain_all (more u us) t at depth i rest e =
     let f = front_box_is t i (record { index = i; place = at; depth = depth; box = node u }) (h.0 ++ (boxes_from_all (at + length (tree_bytes u)) depth (i + tree_count u) us ++ rest)) (whole ∙ ap (λ (x : List IndexedBox). x ++ (boxes_from_all (at + length (tree_bytes u)) depth (i + tree_count u) us ++ rest)) h.1) in
     let after : after_of t i ≡ i + tree_count u = ap (λ b. (row_of b).after) f.0 in
     let next : drop (i + tree_count u) (boxes_of t) ≡ boxes_from_all (at + length (tree_bytes u)) depth (i + tree_count u) us ++ rest =
-      sym (drop-drop (tree_count u) i (boxes_of t)) ∙ ap (drop (tree_count u)) whole ∙ drop_at (boxes_from at depth i u) (boxes_from_all (at + length (tree_bytes u)) depth (i + tree_count u) us ++ rest) (tree_count u) (length-boxes u at depth i) in
+    sym (drop-drop (tree_count u) i (boxes_of t)) ∙ ap (drop (tree_count u)) whole ∙ drop_at (boxes_from at depth i u) (boxes_from_all (at + length (tree_bytes u)) depth (i + tree_count u) us ++ rest) (tree_count u) (length-boxes u at depth i) in
     let tail : Chain t (i + tree_count u + trees_count us) (i + tree_count u) (indices_from (i + tree_count u) us) = chain_all us t (at + length (tree_bytes u)) depth (i + tree_count u) rest next in
     let end : i + tree_count u + trees_count us ≡ i + (tree_count u + trees_count us) = omega arith in
     let chain : Chain t (i + (tree_count u + trees_count us)) (after_of t i) (indices_from (i + tree_count u) us) = subst (λ k. Chain t (i + (tree_count u + trees_count us)) k (indices_from (i + tree_count u) us)) (sym after) (subst (λ k. Chain t k (i + tree_count u) (indices_from (i + tree_count u) us)) end tail) in

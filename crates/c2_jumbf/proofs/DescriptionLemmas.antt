@@ -1,13 +1,13 @@
 -- The description of a superbox is the box behind it, and has its type UUID and its label.
-use Rattle.std.proofs.Common.{◌≡◌, ◌≢◌, ◌⊎◌, ℕ, zero, suc, ◌+◌, ◌-◌, ◌<◌, ◌≤◌, Bool, true, false, List, [], ◌∷◌, ◌++◌, length, get_or, take, drop, Option, Some, None, refl, sym, ap, ◌∙◌, subst, append_assoc, arith, length-append, is_some, IfSome, IfNone}
-use Rattle.std.proofs.lemmas.List.{get_or-drop, length-drop, take_at}
-use Rattle.c2_spec.specs.Jumbf.{Description, IsDescription, description_payload, label_bytes, fixed_bytes, private_bytes, Tree, Trees, leaf, super, IsLegalTree}
+use Rattle.std.proofs.Common.{◌≡◌, ◌≢◌, ℕ, suc, ◌+◌, ◌-◌, ◌<◌, ◌≤◌, true, List, ◌++◌, length, get_or, take, drop, Option, Some, None, refl, sym, ap, ◌∙◌, subst, arith, length-append}
+use Rattle.std.proofs.lemmas.List.{get_or-drop, length-drop}
+use Rattle.c2_spec.specs.Jumbf.{Description, IsDescription, label_bytes, fixed_bytes, private_bytes, Tree, leaf, super, IsLegalTree}
 use Rattle.c2_spec.specs.JumbfFaults.{is_set, IsLabelPart, LabelFault, DescriptionFault}
 use Rattle.c2_spec.specs.JumbfBoxes.{AnyBox, node, described, IndexedBox, tree_count, boxes_of, box_at, any_uuid, any_label, any_contents}
 use Rattle.c2_spec.proofs.JumbfParts.{label_once, no_fields, own_label, front_same, desc_split}
 use Rattle.c2_jumbf.specs.Described.{any_description, IsPayload}
 use Rattle.c2_jumbf.specs.Flat.{any_count, row_of}
-use Rattle.c2_jumbf.proofs.BoxLemmas.{Stands, IsLegalBox, own_boxes, inner_boxes, box_stands, box_index, box_inside, count_is}
+use Rattle.c2_jumbf.proofs.BoxLemmas.{IsLegalBox, own_boxes, inner_boxes, box_stands, box_index, box_inside, count_is}
 
 -- a box with one index has no description, and another has
 pub lone_box : (t : Tree) (i : ℕ) → i < tree_count t → (row_of (box_at t i)).after ≡ i + 1 → any_description (box_at t i).box ≡ None

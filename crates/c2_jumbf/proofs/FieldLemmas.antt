@@ -1,11 +1,11 @@
 -- The fields of a description as they are read.
-use Rattle.std.proofs.Common.{◌≡◌, ◌≢◌, ◌⊎◌, inl, inr, ℕ, zero, suc, ◌+◌, ◌-◌, ◌*◌, ◌/◌, ◌%◌, ◌^◌, ◌<◌, ◌≤◌, Bool, ◌&&◌, ◌||◌, not, true, false, cond, List, [], ◌∷◌, ◌++◌, length, get_or, take, drop, set, map, Option, Some, None, refl, sym, ap, ◌∙◌, subst, append_assoc, arith, length-append, is_some, IfSome, eqb, leb, ltb}
+use Rattle.std.proofs.Common.{◌≡◌, ◌≢◌, inl, inr, ℕ, suc, ◌+◌, ◌/◌, ◌%◌, ◌^◌, ◌<◌, ◌≤◌, Bool, true, false, List, [], ◌∷◌, ◌++◌, length, get_or, take, drop, Option, Some, None, refl, sym, ap, ◌∙◌, subst, arith, is_some, eqb}
 use Rattle.std.proofs.lemmas.List.{take-append-drop, drop_more, length-take-le, take_all, get_or-take}
 use Rattle.std.specs.List.{AllByRecursion}
 use Rattle.std.specs.Str.{IsUtf8}
 use Rattle.c2_spec.specs.declared.jumbf.JumbfError.{JumbfError}
-use Rattle.c2_spec.specs.Jumbf.{PlainBox, IsPlainBox, Description, IsLabel, IsLabelByte, description_payload, label_bytes, fixed_bytes, private_bytes, toggles}
-use Rattle.c2_spec.specs.JumbfFaults.{tells_wide, told_total, told_kind, told_payload, box_head_fault, IsLabelPart, IsFixedPart, LabelFault, IsNotOneBox, DescriptionFault, BehindLabel, BehindId, BehindDigest, is_set}
+use Rattle.c2_spec.specs.Jumbf.{PlainBox, Description, IsLabel, IsLabelByte, label_bytes, fixed_bytes, private_bytes, toggles}
+use Rattle.c2_spec.specs.JumbfFaults.{tells_wide, told_kind, told_payload, box_head_fault, IsLabelPart, IsFixedPart, LabelFault, DescriptionFault, BehindLabel, is_set}
 use Rattle.c2_spec.proofs.JumbfParts.{one, one_eqb, small_bit, sum_is, parts_sum, desc_split}
 use Rattle.c2_jumbf.specs.declared.front.Front.{Front}
 use Rattle.c2_jumbf.specs.declared.fields.Fields.{Fields}

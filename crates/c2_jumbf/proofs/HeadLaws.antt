@@ -1,5 +1,5 @@
 -- The head of a box and its bytes.
-use Rattle.std.proofs.Common.{◌≡◌, ◌≢◌, ◌⊎◌, inl, inr, ℕ, zero, suc, ◌+◌, ◌-◌, ◌*◌, ◌/◌, ◌%◌, ◌^◌, ◌<◌, ◌≤◌, Bool, ◌&&◌, ◌||◌, not, true, false, cond, List, [], ◌∷◌, ◌++◌, length, get_or, take, drop, set, map, Option, Some, None, refl, sym, ap, ◌∙◌, subst, append_assoc, arith, lit<, length-append, is_some, IfSome, eqb, leb, ltb}
+use Rattle.std.proofs.Common.{◌≡◌, ℕ, zero, suc, ◌+◌, ◌-◌, ◌^◌, ◌<◌, ◌≤◌, Bool, true, false, cond, List, [], ◌∷◌, ◌++◌, length, get_or, take, drop, None, refl, sym, ap, ◌∙◌, subst, arith, lit<}
 use Rattle.std.proofs.lemmas.List.{length-take-le, length-drop, take-take, take-append-drop, drop-take, get_or-drop, take_rest}
 use Rattle.std.proofs.lemmas.Nat.{be_bytes_4, be_bytes_8}
 use Rattle.std.specs.Int.{w32, w64, to_be_bytes, from_be_bytes}
@@ -82,9 +82,10 @@ front_whole region h bytes k = sym (take-append-drop h.total region) ∙ ap (λ 
 pub public_head : (bytes kind : List ℕ) (at : ℕ) (h : Front) → kind ≡ to_be_bytes w32 h.kind → IsHead (take (length bytes - at) (drop at bytes)) h
     → (box_head_fault at (drop at bytes) ≡ None) × (record { header = h.header; total = h.total; kind = kind } ≡ told_head (drop at bytes))
 public_head bytes kind at h kind_is k =
-    let r : IsHead (drop at bytes) h = subst (λ (x : List ℕ). IsHead x h) (take_rest bytes at) k in
-    (good_at 0 at (drop at bytes) r.good,
+    let r : IsHead (drop at bytes) h = subst (λ (x : List ℕ). IsHead x h) (take_rest bytes at) k in (
+      good_at 0 at (drop at bytes) r.good,
       ap (λ n. record { header = n; total = h.total; kind = kind }) r.header
-      ∙ ap (λ n. record { header = head_len (tells_wide (drop at bytes)); total = n; kind = kind }) r.total
-      ∙ ap (λ (x : List ℕ). record { header = head_len (tells_wide (drop at bytes)); total = told_total (drop at bytes); kind = x }) kind_is
-      ∙ ap (λ n. record { header = head_len (tells_wide (drop at bytes)); total = told_total (drop at bytes); kind = to_be_bytes w32 n }) r.kind)
+          ∙ ap (λ n. record { header = head_len (tells_wide (drop at bytes)); total = n; kind = kind }) r.total
+          ∙ ap (λ (x : List ℕ). record { header = head_len (tells_wide (drop at bytes)); total = told_total (drop at bytes); kind = x }) kind_is
+          ∙ ap (λ n. record { header = head_len (tells_wide (drop at bytes)); total = told_total (drop at bytes); kind = to_be_bytes w32 n }) r.kind,
+    )

@@ -1,11 +1,11 @@
 -- Labels lead to one box: siblings with one label are one.
-use Rattle.std.proofs.Common.{◌≡◌, ◌≢◌, ◌⊎◌, inl, inr, ℕ, zero, suc, ◌+◌, ◌-◌, ◌<◌, ◌≤◌, Bool, true, false, List, [], ◌∷◌, ◌++◌, length, get_or, take, drop, map, Option, Some, None, refl, sym, ap, ◌∙◌, subst, append_assoc, arith, length-append}
+use Rattle.std.proofs.Common.{◌≡◌, ◌≢◌, ℕ, zero, suc, ◌+◌, ◌<◌, List, [], ◌∷◌, ◌++◌, length, get_or, drop, map, Option, Some, None, refl, sym, ap, ◌∙◌, subst, append_assoc, arith}
 use Rattle.std.proofs.lemmas.List.{drop-drop, drop_at, drop_more, drop_all, get_or-map, length-map}
 use Rattle.std.specs.List.{AllByRecursion, Contains}
 use Rattle.c2_spec.specs.Jumbf.{description_bytes, head_len, Tree, Trees, leaf, super, none, more, tree_bytes, tree_label, tree_labels, IsNewLabel, AreDistinctLabels, IsLegalTree}
-use Rattle.c2_spec.specs.JumbfBoxes.{AnyBox, node, described, IndexedBox, tree_count, trees_count, boxes_from, boxes_from_all, boxes_of, box_at, any_label, indices_from, children_of, child_indices, LabelsLead}
+use Rattle.c2_spec.specs.JumbfBoxes.{AnyBox, node, described, IndexedBox, tree_count, boxes_from, boxes_from_all, boxes_of, box_at, any_label, indices_from, children_of, child_indices, LabelsLead}
 use Rattle.c2_jumbf.proofs.Trees.{length-boxes}
-use Rattle.c2_jumbf.proofs.BoxLemmas.{Stands, IsLegalBox, own_boxes, inner_boxes, box_stands, box_index, box_inside}
+use Rattle.c2_jumbf.proofs.BoxLemmas.{IsLegalBox, own_boxes, inner_boxes, box_stands, box_index, box_inside}
 use Rattle.c2_jumbf.proofs.Chains.{Chain, chain_of, after_of, front_box_is, head_of}
 
 -- the labels of boxes by their indices
@@ -23,7 +23,7 @@ labels_all (more u us) t at depth i rest e =
     let whole : drop i (boxes_of t) ≡ boxes_from at depth i u ++ (boxes_from_all (at + length (tree_bytes u)) depth (i + tree_count u) us ++ rest) = e ∙ append_assoc (boxes_from at depth i u) (boxes_from_all (at + length (tree_bytes u)) depth (i + tree_count u) us) rest in
     let f = front_box_is t i (record { index = i; place = at; depth = depth; box = node u }) (h.0 ++ (boxes_from_all (at + length (tree_bytes u)) depth (i + tree_count u) us ++ rest)) (whole ∙ ap (λ (x : List IndexedBox). x ++ (boxes_from_all (at + length (tree_bytes u)) depth (i + tree_count u) us ++ rest)) h.1) in
     let next : drop (i + tree_count u) (boxes_of t) ≡ boxes_from_all (at + length (tree_bytes u)) depth (i + tree_count u) us ++ rest =
-      sym (drop-drop (tree_count u) i (boxes_of t)) ∙ ap (drop (tree_count u)) whole ∙ drop_at (boxes_from at depth i u) (boxes_from_all (at + length (tree_bytes u)) depth (i + tree_count u) us ++ rest) (tree_count u) (length-boxes u at depth i) in
+    sym (drop-drop (tree_count u) i (boxes_of t)) ∙ ap (drop (tree_count u)) whole ∙ drop_at (boxes_from at depth i u) (boxes_from_all (at + length (tree_bytes u)) depth (i + tree_count u) us ++ rest) (tree_count u) (length-boxes u at depth i) in
     ap (λ o. o ∷ map (label_at t) (indices_from (i + tree_count u) us)) (ap (λ b. any_label b.box) f.0 ∙ node_label u)
     ∙ ap (λ (x : List (Option (List ℕ))). tree_label u ∷ x) (labels_all us t (at + length (tree_bytes u)) depth (i + tree_count u) rest next)
 

@@ -1,10 +1,10 @@
 -- A superbox up to its label.
-use Rattle.std.proofs.Common.{◌≡◌, ◌≢◌, ◌⊎◌, inl, inr, ⊎_elim, ℕ, zero, suc, ◌+◌, ◌-◌, ◌*◌, ◌/◌, ◌%◌, ◌^◌, ◌<◌, ◌≤◌, Bool, ◌&&◌, ◌||◌, not, true, false, cond, List, [], ◌∷◌, ◌++◌, length, get_or, take, drop, set, map, Option, Some, None, Result, Ok, Err, MatchResult, IfOk, IfErr, refl, sym, ap, ◌∙◌, subst, append_assoc, arith, length-append, is_some, IfSome, eqb, leb, ltb}
+use Rattle.std.proofs.Common.{◌≡◌, ◌≢◌, ℕ, ◌+◌, ◌-◌, ◌^◌, ◌<◌, ◌≤◌, List, [], ◌∷◌, ◌++◌, length, take, drop, Option, Some, refl, sym, ap, ◌∙◌, subst, append_assoc, arith}
 use Rattle.std.proofs.lemmas.List.{length-drop, drop-take, drop-drop, length-take-le}
 use Rattle.c2_spec.specs.declared.jumbf.JumbfError.{JumbfError}
 use Rattle.c2_spec.specs.declared.jumbf.JumbfError.TheVariants.{TooDeep, NoDescription, BadDescription, DuplicateLabel}
 use Rattle.c2_spec.specs.Jumbf.{Description, IsDescription, description_payload, description_bytes, FitsHead, head_len, boxed, jumb_kind, jumd_kind, IsNewLabel}
-use Rattle.c2_spec.specs.JumbfFaults.{tells_wide, told_total, told_payload, box_head_fault, TreeFault, IsSuperbox, DescriptionFault}
+use Rattle.c2_spec.specs.JumbfFaults.{tells_wide, told_payload, box_head_fault, TreeFault, IsSuperbox, DescriptionFault}
 use Rattle.c2_spec.proofs.JumbfHeads.{good_at}
 use Rattle.c2_jumbf.specs.declared.rows.Row.{Row}
 use Rattle.c2_jumbf.specs.declared.front.Front.{Front}
@@ -12,7 +12,7 @@ use Rattle.c2_jumbf.specs.declared.fields.Fields.{Fields}
 use Rattle.c2_jumbf.specs.declared.labels.Siblings.{Siblings}
 use Rattle.c2_jumbf.specs.Heads.{IsHead}
 use Rattle.c2_jumbf.specs.Fields.{HasFields, read_label}
-use Rattle.c2_jumbf.specs.Labels.{Holds, IsAdded}
+use Rattle.c2_jumbf.specs.Labels.{Holds}
 use Rattle.c2_jumbf.specs.Flat.{Opened}
 use Rattle.c2_jumbf.proofs.HeadLaws.{AreBytes, bytes-take, bytes-drop, front_fits, front_whole, front_box}
 
@@ -147,5 +147,3 @@ opened region h own f next depth at place index earlier old mid new bytes small 
           ∙ ap (λ n. old ++ record { place = at; total = h.total; after = length old; header = h.header; depth = depth } ∷ record { place = at + h.header; total = own.total; after = length old + 2; header = n; depth = depth + 1 } ∷ []) (sym r.wide)
           ∙ ap (λ n. old ++ record { place = at; total = h.total; after = length old; header = h.header; depth = depth } ∷ record { place = at + h.header; total = own.total; after = n; header = head_len r.description.wide; depth = depth + 1 } ∷ []) two_more;
     }
-
-

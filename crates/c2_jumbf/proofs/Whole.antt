@@ -1,8 +1,8 @@
 -- Boxes by their heads, once they are read whole.
-use Rattle.std.proofs.Common.{◌≡◌, ◌≢◌, ◌⊎◌, inl, inr, ⊎_elim, ℕ, zero, suc, ◌+◌, ◌-◌, ◌*◌, ◌/◌, ◌%◌, ◌^◌, ◌<◌, ◌≤◌, Bool, ◌&&◌, ◌||◌, not, true, false, cond, List, [], ◌∷◌, ◌++◌, length, get_or, take, drop, set, map, Option, Some, None, Result, Ok, Err, MatchResult, IfOk, IfErr, refl, sym, ap, ◌∙◌, subst, append_assoc, arith, length-append, is_some, IfSome, eqb, leb, ltb}
+use Rattle.std.proofs.Common.{◌≡◌, ◌≢◌, ℕ, ◌+◌, ◌-◌, ◌^◌, ◌<◌, ◌≤◌, List, [], ◌∷◌, ◌++◌, length, get_or, take, drop, set, Option, refl, sym, ap, ◌∙◌, subst, append_assoc, arith, length-append}
 use Rattle.std.proofs.lemmas.List.{length-drop, drop-take, set_at, length-take-le, get_or_at}
 use Rattle.c2_spec.specs.declared.jumbf.JumbfError.{JumbfError}
-use Rattle.c2_spec.specs.Jumbf.{Description, Tree, leaf, super, tree_bytes, trees_bytes, description_bytes, tree_labels, FitsHead, head_len, boxed, jumb_kind, jumd_kind}
+use Rattle.c2_spec.specs.Jumbf.{Description, Tree, leaf, super, tree_bytes, trees_bytes, description_bytes, tree_labels, FitsHead, head_len, boxed, jumb_kind}
 use Rattle.c2_spec.specs.JumbfFaults.{tells_wide, told_kind, told_total, told_payload, TreeFault}
 use Rattle.c2_spec.specs.JumbfBoxes.{trees_count}
 use Rattle.c2_jumbf.specs.declared.rows.Row.{Row}

@@ -1,5 +1,5 @@
 -- The bytes of a superbox as they are put together.
-use Rattle.std.proofs.Common.{◌≡◌, ℕ, suc, ◌+◌, ◌^◌, ◌<◌, ◌≤◌, List, [], ◌∷◌, ◌++◌, length, refl, sym, ap, ◌∙◌, subst, append_assoc, arith, length-append}
+use Rattle.std.proofs.Common.{◌≡◌, ℕ, suc, ◌+◌, List, [], ◌∷◌, ◌++◌, length, ap, ◌∙◌, append_assoc, arith, length-append}
 use Rattle.std.specs.Int.{w32, to_be_bytes}
 use Rattle.c2_spec.specs.Jumbf.{jumb_kind, jumd_kind, description_payload, description_bytes}
 use Rattle.c2_spec.specs.JumbfWriting.{fresh_description, fresh_super}

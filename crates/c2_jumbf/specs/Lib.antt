@@ -4,3 +4,4 @@ pub mod Labels
 pub mod Flat
 pub mod Parsed
 pub mod Described
+pub mod Own

@@ -1,5 +1,5 @@
 -- The records of a legal tree and its bytes; the invariant of the tree's type.
-use Rattle.std.specs.Prelude.{◌≡◌, ℕ, List, map}
+use Rattle.std.specs.Prelude.{◌≡◌, ℕ, List}
 use Rattle.std.specs.Coded.{Coded, Coded-set, code_by, coded_ℕ, coded×, coded_list}
 use Rattle.std.proofs.Common.{refl}
 use mathlib.Core.HLevel.{is_prop→PathP}

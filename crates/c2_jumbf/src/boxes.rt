@@ -1,9 +1,9 @@
 // The boxes of a tree by their indices.
 ghost use Rattle.std.specs.Prelude.{◌≡◌, ◌+◌, ◌^◌, ◌<◌, ◌≤◌, ℕ, List, Option, Some, None, IfSome, IfNone, length};
 ghost use Rattle.std.specs.Int.{w32, to_be_bytes};
+ghost use Rattle.std.specs.Option.{option_map};
 ghost use Rattle.c2_spec.specs.Jumbf.{IsLegalTree, head_len};
 ghost use Rattle.c2_spec.specs.JumbfBoxes.{tree_count, box_at, any_kind, any_wide, any_bytes, any_contents, any_uuid, any_label};
-ghost use Rattle.c2_jumbf.specs.Fields.{text_of};
 ghost use Rattle.c2_jumbf.specs.Flat.{row_of};
 ghost use Rattle.c2_jumbf.specs.Described.{any_description, IsPayload};
 
@@ -112,7 +112,7 @@ pub fn uuid_of(tree: &Tree<'_>, i: usize) -> Option<[u8; 16]>
 /// The label of a superbox that has one.
 pub fn label_of<'t>(tree: &'t Tree<'_>, i: usize) -> Option<&'t str>
     requires { i < tree_count tree.now }
-    ensures { text_of result ≡ any_label (box_at tree.now i).box }
+    ensures { option_map (λ label. label.now) result ≡ any_label (box_at tree.now i).box }
 {
     let Some(payload) = payload_of(tree, i) else {
         return None;

@@ -87,11 +87,7 @@ fn add_mixed<'t>(siblings: &mut Siblings<'t>, label: &'t str) -> Result<bool, Ju
 }
 
 /// Adds a label, and answers whether it was new.
-fn add<'t>(
-    alloc: Global,
-    siblings: &mut Siblings<'t>,
-    label: &'t str,
-) -> Result<bool, JumbfError>
+fn add<'t>(alloc: Global, siblings: &mut Siblings<'t>, label: &'t str) -> Result<bool, JumbfError>
     ensures ok { (earlier : List (Option (List ℕ))) → Holds siblings.old earlier → IfOk result (IsAdded siblings.new earlier (Some label.now)) }
     ensures err { IfErr result (λ e. e ≡ JumbfError.NoMemory) }
 {
@@ -121,7 +117,7 @@ pub fn add_any<'t>(
 {
     match label {
         Some(text) => match add(alloc, siblings, text) {
-            Ok(added) => Ok(added),
+            Ok(is_new) => Ok(is_new),
             Err(fault) => Err(fault),
         },
         None => Ok(true),

@@ -9,6 +9,8 @@ mod front;
 mod labels;
 mod reading;
 mod rows;
+#[cfg(test)]
+mod tests;
 mod writing;
 
 pub use borrowed::Tree;

@@ -4,15 +4,16 @@ ghost use Rattle.c2_spec.specs.Jumbf.{SpellsTree};
 ghost use Rattle.c2_spec.specs.Jumbf as format;
 ghost use Rattle.c2_spec.specs.JumbfFaults.{TreeFault, JumbfFault};
 ghost use Rattle.c2_jumbf.specs.Heads.{IsHead};
+ghost use Rattle.c2_jumbf.specs.Own.{IsOwn};
 ghost use Rattle.c2_jumbf.specs.Labels.{Holds};
 ghost use Rattle.c2_jumbf.specs.Flat.{IsTreeAt, AreTreesIn, ChildFault, Opened};
 ghost use Rattle.c2_jumbf.specs.Parsed.{IsParsed};
 
-use crate::fields;
+use crate::borrowed::Tree;
+use crate::fields::{self, Fields};
 use crate::front::{self, Front};
 use crate::labels::{self, Siblings};
 use crate::rows::Row;
-use crate::borrowed::Tree;
 use c2_spec::JumbfError;
 use std::alloc::Global;
 
@@ -24,6 +25,47 @@ pub const JUMD: u32 = 0x6A756D64;
 
 /// The depth of the deepest superboxes.
 const DEEPEST: u8 = 16;
+
+/// The head of a superbox's description box, and the label that it has.
+#[derive(Clone, Copy)]
+pub struct Own<'t> {
+    pub head: Front,
+    pub fields: Fields<'t>,
+}
+
+/// The tests of a superbox up to its description's form.
+fn description_in<'t>(
+    region: &'t [u8],
+    at: usize,
+    depth: u8,
+    head: Front,
+) -> Result<Own<'t>, JumbfError>
+    requires head_is { IsHead region.now head }
+    requires small { at + length region.now < 2 ^ 64 }
+    requires kind { head.kind ≡ JUMB }
+    ensures ok { IfOk result (λ own. (depth ≤ 16) × IsOwn region.now head own) }
+    ensures err { (earlier : List (Option (List ℕ))) → IfErr result (TreeFault earlier depth at region.now) }
+{
+    if depth > DEEPEST {
+        return Err(JumbfError::TooDeep(at));
+    }
+    let payload = &region[head.header..head.total];
+    if payload.is_empty() {
+        return Err(JumbfError::NoDescription(at));
+    }
+    let place = at + head.header;
+    let own = match front::head_at(payload, place) {
+        Ok(own) => own,
+        Err(fault) => return Err(fault),
+    };
+    if own.kind != JUMD {
+        return Err(JumbfError::NoDescription(at));
+    }
+    match fields::fields_of(&payload[own.header..own.total]) {
+        Some(fields) => Ok(Own { head: own, fields }),
+        None => Err(JumbfError::BadDescription(place)),
+    }
+}
 
 /// The tests of a superbox up to its label; its record and that of its description box are added. Answers the length of
 /// the description box.
@@ -45,25 +87,11 @@ fn open_super<'t>(
     ensures ok { (earlier : List (Option (List ℕ))) → Holds siblings.old earlier → IfOk result (Opened earlier siblings.new depth at region.now head rows.old.items rows.new.items) }
     ensures err { (earlier : List (Option (List ℕ))) → Holds siblings.old earlier → IfErr result (λ e. (e ≡ JumbfError.NoMemory) ⊎ TreeFault earlier depth at region.now e) }
 {
-    if depth > DEEPEST {
-        return Err(JumbfError::TooDeep(at));
-    }
-    let payload = &region[head.header..head.total];
-    if payload.is_empty() {
-        return Err(JumbfError::NoDescription(at));
-    }
-    let place = at + head.header;
-    let own = match front::head_at(payload, place) {
+    let own = match description_in(region, at, depth, head) {
         Ok(own) => own,
         Err(fault) => return Err(fault),
     };
-    if own.kind != JUMD {
-        return Err(JumbfError::NoDescription(at));
-    }
-    let Some(found) = fields::fields_of(&payload[own.header..own.total]) else {
-        return Err(JumbfError::BadDescription(place));
-    };
-    match labels::add_any(alloc, siblings, found.label) {
+    match labels::add_any(alloc, siblings, own.fields.label) {
         Ok(true) => {}
         Ok(false) => return Err(JumbfError::DuplicateLabel(at)),
         Err(fault) => return Err(fault),
@@ -79,15 +107,15 @@ fn open_super<'t>(
         return Err(JumbfError::NoMemory);
     };
     let Ok(()) = rows.push(Row {
-        place,
-        total: own.total,
+        place: at + head.header,
+        total: own.head.total,
         after: index + 2,
-        header: own.header as u8,
+        header: own.head.header as u8,
         depth: depth + 1,
     }) else {
         return Err(JumbfError::NoMemory);
     };
-    Ok(own.total)
+    Ok(own.head.total)
 }
 
 /// The tree at the front of the region, which ends where the box has to end at the latest. Answers the box's length.

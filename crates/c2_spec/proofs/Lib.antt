@@ -5,3 +5,4 @@ pub mod JumbfOneTree
 pub mod JumbfNoFault
 pub mod JumbfOneFault
 pub mod JumbfCode
+pub mod JumbfRows

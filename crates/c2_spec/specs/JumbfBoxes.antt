@@ -4,7 +4,7 @@ use Rattle.std.specs.List.{Contains, slice_split}
 use Rattle.std.specs.Int.{w32, to_be_bytes}
 use Rattle.c2_spec.specs.declared.jumbf.Head.{Head}
 use Rattle.c2_spec.specs.JumbfFaults.{tells_wide, told_total, told_kind}
-use Rattle.c2_spec.specs.Jumbf.{jumb_kind, jumd_kind, head_len, PlainBox, Description, description_payload, description_bytes, Tree, Trees, leaf, super, none, more, tree_bytes, trees_bytes}
+use Rattle.c2_spec.specs.Jumbf.{jumb_kind, jumd_kind, head_len, Description, description_payload, description_bytes, Tree, Trees, leaf, super, none, more, tree_bytes, trees_bytes}
 
 -- What the head of the box at the front of a region tells.
 abbrev pub told_head : List ℕ → Head

@@ -5,7 +5,7 @@ use Rattle.std.specs.Int.{w32, w64, from_be_bytes}
 use Rattle.std.specs.Str.{IsUtf8}
 use Rattle.c2_spec.specs.declared.jumbf.JumbfError.{JumbfError}
 use Rattle.c2_spec.specs.declared.jumbf.JumbfError.TheVariants.{BadHead, Overrun, Trailing, NoDescription, BadDescription, DuplicateLabel, TooDeep}
-use Rattle.c2_spec.specs.Jumbf.{jumb_kind, jumd_kind, head_len, PlainBox, IsLabel, IsLabelByte, Description, IsDescription, description_bytes, label_bytes, fixed_bytes, Tree, Trees, tree_bytes, trees_bytes, tree_labels, IsNewLabel, AreDistinctLabels, IsLegalTree, AreLegalTrees}
+use Rattle.c2_spec.specs.Jumbf.{jumb_kind, jumd_kind, head_len, IsLabel, IsLabelByte, Description, IsDescription, description_bytes, label_bytes, fixed_bytes, Tree, Trees, tree_bytes, trees_bytes, tree_labels, IsNewLabel, AreDistinctLabels, IsLegalTree, AreLegalTrees}
 
 -- What the head of a box tells that stands at the front of a region: the bytes from its place up to where it must end.
 abbrev pub tells_wide : List ℕ → Bool

@@ -1,5 +1,5 @@
 -- Boxes as they are written: with a 4-byte length, and superboxes with a requestable, labelled description.
-use Rattle.std.specs.Prelude.{◌≡◌, ℕ, ◌+◌, ◌-◌, ◌^◌, ◌<◌, ◌≤◌, min, true, false, List, ◌++◌, length, Some, None}
+use Rattle.std.specs.Prelude.{ℕ, ◌+◌, ◌-◌, ◌^◌, ◌<◌, min, true, false, List, ◌++◌, length, Some, None}
 use Rattle.std.specs.List.{AllByRecursion}
 use Rattle.c2_spec.specs.declared.jumbf.WriteError.{WriteError}
 use Rattle.c2_spec.specs.declared.jumbf.WriteError.TheVariants.{BadLabel, TooLarge}

@@ -1,4 +1,4 @@
-use Rattle.std.proofs.Common.{◌≡◌, ◌≤◌, ◌+◌, arith, ◌∙◌, sym, ap, subst, length, ℕ, List}
+use Rattle.std.proofs.Common.{◌≡◌, ◌≤◌, ◌+◌, arith, ◌∙◌, sym, subst, length, ℕ, List}
 use Rattle.c2_spec.specs.JumbfBoxes.{box_at}
 use Rattle.c2_jumbf.specs.Flat.{row_of}
 use Rattle.c2_jumbf.proofs.BoxLemmas.{rows_count, row_here, row_ends, row_bytes, any_long, any_least}

@@ -1,4 +1,4 @@
-use Rattle.std.proofs.Common.{ap, ◌∙◌, List, ℕ, drop}
+use Rattle.std.proofs.Common.{ap, ◌∙◌, drop}
 use Rattle.std.proofs.lemmas.List.{take_rest}
 use Rattle.c2_spec.specs.Jumbf.{head_len}
 use Rattle.c2_spec.specs.JumbfBoxes.{box_at, any_wide}

@@ -1,8 +1,6 @@
-use Rattle.std.proofs.Common.{◌≡◌, ◌≢◌, ◌+◌, arith, ap, sym, ◌∙◌}
-use Rattle.c2_spec.specs.JumbfBoxes.{box_at}
+use Rattle.std.proofs.Common.{arith, ap, sym, ◌∙◌}
 use Rattle.c2_jumbf.specs.declared.rows.Row.{Row}
-use Rattle.c2_jumbf.specs.Flat.{row_of}
-use Rattle.c2_jumbf.proofs.DescriptionLemmas.{lone_box, super_box, payload_here, IsSuper}
+use Rattle.c2_jumbf.proofs.DescriptionLemmas.{lone_box, super_box, payload_here}
 use Rattle.c2_jumbf.proofs.boxes.payload_of.Goals as goal
 
 pub overflow_add-i : goal.overflow_add-i

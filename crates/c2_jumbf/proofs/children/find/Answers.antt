@@ -1,8 +1,8 @@
-use Rattle.std.proofs.Common.{◌≡◌, ◌+◌, length, ◌++◌, ◌∷◌, [], arith, lit<, refl, sym, ap, ◌∙◌, subst}
+use Rattle.std.proofs.Common.{◌≡◌, ◌+◌, length, ◌++◌, ◌∷◌, [], lit<, sym, subst}
 use Rattle.std.proofs.lemmas.List.{length_push}
 use Rattle.std.proofs.lemmas.Iterator.Splits.{YieldsList-from_str_split}
 use Rattle.std.proofs.lemmas.Iterator.Consumers.{YieldsList-turn, YieldsList-end}
-use Rattle.c2_spec.specs.JumbfBoxes.{path_labels, LabelsLead}
+use Rattle.c2_spec.specs.JumbfBoxes.{path_labels}
 use Rattle.c2_jumbf.proofs.BoxLemmas.{legal_here}
 use Rattle.c2_jumbf.proofs.Leading.{Walked, walked_next, walked_none, walked_end, only_lead}
 use Rattle.c2_jumbf.proofs.children.find.Goals as goal
@@ -16,7 +16,7 @@ loop-label-preserved c =
       can = tt;
       ends = tt;
       walked = subst (λ k. Walked c.args.tree.now c.args.start (path_labels c.args.path.now) k c.in-Some-labelled_child.next) n
-        (walked_next c.args.tree.now c.args.start (path_labels c.args.path.now) (length c.loop-label.yielded) c.loop-label.at c.in-Some-labelled_child.next c.in-Some.label.now c.loop-label.invariant.walked c.labelled_child.ensures.legal turn c.in-Some-labelled_child.ensures.found);
+          (walked_next c.args.tree.now c.args.start (path_labels c.args.path.now) (length c.loop-label.yielded) c.loop-label.at c.in-Some-labelled_child.next c.in-Some.label.now c.loop-label.invariant.walked c.labelled_child.ensures.legal turn c.in-Some-labelled_child.ensures.found);
     }
 
 pub returns-in-None-labelled_child-clause-none : goal.returns-in-None-labelled_child-clause-none

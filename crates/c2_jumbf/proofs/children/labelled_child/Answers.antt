@@ -1,4 +1,4 @@
-use Rattle.std.proofs.Common.{arith, ap, sym, ◌∙◌}
+use Rattle.std.proofs.Common.{arith, ap, sym}
 use Rattle.c2_jumbf.specs.declared.rows.Row.{Row}
 use Rattle.c2_jumbf.proofs.Chains.{sought_start, sought_inside, sought_next, sought_here, sought_none}
 use Rattle.c2_jumbf.proofs.children.labelled_child.Goals as goal

@@ -1,4 +1,3 @@
-use Rattle.std.proofs.Common.{arith}
 use Rattle.std.proofs.lemmas.List.{take_rest}
 use Rattle.c2_jumbf.proofs.HeadLaws.{public_head}
 use Rattle.c2_jumbf.proofs.front.head.Goals as goal

@@ -1,4 +1,3 @@
-use Rattle.std.proofs.Common.{refl}
 use Rattle.c2_jumbf.proofs.LabelSets.{added_risen}
 use Rattle.c2_jumbf.proofs.labels.add.Goals as goal
 

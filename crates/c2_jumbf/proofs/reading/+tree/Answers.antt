@@ -1,4 +1,4 @@
-use Rattle.std.proofs.Common.{inl, inr, ⊎_elim, ℕ, List, length, refl, subst, ◌+◌, arith, ◌≤◌}
+use Rattle.std.proofs.Common.{inl, inr, ⊎_elim, ℕ, List, length, subst, ◌+◌, arith, ◌≤◌}
 use Rattle.std.proofs.lemmas.List.{take_rest}
 use Rattle.c2_spec.specs.Jumbf.{tree_labels}
 use Rattle.c2_spec.specs.JumbfFaults.{TreeFault}

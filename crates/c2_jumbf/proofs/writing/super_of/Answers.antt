@@ -1,4 +1,4 @@
-use Rattle.std.proofs.Common.{arith, rules, refl, ap, ◌∙◌}
+use Rattle.std.proofs.Common.{rules}
 use Rattle.c2_jumbf.proofs.WritingLemmas.{super_grown}
 use Rattle.c2_jumbf.proofs.writing.super_of.Goals as goal
 

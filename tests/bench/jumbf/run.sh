@@ -1,0 +1,18 @@
+#!/bin/bash
+# Measures the reader of box trees, outside the gate: run.sh [SCALE] builds a small program over c2_jumbf in a copy of the
+# repository, makes the inputs, and prints a table. The program is no crate of the repository, so no gate waits for it.
+set -e
+here=$(cd "$(dirname "$0")" && pwd)
+work=$(mktemp -d "${TMPDIR:-/tmp}/jumbf_bench.XXXXXX")
+trap 'rm -rf "$work"' EXIT
+cp -r "$here/../../.." "$work/repository"
+cd "$work/repository"
+mkdir -p crates/c2_jumbf_bench/src
+cp "$here/main.rt" crates/c2_jumbf_bench/src/main.rt
+echo 'c2_jumbf_bench: c2_jumbf' >> crates.txt
+(cd crates/c2_jumbf_bench && rt run > "$work/build.log" 2>&1 || true)
+program=$(find crates/c2_jumbf_bench/out -type f -name 'c2_jumbf_bench*' -perm -u+x | head -1)
+[ -n "$program" ] || { tail -5 "$work/build.log"; exit 1; }
+mkdir "$work/inputs"
+python3 "$here/generate.py" "$work/inputs" "${1:-100}"
+python3 "$here/measure.py" "$program" "$work/inputs"
