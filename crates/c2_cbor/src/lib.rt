@@ -16,6 +16,8 @@ mod preferred;
 mod read;
 mod seen;
 mod strings;
+#[cfg(test)]
+mod tests;
 
 pub use c2_spec::{Cbor, CborError, EncodeError, Ref, Refs};
 pub use decoding::{decode, decode_whole};

@@ -78,7 +78,11 @@ fn more_room(due: Count, len: usize) -> usize {
     match due {
         Count::Left(left) => {
             let room = len.max(ROOM);
-            if left < room as u64 { left as usize } else { room }
+            if left < room as u64 {
+                left as usize
+            } else {
+                room
+            }
         }
         Count::Open => len.max(1),
     }

@@ -17,8 +17,8 @@ place n t = n - length t
 abbrev pub IsCut : ℕ → List ℕ → Type 0
 IsCut a t = ((a ≡ 24) × (length t < 1)) ⊎ (((a ≡ 25) × (length t < 2)) ⊎ (((a ≡ 26) × (length t < 4)) ⊎ ((a ≡ 27) × (length t < 8))))
 
--- additional information that has no meaning with the major type m: 28 to 30, and 31 where nothing has an indefinite length.
--- (With major type 7 it is the break, which a member's place never begins with where it ends the members.)
+-- additional information that has no meaning with the major type m: 28 to 30, and 31 where nothing has an indefinite length
+-- (with major type 7 it is the break, which is no item)
 abbrev pub IsReserved : ℕ → ℕ → Type 0
 IsReserved m a = ((28 ≤ a) × (a ≤ 30)) ⊎ ((a ≡ 31) × ((m ≡ 0) ⊎ ((m ≡ 1) ⊎ ((m ≡ 6) ⊎ (m ≡ 7)))))
 
