@@ -6,7 +6,8 @@ ghost use Rattle.c2_base.specs.Sink.{taken, then_written, spare_less, OkWithinSp
 use crate::{Failed, NoMemory, Sink};
 use std::alloc::Global;
 
-/// A sink of fixed room, which fails at its call number `fail_at`.
+/// A sink of fixed room, which fails at its call number `fail_at`, and at an append of one or more bytes once it is full.
+/// Where `fail_at` is 0 it states the room that is left as its spare.
 ///
 /// A count of calls that has reached its last value stands still, so where `fail_at` is that value, each call from there
 /// on fails.

@@ -20,7 +20,8 @@ impl SureSource {
     pub fn new(bytes: Blob) -> SureSource
         ensures { sure_bytes result ≡ bytes }
     {
-        let _bytes = bytes.as_slice().len();
+        // Looking at the bytes shows that they are bytes, and no more than 2^64.
+        let _len = bytes.as_slice().len();
         SureSource { bytes }
     }
 }
@@ -93,7 +94,8 @@ impl MemSource {
         requires { 0 < most }
         ensures { source_script result ≡ record { bytes = bytes; most = most; fail_at = fail_at; calls = 0; faults = 0 } }
     {
-        let _bytes = bytes.as_slice().len();
+        // Looking at the bytes shows that they are bytes, and no more than 2^64.
+        let _len = bytes.as_slice().len();
         MemSource {
             bytes,
             most,

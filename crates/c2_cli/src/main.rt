@@ -1,12 +1,13 @@
 //! The command line of `c2`: it makes the real objects and calls `run`.
 #![tactic(auto)]
 
-use c2_base::{HostFile, HostOut};
+use c2_base::{HostFile, HostOut, NoMemory};
 use c2_cmd::types::{RolesError, Status};
 use c2_cmd::{roles, run};
 use c2_hash::Sha;
-use std::alloc::{AllocError, Global};
+use std::alloc::Global;
 use std::env;
+use std::io::ErrorKind;
 use std::process::ExitCode;
 
 fn main(rt: HostRuntime) -> ExitCode {
@@ -27,13 +28,16 @@ fn run_words(rt: &HostRuntime, alloc: Global) -> Status {
     run(alloc, &Sha, &words, &mut media, &mut report)
 }
 
-// The words after the program's name, and none where they aren't text.
-fn words_of(rt: &HostRuntime, alloc: Global) -> Result<Vec<String>, AllocError> {
+// The words after the program's name, and none where one of them isn't text.
+fn words_of(rt: &HostRuntime, alloc: Global) -> Result<Vec<String>, NoMemory> {
+    let args = match env::args(rt) {
+        Ok(args) => args,
+        Err(error) if error.kind() == ErrorKind::OutOfMemory => return Err(NoMemory),
+        Err(_) => return Ok(Vec::new(alloc)),
+    };
     let mut words = Vec::new(alloc);
-    if let Ok(args) = env::args(rt) {
-        for word in args.skip(1) {
-            words.push(word)?;
-        }
+    for word in args.skip(1) {
+        words.push(word)?;
     }
     Ok(words)
 }

@@ -20,7 +20,7 @@ impl Model for Digest {
 impl Digest {
     ghost use Rattle.std.specs.Prelude.{◌≡◌};
 
-    /// The digest of these bytes.
+    /// The digest that has these bytes.
     pub fn from_array(bytes: [u8; 32]) -> Digest
         ensures { result ≡ bytes }
     {

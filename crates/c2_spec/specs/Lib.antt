@@ -8,5 +8,8 @@ pub mod JumbfBoxes
 pub mod JumbfFaults
 pub mod JumbfWriting
 pub mod Located
+pub mod Panel
+pub mod Question
 pub mod Reason
 pub mod StoreTree
+pub mod VerdictFile

@@ -13,5 +13,5 @@ mod reason;
 pub use cbor::{Cbor, CborError, EncodeError, Ref, Refs};
 pub use digest::Alg;
 pub use jumbf::{Head, JumbfError, WriteError};
-pub use panel::Verdict;
+pub use panel::{ListError, Verdict, VerdictRow};
 pub use reason::Reason;

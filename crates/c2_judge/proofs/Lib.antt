@@ -1,0 +1,6 @@
+pub mod Digits
+pub mod Lines
+pub mod Lists
+pub mod OneReading
+pub mod PanelSteps
+pub mod RowSteps

@@ -1,0 +1,22 @@
+//! Judges of signatures: what a judge means, a panel of them, and judges by a verdict file.
+//!
+//! A question, its bytes, what a panel says and how a verdict file is spelled stand in `c2_spec`, modules `Question`,
+//! `Panel` and `VerdictFile`. The library takes boxed judges from its caller; it makes none.
+#![tactic(auto)]
+
+mod file;
+mod fixed;
+mod judge;
+mod listed;
+mod panel;
+mod question;
+mod rows;
+#[cfg(test)]
+mod tests;
+
+pub use c2_spec::{ListError, Verdict};
+pub use fixed::{BrokenJudge, FixedJudge};
+pub use judge::{Judge, JudgeFailed};
+pub use listed::ListJudge;
+pub use panel::ask_panel;
+pub use question::{question_id, update_question};

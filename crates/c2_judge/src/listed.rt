@@ -1,0 +1,89 @@
+// A judge by a verdict file.
+ghost use Rattle.std.specs.Prelude.{◌≡◌, ℕ, ◌≤◌, ◌<◌, ◌⊎◌, List, length, Err, IfOk, IfErr, IsOk, MatchResult};
+ghost use Rattle.c2_base.specs.Causes.{HasCause};
+ghost use Rattle.c2_spec.specs.Panel.{Counted};
+ghost use Rattle.c2_spec.specs.Question.{question_digest};
+ghost use Rattle.c2_base.specs.declared.values.Question.{Question};
+ghost use Rattle.c2_spec.specs.declared.panel.VerdictRow as row_type;
+ghost use Rattle.c2_spec.specs.declared.panel.ListError.TheVariants as error;
+ghost use Rattle.c2_spec.specs.VerdictFile.{most_bytes, HasRows, HasBadLine, SaysFile, HasListReason, rows_say};
+ghost use Rattle.c2_judge.specs.Reading.{said_at};
+
+use crate::file::{Verdicts, read_rows};
+use crate::question::question_id;
+use crate::{Judge, JudgeFailed, ListError, Verdict};
+use c2_base::Question;
+use std::alloc::Global;
+
+/// The most bytes that a verdict file may have.
+const MOST_BYTES: usize = 1_048_576;
+
+/// A judge that says what a verdict file lists, and `Silent` of all other questions. It never fails.
+#[derive(Drop)]
+pub struct ListJudge {
+    verdicts: Verdicts,
+    asked: u64,
+}
+
+impl ListJudge {
+    /// The judge of a verdict file.
+    ///
+    /// Each line is the id of a question in 64 lower case hex digits, one space, and `approved`, `mismatch`, `untrusted` or
+    /// `invalid`. The last line feed may be missing, and an empty file has no rows. Where several rows have one id, the
+    /// first holds. `TooLarge` comes above 1,048,576 bytes, and then no line is read; `BadRow` has the first line, from 1,
+    /// that hasn't this form.
+    pub fn read(alloc: Global, bytes: &[u8]) -> Result<ListJudge, ListError>
+        ensures ok { IfOk result (λ judge. SaysFile bytes.now (⟦<ListJudge as Judge>⟧.says judge)) }
+        ensures err { IfErr result (HasListReason bytes.now) }
+        // What the file holds is answered.
+        ensures only_rows { (rows : List row_type.VerdictRow) → HasRows rows bytes.now → length bytes.now ≤ most_bytes → MatchResult result (λ judge. (q : Question) → ⟦<ListJudge as Judge>⟧.says judge q ≡ rows_say rows q) (λ e. e ≡ error.NoMemory) }
+        ensures only_bad { (n : ℕ) → HasBadLine n bytes.now → length bytes.now ≤ most_bytes → MatchResult result (λ _. ⊥) (λ e. (e ≡ error.BadRow n) ⊎ (e ≡ error.NoMemory)) }
+        ensures only_large { most_bytes < length bytes.now → result ≡ Err (error.TooLarge (length bytes.now)) }
+        ensures asked { IfOk result (λ judge. ⟦<ListJudge as Judge>⟧.asked_times judge ≡ 0) }
+        ensures faults { IfOk result (λ judge. ⟦<ListJudge as Judge>⟧.judge_faults judge ≡ 0) }
+    {
+        if bytes.len() > MOST_BYTES {
+            return Err(ListError::TooLarge(bytes.len() as u64));
+        }
+        let verdicts = match read_rows(alloc, bytes) {
+            Ok(verdicts) => verdicts,
+            Err(error) => return Err(error),
+        };
+        Ok(ListJudge { verdicts, asked: 0 })
+    }
+}
+
+// The verdict on a question.
+fn look_up(verdicts: &Verdicts, q: &Question) -> Verdict
+    ensures { result ≡ said_at verdicts.now (question_digest q.now) }
+{
+    let mut id = [0; 32];
+    id.copy_from_slice(question_id(q).as_slice());
+    match verdicts.get(&id) {
+        Some(verdict) => *verdict,
+        None => Verdict::Silent,
+    }
+}
+
+impl Judge for ListJudge {
+    ghost says = { λ j q. said_at j.verdicts (question_digest q) };
+
+    ghost asked_times = { λ j. j.asked };
+
+    ghost judge_faults = { λ _. 0 };
+
+    fn ask(&mut self, q: &Question) -> Result<Verdict, JudgeFailed>
+        ensures answer { IfOk result (λ verdict. verdict ≡ ⟦<ListJudge as Judge>⟧.says self.old q.now) }
+        ensures same { ⟦<ListJudge as Judge>⟧.says self.new ≡ ⟦<ListJudge as Judge>⟧.says self.old }
+        ensures counted { Counted (⟦<ListJudge as Judge>⟧.asked_times self.old) (⟦<ListJudge as Judge>⟧.asked_times self.new) }
+        ensures cause { HasCause (⟦<ListJudge as Judge>⟧.judge_faults self.old) (⟦<ListJudge as Judge>⟧.judge_faults self.new) result }
+        ensures never_fails { IsOk result }
+    {
+        self.asked = self.asked.saturating_add(1);
+        Ok(look_up(&self.verdicts, q))
+    }
+
+    fn asked(&self) -> u64 {
+        self.asked
+    }
+}
