@@ -29,7 +29,7 @@ reply_of-located P file what reply is only r = record {
 
 -- a reply to the command is the reply to words with these roles, where the source that they use tells its bytes
 pub reply_of-told : (hash : Alg → List ℕ → List ℕ) (told : Option (List ℕ)) (found : Option Roles) (roles : Roles) (reply : Reply) → found ≡ Some roles → is_some roles.media ≡ reads_media roles.command → reads_media roles.command ≡ true → Tells found told
-    → ((file : List ℕ) → told ≡ Some file → IsReply (IsCommandOutcome roles.command (inputs (Some file) None None all_silent hash)) reply) → IsReply (IsOutcome found (inputs told None None all_silent hash)) reply
+    → ((file : List ℕ) → told ≡ Some file → IsReply (IsCommandOutcome roles.command roles (inputs (Some file) None None all_silent hash)) reply) → IsReply (IsOutcome found (inputs told None None all_silent hash)) reply
 reply_of-told hash None found roles reply is media reads tells r = absurd (false≢true (tells.media_told (ap uses_media is ∙ media ∙ reads)))
 reply_of-told hash (Some file) found roles reply is media reads tells r = rw is (r file refl)
 

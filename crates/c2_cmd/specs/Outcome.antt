@@ -11,8 +11,8 @@ use Rattle.c2_spec.specs.Jpeg.{IsLocated}
 use Rattle.c2_spec.specs.StoreTree.{StoreTree, IsStoreTree}
 use Rattle.c2_spec.specs.StoreTree as tree
 use Rattle.c2_cmd.specs.Texts.{usage_line, refused_line, none_line, digest_line, listing}
-use Rattle.c2_cmd.specs.declared.reply.Answer.{Answer}
-use Rattle.c2_cmd.specs.declared.reply.Answer.TheVariants as answer
+use Rattle.c2_cmd.specs.declared.types.Answer.{Answer}
+use Rattle.c2_cmd.specs.declared.types.Answer.TheVariants as answer
 use Rattle.c2_cmd.specs.declared.types.Command.{Command}
 use Rattle.c2_cmd.specs.declared.types.Command.TheVariants as command
 use Rattle.c2_cmd.specs.declared.types.Roles.{Roles}
@@ -74,15 +74,15 @@ IsListing (here start len store) expected = IsTreeOutcome store expected
 abbrev pub IsListOutcome : List ℕ → Outcome → Type 0
 IsListOutcome file expected = (what : Located) × IsLocated file what × IsListing what expected
 
--- the outcome of a command
-abbrev pub IsCommandOutcome : Command → Inputs → Outcome → Type 0
-IsCommandOutcome command.Digest i expected = IsDigestOutcome (i.hash Sha256) i.media expected
-IsCommandOutcome command.List i expected = IsListOutcome i.media expected
+-- the outcome of a command with these roles
+abbrev pub IsCommandOutcome : Command → Roles → Inputs → Outcome → Type 0
+IsCommandOutcome command.Digest roles i expected = IsDigestOutcome (i.hash Sha256) i.media expected
+IsCommandOutcome command.List roles i expected = IsListOutcome i.media expected
 
 -- the outcome of words with these roles, or with none
 abbrev pub IsOutcome : Option Roles → Inputs → Outcome → Type 0
 IsOutcome None i expected = expected ≡ reports answer.Usage usage_line
-IsOutcome (Some roles) i expected = IsCommandOutcome roles.command i expected
+IsOutcome (Some roles) i expected = IsCommandOutcome roles.command roles i expected
 
 -- whether the command reads the media
 abbrev pub uses_media : Option Roles → Bool

@@ -4,8 +4,8 @@ use Rattle.std.specs.declared.option.Option.{Option}
 use Rattle.c2_base.specs.Causes.{Rose}
 use Rattle.c2_base.specs.Sink.{then_written, HasWrittenFront}
 use Rattle.c2_cmd.specs.Outcome.{Outcome, uses_media}
-use Rattle.c2_cmd.specs.declared.reply.Answer.{Answer}
-use Rattle.c2_cmd.specs.declared.reply.Answer.TheVariants as answer
+use Rattle.c2_cmd.specs.declared.types.Answer.{Answer}
+use Rattle.c2_cmd.specs.declared.types.Answer.TheVariants as answer
 use Rattle.c2_cmd.specs.declared.types.Roles.{Roles}
 use Rattle.c2_cmd.specs.declared.types.Status.{Status}
 use Rattle.c2_cmd.specs.declared.types.Status.TheVariants.{Done, Refused, NoStore, Usage, InputFault, OutputFault, NoMemory}

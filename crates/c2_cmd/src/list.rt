@@ -11,8 +11,9 @@ ghost use Rattle.c2_cmd.specs.Reply.{IsReply, IsTreeRefusal, HasReason};
 ghost use Rattle.c2_cmd.specs.Texts.{box_numbers, box_row, listing};
 
 use crate::open::{Opened, open};
-use crate::reply::{Answer, Fault, Reply};
+use crate::reply::{Fault, Reply};
 use crate::texts::{none_reply, refused_reply};
+use crate::types::Answer;
 use c2_base::Source;
 use c2_jumbf::{JumbfError, Tree, count, depth, kind, label_of, parse, place, total};
 use c2_spec::Reason;
@@ -116,12 +117,7 @@ fn line_of(alloc: Global, tree: &Tree<'_>, i: usize) -> Result<String, AllocErro
 }
 
 // The depth, the place and the length of a box.
-fn numbers_of(
-    alloc: Global,
-    depth: usize,
-    place: usize,
-    total: usize,
-) -> Result<String, AllocError>
+fn numbers_of(alloc: Global, depth: usize, place: usize, total: usize) -> Result<String, AllocError>
     ensures { IfOk result (λ text. string_bytes text ≡ box_numbers depth place total) }
 {
     let text = format!(in alloc; "{depth} {place} {total}")?;

@@ -16,8 +16,13 @@ use std::alloc::Global;
 /// What a media file comes to.
 #[derive(Drop)]
 pub enum Opened {
+    /// The container is refused, with the reason's number.
     Refused(Reason, u64),
+
+    /// The file has no store.
     NoStore,
+
+    /// The embedded range and the store.
     Here(Found),
 }
 

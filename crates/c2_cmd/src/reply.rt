@@ -2,21 +2,16 @@
 ghost use Rattle.std.specs.Prelude.{◌≡◌};
 ghost use Rattle.c2_cmd.specs.declared.reply.Fault.TheVariants.{Memory};
 
+use crate::types::Answer;
 use std::alloc::AllocError;
-
-/// What a run without a fault came to.
-#[derive(Clone, Copy, Debug, PartialEq, Eq)]
-pub enum Answer {
-    Done,
-    Refused,
-    NoStore,
-    Usage,
-}
 
 /// Why a run has no reply.
 #[derive(Clone, Copy, Debug, PartialEq, Eq)]
 pub enum Fault {
+    /// A source failed.
     Input,
+
+    /// Memory ran out.
     Memory,
 }
 

@@ -10,19 +10,20 @@ ghost use Rattle.c2_cmd.specs.Reply.{IsReply, HasReason};
 
 use crate::digest::reply_to_digest;
 use crate::list::reply_to_list;
-use crate::reply::{Answer, Fault, Reply};
+use crate::reply::{Fault, Reply};
 use crate::roles;
 use crate::texts::usage_reply;
-use crate::types::{Command, RolesError, Status};
+use crate::types::{Answer, Command, RolesError, Status};
 use c2_base::{Failed, Sink, Source, write_all};
 use c2_hash::Hashing;
 use std::alloc::Global;
 
 /// Runs the command that the words spell, over the sources and sinks that it is handed.
 ///
-/// The report holds the outcome's text and is finished, or a front of it after a fault or want of memory. `Usage` comes
-/// exactly where the words fit no command; `InputFault` and `OutputFault` only where a source that the command uses or
-/// the report failed in this call.
+/// Where the sources that the command uses tell their bytes, the report holds the outcome's text and is finished, or a
+/// front of it after a fault or want of memory. `Usage` comes exactly where the words fit no command, unless the report
+/// fails or memory runs out; `InputFault` and `OutputFault` come only where a source that the command uses or the report
+/// failed in this call.
 pub fn run<H: Hashing, A: Source, W: Sink>(
     alloc: Global,
     hashing: &H,

@@ -5,7 +5,8 @@ ghost use Rattle.c2_cmd.specs.Outcome.{reports};
 ghost use Rattle.c2_cmd.specs.Reply.{outcome_of};
 ghost use Rattle.c2_cmd.specs.Texts.{usage_line, none_line, refused_line, digest_line};
 
-use crate::reply::{Answer, Fault, Reply};
+use crate::reply::{Fault, Reply};
+use crate::types::Answer;
 use c2_hash::Digest;
 use c2_spec::Reason;
 use std::alloc::Global;

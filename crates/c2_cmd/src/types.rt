@@ -45,6 +45,22 @@ pub enum RolesError {
     NoMemory,
 }
 
+/// What a run without a fault came to.
+#[derive(Clone, Copy, Debug, PartialEq, Eq)]
+pub enum Answer {
+    /// What was asked for.
+    Done,
+
+    /// A refused container or box.
+    Refused,
+
+    /// A file without a store.
+    NoStore,
+
+    /// Words that fit no command.
+    Usage,
+}
+
 /// How a run ended.
 #[derive(Clone, Copy, Debug, PartialEq, Eq)]
 pub enum Status {

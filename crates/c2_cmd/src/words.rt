@@ -5,7 +5,7 @@ ghost use Rattle.c2_cmd.specs.Words.{GivesRoles, is_name, reads_media, reading_c
 use crate::types::{Command, Roles, RolesError};
 use std::alloc::Global;
 
-/// Says which word is which: `Usage` exactly where the words fit no command.
+/// Says which word is which: `Usage` exactly where the words fit no command, unless memory runs out.
 pub fn roles(_alloc: Global, words: &Vec<String>) -> Result<Roles, RolesError>
     ensures roles { GivesRoles (map string_bytes words.now.items) result }
     ensures media { IfOk result (λ roles. is_some roles.media ≡ reads_media roles.command) }

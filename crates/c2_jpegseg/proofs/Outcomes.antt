@@ -150,7 +150,6 @@ pass_packet file at e packet p r w x reads whole some first other =
     let stray : is_stray r.en s ≡ false = packet_stray r.en s false h.0 (ap (is_further_packet r.en) (sym h.1) ∙ other) in
     advance file at (Some r) (Some r) e w x (after_test file at e r false false w x whole start stray) (passed w.segments s r w.state whole start stray)
 
-
 -- The cases, where a segment stands.
 pub begin-no_packet : (file : List ℕ) (at end : ℕ) (packet : Option Held) → Stands file at end packet None → packet ≡ None → Walks file end None
 begin-no_packet file at end packet s none = subst (λ n. Walks file n None) s.ends (begin_no_packet file at s.extent packet s.walks s.stands s.packet_is none)

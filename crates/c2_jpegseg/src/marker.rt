@@ -43,10 +43,15 @@ struct Marker {
 }
 
 const SOI: u8 = 0xD8;
+
 const EOI: u8 = 0xD9;
+
 const SOS: u8 = 0xDA;
+
 const TEM: u8 = 0x01;
+
 const RST0: u8 = 0xD0;
+
 const RST7: u8 = 0xD7;
 
 /// What a marker byte begins.

@@ -44,11 +44,7 @@ fn is_jpeg<S: Source>(source: &mut S, window: &mut Window, size: u64) -> Result<
 }
 
 /// Makes the window show the segment's payload, where it may be a packet.
-fn load_packet<S: Source>(
-    source: &mut S,
-    window: &mut Window,
-    extent: Extent,
-) -> Result<(), Failed>
+fn load_packet<S: Source>(source: &mut S, window: &mut Window, extent: Extent) -> Result<(), Failed>
     requires inside { extent.end ≤ S.len source.old }
     requires ordered { extent.body ≤ extent.end }
     requires short { extent.end ≤ extent.body + 65533 }

@@ -67,12 +67,7 @@ fn proceed(
 }
 
 /// A segment behind a whole store.
-fn pass(
-    at: u64,
-    end: u64,
-    packet: Option<Packet<'_>>,
-    run: Run,
-) -> Result<Option<Run>, MediaError>
+fn pass(at: u64, end: u64, packet: Option<Packet<'_>>, run: Run) -> Result<Option<Run>, MediaError>
     requires ordered { at ≤ end }
     requires before { run.end ≤ at }
     requires headed { HasHeader packet }

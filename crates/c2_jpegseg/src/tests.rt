@@ -6,6 +6,7 @@ use std::test::Fail;
 
 /// SOI, and EOI.
 const START: [u8; 2] = [0xFF, 0xD8];
+
 const END: [u8; 2] = [0xFF, 0xD9];
 
 /// One packet with a whole store of 38 bytes: a superbox with its description alone.
@@ -107,10 +108,34 @@ fn small_files(rt: HostRuntime) -> Result<(), Fail> {
     assert!(rt; is_seen(alloc, &[], Seen::Refused(MediaError::NotMedia))?);
     assert!(rt; is_seen(alloc, &START, Seen::Refused(MediaError::Truncated(2)))?);
     assert!(rt; is_seen(alloc, &[0xFF, 0xD8, 0xFF, 0xD9], Seen::Nothing)?);
-    assert!(rt; is_seen(alloc, &[0xFF, 0xD8, 0xFF, 0xFF, 0xFF, 0xDA, 0], Seen::Nothing)?);
-    assert!(rt; is_seen(alloc, &[0xFF, 0xD8, 0xFF, 0x00], Seen::Refused(MediaError::BadMarker(2)))?);
-    assert!(rt; is_seen(alloc, &[0xFF, 0xD8, 0xFF, 0xD0, 0], Seen::Refused(MediaError::BadMarker(4)))?);
-    assert!(rt; is_seen(alloc, &[0xFF, 0xD8, 0xFF, 0xFE, 0, 1], Seen::Refused(MediaError::BadSegment(2)))?);
+    assert!(rt;
+        is_seen(
+            alloc,
+            &[0xFF, 0xD8, 0xFF, 0xFF, 0xFF, 0xDA, 0],
+            Seen::Nothing
+        )?
+    );
+    assert!(rt;
+        is_seen(
+            alloc,
+            &[0xFF, 0xD8, 0xFF, 0x00],
+            Seen::Refused(MediaError::BadMarker(2))
+        )?
+    );
+    assert!(rt;
+        is_seen(
+            alloc,
+            &[0xFF, 0xD8, 0xFF, 0xD0, 0],
+            Seen::Refused(MediaError::BadMarker(4))
+        )?
+    );
+    assert!(rt;
+        is_seen(
+            alloc,
+            &[0xFF, 0xD8, 0xFF, 0xFE, 0, 1],
+            Seen::Refused(MediaError::BadSegment(2))
+        )?
+    );
     Ok(())
 }
 
@@ -133,7 +158,13 @@ fn a_second_store_and_a_large_one(rt: HostRuntime) -> Result<(), Fail> {
     assert!(rt; large.len() == 54);
     large[14] = 2;
     large[17] = 1;
-    assert!(rt; is_seen(alloc, &large, Seen::Refused(MediaError::StoreTooLarge(33_554_433)))?);
+    assert!(rt;
+        is_seen(
+            alloc,
+            &large,
+            Seen::Refused(MediaError::StoreTooLarge(33_554_433))
+        )?
+    );
     Ok(())
 }
 
@@ -164,7 +195,13 @@ fn three_long_packets(rt: HostRuntime) -> Result<(), Fail> {
     let file = long_file(alloc, [1, 2, 3], 2024)?;
     assert!(rt; is_seen(alloc, &file, Seen::Store(2, 130_052, 130_000))?);
     let cut = file.len().min(130_000);
-    assert!(rt; is_seen(alloc, &file[..cut], Seen::Refused(MediaError::Truncated(130_000)))?);
+    assert!(rt;
+        is_seen(
+            alloc,
+            &file[..cut],
+            Seen::Refused(MediaError::Truncated(130_000))
+        )?
+    );
     let turned = long_file(alloc, [1, 3, 2], 2024)?;
     assert!(rt; is_seen(alloc, &turned, Seen::Refused(MediaError::BadPacket(64_006)))?);
     let short = long_file(alloc, [1, 2, 3], 2023)?;
@@ -195,7 +232,14 @@ fn the_second_packet_goes_on(rt: HostRuntime) -> Result<(), Fail> {
         (of_store(3, 48), 16, refused),
         (of_store(2, 47), 16, refused),
         (Numbers { en: 0x12, ..right }, 16, refused),
-        (Numbers { kind: 0x63, ..right }, 16, refused),
+        (
+            Numbers {
+                kind: 0x63,
+                ..right
+            },
+            16,
+            refused,
+        ),
     ] {
         let file = with_second(alloc, numbers, body)?;
         assert!(rt; is_seen(alloc, &file, expected)?);
@@ -214,7 +258,13 @@ fn packets_behind_a_whole_store(rt: HostRuntime) -> Result<(), Fail> {
         (of_store(0, 48), refused),
         (of_store(1, 48), passed),
         (Numbers { en: 0x12, ..stray }, passed),
-        (Numbers { kind: 0x63, ..stray }, passed),
+        (
+            Numbers {
+                kind: 0x63,
+                ..stray
+            },
+            passed,
+        ),
     ] {
         let mut behind = Vec::new(alloc);
         push_packet(&mut behind, numbers, &[0x78])?;

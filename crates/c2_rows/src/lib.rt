@@ -10,6 +10,10 @@ mod faults;
 #[cfg(test)]
 mod files;
 #[cfg(test)]
+mod host;
+#[cfg(test)]
+mod list;
+#[cfg(test)]
 mod outside;
 #[cfg(test)]
 mod words;

@@ -8,7 +8,7 @@ use std::alloc::Global;
 use std::process::Abort;
 use std::test::Fail;
 
-const USAGE: &str = "usage: c2 digest MEDIA\n";
+const USAGE: &str = "usage: c2 digest|list MEDIA\n";
 
 fn gives_usage(rt: &impl Abort, alloc: Global, given: &Vec<String>) -> Result<(), Fail> {
     assert_eq!(rt; roles(alloc, given), Err(RolesError::Usage));
@@ -31,18 +31,26 @@ fn words_that_fit_nothing_give_the_usage_line(rt: HostRuntime) -> Result<(), Fai
     gives_usage(&rt, alloc, &words(alloc, &["digest", ""])?)?;
     gives_usage(&rt, alloc, &words(alloc, &["digest", "-P"])?)?;
     gives_usage(&rt, alloc, &words(alloc, &["digest", "P", "Q"])?)?;
+    gives_usage(&rt, alloc, &words(alloc, &["list"])?)?;
+    gives_usage(&rt, alloc, &words(alloc, &["list", "P", "list"])?)?;
+    gives_usage(&rt, alloc, &words(alloc, &["List", "P"])?)?;
     gives_usage(&rt, alloc, &words(alloc, &["--help"])?)
 }
 
 #[test]
-fn digest_has_one_name(rt: HostRuntime) -> Result<(), Fail> {
+fn reading_commands_have_one_name(rt: HostRuntime) -> Result<(), Fail> {
     let alloc = rt.alloc();
-    let found = roles(alloc, &words(alloc, &["digest", "P"])?);
-    assert!(rt; found.is_ok());
-    if let Ok(found) = found {
-        assert_eq!(rt; found.command, Command::Digest);
-        assert_eq!(rt; (found.media, found.second, found.third), (Some(1), None, None));
-        assert_eq!(rt; (found.out, found.judges, found.count), (None, 2, None));
+    for (word, command) in [("digest", Command::Digest), ("list", Command::List)] {
+        let found = roles(alloc, &words(alloc, &[word, "P"])?);
+        assert!(rt; found.is_ok());
+        if let Ok(found) = found {
+            assert_eq!(rt; found.command, command);
+            assert_eq!(rt;
+                (found.media, found.second, found.third),
+                (Some(1), None, None)
+            );
+            assert_eq!(rt; (found.out, found.judges, found.count), (None, 2, None));
+        }
     }
     Ok(())
 }
