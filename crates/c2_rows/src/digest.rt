@@ -88,15 +88,26 @@ fn push_packet(file: &mut Vec<u8>, number: u8, body: &[u8]) -> Result<(), Fail> 
     Ok(())
 }
 
+// Puts this many zero bytes behind others.
+fn push_zeros(bytes: &mut Vec<u8>, count: usize) -> Result<(), Fail> {
+    for _ in 0..count {
+        bytes.push(0)?;
+    }
+    Ok(())
+}
+
 // A JPEG whose store stands in three packets with these numbers.
 fn in_three_packets(alloc: Global, numbers: [u8; 3]) -> Result<Vec<u8>, Fail> {
-    let mut body = vec![in alloc; 0; 63_984]?;
-    body[..24].copy_from_slice(&ONE_PACKET[22..46]);
-    let zeros = vec![in alloc; 0; 63_984]?;
+    let mut first = Vec::from_slice(alloc, &ONE_PACKET[22..46])?;
+    push_zeros(&mut first, 63_984 - 24)?;
+    let mut second = Vec::new(alloc);
+    push_zeros(&mut second, 63_984)?;
+    let mut third = Vec::new(alloc);
+    push_zeros(&mut third, 2024)?;
     let mut file = Vec::from_slice(alloc, &[0xFF, 0xD8])?;
-    push_packet(&mut file, numbers[0], body.as_slice())?;
-    push_packet(&mut file, numbers[1], zeros.as_slice())?;
-    push_packet(&mut file, numbers[2], &zeros[..2024])?;
+    push_packet(&mut file, numbers[0], first.as_slice())?;
+    push_packet(&mut file, numbers[1], second.as_slice())?;
+    push_packet(&mut file, numbers[2], third.as_slice())?;
     file.extend_from_slice(&[0xFF, 0xD9])?;
     Ok(file)
 }
