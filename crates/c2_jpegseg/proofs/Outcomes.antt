@@ -1,6 +1,5 @@
 -- What each case of a segment makes of the walk.
-use Rattle.std.proofs.Common.{◌≡◌, ℕ, ◌+◌, ◌-◌, ◌<◌, ◌≤◌, Bool, ◌&&◌, true, false, cond, List, [], ◌∷◌, ◌++◌, length, Option, Some, None, refl, sym, ap, ◌∙◌, subst, arith, length-append}
-use Rattle.std.specs.List.{AllByRecursion, flat_map}
+use Rattle.std.proofs.Common.{◌≡◌, ℕ, ◌+◌, ◌-◌, ◌<◌, ◌≤◌, Bool, ◌&&◌, true, false, cond, List, length, Option, Some, None, refl, sym, ap, ◌∙◌, subst}
 use Rattle.c2_base.specs.declared.media.MediaError.{MediaError}
 use Rattle.c2_base.specs.declared.media.MediaError.TheVariants.{BadPacket, TwoStores}
 use Rattle.c2_spec.specs.JpegSegments.{Segment, place_after}
@@ -12,7 +11,7 @@ use Rattle.c2_jpegseg.specs.declared.packet.Packet.{Packet as Held}
 use Rattle.c2_jpegseg.specs.Packets.{view, PacketOf}
 use Rattle.c2_jpegseg.specs.Segments.{segment_of, IsExtent}
 use Rattle.c2_jpegseg.specs.Runs.{IsStarted, IsContinued}
-use Rattle.c2_jpegseg.specs.Walks.{IsRunOf, Walks, Stands}
+use Rattle.c2_jpegseg.specs.Walks.{Walks, Stands}
 use Rattle.c2_jpegseg.proofs.SegmentLists.{each-push}
 use Rattle.c2_jpegseg.proofs.Steps.{fault-none, fault-open, fault-whole, started, continued, passed, end-place, advance, refuse}
 

@@ -1,8 +1,8 @@
 -- What the search answers, by cases, for private clauses.
-use Rattle.std.specs.Prelude.{◌≡◌, ◌≢◌, ℕ, ◌<◌, ◌≤◌, ⊤, Bool, true, false, List, take, Option, Some, None, Result, Ok, Err}
+use Rattle.std.specs.Prelude.{◌≡◌, ◌≢◌, ℕ, ◌<◌, ⊤, Bool, true, false, List, take, Option, Some, None, Result, Ok, Err}
 use Rattle.c2_base.specs.declared.media.Found.{Found}
 use Rattle.c2_base.specs.declared.media.MediaError.{MediaError}
-use Rattle.c2_base.specs.declared.media.MediaError.TheVariants.{NotMedia, Truncated, BadMarker, BadSegment, BadPacket, TwoStores, StoreTooLarge, ReadFault, NoMemory}
+use Rattle.c2_base.specs.declared.media.MediaError.TheVariants.{Truncated, BadMarker, BadSegment, BadPacket, TwoStores, StoreTooLarge, ReadFault, NoMemory}
 use Rattle.c2_spec.specs.JpegSegments.{start_of_image}
 use Rattle.c2_spec.specs.Located.{Located, absent, here, refusal}
 use Rattle.c2_spec.specs.Jpeg.{HasJpegStore, HasNoJpegStore, SegmentFault, FirstJpegFault}

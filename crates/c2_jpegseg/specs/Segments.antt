@@ -1,5 +1,5 @@
 -- What the walk over a JPEG file knows at a place, for private clauses.
-use Rattle.std.specs.Prelude.{◌≡◌, ◌≢◌, ℕ, ◌+◌, ◌-◌, ◌*◌, ◌<◌, ◌≤◌, ◌⊎◌, ⊤, true, false, List, ◌++◌, length, take, drop, replicate, slice_index, Option, Some, None, Result, Ok, Err}
+use Rattle.std.specs.Prelude.{◌≡◌, ℕ, ◌+◌, ◌-◌, ◌*◌, ◌<◌, ◌≤◌, ◌⊎◌, ⊤, true, false, List, ◌++◌, length, take, drop, replicate, slice_index, Option, Some, None, Result, Ok, Err}
 use Rattle.c2_base.specs.declared.media.MediaError.{MediaError}
 use Rattle.c2_base.specs.declared.media.MediaError.TheVariants.{Truncated, BadMarker, BadSegment, ReadFault}
 use Rattle.c2_spec.specs.JpegSegments.{Segment, IsSegment, EndsSegments, MarkerFault, segment_bytes, is_segment_marker, is_alone}

@@ -1,11 +1,11 @@
 // The run of packets that holds a store.
-ghost use Rattle.std.specs.Prelude.{◌≡◌, ◌+◌, ◌-◌, ◌<◌, ◌≤◌, length, take, vec_len, true, None, Some, IfOk, IfErr};
+ghost use Rattle.std.specs.Prelude.{◌≡◌, ◌+◌, ◌-◌, ◌<◌, ◌≤◌, length, take, vec_len, true, None, Some, OnOk, IfOk, IfErr};
 ghost use Rattle.c2_spec.specs.Jpeg as jpeg;
 ghost use Rattle.c2_jpegseg.specs.Causes.{OrOutside};
 ghost use Rattle.c2_jpegseg.specs.Packets.{view, IsHeader};
 
 use crate::packet::{self, Packet};
-use c2_base::MediaError;
+use c2_base::{MediaError, NoMemory};
 use std::alloc::Global;
 
 /// How many bytes a store may have.
@@ -82,36 +82,18 @@ impl Run {
         })
     }
 
-    /// The run with the next packet, which ends at `end`.
+    /// Puts the body of the run's next packet, which ends at `end`, behind the store. Without memory the run stays as it was.
     #[tactic(auto, using(crate::proofs::PacketLemmas::header_kept))]
-    pub fn append(self, end: u64, next: &Packet<'_>) -> Result<Run, MediaError>
-        requires ordered { self.start ≤ end }
+    pub fn append(&mut self, end: u64, next: &Packet<'_>) -> Result<(), NoMemory>
+        requires ordered { self.old.start ≤ end }
         requires some { 0 < length next.now.body.now }
-        requires fits { length next.now.body.now ≤ self.total - length self.store.items }
-        ensures ok { IfOk result (λ new. IsContinued end (view next.now) (collected self) (collected new)) }
-        ensures err { IfErr result (λ e. e ≡ MediaError.NoMemory) }
+        requires fits { length next.now.body.now ≤ self.old.total - length self.old.store.items }
+        ensures ok { OnOk result (IsContinued end (view next.now) (collected self.old) (collected self.new)) }
     {
-        let Run {
-            start,
-            en,
-            count,
-            total,
-            header_len,
-            mut store,
-            ..
-        } = self;
-        let Ok(()) = store.extend_from_slice(next.body) else {
-            return Err(MediaError::NoMemory);
-        };
-        Ok(Run {
-            start,
-            end,
-            en,
-            count: count + 1,
-            total,
-            header_len,
-            store,
-        })
+        self.store.extend_from_slice(next.body)?;
+        self.end = end;
+        self.count += 1;
+        Ok(())
     }
 
     /// Whether the packet goes on with the run.

@@ -107,10 +107,10 @@ fn walk<S: Source>(
         };
         load_packet(source, window, extent)?;
         let packet = packet_at(window, extent);
-        run = match segment::step(alloc, at, extent.end, size, packet, run) {
-            Ok(next) => next,
+        match segment::step(alloc, at, extent.end, size, packet, &mut run) {
+            Ok(()) => {}
             Err(error) => return Err(error),
-        };
+        }
         at = extent.end;
     }
     let Some(run) = run else {

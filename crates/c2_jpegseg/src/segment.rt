@@ -1,5 +1,5 @@
 // One segment of the walk.
-ghost use Rattle.std.specs.Prelude.{◌≡◌, ◌<◌, ◌≤◌, ℕ, List, length, None, Some, IfOk, IfErr};
+ghost use Rattle.std.specs.Prelude.{◌≡◌, ◌<◌, ◌≤◌, ℕ, List, length, None, Some, OnOk, IfOk, IfErr};
 ghost use Rattle.c2_spec.specs.Jpeg.{SegmentFault};
 ghost use Rattle.c2_jpegseg.specs.Causes.{OrOutside};
 ghost use Rattle.c2_jpegseg.specs.Packets.{HasHeader};
@@ -39,19 +39,14 @@ fn begin(
 }
 
 /// A segment where a store waits for its next packet.
-fn proceed(
-    at: u64,
-    end: u64,
-    packet: Option<Packet<'_>>,
-    run: Run,
-) -> Result<Option<Run>, MediaError>
+fn proceed(at: u64, end: u64, packet: Option<Packet<'_>>, run: &mut Run) -> Result<(), MediaError>
     requires ordered { at ≤ end }
-    requires before { run.end ≤ at }
+    requires before { run.old.end ≤ at }
     requires headed { HasHeader packet }
-    requires short { length run.store.items < run.total }
-    ensures ok { (file : List ℕ) → Stands file at end packet.entry (Some (collected run)) → IfOk result (λ new. Walks file end (all_collected new)) }
-    ensures err { (file : List ℕ) → Stands file at end packet.entry (Some (collected run)) → IfErr result (λ e. OrOutside e (SegmentFault file e)) }
-    ensures ends { IfOk result (EndsBy end) }
+    requires short { length run.old.store.items < run.old.total }
+    ensures ok { (file : List ℕ) → Stands file at end packet.entry (Some (collected run.old)) → OnOk result (Walks file end (Some (collected run.new))) }
+    ensures err { (file : List ℕ) → Stands file at end packet.entry (Some (collected run.old)) → IfErr result (λ e. OrOutside e (SegmentFault file e)) }
+    ensures ends { OnOk result (run.new.end ≤ end) }
     ensures error { IfErr result (IsSegmentError at) }
 {
     let Some(next) = packet else {
@@ -60,25 +55,20 @@ fn proceed(
     if !run.goes_on(&next) {
         return Err(MediaError::BadPacket(at));
     }
-    match run.append(end, &next) {
-        Ok(run) => Ok(Some(run)),
-        Err(error) => Err(error),
-    }
+    run.append(end, &next)?;
+    Ok(())
 }
 
 /// A segment behind a whole store.
-fn pass(at: u64, end: u64, packet: Option<Packet<'_>>, run: Run) -> Result<Option<Run>, MediaError>
-    requires ordered { at ≤ end }
-    requires before { run.end ≤ at }
+fn pass(at: u64, end: u64, packet: Option<Packet<'_>>, run: &Run) -> Result<(), MediaError>
     requires headed { HasHeader packet }
-    requires whole { run.total ≤ length run.store.items }
-    ensures ok { (file : List ℕ) → Stands file at end packet.entry (Some (collected run)) → IfOk result (λ new. Walks file end (all_collected new)) }
-    ensures err { (file : List ℕ) → Stands file at end packet.entry (Some (collected run)) → IfErr result (λ e. OrOutside e (SegmentFault file e)) }
-    ensures ends { IfOk result (EndsBy end) }
+    requires whole { run.now.total ≤ length run.now.store.items }
+    ensures ok { (file : List ℕ) → Stands file at end packet.entry (Some (collected run.now)) → OnOk result (Walks file end (Some (collected run.now))) }
+    ensures err { (file : List ℕ) → Stands file at end packet.entry (Some (collected run.now)) → IfErr result (λ e. OrOutside e (SegmentFault file e)) }
     ensures error { IfErr result (IsSegmentError at) }
 {
     let Some(other) = packet else {
-        return Ok(Some(run));
+        return Ok(());
     };
     if packet::is_first(&other) {
         return Err(MediaError::TwoStores(at));
@@ -86,31 +76,36 @@ fn pass(at: u64, end: u64, packet: Option<Packet<'_>>, run: Run) -> Result<Optio
     if packet::is_further(run.en, &other) {
         return Err(MediaError::BadPacket(at));
     }
-    Ok(Some(run))
+    Ok(())
 }
 
-/// The run behind the segment from `at` to `end` in a file of `size` bytes, or the first fault.
+/// Takes the segment from `at` to `end` in a file of `size` bytes into the run, or tells the first fault.
 pub fn step(
     alloc: Global,
     at: u64,
     end: u64,
     size: u64,
     packet: Option<Packet<'_>>,
-    run: Option<Run>,
-) -> Result<Option<Run>, MediaError>
+    run: &mut Option<Run>,
+) -> Result<(), MediaError>
     requires ordered { at ≤ end }
-    requires before { EndsBy at run }
+    requires before { EndsBy at run.old }
     requires headed { HasHeader packet }
-    ensures ok { (file : List ℕ) → Stands file at end packet.entry (all_collected run) → IfOk result (λ new. Walks file end (all_collected new)) }
-    ensures err { (file : List ℕ) → Stands file at end packet.entry (all_collected run) → IfErr result (λ e. OrOutside e (SegmentFault file e)) }
-    ensures ends { IfOk result (EndsBy end) }
+    ensures ok { (file : List ℕ) → Stands file at end packet.entry (all_collected run.old) → OnOk result (Walks file end (all_collected run.new)) }
+    ensures err { (file : List ℕ) → Stands file at end packet.entry (all_collected run.old) → IfErr result (λ e. OrOutside e (SegmentFault file e)) }
+    ensures ends { OnOk result (EndsBy end run.new) }
     ensures error { IfErr result (IsSegmentError at) }
 {
-    let Some(run) = run else {
-        return begin(alloc, at, end, size, packet);
+    let Some(open) = run else {
+        if let Some(started) = begin(alloc, at, end, size, packet)? {
+            *run = Some(started);
+        }
+        return Ok(());
     };
-    if (run.store.len() as u64) < run.total {
-        return proceed(at, end, packet, run);
+    if (open.store.len() as u64) < open.total {
+        proceed(at, end, packet, open)?;
+    } else {
+        pass(at, end, packet, open)?;
     }
-    pass(at, end, packet, run)
+    Ok(())
 }

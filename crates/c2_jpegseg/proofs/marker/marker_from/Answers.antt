@@ -1,4 +1,4 @@
-use Rattle.std.proofs.Common.{length, ◌≡◌, ◌∙◌, ◌<◌, ◌≤◌, sym, arith}
+use Rattle.std.proofs.Common.{length, ◌≡◌, ◌∙◌, sym, arith}
 use Rattle.c2_jpegseg.proofs.Markers.{fill_more}
 use Rattle.c2_jpegseg.proofs.WindowLemmas.{shows_same}
 use Rattle.c2_jpegseg.proofs.marker.marker_from.Goals as goal

@@ -1,4 +1,4 @@
-use Rattle.std.proofs.Common.{length, ◌≡◌, ◌∙◌, ◌<◌, ◌≤◌, sym, subst, arith, List, ℕ, Option, Some}
+use Rattle.std.proofs.Common.{length, ◌≡◌, ◌∙◌, subst, arith}
 use Rattle.c2_jpegseg.specs.Segments.{IsMarkerFrom, IsMarkerAt}
 use Rattle.c2_jpegseg.proofs.Markers.{no_marker_left, no_fill, bad_kind, end_here, alone_extent, sized_is, sized_error}
 use Rattle.c2_jpegseg.proofs.marker.segment_at.Goals as goal

@@ -1,4 +1,4 @@
-use Rattle.std.proofs.Common.{length, ◌≡◌, ◌∙◌, ◌<◌, ◌≤◌, ◌&&◌, sym, ap, arith, eqb}
+use Rattle.std.proofs.Common.{length, ◌≡◌, ◌∙◌, ◌&&◌, sym, ap, arith, eqb}
 use Rattle.c2_jpegseg.proofs.Starts.{too_short, begun_is}
 use Rattle.c2_jpegseg.proofs.search.is_jpeg.Goals as goal
 use borrow.Author.Tests.{ne_eqb}

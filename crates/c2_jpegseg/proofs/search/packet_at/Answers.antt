@@ -1,4 +1,4 @@
-use Rattle.std.proofs.Common.{◌∙◌, subst, refl, arith, ◌+◌, ◌-◌, ◌≡◌, ◌≤◌}
+use Rattle.std.proofs.Common.{◌∙◌, subst, refl}
 use Rattle.c2_jpegseg.specs.Packets.{Reads, bare}
 use Rattle.c2_jpegseg.proofs.WindowLemmas.{shown}
 use Rattle.c2_jpegseg.proofs.search.packet_at.Goals as goal

@@ -1,4 +1,4 @@
-use Rattle.std.proofs.Common.{length, ◌≡◌, ◌∙◌, ◌<◌, ◌≤◌, sym, subst, arith}
+use Rattle.std.proofs.Common.{length, ◌≡◌, ◌∙◌, sym, subst, arith}
 use Rattle.c2_base.specs.declared.media.MediaError.TheVariants.{FileTooLarge}
 use Rattle.c2_spec.specs.Jpeg.{SegmentFault, FirstJpegFault, too_large, not_media, segment}
 use Rattle.c2_jpegseg.specs.Answers.{IsBegun}

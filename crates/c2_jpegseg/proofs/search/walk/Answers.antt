@@ -1,8 +1,7 @@
-use Rattle.std.proofs.Common.{length, ◌≡◌, ◌∙◌, ◌-◌, ◌<◌, ◌≤◌, sym, subst, refl, arith, Some, List, ℕ}
-use Rattle.c2_spec.specs.JpegSegments.{MarkerFault}
+use Rattle.std.proofs.Common.{length, ◌≡◌, ◌∙◌, ◌-◌, sym, subst, refl, arith, Some}
 use Rattle.c2_spec.specs.Jpeg.{SegmentFault, HasJpegStore}
 use Rattle.c2_jpegseg.specs.Runs.{collected, all_collected}
-use Rattle.c2_jpegseg.specs.Walks.{Walks, Stands}
+use Rattle.c2_jpegseg.specs.Walks.{Walks}
 use Rattle.c2_jpegseg.proofs.Outside.{or_outside-map}
 use Rattle.c2_jpegseg.proofs.Steps.{refuse-marker, refuse-end, store-here, no-store}
 use Rattle.c2_jpegseg.proofs.WindowLemmas.{shows_same}

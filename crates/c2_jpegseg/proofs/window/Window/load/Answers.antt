@@ -1,4 +1,4 @@
-use Rattle.std.proofs.Common.{◌≡◌, ◌∙◌, ap, take, List, ℕ, arith}
+use Rattle.std.proofs.Common.{◌∙◌, ap, take, List, ℕ, arith}
 use Rattle.std.proofs.lemmas.List.{take_at}
 use Rattle.c2_jpegseg.proofs.window.Window.load.Goals as goal
 
