@@ -1,4 +1,4 @@
-// The boxes of a tree by their indices.
+// The boxes of a tree by their indices. No call takes memory, and none goes over the tree.
 ghost use Rattle.std.specs.Prelude.{◌≡◌, ◌+◌, ◌^◌, ◌<◌, ◌≤◌, ℕ, List, Option, Some, None, IfSome, IfNone, length};
 ghost use Rattle.std.specs.Int.{w32, to_be_bytes};
 ghost use Rattle.std.specs.Option.{option_map};
@@ -31,7 +31,7 @@ pub fn row_at(tree: &Tree<'_>, i: usize) -> Row
     tree.rows[i]
 }
 
-/// Where a box begins.
+/// Where a box begins, in bytes from the front of the tree's bytes.
 pub fn place(tree: &Tree<'_>, i: usize) -> usize
     requires { i < tree_count tree.now }
     ensures { result ≡ (box_at tree.now i).place }
@@ -39,7 +39,7 @@ pub fn place(tree: &Tree<'_>, i: usize) -> usize
     row_at(tree, i).place
 }
 
-/// A box's length with its header.
+/// A box's length in bytes, with its header.
 pub fn total(tree: &Tree<'_>, i: usize) -> usize
     requires { i < tree_count tree.now }
     ensures { result ≡ length (any_bytes (box_at tree.now i).box) }
@@ -58,7 +58,7 @@ fn bytes_of<'t>(tree: &'t Tree<'_>, i: usize) -> &'t [u8]
     &tree.bytes[row.place..row.place + row.total]
 }
 
-/// A box's TBox.
+/// A box's TBox (ISO/IEC 19566-5, A.2).
 pub fn kind(tree: &Tree<'_>, i: usize) -> [u8; 4]
     requires { i < tree_count tree.now }
     ensures { result ≡ to_be_bytes w32 (any_kind (box_at tree.now i).box) }
@@ -67,7 +67,7 @@ pub fn kind(tree: &Tree<'_>, i: usize) -> [u8; 4]
     [bytes[4], bytes[5], bytes[6], bytes[7]]
 }
 
-/// The bytes behind a box's own header.
+/// The bytes behind a box's own header: its payload, and so for a superbox its description box and all further boxes.
 pub fn contents<'t>(tree: &'t Tree<'_>, i: usize) -> &'t [u8]
     requires { i < tree_count tree.now }
     ensures { result.now ≡ any_contents (box_at tree.now i).box }
@@ -76,7 +76,7 @@ pub fn contents<'t>(tree: &'t Tree<'_>, i: usize) -> &'t [u8]
     &bytes_of(tree, i)[header..]
 }
 
-/// A box's depth, the root's being 1.
+/// A box's depth: the root's is 1, and a description box lies one deeper than its superbox.
 pub fn depth(tree: &Tree<'_>, i: usize) -> usize
     requires { i < tree_count tree.now }
     ensures { result ≡ (box_at tree.now i).depth }
@@ -96,7 +96,7 @@ fn payload_of<'t>(tree: &'t Tree<'_>, i: usize) -> Option<&'t [u8]>
     Some(contents(tree, i + 1))
 }
 
-/// The type UUID of a superbox.
+/// The type UUID of a superbox (ISO/IEC 19566-5, A.3); none for any other box.
 pub fn uuid_of(tree: &Tree<'_>, i: usize) -> Option<[u8; 16]>
     requires { i < tree_count tree.now }
     ensures { result ≡ any_uuid (box_at tree.now i).box }
@@ -109,7 +109,7 @@ pub fn uuid_of(tree: &Tree<'_>, i: usize) -> Option<[u8; 16]>
     Some(uuid)
 }
 
-/// The label of a superbox that has one.
+/// The label of a superbox that has one, which may be empty; none for any other box. It takes time in the label's length.
 pub fn label_of<'t>(tree: &'t Tree<'_>, i: usize) -> Option<&'t str>
     requires { i < tree_count tree.now }
     ensures { option_map (λ label. label.now) result ≡ any_label (box_at tree.now i).box }

@@ -8,7 +8,8 @@ ghost use Rattle.c2_jumbf.specs.Labels.{is_label};
 use crate::borrowed::Tree;
 use crate::boxes::{label_of, row_at};
 
-/// The index of a box's child `k`, counted from 0; a superbox's description box is its child 0.
+/// The index of a box's child `k`, counted from 0, and none where it has not so many; a superbox's description box is its
+/// child 0.
 pub fn child(tree: &Tree<'_>, i: usize, k: usize) -> Option<usize>
     requires { i < tree_count tree.now }
     ensures { result ≡ slice_get (child_indices tree.now i) k }
@@ -54,7 +55,7 @@ fn labelled_child(tree: &Tree<'_>, i: usize, label: &str) -> Option<usize>
 }
 
 /// The box that a path leads to from a box: its labels, separated by `/`, are those of child superboxes, one inside the
-/// other. The empty path is one empty label.
+/// other. None where one of them isn't there. The empty path is one empty label.
 pub fn find(tree: &Tree<'_>, start: usize, path: &str) -> Option<usize>
     requires { start < tree_count tree.now }
     ensures within { IfSome result (λ i. i < tree_count tree.now) }

@@ -28,7 +28,7 @@ pub fn write(alloc: Global, tree: &Tree<'_>) -> Result<Blob, NoMemory>
     Blob::copied(alloc, tree.bytes)
 }
 
-/// A box with a 4-byte length: its kind and its payload.
+/// A box with a 4-byte length: its kind and its payload. `TooLarge` where it would have more than 33,554,432 bytes.
 pub fn write_leaf(alloc: Global, kind: [u8; 4], bytes: &[u8]) -> Result<Blob, WriteError>
     ensures ok { IfOk result (λ leaf. (leaf ≡ boxed (from_be_bytes w32 kind) false bytes.now) × (8 + length bytes.now ≤ most_bytes)) }
     ensures err { IfErr result (λ e. (e ≡ WriteError.NoMemory) ⊎ ((e ≡ WriteError.TooLarge (8 + length bytes.now)) × (most_bytes < 8 + length bytes.now))) }
@@ -68,7 +68,7 @@ fn is_written_label(label: &str) -> bool
 }
 
 /// A superbox with a 4-byte length, its description with this type UUID and label and toggles 0x03, and these contents
-/// behind it.
+/// behind it. `BadLabel` where the label is empty or has a control byte, then `TooLarge` as for a leaf.
 pub fn write_super(
     alloc: Global,
     uuid: [u8; 16],
