@@ -8,7 +8,7 @@ trap 'rm -rf "$work"' EXIT
 cp -r "$here/../../.." "$work/repository"
 cd "$work/repository"
 mkdir -p crates/c2_cbor_bench/src
-cp "$here/main.rt" crates/c2_cbor_bench/src/main.rt
+cp "$here/main.rattle" crates/c2_cbor_bench/src/main.rt
 echo 'c2_cbor_bench: c2_cbor' >> crates.txt
 (cd crates/c2_cbor_bench && rt run > "$work/build.log" 2>&1 || true)
 program=$(find crates/c2_cbor_bench/out -type f -name 'c2_cbor_bench*' -perm -u+x | head -1)
