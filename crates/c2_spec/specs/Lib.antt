@@ -11,5 +11,6 @@ pub mod Located
 pub mod Panel
 pub mod Question
 pub mod Reason
+pub mod Sign1
 pub mod StoreTree
 pub mod VerdictFile

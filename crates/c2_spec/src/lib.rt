@@ -9,9 +9,11 @@ mod digest;
 mod jumbf;
 mod panel;
 mod reason;
+mod sign1;
 
 pub use cbor::{Cbor, CborError, EncodeError, Ref, Refs};
 pub use digest::Alg;
 pub use jumbf::{Head, JumbfError, WriteError};
 pub use panel::{ListError, Verdict, VerdictRow};
 pub use reason::Reason;
+pub use sign1::{Sign1, SignError};

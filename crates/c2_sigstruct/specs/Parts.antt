@@ -1,0 +1,37 @@
+-- For private clauses: the parts of a message, step by step.
+use Rattle.std.specs.Prelude.{ℕ, Bool, true, false, ◌&&◌, ◌==◌, List, Some, None, if◌then◌else◌}
+use Rattle.std.specs.declared.option.Option.{Option}
+use Rattle.c2_spec.specs.Cbor.Item.{Item, bytes, list, dict, tag, simple, Items, no_items, item}
+use Rattle.c2_spec.specs.Sign1.{SignParts}
+
+abbrev pub bytes_in : Item → Option (List ℕ)
+bytes_in (bytes b) = Some b
+bytes_in v = None
+
+abbrev pub is_null_item : Item → Bool
+is_null_item (simple a) = a == 22
+is_null_item v = false
+
+abbrev pub is_dict : Item → Bool
+is_dict (dict ps) = true
+is_dict v = false
+
+abbrev pub untagged : Item → Item
+untagged (tag n v) = if n == 18 then v else tag n v
+untagged v = v
+
+-- a message of these two strings and this header, which the test lets through
+abbrev pub parts_if : Bool → Option (List ℕ) → Item → Option (List ℕ) → Option SignParts
+parts_if true (Some p) u (Some s) = Some (record { protected = p; unprotected = u; signature = s })
+parts_if test p u s = None
+
+abbrev pub parts_in_four : Item → Item → Item → Item → Option SignParts
+parts_in_four a b c d = parts_if (is_dict b && is_null_item c) (bytes_in a) b (bytes_in d)
+
+abbrev pub parts_in_items : Items → Option SignParts
+parts_in_items (item a (item b (item c (item d no_items)))) = parts_in_four a b c d
+parts_in_items vs = None
+
+abbrev pub parts_in_list : Item → Option SignParts
+parts_in_list (list vs) = parts_in_items vs
+parts_in_list v = None

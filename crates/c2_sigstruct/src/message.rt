@@ -1,0 +1,105 @@
+// Taking a message apart.
+ghost use Rattle.std.specs.Prelude.{◌≡◌, option_map};
+ghost use Rattle.c2_spec.specs.Cbor.View.{view, items_view};
+ghost use Rattle.c2_spec.specs.Sign1.{parts_of};
+ghost use Rattle.c2_sigstruct.specs.Parts.{bytes_in, is_null_item, is_dict, untagged, parts_in_four, parts_in_items, parts_in_list};
+
+use c2_base::Blob;
+use c2_spec::{Cbor, Sign1};
+
+const SIGN1_TAG: u64 = 18;
+
+fn into_bytes(item: Cbor) -> Option<Blob>
+    ensures { option_map (λ b. b) result ≡ bytes_in (view item) }
+{
+    match item {
+        Cbor::Bytes(bytes) => Some(bytes),
+        _ => None,
+    }
+}
+
+fn is_null(item: &Cbor) -> bool
+    ensures { result ≡ is_null_item (view item.now) }
+{
+    match item {
+        Cbor::Simple(a) => *a == 22,
+        _ => false,
+    }
+}
+
+fn is_map(item: &Cbor) -> bool
+    ensures { result ≡ is_dict (view item.now) }
+{
+    match item {
+        Cbor::Map(_) => true,
+        _ => false,
+    }
+}
+
+// The item in the tag 18, where that is there.
+pub fn untag(item: Cbor) -> Cbor
+    ensures { view result ≡ untagged (view item) }
+{
+    match item {
+        Cbor::Tag(number, inner) => {
+            if number == SIGN1_TAG {
+                Box::into_inner(inner)
+            } else {
+                Cbor::Tag(number, inner)
+            }
+        }
+        other => other,
+    }
+}
+
+// The message of these four members.
+fn of_four(protected: Cbor, unprotected: Cbor, payload: Cbor, signature: Cbor) -> Option<Sign1>
+    ensures { option_map parts_of result ≡ parts_in_four (view protected) (view unprotected) (view payload) (view signature) }
+{
+    if !is_map(&unprotected) || !is_null(&payload) {
+        return None;
+    }
+    let Some(protected) = into_bytes(protected) else {
+        return None;
+    };
+    let Some(signature) = into_bytes(signature) else {
+        return None;
+    };
+    Some(Sign1 {
+        protected,
+        unprotected,
+        signature,
+    })
+}
+
+fn of_items(items: Vec<Cbor>) -> Option<Sign1>
+    ensures { option_map parts_of result ≡ parts_in_items (items_view items.items) }
+{
+    if items.len() != 4 {
+        return None;
+    }
+    let mut items = items;
+    let Some(signature) = items.pop() else {
+        return None;
+    };
+    let Some(payload) = items.pop() else {
+        return None;
+    };
+    let Some(unprotected) = items.pop() else {
+        return None;
+    };
+    let Some(protected) = items.pop() else {
+        return None;
+    };
+    of_four(protected, unprotected, payload, signature)
+}
+
+// The message that an item without its tag is.
+pub fn of_list(item: Cbor) -> Option<Sign1>
+    ensures { option_map parts_of result ≡ parts_in_list (view item) }
+{
+    match item {
+        Cbor::List(items) => of_items(items),
+        _ => None,
+    }
+}
