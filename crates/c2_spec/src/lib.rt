@@ -4,14 +4,22 @@
 //! that make these answers hand the types on under their own names.
 #![tactic(auto)]
 
+mod assertion;
 mod cbor;
+mod claim;
 mod digest;
 mod jumbf;
 mod panel;
 mod reason;
+mod store;
+mod uri;
 
+pub use assertion::{DataHash, FieldError, Ingredient, Kind, Relationship};
 pub use cbor::{Cbor, CborError, EncodeError, Ref, Refs};
+pub use claim::{Claim, ClaimError, ClaimField};
 pub use digest::Alg;
 pub use jumbf::{Head, JumbfError, WriteError};
 pub use panel::{ListError, Verdict, VerdictRow};
 pub use reason::Reason;
+pub use store::{Indices, ManifestBoxes, StoreError};
+pub use uri::{Target, Uri};
