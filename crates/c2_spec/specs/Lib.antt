@@ -1,5 +1,8 @@
+pub mod Assertion
 pub mod Cbor
+pub mod Claim
 pub mod Digest
+pub mod Fields
 pub mod Jpeg
 pub mod JpegPackets
 pub mod JpegSegments
@@ -8,9 +11,11 @@ pub mod JumbfBoxes
 pub mod JumbfFaults
 pub mod JumbfWriting
 pub mod Located
+pub mod Manifest
 pub mod Panel
 pub mod Question
 pub mod Reason
 pub mod Sign1
 pub mod StoreTree
+pub mod Uri
 pub mod VerdictFile

@@ -1,0 +1,98 @@
+// Reading a data hash.
+ghost use Rattle.std.specs.Prelude.{◌≡◌, codes, IfOk, Some};
+ghost use Rattle.c2_spec.specs.Cbor.View.{view, items_view};
+ghost use Rattle.c2_spec.specs.Cbor.Lookup.{field_of};
+ghost use Rattle.c2_spec.specs.Fields.{IsAnswer, each_of, list_of, optional_list};
+ghost use Rattle.c2_spec.specs.Assertion.{range_of, data_hash_of};
+
+use c2_base::{NoMemory, Range, Ranges};
+use c2_cbor::{Cbor, field};
+use c2_spec::{DataHash, FieldError};
+use std::alloc::Global;
+
+/// The most exclusions of a binding.
+const MOST_EXCLUSIONS: usize = 1024;
+
+fn range_in(item: &Cbor) -> Option<Range>
+    ensures { result ≡ range_of (view item.now) }
+{
+    let Some(start) = c2_fields::number(item, "start") else {
+        return None;
+    };
+    let Some(length) = c2_fields::number(item, "length") else {
+        return None;
+    };
+    Some(Range { start, length })
+}
+
+/// The ranges that the items are, where all of them are.
+#[tactic(auto, using(c2_fields::proofs::Each::each_next, c2_fields::proofs::Each::each_none, c2_fields::proofs::Each::each_all))]
+fn ranges_in(alloc: Global, items: &[Cbor]) -> Result<Option<Ranges>, NoMemory>
+    ensures { IfOk result (λ found. found ≡ each_of range_of (items_view items.now)) }
+{
+    let mut found = Vec::new(alloc);
+    for item in items {
+        let Some(range) = range_in(item) else {
+            return Ok(None);
+        };
+        found.push(range)?;
+    }
+    Ok(Some(Ranges::from_list(found)))
+}
+
+/// The list of ranges that the item is.
+fn range_list(alloc: Global, item: &Cbor) -> Result<Option<Ranges>, NoMemory>
+    ensures { IfOk result (λ found. found ≡ list_of range_of (Some (view item.now))) }
+{
+    match item {
+        Cbor::List(items) => {
+            let found = ranges_in(alloc, items)?;
+            Ok(found)
+        }
+        _ => Ok(None),
+    }
+}
+
+/// The exclusions, none where they are absent; None where something else stands there.
+fn exclusions_of(alloc: Global, item: &Cbor) -> Result<Option<Ranges>, NoMemory>
+    ensures { IfOk result (λ found. found ≡ optional_list range_of (field_of (codes "exclusions") (view item.now))) }
+{
+    match field(item, "exclusions") {
+        Some(value) => {
+            let found = range_list(alloc, value)?;
+            Ok(found)
+        }
+        None => Ok(Some(Ranges::from_list(Vec::new(alloc)))),
+    }
+}
+
+/// The data hash that an item is.
+///
+/// Form: the item is no map, or `exclusions` is there and no list of maps with `start` and `length` numbers from 0 on, or
+/// `alg` is there and no text, or `hash` is no byte string. TooMany: it has that form and more than 1,024 exclusions. A
+/// null field counts as absent, and other fields pass unread.
+pub fn read_data_hash(alloc: Global, item: &Cbor) -> Result<DataHash, FieldError>
+    ensures { IsAnswer FieldError.NoMemory (data_hash_of (view item.now)) result }
+{
+    if !c2_fields::is_map(item) {
+        return Err(FieldError::Form);
+    }
+    let Some(exclusions) = exclusions_of(alloc, item)? else {
+        return Err(FieldError::Form);
+    };
+    let Some(alg) = c2_fields::optional_text(alloc, item, "alg")? else {
+        return Err(FieldError::Form);
+    };
+    let Some(hash) = c2_fields::byte_string(alloc, item, "hash")? else {
+        return Err(FieldError::Form);
+    };
+    let count = exclusions.as_slice().len();
+    if count > MOST_EXCLUSIONS {
+        return Err(FieldError::TooMany(count));
+    }
+    Ok(DataHash {
+        exclusions,
+        alg,
+        hash,
+    })
+}

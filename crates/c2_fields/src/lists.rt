@@ -1,0 +1,105 @@
+// Fields that are lists.
+ghost use Rattle.std.specs.Prelude.{◌≡◌, IfOk, Some};
+ghost use Rattle.c2_spec.specs.Cbor.View.{view, items_view};
+ghost use Rattle.c2_spec.specs.Cbor.Lookup.{field_of, ref_of};
+ghost use Rattle.c2_spec.specs.Fields as form;
+
+use crate::single::text_in;
+use c2_base::{NoMemory, Text, Texts};
+use c2_cbor::{Cbor, Refs, field, read_ref};
+use std::alloc::Global;
+
+#[tactic(auto, using(crate::proofs::Each::each_next, crate::proofs::Each::each_none, crate::proofs::Each::each_all))]
+/// The references that the items are, where all of them are.
+fn references_in(alloc: Global, items: &[Cbor]) -> Result<Option<Refs>, NoMemory>
+    ensures { IfOk result (λ found. found ≡ form.each_of ref_of (items_view items.now)) }
+{
+    let mut found = Vec::new(alloc);
+    for item in items {
+        let Some(reference) = read_ref(alloc, item)? else {
+            return Ok(None);
+        };
+        found.push(reference)?;
+    }
+    Ok(Some(Refs::from_list(found)))
+}
+
+#[tactic(auto, using(crate::proofs::Each::each_next, crate::proofs::Each::each_none, crate::proofs::Each::each_all))]
+/// The texts that the items are, where all of them are.
+fn texts_in(alloc: Global, items: &[Cbor]) -> Result<Option<Texts>, NoMemory>
+    ensures { IfOk result (λ found. found ≡ form.each_of form.text_item (items_view items.now)) }
+{
+    let mut found = Vec::new(alloc);
+    for item in items {
+        let Some(text) = text_in(alloc, item)? else {
+            return Ok(None);
+        };
+        found.push(text)?;
+    }
+    Ok(Some(Texts::from_list(found)))
+}
+
+/// The list of references that the item is.
+fn reference_list(alloc: Global, item: &Cbor) -> Result<Option<Refs>, NoMemory>
+    ensures { IfOk result (λ found. found ≡ form.list_of ref_of (Some (view item.now))) }
+{
+    match item {
+        Cbor::List(items) => {
+            let found = references_in(alloc, items)?;
+            Ok(found)
+        }
+        _ => Ok(None),
+    }
+}
+
+/// The list of texts that the item is.
+fn text_list(alloc: Global, item: &Cbor) -> Result<Option<Texts>, NoMemory>
+    ensures { IfOk result (λ found. found ≡ form.list_of form.text_item (Some (view item.now))) }
+{
+    match item {
+        Cbor::List(items) => {
+            let found = texts_in(alloc, items)?;
+            Ok(found)
+        }
+        _ => Ok(None),
+    }
+}
+
+/// The references under this key; None where it is absent or no list of references.
+pub fn references(alloc: Global, item: &Cbor, key: &str) -> Result<Option<Refs>, NoMemory>
+    ensures { IfOk result (λ found. found ≡ form.list_of ref_of (field_of key.now (view item.now))) }
+{
+    match field(item, key) {
+        Some(value) => {
+            let found = reference_list(alloc, value)?;
+            Ok(found)
+        }
+        None => Ok(None),
+    }
+}
+
+/// The references under this key, none where it is absent; None where something else stands there.
+pub fn optional_references(alloc: Global, item: &Cbor, key: &str) -> Result<Option<Refs>, NoMemory>
+    ensures { IfOk result (λ found. found ≡ form.optional_list ref_of (field_of key.now (view item.now))) }
+{
+    match field(item, key) {
+        Some(value) => {
+            let found = reference_list(alloc, value)?;
+            Ok(found)
+        }
+        None => Ok(Some(Refs::from_list(Vec::new(alloc)))),
+    }
+}
+
+/// The texts under this key, none where it is absent; None where something else stands there.
+pub fn optional_texts(alloc: Global, item: &Cbor, key: &str) -> Result<Option<Texts>, NoMemory>
+    ensures { IfOk result (λ found. found ≡ form.optional_list form.text_item (field_of key.now (view item.now))) }
+{
+    match field(item, key) {
+        Some(value) => {
+            let found = text_list(alloc, value)?;
+            Ok(found)
+        }
+        None => Ok(Some(Texts::from_list(Vec::new(alloc)))),
+    }
+}

@@ -1,0 +1,5 @@
+pub mod Levels
+pub mod Gathering
+pub mod Picking
+pub mod Labelled
+pub mod Refusing

@@ -1,0 +1,17 @@
+//! The manifests of a store, as indices of boxes in its tree (C2PA Technical Specification 2.x).
+//!
+//! Which trees are stores, and which boxes a manifest has, stands in `Manifest` of c2_spec.
+#![tactic(auto)]
+
+mod boxes;
+mod items;
+mod manifests;
+mod reading;
+mod store;
+#[cfg(test)]
+mod tests;
+
+pub use c2_spec::StoreError;
+pub use items::item;
+pub use reading::of_tree;
+pub use store::{Store, assertions, claims, is_update, label, manifest_count, signature, whole};

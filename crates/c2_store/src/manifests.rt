@@ -1,0 +1,119 @@
+// The boxes of one manifest.
+ghost use Rattle.std.specs.Prelude.{◌≡◌, ◌<◌, All, IfOk, IfSome, codes};
+ghost use Rattle.c2_spec.specs.JumbfBoxes.{tree_count, box_at};
+ghost use Rattle.c2_spec.specs.Manifest as form;
+
+use crate::boxes::{has_label, has_uuid, push_if, superboxes};
+use c2_base::NoMemory;
+use c2_jumbf::Tree;
+use c2_spec::{Indices, ManifestBoxes};
+use std::alloc::Global;
+
+/// What stands behind the four letters of a C2PA box's type UUID is the same for all.
+pub const STORE: [u8; 16] = *b"c2pa\x00\x11\x00\x10\x80\x00\x00\xAA\x00\x38\x9B\x71";
+
+pub const MANIFEST: [u8; 16] = *b"c2ma\x00\x11\x00\x10\x80\x00\x00\xAA\x00\x38\x9B\x71";
+
+pub const UPDATE: [u8; 16] = *b"c2um\x00\x11\x00\x10\x80\x00\x00\xAA\x00\x38\x9B\x71";
+
+const CLAIM: [u8; 16] = *b"c2cl\x00\x11\x00\x10\x80\x00\x00\xAA\x00\x38\x9B\x71";
+
+const SIGNATURE: [u8; 16] = *b"c2cs\x00\x11\x00\x10\x80\x00\x00\xAA\x00\x38\x9B\x71";
+
+const ASSERTIONS: [u8; 16] = *b"c2as\x00\x11\x00\x10\x80\x00\x00\xAA\x00\x38\x9B\x71";
+
+fn is_claim(tree: &Tree<'_>, i: usize) -> bool
+    requires { i < tree_count tree.now }
+    ensures { result ≡ form.has_type (codes "c2cl") (box_at tree.now i).box }
+{
+    has_uuid(tree, i, &CLAIM)
+}
+
+fn is_signature(tree: &Tree<'_>, i: usize) -> bool
+    requires { i < tree_count tree.now }
+    ensures { result ≡ form.is_named (codes "c2cs") (codes "c2pa.signature") (box_at tree.now i).box }
+{
+    has_uuid(tree, i, &SIGNATURE) && has_label(tree, i, "c2pa.signature")
+}
+
+fn is_assertion_store(tree: &Tree<'_>, i: usize) -> bool
+    requires { i < tree_count tree.now }
+    ensures { result ≡ form.is_named (codes "c2as") (codes "c2pa.assertions") (box_at tree.now i).box }
+{
+    has_uuid(tree, i, &ASSERTIONS) && has_label(tree, i, "c2pa.assertions")
+}
+
+/// The boxes of type `c2cl` among these.
+#[tactic(auto, using(crate::proofs::Picking::filter_step, crate::proofs::Picking::filter_all))]
+fn claims_in(alloc: Global, tree: &Tree<'_>, boxes: &[usize]) -> Result<Indices, NoMemory>
+    requires { All (λ i. i < tree_count tree.now) boxes.now }
+    ensures { IfOk result (λ found. found ≡ form.claims_in tree.now boxes.now) }
+{
+    let mut found = Vec::new(alloc);
+    for i in boxes {
+        let wanted = is_claim(tree, *i);
+        push_if(&mut found, *i, wanted)?;
+    }
+    Ok(Indices::from_list(found))
+}
+
+/// The signature box among these.
+#[tactic(auto, using(crate::proofs::Picking::find_here, crate::proofs::Picking::find_next, crate::proofs::Picking::find_none))]
+fn signature_in(tree: &Tree<'_>, boxes: &[usize]) -> Option<usize>
+    requires { All (λ i. i < tree_count tree.now) boxes.now }
+    ensures { result ≡ form.signature_in tree.now boxes.now }
+{
+    for i in boxes {
+        if is_signature(tree, *i) {
+            return Some(*i);
+        }
+    }
+    None
+}
+
+/// The assertion store among these boxes.
+#[tactic(auto, using(crate::proofs::Picking::find_here, crate::proofs::Picking::find_next, crate::proofs::Picking::find_none))]
+fn assertion_store_in(tree: &Tree<'_>, boxes: &[usize]) -> Option<usize>
+    requires { All (λ i. i < tree_count tree.now) boxes.now }
+    ensures found { result ≡ form.assertion_store_in tree.now boxes.now }
+    ensures within { IfSome result (λ i. i < tree_count tree.now) }
+{
+    for i in boxes {
+        if is_assertion_store(tree, *i) {
+            return Some(*i);
+        }
+    }
+    None
+}
+
+/// The superboxes of the assertion store among these boxes.
+fn assertions_in(alloc: Global, tree: &Tree<'_>, boxes: &[usize]) -> Result<Indices, NoMemory>
+    requires { All (λ i. i < tree_count tree.now) boxes.now }
+    ensures { IfOk result (λ found. found ≡ form.inside tree.now (form.assertion_store_in tree.now boxes.now)) }
+{
+    match assertion_store_in(tree, boxes) {
+        Some(i) => {
+            let found = superboxes(alloc, tree, i)?;
+            Ok(Indices::from_list(found))
+        }
+        None => Ok(Indices::from_list(Vec::new(alloc))),
+    }
+}
+
+/// The boxes of the manifest at this index.
+pub fn manifest(alloc: Global, tree: &Tree<'_>, i: usize) -> Result<ManifestBoxes, NoMemory>
+    requires { i < tree_count tree.now }
+    ensures { IfOk result (λ m. m ≡ form.manifest_boxes tree.now i) }
+{
+    let boxes = superboxes(alloc, tree, i)?;
+    let claims = claims_in(alloc, tree, &boxes)?;
+    let signature = signature_in(tree, &boxes);
+    let assertions = assertions_in(alloc, tree, &boxes)?;
+    Ok(ManifestBoxes {
+        whole: i,
+        is_update: has_uuid(tree, i, &UPDATE),
+        claims,
+        signature,
+        assertions,
+    })
+}

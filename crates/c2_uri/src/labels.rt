@@ -1,0 +1,36 @@
+// Labels of assertions that stand more than once in a manifest.
+ghost use Rattle.std.specs.Prelude.{◌≡◌};
+ghost use Rattle.std.specs.Char.{is_ascii_digit};
+ghost use Rattle.std.specs.List.{list_all};
+ghost use Rattle.c2_spec.specs.Uri.{is_number_suffix, base_of};
+
+fn are_digits(bytes: &[u8]) -> bool
+    ensures { result ≡ list_all is_ascii_digit bytes.now }
+{
+    bytes.iter().all(|b| b.is_ascii_digit())
+}
+
+fn is_number(bytes: &[u8]) -> bool
+    ensures { result ≡ is_number_suffix bytes.now }
+{
+    match bytes {
+        [first, second, digits @ ..] => {
+            *first == b'_' && *second == b'_' && !digits.is_empty() && are_digits(digits)
+        }
+        _ => false,
+    }
+}
+
+#[tactic(auto, using(crate::proofs::Numbers::base_here))]
+/// The label less a suffix of `__` and one or more ASCII digits, where it has one. Takes no memory.
+pub fn base_label(label: &str) -> &str
+    ensures { result.now ≡ base_of label.now }
+{
+    let bytes = label.as_bytes();
+    for i in 0..bytes.len() {
+        if is_number(&bytes[i..]) {
+            return &label[..i];
+        }
+    }
+    label
+}

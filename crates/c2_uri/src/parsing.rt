@@ -1,0 +1,103 @@
+// Reading the URI of a box.
+ghost use Rattle.std.specs.Prelude.{◌≡◌, option_map};
+ghost use Rattle.std.specs.List.{list_any};
+ghost use Rattle.c2_spec.specs.Uri.{is_slash, has_empty_label, after_piece, target_of, target_view, uri_view, uri_of, absolute_uri, relative_uri};
+
+use c2_spec::{Target, Uri};
+
+/// With what each URI of a box begins.
+const SCHEME: &str = "self#jumbf=";
+
+/// With what a path begins whose first label is a manifest.
+const STORE: &str = "/c2pa/";
+
+/// The path of a signature.
+const SIGNATURE: &str = "c2pa.signature";
+
+/// With what the path of an assertion begins.
+const ASSERTIONS: &str = "c2pa.assertions/";
+
+// What follows this piece, where the text begins with it.
+fn strip<'a>(piece: &str, text: &'a str) -> Option<&'a str>
+    ensures { option_map (λ t. t.now) result ≡ after_piece piece.now text.now }
+{
+    text.strip_prefix(piece)
+}
+
+fn has_slash(bytes: &[u8]) -> bool
+    ensures { result ≡ list_any is_slash bytes.now }
+{
+    bytes.iter().any(|b| *b == b'/')
+}
+
+fn has_empty(path: &str) -> bool
+    ensures { result ≡ has_empty_label path.now }
+{
+    path.split('/').any(|label| label.is_empty())
+}
+
+fn target_at<'a>(path: &'a str) -> Target<'a>
+    ensures { target_view result ≡ target_of path.now }
+{
+    if path == SIGNATURE {
+        return Target::Signature;
+    }
+    match strip(ASSERTIONS, path) {
+        Some(label) => {
+            if has_slash(label.as_bytes()) {
+                return Target::Other(path);
+            }
+            Target::Assertion(label)
+        }
+        None => Target::Other(path),
+    }
+}
+
+fn absolute<'a>(path: &'a str) -> Uri<'a>
+    ensures { uri_view result ≡ absolute_uri path.now }
+{
+    match path.split_once('/') {
+        Some((manifest, rest)) => Uri {
+            manifest: Some(manifest),
+            target: target_at(rest),
+        },
+        None => Uri {
+            manifest: Some(path),
+            target: Target::Whole,
+        },
+    }
+}
+
+fn relative<'a>(path: &'a str) -> Uri<'a>
+    ensures { uri_view result ≡ relative_uri path.now }
+{
+    Uri {
+        manifest: None,
+        target: target_at(path),
+    }
+}
+
+/// The URI of a box that a text spells.
+///
+/// None exactly where the text doesn't begin `self#jumbf=`, or its rest begins with `/` but not with `/c2pa/`, or a label
+/// between slashes, behind `/c2pa/` where that is there, is empty. Behind `/c2pa/` the first label is the manifest's, and
+/// with no further one the manifest itself is named. Takes no memory.
+pub fn parse(text: &str) -> Option<Uri<'_>>
+    ensures { option_map uri_view result ≡ uri_of text.now }
+{
+    let path = strip(SCHEME, text)?;
+    match strip(STORE, path) {
+        Some(labels) => {
+            if has_empty(labels) {
+                return None;
+            }
+            Some(absolute(labels))
+        }
+        None => {
+            if has_empty(path) {
+                return None;
+            }
+            Some(relative(path))
+        }
+    }
+}
