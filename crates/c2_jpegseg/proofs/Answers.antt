@@ -11,7 +11,7 @@ use Rattle.c2_jpegseg.proofs.Outside.{or_outside-map}
 use Rattle.c2_jpegseg.proofs.Unique.{one_outcome}
 
 -- an error that says something of the file is its first fault
-refusal_is : (file : List ℕ) (e : MediaError) → OrOutside e (FirstJpegFault file e) → IfSome (refusal e) (IsLocated file)
+pub refusal_is : (file : List ℕ) (e : MediaError) → OrOutside e (FirstJpegFault file e) → IfSome (refusal e) (IsLocated file)
 refusal_is file NotMedia h = (NotMedia, h, refl)
 refusal_is file (FileTooLarge n) h = (FileTooLarge n, h, refl)
 refusal_is file (Truncated n) h = (Truncated n, h, refl)

@@ -9,3 +9,4 @@ pub mod Reading
 pub mod Unique
 pub mod Answers
 pub mod WindowLemmas
+pub mod EachFile

@@ -54,7 +54,7 @@ drop-fill_all : (k : ℕ) → drop {A = ℕ} k (replicate k 255) ≡ []
 drop-fill_all zero = refl
 drop-fill_all (suc k) = drop-fill_all k
 
-marker_shape : (fill m : ℕ) (more : List ℕ) → marker_bytes fill m ++ more ≡ replicate (suc fill) 255 ++ m ∷ more
+pub marker_shape : (fill m : ℕ) (more : List ℕ) → marker_bytes fill m ++ more ≡ replicate (suc fill) 255 ++ m ∷ more
 marker_shape fill m more = append_assoc (replicate (fill + 1) 255) (m ∷ []) more ∙ ap (λ n. replicate n 255 ++ m ∷ more) (add-one fill)
 
 pub read-marker : (p fill m : ℕ) (more : List ℕ) → m ≢ 255 → read p (marker_bytes fill m ++ more) ≡ at_a_marker p (p + length (marker_bytes fill m ++ more)) fill m more

@@ -3,6 +3,7 @@
 //! What a segment, a packet, a store and a refusal are stands in `c2_spec`, in `Jpeg`, `JpegPackets` and `JpegSegments`.
 #![tactic(auto)]
 
+mod laws;
 mod marker;
 mod packet;
 mod run;
@@ -10,6 +11,7 @@ mod search;
 mod segment;
 mod window;
 
+pub use laws::each_file_is_located;
 pub use search::locate;
 
 #[cfg(test)]
