@@ -67,7 +67,7 @@ label_here bytes label rest end inside before zero_here label_is rest_is utf8 =
       split = sym (take-append-drop end bytes) ∙ ap (λ (x : List ℕ). take end bytes ++ x) (drop_more bytes end 0 inside ∙ ap (λ b. b ∷ drop (end + 1) bytes) zero_here) ∙ ap (λ (x : List ℕ). x ++ 0 ∷ drop (end + 1) bytes) (sym label_is) ∙ ap (λ (x : List ℕ). label ++ 0 ∷ x) (sym rest_is);
     }
 
-not_zeros : (xs : List ℕ) → AllByRecursion IsLabelByte xs → AllByRecursion (λ b. b ≢ 0) xs
+pub not_zeros : (xs : List ℕ) → AllByRecursion IsLabelByte xs → AllByRecursion (λ b. b ≢ 0) xs
 not_zeros [] h = tt
 not_zeros (x ∷ xs) h = (λ e. omega (arith, e, h.0.0), not_zeros xs h.1)
 

@@ -33,10 +33,10 @@ spell_4 xs at n h inside e = be_bytes_4 (take 4 (drop at xs)) n (length-take-le 
 spell_8 : (xs : List ℕ) (at n : ℕ) → AreBytes xs → at + 8 ≤ length xs → n ≡ from_be_bytes w64 (take 8 (drop at xs)) → to_be_bytes w64 n ≡ take 8 (drop at xs)
 spell_8 xs at n h inside e = be_bytes_8 (take 8 (drop at xs)) n (length-take-le 8 (drop at xs) (omega (arith, length-drop at xs))) (bytes-take 8 (drop at xs) (bytes-drop at xs h)) e
 
-small_4 : (xs : List ℕ) → AreBytes xs → from_be_bytes w32 xs < 2 ^ 32
+pub small_4 : (xs : List ℕ) → AreBytes xs → from_be_bytes w32 xs < 2 ^ 32
 small_4 xs h = omega (arith, h 0, h 1, h 2, h 3)
 
-payload_size : (region : List ℕ) (h : Front) → IsHead region h → length (told_payload region) + h.header ≡ h.total
+pub payload_size : (region : List ℕ) (h : Front) → IsHead region h → length (told_payload region) + h.header ≡ h.total
 payload_size region h k =
     let n : length (take (told_total region) region) ≡ told_total region = length-take-le (told_total region) region (omega (arith, k.total, k.inside)) in
     omega (arith, length-drop (head_len (tells_wide region)) (take (told_total region) region), n, k.total, k.header, k.least)

@@ -10,3 +10,5 @@ pub mod DescriptionLemmas
 pub mod Chains
 pub mod Leading
 pub mod WritingLemmas
+pub mod EachDescription
+pub mod EachList

@@ -16,17 +16,17 @@ pub push_tree : Trees → Tree → Trees
 push_tree none t = more t none
 push_tree (more s ts) t = more s (push_tree ts t)
 
-spelled-push : (ts : Trees) (t : Tree) → trees_bytes (push_tree ts t) ≡ trees_bytes ts ++ tree_bytes t
+pub spelled-push : (ts : Trees) (t : Tree) → trees_bytes (push_tree ts t) ≡ trees_bytes ts ++ tree_bytes t
 unfolding push_tree
 spelled-push none t = append-nil (tree_bytes t)
 spelled-push (more s ts) t = ap (λ (x : List ℕ). tree_bytes s ++ x) (spelled-push ts t) ∙ sym (append_assoc (tree_bytes s) (trees_bytes ts) (tree_bytes t))
 
-labels-push : (ts : Trees) (t : Tree) → tree_labels (push_tree ts t) ≡ tree_labels ts ++ tree_label t ∷ []
+pub labels-push : (ts : Trees) (t : Tree) → tree_labels (push_tree ts t) ≡ tree_labels ts ++ tree_label t ∷ []
 unfolding push_tree
 labels-push none t = refl
 labels-push (more s ts) t = ap (λ (x : List (Option (List ℕ))). tree_label s ∷ x) (labels-push ts t)
 
-legal-push : (depth : ℕ) (ts : Trees) (t : Tree) → AreLegalTrees depth ts → IsLegalTree depth t → AreLegalTrees depth (push_tree ts t)
+pub legal-push : (depth : ℕ) (ts : Trees) (t : Tree) → AreLegalTrees depth ts → IsLegalTree depth t → AreLegalTrees depth (push_tree ts t)
 unfolding push_tree
 legal-push depth none t h k = (k, tt)
 legal-push depth (more s ts) t h k = (h.0, legal-push depth ts t h.1 k)
@@ -51,7 +51,7 @@ new-tail (Some t) o os h = h.1
 new-head : (u o : Option (List ℕ)) (os : List (Option (List ℕ))) → IsNewLabel u (o ∷ os) → IsNewLabel u (o ∷ os)
 new-head u o os h = h
 
-distinct-push : (os : List (Option (List ℕ))) (u : Option (List ℕ)) → AreDistinctLabels os → IsNewLabel u os → AreDistinctLabels (os ++ u ∷ [])
+pub distinct-push : (os : List (Option (List ℕ))) (u : Option (List ℕ)) → AreDistinctLabels os → IsNewLabel u os → AreDistinctLabels (os ++ u ∷ [])
 distinct-push [] u h k = (lonely u, tt)
   where
     lonely : (o : Option (List ℕ)) → IsNewLabel o []

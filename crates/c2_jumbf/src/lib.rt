@@ -7,6 +7,7 @@ mod children;
 mod fields;
 mod front;
 mod labels;
+mod laws;
 mod reading;
 mod rows;
 #[cfg(test)]
@@ -18,5 +19,6 @@ pub use boxes::{contents, count, depth, kind, label_of, place, total, uuid_of};
 pub use c2_spec::{Head, JumbfError, WriteError};
 pub use children::{child, find};
 pub use front::head;
+pub use laws::each_list_is_a_tree_or_not;
 pub use reading::parse;
 pub use writing::{write, write_leaf, write_super};
