@@ -80,5 +80,10 @@ fn reason_name(reason: Reason) -> &'static str
         Reason::BadDescription => "BadDescription",
         Reason::DuplicateLabel => "DuplicateLabel",
         Reason::TooDeep => "TooDeep",
+        Reason::NotStore => "NotStore",
+        Reason::ManifestType => "ManifestType",
+        Reason::ManifestLabel => "ManifestLabel",
+        Reason::NoManifest => "NoManifest",
+        Reason::TooMany => "TooMany",
     }
 }
