@@ -9,6 +9,7 @@ mod ingredient;
 mod kinds;
 #[cfg(test)]
 mod tests;
+pub mod types;
 
 pub use c2_spec::{DataHash, FieldError, Ingredient, Kind, Relationship};
 pub use data_hash::read_data_hash;

@@ -1,5 +1,5 @@
 -- Bytes that are refused are no claim; for callers of `read`.
-use Rattle.std.proofs.Common.{◌≡◌, ◌≢◌, ℕ, List, Ok, Err, refl, sym, ◌∙◌}
+use Rattle.std.proofs.Common.{◌≢◌, ℕ, List, Err, refl, sym, ◌∙◌}
 use Rattle.c2_spec.specs.Cbor.Item.{Item}
 use Rattle.c2_spec.specs.Fields.{HasItem}
 use Rattle.c2_spec.specs.Claim.{claim_of, IsClaim, Agrees}

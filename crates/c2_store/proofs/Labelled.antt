@@ -1,10 +1,10 @@
 -- The manifests of a store are boxes of its tree, and have labels.
 use Rattle.std.proofs.Common.{◌≡◌, ℕ, zero, suc, ◌+◌, ◌<◌, Bool, true, false, cond, not, List, [], ◌∷◌, ◌++◌, length, get_or, map, Option, Some, None, slice_get, refl, sym, ap, ◌∙◌, subst, arith}
-use Rattle.std.specs.List.{filter, find, flat_map, AllByRecursion}
+use Rattle.std.specs.List.{filter, flat_map, AllByRecursion}
 use Rattle.std.specs.Option.{option_map, option_or}
 use Rattle.c2_spec.specs.Jumbf.{Tree}
 use Rattle.c2_spec.specs.JumbfBoxes.{tree_count, box_at, child_indices, any_label}
-use Rattle.c2_spec.specs.Manifest.{StoreTest, store_test, first_refusal, is_store, is_manifest, is_manifest_label, is_superbox, superboxes, manifest_tests, manifest_boxes, count_tests, store_tests, store_of, IsStoreOf}
+use Rattle.c2_spec.specs.Manifest.{StoreTest, store_test, first_refusal, is_store, is_manifest, is_manifest_label, is_superbox, superboxes, manifest_tests, manifest_boxes, count_tests, IsStoreOf}
 use Rattle.c2_spec.specs.declared.store.ManifestBoxes.{ManifestBoxes}
 use Rattle.c2_spec.specs.declared.store.StoreError.{StoreError}
 use Rattle.c2_spec.specs.declared.store.StoreError.TheVariants.{NotStore, ManifestType, ManifestLabel}
@@ -23,11 +23,11 @@ kept : (P : ℕ → Type 0) (p : ℕ → Bool) (x : ℕ) (xs : List ℕ) (b : Bo
 kept P p x xs true h k = (h, k)
 kept P p x xs false h k = k
 
-filter_inside : (P : ℕ → Type 0) (p : ℕ → Bool) (xs : List ℕ) → AllByRecursion P xs → AllByRecursion P (filter p xs)
+pub filter_inside : (P : ℕ → Type 0) (p : ℕ → Bool) (xs : List ℕ) → AllByRecursion P xs → AllByRecursion P (filter p xs)
 filter_inside P p [] h = tt
 filter_inside P p (x ∷ xs) h = kept P p x (filter p xs) (p x) h.0 (filter_inside P p xs h.1)
 
-superboxes_inside : (t : Tree) (i : ℕ) → i < tree_count t → AllByRecursion (IsInside t) (superboxes t i)
+pub superboxes_inside : (t : Tree) (i : ℕ) → i < tree_count t → AllByRecursion (IsInside t) (superboxes t i)
 superboxes_inside t i l = filter_inside (IsInside t) (is_superbox t) (child_indices t i) (chain_inside t (after_of t i) (i + 1) (child_indices t i) (chain_of t i l))
 
 all_at : (P : ℕ → Type 0) (xs : List ℕ) (i : ℕ) → i < length xs → AllByRecursion P xs → P (get_or xs i 0)

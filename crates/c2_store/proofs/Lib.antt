@@ -3,3 +3,4 @@ pub mod Gathering
 pub mod Picking
 pub mod Labelled
 pub mod Refusing
+pub mod Inside

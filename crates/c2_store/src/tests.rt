@@ -1,7 +1,9 @@
 //! Stores that another program made, box by box.
 
-use crate::{assertions, claims, is_update, label, manifest_count, of_tree, signature, whole};
-use c2_jumbf::{parse, write_super};
+use crate::{
+    assertions, claims, is_update, item, label, manifest_count, of_tree, signature, whole,
+};
+use c2_jumbf::{count, parse, write_super};
 use std::alloc::{AllocError, Global};
 use std::test::Fail;
 
@@ -136,5 +138,46 @@ fn at_most_1024_manifests(rt: HostRuntime) -> Result<(), Fail> {
     assert_eq!(rt; counted(alloc, 1024)?.as_str(), "1024 manifests");
     assert_eq!(rt; counted(alloc, 1025)?.as_str(), "TooMany(1025)");
     assert_eq!(rt; counted(alloc, 60000)?.as_str(), "TooMany(60000)");
+    Ok(())
+}
+
+// What stands behind a description, in hex, and the item of that box, or `-` where it has none: a `cbor` box; an empty one; one
+// with a wide header; two of them; a `json` box before one; a superbox before one; nothing.
+const ITEMS: &str = r#"0000000a63626f720102 => 0102
+0000000863626f72 => 
+0000000163626f72000000000000001107 => 07
+0000000a63626f7201020000000963626f7203 => 0102
+0000000a6a736f6e01020000000963626f7203 => -
+000000216a756d62000000196a756d646a736f6e00110010800000aa00389b71010000000963626f7203 => -
+ => -"#;
+
+fn item_behind(alloc: Global, hex: &str) -> Result<String, AllocError> {
+    let contents = unhex(alloc, hex)?;
+    let Ok(bytes) = write_super(alloc, MANIFEST, "m", contents.as_slice()) else {
+        return String::from_str(alloc, "no box");
+    };
+    let Ok(tree) = parse(alloc, bytes.as_slice()) else {
+        return String::from_str(alloc, "no tree");
+    };
+    let _count = count(&tree);
+    let Some(found) = item(&tree, 0) else {
+        return String::from_str(alloc, "-");
+    };
+    let mut out = String::new(alloc);
+    for byte in found {
+        write!(&mut out, "{byte:02x}")?;
+    }
+    Ok(out)
+}
+
+#[test]
+fn an_item_is_the_first_content_box(rt: HostRuntime) -> Result<(), Fail> {
+    let alloc = rt.alloc();
+    for row in ITEMS.lines() {
+        if let Some((hex, want)) = row.split_once(" => ") {
+            let got = item_behind(alloc, hex)?;
+            assert_eq!(rt; got.as_str(), want, "{hex}");
+        }
+    }
     Ok(())
 }

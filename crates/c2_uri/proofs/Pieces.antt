@@ -1,5 +1,5 @@
 -- What `strip_prefix` leaves of a text.
-use Rattle.std.proofs.Common.{◌≡◌, ◌⊎◌, ⊎_elim, ℕ, Bool, true, false, cond, eqb, List, length, drop, Option, Some, None, MatchOption, refl, sym, ap, ◌∙◌}
+use Rattle.std.proofs.Common.{◌≡◌, ⊎_elim, ℕ, true, false, cond, eqb, List, length, drop, Option, Some, None, MatchOption, refl, sym, ap, ◌∙◌}
 use denote.Ref.{Bor}
 use Rattle.std.specs.Option.{option_map}
 use Rattle.std.specs.List.{starts_with}

@@ -1,5 +1,5 @@
-use Rattle.std.proofs.Common.{◌≡◌, ◌<◌, ◌≤◌, ◌∙◌, sym, arith}
-use Rattle.c2_store.proofs.Gathering.{Gathered, gathered_start, gathered_inside, gathered_step, gathered_all}
+use Rattle.std.proofs.Common.{arith}
+use Rattle.c2_store.proofs.Gathering.{gathered_start, gathered_inside, gathered_step, gathered_all}
 use Rattle.c2_store.proofs.boxes.superboxes.Goals as goal
 
 pub loop-at-init : goal.loop-at-init

@@ -1,4 +1,4 @@
-use Rattle.std.proofs.Common.{◌≡◌, ◌<◌, ◌∙◌, false, sym, arith}
+use Rattle.std.proofs.Common.{◌∙◌, false, sym, arith}
 use Rattle.c2_uri.proofs.Numbers.{base_next, number_at}
 use Rattle.c2_uri.proofs.labels.base_label.Goals as goal
 

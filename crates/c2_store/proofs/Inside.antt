@@ -1,0 +1,51 @@
+-- The boxes that a store keeps of its manifests have indices of its tree; for callers of `claims`, `signature` and `assertions`.
+use Rattle.std.proofs.Common.{◌≡◌, ℕ, zero, suc, ◌<◌, Bool, true, false, cond, List, [], ◌∷◌, map, Option, Some, None, All, slice_get, refl, ap, ◌∙◌, subst, codes}
+use Rattle.std.specs.List.{find, AllByRecursion}
+use Rattle.std.specs.Option.{option_map}
+use Rattle.std.proofs.lemmas.List.Elements.{All-from_recursion}
+use Rattle.c2_spec.specs.Jumbf.{Tree}
+use Rattle.c2_spec.specs.JumbfBoxes.{tree_count, box_at}
+use Rattle.c2_spec.specs.Manifest.{has_type, is_named, inside, superboxes, assertion_store_in, manifest_boxes, IsStoreOf}
+use Rattle.c2_spec.specs.declared.store.ManifestBoxes.{ManifestBoxes}
+use Rattle.c2_jumbf.proofs.BoxLemmas.{some_box}
+use Rattle.c2_store.proofs.Labelled.{IsInside, filter_inside, superboxes_inside}
+
+found_here : (P : ℕ → Type 0) (x j : ℕ) (o : Option ℕ) (b : Bool) → P x → (o ≡ Some j → P j) → cond b (Some x) o ≡ Some j → P j
+found_here P x j o true h k e = let same : x ≡ j = cc (e) in subst P same h
+found_here P x j o false h k e = k e
+
+find_inside : (P : ℕ → Type 0) (p : ℕ → Bool) (xs : List ℕ) (j : ℕ) → AllByRecursion P xs → find p xs ≡ Some j → P j
+find_inside P p [] j h e = absurd (cc (e))
+find_inside P p (x ∷ xs) j h e = found_here P x j (find p xs) (p x) h.0 (find_inside P p xs j h.1) e
+
+in_store : (t : Tree) (o : Option ℕ) → ((j : ℕ) → o ≡ Some j → j < tree_count t) → AllByRecursion (IsInside t) (inside t o)
+in_store t None h = tt
+in_store t (Some j) h = superboxes_inside t j (h j refl)
+
+-- what is kept of a manifest is what its box has, and that is a box of the tree
+kept_of : {A : Type 0} (f : ManifestBoxes → A) (t : Tree) (xs : List ℕ) (i : ℕ) (a : A) → AllByRecursion (IsInside t) xs → Some a ≡ option_map f (slice_get (map (manifest_boxes t) xs) i)
+    → (w : ℕ) × (w < tree_count t) × (f (manifest_boxes t w) ≡ a)
+kept_of f t [] i a h e = absurd (cc (e))
+kept_of f t (x ∷ xs) zero a h e = (x, h.0, cc (e))
+kept_of f t (x ∷ xs) (suc i) a h e = kept_of f t xs i a h.1 e
+
+kept : {A : Type 0} (f : ManifestBoxes → A) (t : Tree) (s : List ManifestBoxes) (i : ℕ) (a : A) → IsStoreOf t s → Some a ≡ option_map f (slice_get s i) → (w : ℕ) × (w < tree_count t) × (f (manifest_boxes t w) ≡ a)
+kept f t s i a h e = kept_of f t (superboxes t 0) i a (superboxes_inside t 0 (some_box t)) (e ∙ ap (λ (x : List ManifestBoxes). option_map f (slice_get x i)) h.same)
+
+pub claims_inside : (t : Tree) (s : List ManifestBoxes) (i : ℕ) (boxes : List ℕ) → IsStoreOf t s → Some boxes ≡ option_map (λ (m : ManifestBoxes). m.claims) (slice_get s i) → All (λ j. j < tree_count t) boxes
+claims_inside t s i boxes h e =
+    let m = kept (λ (m : ManifestBoxes). m.claims) t s i boxes h e in
+    let own : AllByRecursion (IsInside t) (manifest_boxes t m.0).claims = filter_inside (IsInside t) (λ j. has_type (codes "c2cl") (box_at t j).box) (superboxes t m.0) (superboxes_inside t m.0 m.1) in
+    All-from_recursion (IsInside t) boxes (subst (AllByRecursion (IsInside t)) m.2 own)
+
+pub signature_inside : (t : Tree) (s : List ManifestBoxes) (i j : ℕ) → IsStoreOf t s → Some (Some j) ≡ option_map (λ (m : ManifestBoxes). m.signature) (slice_get s i) → j < tree_count t
+signature_inside t s i j h e =
+    let m = kept (λ (m : ManifestBoxes). m.signature) t s i (Some j) h e in
+    find_inside (IsInside t) (λ k. is_named (codes "c2cs") (codes "c2pa.signature") (box_at t k).box) (superboxes t m.0) j (superboxes_inside t m.0 m.1) m.2
+
+pub assertions_inside : (t : Tree) (s : List ManifestBoxes) (i : ℕ) (boxes : List ℕ) → IsStoreOf t s → Some boxes ≡ option_map (λ (m : ManifestBoxes). m.assertions) (slice_get s i) → All (λ j. j < tree_count t) boxes
+assertions_inside t s i boxes h e =
+    let m = kept (λ (m : ManifestBoxes). m.assertions) t s i boxes h e in
+    let store : Option ℕ = assertion_store_in t (superboxes t m.0) in
+    let own : AllByRecursion (IsInside t) (inside t store) = in_store t store (λ j f. find_inside (IsInside t) (λ k. is_named (codes "c2as") (codes "c2pa.assertions") (box_at t k).box) (superboxes t m.0) j (superboxes_inside t m.0 m.1) f) in
+    All-from_recursion (IsInside t) boxes (subst (AllByRecursion (IsInside t)) m.2 own)
