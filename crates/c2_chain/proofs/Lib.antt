@@ -1,0 +1,6 @@
+pub mod Messages
+pub mod Existing
+pub mod Unique
+pub mod Placed
+pub mod Keeping
+pub mod Answering
