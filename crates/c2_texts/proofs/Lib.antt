@@ -1,0 +1,3 @@
+pub mod BoxLines
+pub mod Characters
+pub mod Pieces

@@ -1,0 +1,7 @@
+use Rattle.std.proofs.Common.{◌≡◌, ◌++◌, false, map, drop, string_bytes}
+use Rattle.serde_json.specs.Data.{string}
+use Rattle.c2_texts.specs.Items.{items_inside}
+use Rattle.c2_texts.proofs.claims.push_texts.Given as goal
+
+abbrev pub invariant-loop-text : goal.invariant-loop-text
+invariant-loop-text l = string_bytes l.out ++ items_inside l.later (map string (drop l.text-index l.texts)) ≡ string_bytes l.initial.out ++ items_inside false (map string l.texts)

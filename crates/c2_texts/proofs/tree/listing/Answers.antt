@@ -1,0 +1,17 @@
+use Rattle.std.proofs.Common.{◌<◌, arith, rules, string_bytes}
+use Rattle.c2_spec.specs.JumbfBoxes.{tree_count}
+use Rattle.c2_texts.proofs.BoxLines.{lines_more, lines_whole}
+use Rattle.c2_texts.proofs.tree.listing.Goals as goal
+
+pub boxes-preserved : goal.boxes-preserved
+boxes-preserved c =
+    let before = c.boxes.invariant in
+    let below : c.boxes.i < tree_count c.args.tree.now = omega (arith, before.end, c.boxes-test.true) in
+    record {
+      legal = before.legal;
+      end = before.end;
+      lines = lines_more c.args.tree.now c.boxes.i (string_bytes c.boxes.text) _ below before.legal before.lines (search rules);
+    }
+
+pub returns : goal.returns
+returns c = lines_whole c.args.tree.now c.boxes.i _ (omega (arith, c.boxes.invariant.end, c.boxes-test.false, c.boxes.auto.i-end)) c.boxes.invariant.lines

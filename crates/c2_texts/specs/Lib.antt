@@ -1,0 +1,4 @@
+pub mod Items
+pub mod Listing
+pub mod Show
+pub mod Texts

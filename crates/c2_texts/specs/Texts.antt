@@ -1,0 +1,71 @@
+-- The lines of reports.
+use Rattle.std.specs.Prelude.{ℕ, ◌==◌, ◌||◌, nat_lt, List, [], ◌∷◌, ◌++◌, length, map, codes, decimal, Option, Some, None, if◌then◌else◌}
+use Rattle.std.specs.Int.{w32, to_be_bytes}
+use Rattle.std.specs.List.{flat_map}
+use Rattle.hex.specs.Hex.{encode_lower}
+use Rattle.c2_spec.specs.declared.reason.Reason.{Reason}
+use Rattle.c2_spec.specs.Reason.{reason_name}
+use Rattle.c2_spec.specs.Jumbf.{Tree}
+use Rattle.c2_spec.specs.Panel.{verdict_name}
+use Rattle.c2_spec.specs.declared.panel.Verdict.{Verdict}
+use Rattle.c2_spec.specs.JumbfBoxes.{IndexedBox, boxes_of, any_bytes, any_kind, any_label}
+
+-- a line of text ends with a line feed
+abbrev pub line : List ℕ → List ℕ
+line text = text ++ 0x0A ∷ []
+
+-- where the words don't fit
+abbrev pub usage_line : List ℕ
+usage_line = line (codes "usage: c2 digest|list|show MEDIA; questions MEDIA [JUDGE..]")
+
+-- a refusal, with its number
+abbrev pub refused_line : Reason → ℕ → List ℕ
+refused_line reason number = line (codes "refused " ++ reason_name reason ++ codes " " ++ decimal number)
+
+-- a file without a store
+abbrev pub none_line : List ℕ
+none_line = line (codes "none")
+
+-- an embedded range, and the digest of what stands outside it
+abbrev pub digest_line : ℕ → ℕ → List ℕ → List ℕ
+digest_line start length digest = line (decimal start ++ codes " " ++ decimal length ++ codes " " ++ encode_lower digest)
+
+-- a control byte is printed as a question mark
+abbrev pub printable_byte : ℕ → ℕ
+printable_byte b = if nat_lt b 0x20 || b == 0x7F then 0x3F else b
+
+abbrev pub printable : List ℕ → List ℕ
+printable text = map printable_byte text
+
+-- a rule that fails: its code, and the URI of the box
+abbrev pub failing_line : List ℕ → List ℕ → List ℕ
+failing_line code uri = line (codes "failing " ++ code ++ codes " " ++ printable uri)
+
+-- what the panel says of the question of the manifest with this label: the question's id, the label and the verdict
+abbrev pub question_line : List ℕ → List ℕ → Verdict → List ℕ
+question_line id label verdict = line (encode_lower id ++ codes " " ++ printable label ++ codes " " ++ verdict_name verdict)
+
+-- the manifest with this label has no question
+abbrev pub no_question_line : List ℕ → List ℕ
+no_question_line label = line (codes "- " ++ printable label ++ codes " none")
+
+-- a label, and a dash where it is missing or empty
+abbrev pub label_column : Option (List ℕ) → List ℕ
+label_column None = codes "-"
+label_column (Some []) = codes "-"
+label_column (Some (first ∷ rest)) = printable (first ∷ rest)
+
+-- the depth, the place and the length of a box
+abbrev pub box_numbers : ℕ → ℕ → ℕ → List ℕ
+box_numbers depth place total = decimal depth ++ codes " " ++ decimal place ++ codes " " ++ decimal total
+
+-- a line of these numbers, the type in hex, and the label
+abbrev pub box_row : List ℕ → List ℕ → List ℕ → List ℕ
+box_row numbers kind label = numbers ++ codes " " ++ encode_lower kind ++ codes " " ++ label ++ codes "\n"
+
+abbrev pub box_line : IndexedBox → List ℕ
+box_line b = box_row (box_numbers b.depth b.place (length (any_bytes b.box))) (to_be_bytes w32 (any_kind b.box)) (label_column (any_label b.box))
+
+-- the boxes of a tree in preorder, a line each
+abbrev pub listing : Tree → List ℕ
+listing t = flat_map box_line (boxes_of t)

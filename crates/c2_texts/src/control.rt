@@ -1,0 +1,23 @@
+// Texts without control bytes.
+ghost use Rattle.std.specs.Prelude.{◌≡◌, IfOk, string_bytes};
+ghost use Rattle.c2_texts.specs.Texts as form;
+
+use std::alloc::{AllocError, Global};
+
+/// A copy of a text in which `?` stands for each control byte: those below 0x20, and 0x7F.
+pub fn printable(alloc: Global, text: &str) -> Result<String, AllocError>
+    ensures { IfOk result (λ copy. string_bytes copy ≡ form.printable text.now) }
+{
+    let mut copy = String::with_capacity(alloc, text.len())?;
+    for c in text.chars() {
+        copy.push(printable_char(c))?;
+    }
+    Ok(copy)
+}
+
+// A control byte is a character of its own.
+fn printable_char(c: char) -> char
+    ensures { result ≡ form.printable_byte c }
+{
+    if c < ' ' || c == '\x7F' { '?' } else { c }
+}

@@ -1,0 +1,30 @@
+// JSON that is written piece by piece, so that no more than one small value of it stands in memory.
+ghost use Rattle.std.specs.Prelude.{◌≡◌, ◌++◌, false, OnOk, string_bytes};
+ghost use Rattle.serde_json.specs.View.{view};
+ghost use Rattle.serde_json.specs.Written.{comma_if, compact_text, has_float};
+
+use serde_json::Value;
+use std::alloc::{AllocError, Global};
+
+/// A comma, where something stands before.
+pub fn comma(later: bool) -> &'static str
+    ensures { result.now ≡ comma_if later }
+{
+    if later { "," } else { "" }
+}
+
+/// Puts this text and a value behind what is there.
+pub fn push_value(
+    alloc: Global,
+    out: &mut String,
+    before: &str,
+    value: &Value,
+) -> Result<(), AllocError>
+    requires { has_float (view value.now) ≡ false }
+    ensures { OnOk result (string_bytes out.new ≡ string_bytes out.old ++ (before.now ++ compact_text (view value.now))) }
+{
+    let text = value.to_string(alloc)?;
+    out.push_str(before)?;
+    out.push_str(text.as_str())?;
+    Ok(())
+}

@@ -1,0 +1,83 @@
+// The plain lines of reports.
+ghost use Rattle.std.specs.Prelude.{◌≡◌, IfOk, string_bytes};
+ghost use Rattle.c2_texts.specs.Texts as form;
+
+use crate::control::printable;
+use crate::names::{reason_name, verdict_name};
+use c2_spec::{Reason, Verdict};
+use std::alloc::{AllocError, Global};
+
+/// The line for words that don't fit.
+pub fn usage_line(alloc: Global) -> Result<String, AllocError>
+    ensures { IfOk result (λ text. string_bytes text ≡ form.usage_line) }
+{
+    String::from_str(
+        alloc,
+        "usage: c2 digest|list|show MEDIA; questions MEDIA [JUDGE..]\n",
+    )
+}
+
+/// The line for a file without a store.
+pub fn none_line(alloc: Global) -> Result<String, AllocError>
+    ensures { IfOk result (λ text. string_bytes text ≡ form.none_line) }
+{
+    String::from_str(alloc, "none\n")
+}
+
+/// The line of a refusal, with its number.
+pub fn refused_line(alloc: Global, reason: Reason, number: u64) -> Result<String, AllocError>
+    ensures { IfOk result (λ text. string_bytes text ≡ form.refused_line reason number) }
+{
+    let name = reason_name(reason);
+    let text = format!(in alloc; "refused {name} {number}\n")?;
+    Ok(text)
+}
+
+/// The line of an embedded range and the digest of the bytes outside it.
+pub fn digest_line(
+    alloc: Global,
+    start: u64,
+    length: u64,
+    digest: &[u8],
+) -> Result<String, AllocError>
+    ensures { IfOk result (λ text. string_bytes text ≡ form.digest_line start length digest.now) }
+{
+    let hex = hex::encode(alloc, digest)?;
+    let text = format!(in alloc; "{start} {length} {hex}\n")?;
+    Ok(text)
+}
+
+/// The line of a rule that fails: its code, and the URI of the box, with `?` for control bytes.
+pub fn failing_line(alloc: Global, code: &str, uri: &str) -> Result<String, AllocError>
+    ensures { IfOk result (λ text. string_bytes text ≡ form.failing_line code.now uri.now) }
+{
+    let uri = printable(alloc, uri)?;
+    let text = format!(in alloc; "failing {code} {uri}\n")?;
+    Ok(text)
+}
+
+/// The line of a manifest's question: the question's id in hex, the manifest's label, with `?` for control bytes, and what
+/// the panel says.
+pub fn question_line(
+    alloc: Global,
+    id: &[u8],
+    label: &str,
+    verdict: Verdict,
+) -> Result<String, AllocError>
+    ensures { IfOk result (λ text. string_bytes text ≡ form.question_line id.now label.now verdict) }
+{
+    let hex = hex::encode(alloc, id)?;
+    let label = printable(alloc, label)?;
+    let said = verdict_name(verdict);
+    let text = format!(in alloc; "{hex} {label} {said}\n")?;
+    Ok(text)
+}
+
+/// The line of a manifest without a question: its label, with `?` for control bytes.
+pub fn no_question_line(alloc: Global, label: &str) -> Result<String, AllocError>
+    ensures { IfOk result (λ text. string_bytes text ≡ form.no_question_line label.now) }
+{
+    let label = printable(alloc, label)?;
+    let text = format!(in alloc; "- {label} none\n")?;
+    Ok(text)
+}

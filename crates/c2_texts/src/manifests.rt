@@ -1,0 +1,108 @@
+// What `show` says of manifests.
+ghost use Rattle.std.specs.Prelude.{◌≡◌, ◌<◌, ◌++◌, All, IfOk, List, OnOk, Some, codes, false, length, map, slice_get, string_bytes};
+ghost use Rattle.std.specs.List.{cons_option, filter_map};
+ghost use Rattle.std.specs.Option.{option_map};
+ghost use Rattle.serde_json.specs.Data.{Data, array};
+ghost use Rattle.serde_json.specs.View.{items_of, view};
+ghost use Rattle.serde_json.specs.Written.{compact_text};
+ghost use Rattle.c2_spec.specs.JumbfBoxes.{tree_count};
+ghost use Rattle.c2_spec.specs.Manifest.{IsStoreOf, boxed_at, manifest_at};
+ghost use Rattle.c2_texts.specs.Items.{items_inside};
+ghost use Rattle.c2_texts.specs.Show as form;
+
+use crate::claims::push_claim_or_null;
+use crate::json::{comma, push_value};
+use c2_jumbf::{Tree, contents, label_of};
+use c2_spec::Claim;
+use c2_store::{Store, assertions, is_update, label};
+use serde_json::{Value, json};
+use std::alloc::{AllocError, Global};
+
+// A box, where it has a label.
+fn box_value(alloc: Global, tree: &Tree<'_>, i: usize) -> Result<Option<Value>, AllocError>
+    requires { i < tree_count tree.now }
+    ensures { IfOk result (λ value. option_map view value ≡ form.box_data (boxed_at tree.now i)) }
+{
+    let Some(label) = label_of(tree, i) else {
+        return Ok(None);
+    };
+    let size = contents(tree, i).len();
+    let value = json!(in alloc; {"label": label, "size": size})?;
+    Ok(Some(value))
+}
+
+// Puts a box behind what is there, where it has a label, and says whether a box stands there now.
+fn push_box(
+    alloc: Global,
+    out: &mut String,
+    before: bool,
+    tree: &Tree<'_>,
+    i: usize,
+) -> Result<bool, AllocError>
+    requires { i < tree_count tree.now }
+    ensures { IfOk result (λ later. (rest : List Data) → string_bytes out.new ++ items_inside later rest ≡ string_bytes out.old ++ items_inside before (cons_option (form.box_data (boxed_at tree.now i)) rest)) }
+{
+    let Some(value) = box_value(alloc, tree, i)? else {
+        return Ok(before);
+    };
+    push_value(alloc, out, comma(before), &value)?;
+    Ok(true)
+}
+
+// Puts those of these boxes that have labels behind what is there.
+fn push_boxes(
+    alloc: Global,
+    out: &mut String,
+    tree: &Tree<'_>,
+    boxes: &[usize],
+) -> Result<(), AllocError>
+    requires { All (λ i. i < tree_count tree.now) boxes.now }
+    ensures { OnOk result (string_bytes out.new ≡ string_bytes out.old ++ items_inside false (filter_map form.box_data (map (boxed_at tree.now) boxes.now))) }
+{
+    let mut later = false;
+    for i in boxes {
+        later = push_box(alloc, out, later, tree, *i)?;
+    }
+    Ok(())
+}
+
+// Puts the array of those of these boxes that have labels behind what is there.
+fn push_labelled(
+    alloc: Global,
+    out: &mut String,
+    tree: &Tree<'_>,
+    boxes: &[usize],
+) -> Result<(), AllocError>
+    requires { All (λ i. i < tree_count tree.now) boxes.now }
+    ensures { OnOk result (string_bytes out.new ≡ string_bytes out.old ++ (codes "{\"boxes\":" ++ compact_text (array (items_of (filter_map form.box_data (map (boxed_at tree.now) boxes.now)))))) }
+{
+    out.push_str("{\"boxes\":[")?;
+    push_boxes(alloc, out, tree, boxes)?;
+    out.push(']')?;
+    Ok(())
+}
+
+/// Puts the manifest with this index, which has this claim, behind what is there.
+pub fn push_manifest(
+    alloc: Global,
+    out: &mut String,
+    tree: &Tree<'_>,
+    store: &Store,
+    i: usize,
+    claim: Option<&Claim>,
+) -> Result<(), AllocError>
+    requires inside { i < length store.now }
+    requires same { IsStoreOf tree.now store.now }
+    ensures { OnOk result (Some (string_bytes out.new) ≡ option_map (λ m. string_bytes out.old ++ compact_text (form.manifest_data (manifest_at tree.now m) (option_map (λ c. c.now) claim.entry))) (slice_get store.now i)) }
+{
+    push_labelled(alloc, out, tree, assertions(store, i))?;
+    out.push_str(",\"claim\":")?;
+    push_claim_or_null(alloc, out, claim)?;
+    let label = Value::try_from_str(alloc, label(tree, store, i))?;
+    push_value(alloc, out, ",\"label\":", &label)?;
+    let update = is_update(store, i);
+    let flag = Value::from(update);
+    push_value(alloc, out, ",\"update\":", &flag)?;
+    out.push('}')?;
+    Ok(())
+}

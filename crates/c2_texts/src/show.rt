@@ -1,0 +1,69 @@
+// The line of `show`.
+ghost use Rattle.std.specs.Prelude.{◌≡◌, ◌++◌, IfOk, OnOk, false, string_bytes};
+ghost use Rattle.serde_json.specs.View.{view};
+ghost use Rattle.c2_spec.specs.Manifest.{IsStoreOf, manifests_of};
+ghost use Rattle.c2_rules.specs.Claims.{active_of};
+ghost use Rattle.c2_texts.specs.Items.{items_inside};
+ghost use Rattle.c2_texts.specs.Show as form;
+
+use crate::json::{comma, push_value};
+use crate::manifests::push_manifest;
+use c2_chain::{Chain, claim_of};
+use c2_jumbf::Tree;
+use c2_store::{Store, label, manifest_count};
+use serde_json::Value;
+use std::alloc::{AllocError, Global};
+
+// Puts all manifests, each with its claim, behind what is there, in box order.
+fn push_manifests(
+    alloc: Global,
+    out: &mut String,
+    tree: &Tree<'_>,
+    store: &Store,
+    chain: &Chain<'_>,
+) -> Result<(), AllocError>
+    requires same { IsStoreOf tree.now store.now }
+    requires manifests { chain.now.manifests ≡ manifests_of tree.now }
+    ensures { OnOk result (string_bytes out.new ≡ string_bytes out.old ++ items_inside false (form.manifests_data chain.now.manifests chain.now.claims)) }
+{
+    let mut later = false;
+    for i in 0..manifest_count(store) {
+        out.push_str(comma(later))?;
+        push_manifest(alloc, out, tree, store, i, claim_of(chain, i))?;
+        later = true;
+    }
+    Ok(())
+}
+
+// The label of the active manifest, which is the last.
+fn active_value(alloc: Global, tree: &Tree<'_>, store: &Store) -> Result<Value, AllocError>
+    requires { IsStoreOf tree.now store.now }
+    ensures { IfOk result (λ value. view value ≡ form.active_data (active_of (manifests_of tree.now))) }
+{
+    let Some(last) = manifest_count(store).checked_sub(1) else {
+        return Ok(Value::Null);
+    };
+    Value::try_from_str(alloc, label(tree, store, last))
+}
+
+/// The line of `show`: the manifests of a store with their claims as JSON, and which is active.
+///
+/// The JSON is written item by item: beside the line, no more than one entry of a claim or one box stands in memory.
+pub fn show_line(
+    alloc: Global,
+    tree: &Tree<'_>,
+    store: &Store,
+    chain: &Chain<'_>,
+) -> Result<String, AllocError>
+    requires same { IsStoreOf tree.now store.now }
+    requires manifests { chain.now.manifests ≡ manifests_of tree.now }
+    ensures { IfOk result (λ text. string_bytes text ≡ form.show_line chain.now) }
+{
+    let mut text = String::new(alloc);
+    let active = active_value(alloc, tree, store)?;
+    push_value(alloc, &mut text, "{\"active\":", &active)?;
+    text.push_str(",\"manifests\":[")?;
+    push_manifests(alloc, &mut text, tree, store, chain)?;
+    text.push_str("]}\n")?;
+    Ok(text)
+}

@@ -1,0 +1,60 @@
+// The lines of `list`.
+ghost use Rattle.std.specs.Prelude.{◌≡◌, ◌<◌, IfOk, string_bytes};
+ghost use Rattle.c2_spec.specs.JumbfBoxes.{box_at, tree_count};
+ghost use Rattle.c2_jumbf.specs.Fields.{text_of};
+ghost use Rattle.c2_texts.specs.Listing.{plain_box_line, plain_column};
+ghost use Rattle.c2_texts.specs.Texts as form;
+
+use c2_jumbf::{Tree, count, depth, kind, label_of, place, total};
+use std::alloc::{AllocError, Global};
+
+/// The boxes of a tree in preorder, a line each: depth, place, length, type in hex, and the label, with a dash where it is
+/// missing or empty.
+pub fn listing(alloc: Global, tree: &Tree<'_>) -> Result<String, AllocError>
+    ensures { IfOk result (λ text. string_bytes text ≡ form.listing tree.now) }
+{
+    let mut text = String::new(alloc);
+    'boxes: for i in 0..count(tree) {
+        let line = line_of(alloc, tree, i)?;
+        text.push_str(line.as_str())?;
+    }
+    Ok(text)
+}
+
+// The line of a box.
+fn line_of(alloc: Global, tree: &Tree<'_>, i: usize) -> Result<String, AllocError>
+    requires { i < tree_count tree.now }
+    ensures { IfOk result (λ line. string_bytes line ≡ plain_box_line (box_at tree.now i)) }
+{
+    let kind = kind(tree, i);
+    let label = column_of(label_of(tree, i));
+    let numbers = numbers_of(alloc, depth(tree, i), place(tree, i), total(tree, i))?;
+    row_of(alloc, numbers.as_str(), &kind, label)
+}
+
+// The depth, the place and the length of a box.
+fn numbers_of(alloc: Global, depth: usize, place: usize, total: usize) -> Result<String, AllocError>
+    ensures { IfOk result (λ text. string_bytes text ≡ form.box_numbers depth place total) }
+{
+    let text = format!(in alloc; "{depth} {place} {total}")?;
+    Ok(text)
+}
+
+// A line of these columns.
+fn row_of(alloc: Global, numbers: &str, kind: &[u8], label: &str) -> Result<String, AllocError>
+    ensures { IfOk result (λ line. string_bytes line ≡ form.box_row numbers.now kind.now label.now) }
+{
+    let kind = hex::encode(alloc, kind)?;
+    let line = format!(in alloc; "{numbers} {kind} {label}\n")?;
+    Ok(line)
+}
+
+// A label as it is, and a dash where it is missing or empty. No label of a tree has a control byte.
+fn column_of<'t>(label: Option<&'t str>) -> &'t str
+    ensures { result.now ≡ plain_column (text_of label.entry) }
+{
+    match label {
+        Some(label) if !label.is_empty() => label,
+        _ => "-",
+    }
+}
