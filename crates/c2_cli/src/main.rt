@@ -1,31 +1,45 @@
 //! The command line of `c2`: it makes the real objects and calls `run`.
 #![tactic(auto)]
 
-use c2_base::{HostFile, HostOut, NoMemory};
+use c2_base::{HostFile, HostOut, NoMemory, ReadAllError, read_all};
 use c2_cmd::types::{RolesError, Status};
 use c2_cmd::{roles, run};
 use c2_hash::Sha;
+use c2_judge::{BrokenJudge, Judge, ListError, ListJudge};
 use std::alloc::Global;
 use std::env;
 use std::io::ErrorKind;
 use std::process::ExitCode;
 
+// The most bytes that a verdict file may have.
+const MOST_VERDICTS: u64 = 1_048_576;
+
 fn main(rt: HostRuntime) -> ExitCode {
-    ExitCode::from(run_words(&rt, rt.alloc()).code())
+    let status = match run_words(&rt, rt.alloc()) {
+        Ok(status) => status,
+        Err(NoMemory) => Status::NoMemory,
+    };
+    ExitCode::from(status.code())
 }
 
-// Runs the words of the command line over the files that they name.
-fn run_words(rt: &HostRuntime, alloc: Global) -> Status {
-    let Ok(words) = words_of(rt, alloc) else {
-        return Status::NoMemory;
+// Runs the words of the command line over the files that they name: the media file, and a verdict file for each judge.
+fn run_words(rt: &HostRuntime, alloc: Global) -> Result<Status, NoMemory> {
+    let words = words_of(rt, alloc)?;
+    let (media, first_judge) = match roles(alloc, &words) {
+        Ok(roles) => (roles.media, roles.judges),
+        Err(RolesError::Usage) => (None, words.len()),
+        Err(RolesError::NoMemory) => return Err(NoMemory),
     };
-    let mut media = match roles(alloc, &words) {
-        Ok(roles) => file_of(rt, &words, roles.media),
-        Err(RolesError::Usage) => HostFile::absent(),
-        Err(RolesError::NoMemory) => return Status::NoMemory,
-    };
+    let mut judges: Vec<Box<dyn Judge>> = Vec::new(alloc);
+    for name in words.iter().skip(first_judge) {
+        match judge_of(rt, alloc, name.as_str())? {
+            Some(judge) => judges.push(Box::new(alloc, judge)?)?,
+            None => judges.push(Box::new(alloc, BrokenJudge::new())?)?,
+        }
+    }
+    let mut media = file_of(rt, &words, media);
     let mut report = HostOut::standard(rt.stdout());
-    run(alloc, &Sha, &words, &mut media, &mut report)
+    Ok(run(alloc, &Sha, &words, &mut media, &mut report, &mut judges))
 }
 
 // The words after the program's name, and none where one of them isn't text.
@@ -47,5 +61,20 @@ fn file_of(rt: &HostRuntime, words: &Vec<String>, place: Option<usize>) -> HostF
     match place.and_then(|index| words.get(index)) {
         Some(name) => HostFile::named(rt, name.as_str()),
         None => HostFile::absent(),
+    }
+}
+
+// The judge by the verdict file of this name; none where it can't be read or isn't one.
+fn judge_of(rt: &HostRuntime, alloc: Global, name: &str) -> Result<Option<ListJudge>, NoMemory> {
+    let mut file = HostFile::named(rt, name);
+    let bytes = match read_all(alloc, &mut file, MOST_VERDICTS) {
+        Ok(bytes) => bytes,
+        Err(ReadAllError::NoMemory) => return Err(NoMemory),
+        Err(_) => return Ok(None),
+    };
+    match ListJudge::read(alloc, bytes.as_slice()) {
+        Ok(judge) => Ok(Some(judge)),
+        Err(ListError::NoMemory) => Err(NoMemory),
+        Err(_) => Ok(None),
     }
 }

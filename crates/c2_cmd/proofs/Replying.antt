@@ -3,12 +3,18 @@ use Rattle.std.proofs.Common.{◌≡◌, refl, sym, ◌∙◌, ap, ℕ, List, tr
 use Rattle.std.proofs.lemmas.Bool.{false≢true}
 use Rattle.std.specs.Prelude.{is_some}
 use Rattle.std.specs.declared.option.Option.{Option}
+use Rattle.c2_base.specs.declared.values.Question.{Question}
 use Rattle.c2_spec.specs.declared.digest.Alg.{Alg}
+use Rattle.c2_spec.specs.declared.panel.Verdict.{Verdict}
 use Rattle.c2_spec.specs.Located.{Located}
 use Rattle.c2_spec.specs.Jpeg.{IsLocated}
+use Rattle.c2_spec.specs.Jumbf.{Tree, SpellsTree}
+use Rattle.c2_spec.specs.JumbfFaults.{JumbfFault}
+use Rattle.c2_spec.specs.StoreTree.{StoreTree, refused, spelled, IsStoreTree}
+use Rattle.c2_spec.specs.declared.jumbf.JumbfError.{JumbfError}
 use Rattle.c2_cmd.specs.declared.types.Roles.{Roles}
 use Rattle.c2_cmd.specs.declared.reply.Reply.{Reply}
-use Rattle.c2_cmd.specs.Outcome.{Outcome, IsCommandOutcome, IsOutcome, inputs, all_silent, uses_media}
+use Rattle.c2_cmd.specs.Outcome.{Outcome, IsCommandOutcome, IsOutcome, IsTreeOutcome, tree_outcome, inputs, uses_media}
 use Rattle.c2_cmd.specs.declared.open.Opened.{Opened}
 use Rattle.c2_cmd.specs.Open.{located_of}
 use Rattle.c2_cmd.specs.Run.{Tells}
@@ -28,12 +34,23 @@ reply_of-located P file what reply is only r = record {
 }
 
 -- a reply to the command is the reply to words with these roles, where the source that they use tells its bytes
-pub reply_of-told : (hash : Alg → List ℕ → List ℕ) (told : Option (List ℕ)) (found : Option Roles) (roles : Roles) (reply : Reply) → found ≡ Some roles → is_some roles.media ≡ reads_media roles.command → reads_media roles.command ≡ true → Tells found told
-    → ((file : List ℕ) → told ≡ Some file → IsReply (IsCommandOutcome roles.command roles (inputs (Some file) None None all_silent hash)) reply) → IsReply (IsOutcome found (inputs told None None all_silent hash)) reply
-reply_of-told hash None found roles reply is media reads tells r = absurd (false≢true (tells.media_told (ap uses_media is ∙ media ∙ reads)))
-reply_of-told hash (Some file) found roles reply is media reads tells r = rw is (r file refl)
+pub reply_of-told : (said : Question → Verdict) (hash : Alg → List ℕ → List ℕ) (told : Option (List ℕ)) (found : Option Roles) (roles : Roles) (reply : Reply) → found ≡ Some roles → is_some roles.media ≡ reads_media roles.command → reads_media roles.command ≡ true → Tells found told
+    → ((file : List ℕ) → told ≡ Some file → IsReply (IsCommandOutcome roles.command roles (inputs (Some file) None None said hash)) reply) → IsReply (IsOutcome found (inputs told None None said hash)) reply
+reply_of-told said hash None found roles reply is media reads tells r = absurd (false≢true (tells.media_told (ap uses_media is ∙ media ∙ reads)))
+reply_of-told said hash (Some file) found roles reply is media reads tells r = rw is (r file refl)
 
 -- the same over what was opened
 pub reply_of-opened : (P : Located → Outcome → Type 0) (file : List ℕ) (opened it : Opened) (reply : Reply) → opened ≡ it → IsLocated file (located_of opened) → ((w : Located) → IsLocated file w → w ≡ located_of opened) → IsReply (P (located_of it)) reply
     → IsReply (λ expected. (w : Located) × IsLocated file w × P w expected) reply
 reply_of-opened P file opened it reply same is only r = reply_of-located P file (located_of opened) reply is only (rw same r)
+
+-- a reply of `list` over the one tree that the bytes spell
+pub reply_of-tree : (store : List ℕ) (t : Tree) (reply : Reply) → SpellsTree store t → ((u : Tree) → SpellsTree store u → t ≡ u) → ((e : JumbfError) → JumbfFault store e → ⊥) → outcome_of reply ≡ tree_outcome (spelled t) → IsReply (IsTreeOutcome store) reply
+reply_of-tree store t reply is only no_fault out = record {
+  holds = (spelled t, is, out);
+  only = λ expected h. tree_only h.0 h.1 expected h.2;
+}
+  where
+    tree_only : (what : StoreTree) → IsStoreTree store what → (expected : Outcome) → expected ≡ tree_outcome what → expected ≡ outcome_of reply
+    tree_only (refused reason number) h expected e = absurd (no_fault h.0 h.1)
+    tree_only (spelled u) h expected e = e ∙ ap (λ x. tree_outcome (spelled x)) (sym (only u h)) ∙ sym out

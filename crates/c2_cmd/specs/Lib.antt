@@ -1,9 +1,8 @@
-pub mod Listing
+pub mod Active
 pub mod Open
 pub mod Outcome
 pub mod Pieces
 pub mod Reply
 pub mod Run
 pub mod Status
-pub mod Texts
 pub mod Words

@@ -3,7 +3,7 @@ use Rattle.std.specs.Prelude.{◌≡◌, ℕ, ◌+◌, ◌≤◌, ⊤}
 use Rattle.c2_base.specs.declared.media.MediaError.{MediaError}
 use Rattle.c2_base.specs.declared.media.MediaError.TheVariants.{ReadFault, NoMemory}
 use Rattle.c2_cmd.specs.declared.reply.Fault.{Fault}
-use Rattle.c2_cmd.specs.declared.reply.Fault.TheVariants.{Input, Memory}
+use Rattle.c2_cmd.specs.declared.reply.Fault.TheVariants.{Input, Judge, Memory}
 use Rattle.c2_spec.specs.Located.{Located, refused, absent, here}
 use Rattle.c2_cmd.specs.declared.open.Opened.{Opened}
 use Rattle.c2_cmd.specs.declared.open.Opened.TheVariants as opened
@@ -22,4 +22,5 @@ IsWithin len what = ⊤
 -- the fault that an error of the container's tests stands for
 abbrev pub IsFaultOf : MediaError → Fault → Type 0
 IsFaultOf error Input = error ≡ ReadFault
+IsFaultOf error Judge = ⊥
 IsFaultOf error Memory = error ≡ NoMemory

@@ -1,7 +1,7 @@
 -- Statuses by their numbers.
 use Rattle.std.specs.Prelude.{ℕ}
 use Rattle.c2_cmd.specs.declared.types.Status.{Status}
-use Rattle.c2_cmd.specs.declared.types.Status.TheVariants.{Done, Refused, NoStore, Usage, InputFault, OutputFault, NoMemory}
+use Rattle.c2_cmd.specs.declared.types.Status.TheVariants.{Done, Refused, NoStore, Usage, InputFault, OutputFault, JudgeFault, NoMemory}
 
 -- the exit status of the program
 abbrev pub exit_status : Status → ℕ
@@ -11,4 +11,5 @@ exit_status NoStore = 3
 exit_status Usage = 4
 exit_status InputFault = 5
 exit_status OutputFault = 6
+exit_status JudgeFault = 7
 exit_status NoMemory = 8

@@ -1,7 +1,7 @@
 -- Which word of a command line is which.
-use Rattle.std.specs.Prelude.{◌≡◌, ℕ, Bool, true, false, not, ◌==◌, bytes_eq, List, [], ◌∷◌, codes, Ok, Err, Some, None, ⊤, if◌then◌else◌}
+use Rattle.std.specs.Prelude.{◌≡◌, ℕ, Bool, true, false, not, ◌==◌, nat_le, bytes_eq, List, [], ◌∷◌, length, codes, Ok, Err, Some, None, ⊤, option_and_then, if◌then◌else◌}
 use Rattle.std.specs.declared.option.Option.{Option}
-use Rattle.std.specs.Option.{option_map}
+use Rattle.std.specs.List.{list_all}
 use Rattle.std.specs.declared.result.Result.{Result}
 use Rattle.c2_cmd.specs.declared.types.Command.{Command}
 use Rattle.c2_cmd.specs.declared.types.Command.TheVariants as command
@@ -18,23 +18,51 @@ abbrev pub is_name : List ℕ → Bool
 is_name [] = false
 is_name (first ∷ rest) = not (first == dash)
 
--- whether a command reads a media file
+-- whether a command reads a media file, and whether it asks judges
 abbrev pub reads_media : Command → Bool
 reads_media command.Digest = true
 reads_media command.List = true
+reads_media command.Show = true
+reads_media command.Questions = true
 
--- the command of a word, for the commands that read one media file and nothing else
-abbrev pub reading_command : List ℕ → Option Command
-reading_command word = if bytes_eq word (codes "digest") then Some command.Digest else if bytes_eq word (codes "list") then Some command.List else None
+abbrev pub asks_judges : Command → Bool
+asks_judges command.Digest = false
+asks_judges command.List = false
+asks_judges command.Show = false
+asks_judges command.Questions = true
 
--- the roles of `COMMAND MEDIA`
+-- how many names of judges may follow
+abbrev pub most_judges : Command → ℕ
+most_judges command.Digest = 0
+most_judges command.List = 0
+most_judges command.Show = 0
+most_judges command.Questions = 64
+
+-- the command of a word
+abbrev pub command_of : List ℕ → Option Command
+command_of word =
+    if bytes_eq word (codes "digest") then Some command.Digest
+    else if bytes_eq word (codes "list") then Some command.List
+    else if bytes_eq word (codes "show") then Some command.Show
+    else if bytes_eq word (codes "questions") then Some command.Questions
+    else None
+
+-- the roles of `COMMAND MEDIA` and `COMMAND MEDIA JUDGE..`
 abbrev pub reading_roles : Command → Roles
 reading_roles c = record { command = c; media = Some 1; second = None; third = None; out = None; judges = 2; count = None }
 
+-- the roles of a command with these names behind it, if they fit
+abbrev pub roles_with : Command → List (List ℕ) → Option Roles
+roles_with c [] = None
+roles_with c (media ∷ judges) = if nat_le (length judges) (most_judges c) then Some (reading_roles c) else None
+
+abbrev pub roles_of_names : List (List ℕ) → Option Roles
+roles_of_names [] = None
+roles_of_names (first ∷ names) = option_and_then (λ c. roles_with c names) (command_of first)
+
 -- the roles of these words, if they fit
 abbrev pub roles_of : List (List ℕ) → Option Roles
-roles_of (first ∷ media ∷ []) = if is_name media then option_map reading_roles (reading_command first) else None
-roles_of words = None
+roles_of words = if list_all is_name words then roles_of_names words else None
 
 -- the answer of `roles`
 abbrev pub GivesRoles : List (List ℕ) → Result Roles RolesError → Type 0

@@ -7,8 +7,8 @@ ghost use Rattle.c2_cmd.specs.Reply.{IsReply, HasReason};
 
 use crate::open::{Opened, open};
 use crate::pieces::digest_outside;
+use crate::replies::{digest_reply, none_reply, refused_reply};
 use crate::reply::{Fault, Reply};
-use crate::texts::{digest_reply, none_reply, refused_reply};
 use crate::types::Answer;
 use c2_base::{Failed, Source};
 use c2_hash::{Alg, Hashing};

@@ -7,9 +7,12 @@ mod digest;
 mod list;
 mod open;
 mod pieces;
+mod questions;
+mod replies;
 mod reply;
 mod run_command;
-mod texts;
+mod show;
+mod trees;
 pub mod types;
 mod words;
 

@@ -3,6 +3,7 @@ ghost use Rattle.std.specs.Prelude.{◌≡◌};
 ghost use Rattle.c2_cmd.specs.declared.reply.Fault.TheVariants.{Memory};
 
 use crate::types::Answer;
+use c2_base::NoMemory;
 use std::alloc::AllocError;
 
 /// Why a run has no reply.
@@ -10,6 +11,9 @@ use std::alloc::AllocError;
 pub enum Fault {
     /// A source failed.
     Input,
+
+    /// A judge failed.
+    Judge,
 
     /// Memory ran out.
     Memory,
@@ -26,6 +30,14 @@ impl From<AllocError> for Fault {
     ghost from_gives = { λ _ e. e ≡ Memory };
 
     fn from(_error: AllocError) -> Fault {
+        Fault::Memory
+    }
+}
+
+impl From<NoMemory> for Fault {
+    ghost from_gives = { λ _ e. e ≡ Memory };
+
+    fn from(_failed: NoMemory) -> Fault {
         Fault::Memory
     }
 }

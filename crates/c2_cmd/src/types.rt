@@ -8,6 +8,12 @@ pub enum Command {
 
     /// The boxes of the store.
     List,
+
+    /// The manifests of the store, as JSON.
+    Show,
+
+    /// The question that judges are asked of the active manifest, and what they say.
+    Questions,
 }
 
 /// Which word is which: the index of each name among the words.
@@ -51,7 +57,7 @@ pub enum Answer {
     /// What was asked for.
     Done,
 
-    /// A refused container or box.
+    /// A refused container, box or store, or a part of a store that isn't supported.
     Refused,
 
     /// A file without a store.
@@ -67,7 +73,7 @@ pub enum Status {
     /// Done.
     Done = 0,
 
-    /// The container or a box of the store is refused.
+    /// The container, a box or the store is refused, or has a part that isn't supported.
     Refused = 2,
 
     /// The file has no store.
@@ -81,6 +87,9 @@ pub enum Status {
 
     /// The report failed.
     OutputFault = 6,
+
+    /// A judge failed.
+    JudgeFault = 7,
 
     /// Memory ran out.
     NoMemory = 8,

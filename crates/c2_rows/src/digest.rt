@@ -4,6 +4,7 @@ use c2_base::{Blob, MemSink, VastSource};
 use c2_cmd::run;
 use c2_cmd::types::Status;
 use c2_hash::Sha;
+use c2_judge::Judge;
 use std::alloc::Global;
 use std::test::Fail;
 
@@ -62,8 +63,9 @@ fn digest_refuses_a_file_of_two_to_the_62_bytes(rt: HostRuntime) -> Result<(), F
     let given = words(alloc, &["digest", "P"])?;
     let mut media = VastSource::new(Blob::copied(alloc, &[])?, 1 << 62);
     let mut report = MemSink::with_room(alloc, 100, 0)?;
+    let mut judges: Vec<Box<dyn Judge>> = Vec::new(alloc);
     assert_eq!(rt;
-        run(alloc, &Sha, &given, &mut media, &mut report),
+        run(alloc, &Sha, &given, &mut media, &mut report, &mut judges),
         Status::Refused
     );
     assert_eq!(rt;

@@ -1,13 +1,17 @@
 // Runs in which a source or the report fails at each call in turn.
-use crate::files::{ONE_PACKET, ONE_PACKET_DIGEST, words};
+use crate::files::{ONE_MANIFEST, ONE_PACKET, ONE_PACKET_DIGEST, SIGNED, words};
+use crate::tables::in_jpeg;
 use c2_base::{Blob, MemSink, MemSource, SureSource};
 use c2_cmd::run;
 use c2_cmd::types::Status;
 use c2_hash::Sha;
+use c2_judge::{FixedJudge, Judge, Verdict};
+use std::alloc::Global;
+use std::process::Abort;
 use std::test::Fail;
 
 // The most calls that a command makes of the media here.
-const MOST_CALLS: u64 = 100;
+const MOST_CALLS: u64 = 500;
 
 #[test]
 fn each_failing_read_is_told(rt: HostRuntime) -> Result<(), Fail> {
@@ -16,7 +20,8 @@ fn each_failing_read_is_told(rt: HostRuntime) -> Result<(), Fail> {
     for fail_at in 1..MOST_CALLS {
         let mut media = MemSource::new(Blob::copied(alloc, &ONE_PACKET)?, 7, fail_at);
         let mut report = MemSink::with_room(alloc, 100, 0)?;
-        match run(alloc, &Sha, &given, &mut media, &mut report) {
+        let mut judges: Vec<Box<dyn Judge>> = Vec::new(alloc);
+        match run(alloc, &Sha, &given, &mut media, &mut report, &mut judges) {
             Status::InputFault => {
                 assert!(rt; report.bytes().is_empty(), "at call {fail_at}");
                 assert!(rt; !report.finished(), "at call {fail_at}");
@@ -48,7 +53,8 @@ fn each_failing_write_is_told(rt: HostRuntime) -> Result<(), Fail> {
     for (room, fail_at, written, want) in rows {
         let mut media = SureSource::new(Blob::copied(alloc, &ONE_PACKET)?);
         let mut report = MemSink::with_room(alloc, room, fail_at)?;
-        let status = run(alloc, &Sha, &given, &mut media, &mut report);
+        let mut judges: Vec<Box<dyn Judge>> = Vec::new(alloc);
+        let status = run(alloc, &Sha, &given, &mut media, &mut report, &mut judges);
         assert_eq!(rt; status, want, "at call {fail_at}");
         assert_eq!(rt; report.bytes(), written.as_bytes(), "at call {fail_at}");
         assert_eq!(rt;
@@ -58,4 +64,99 @@ fn each_failing_write_is_told(rt: HostRuntime) -> Result<(), Fail> {
         );
     }
     Ok(())
+}
+
+// What `show` and `questions` say of files, the second with a judge that approves.
+const SHOWN: &str =
+    r#"{"active":"m","manifests":[{"boxes":[],"claim":null,"label":"m","update":false}]}
+"#;
+
+const APPROVED: &str =
+    "b33baf01a86a1024b3fb02e0c14dd1af3ecbb0d192c18e309ca0016a24391063 m approved\n";
+
+// Lets the media of a run fail at each call in turn, until no call fails. A judge is asked so often then, and never before.
+fn reads_fail(
+    rt: &impl Abort,
+    alloc: Global,
+    command: &str,
+    file: &[u8],
+    told: &str,
+    asked: u64,
+) -> Result<(), Fail> {
+    let given = words(alloc, &[command, "P"])?;
+    for fail_at in 1..MOST_CALLS {
+        let mut media = MemSource::new(Blob::copied(alloc, file)?, 7, fail_at);
+        let mut report = MemSink::with_room(alloc, 200, 0)?;
+        let mut judges: Vec<Box<dyn Judge>> = Vec::new(alloc);
+        judges.push(Box::new(alloc, FixedJudge::new(Verdict::Approved, 0))?)?;
+        let status = run(alloc, &Sha, &given, &mut media, &mut report, &mut judges);
+        assert_eq!(rt; judges.len(), 1);
+        if status != Status::InputFault {
+            assert_eq!(rt; status, Status::Done, "at call {fail_at}");
+            assert_eq!(rt; report.bytes(), told.as_bytes());
+            assert_eq!(rt; judges[0].asked(), asked);
+            // The length, and the bytes of the file at 7 each.
+            assert!(rt; (file.len() / 7) as u64 <= fail_at, "at call {fail_at}");
+            return Ok(());
+        }
+        assert_eq!(rt; status.code(), 5);
+        assert!(rt; report.bytes().is_empty(), "at call {fail_at}");
+        assert!(rt; !report.finished(), "at call {fail_at}");
+        assert_eq!(rt; judges[0].asked(), 0, "at call {fail_at}");
+    }
+    assert!(rt; false, "no run was without a fault");
+    Ok(())
+}
+
+#[test]
+fn no_judge_is_asked_after_a_failing_read(rt: HostRuntime) -> Result<(), Fail> {
+    let alloc = rt.alloc();
+    reads_fail(&rt, alloc, "show", &ONE_MANIFEST, SHOWN, 0)?;
+    let store = hex::decode(alloc, SIGNED)?;
+    let file = in_jpeg(alloc, store.as_slice(), 63_984)?;
+    reads_fail(&rt, alloc, "questions", file.as_slice(), APPROVED, 1)
+}
+
+// Lets the report of a run fail at its append, at its finish and where it is full. A judge was asked so often.
+fn writes_fail(
+    rt: &impl Abort,
+    alloc: Global,
+    command: &str,
+    file: &[u8],
+    told: &str,
+    asked: u64,
+) -> Result<(), Fail> {
+    let given = words(alloc, &[command, "P"])?;
+    let rows: [(usize, u64, usize, Status); 6] = [
+        (200, 1, 0, Status::OutputFault),
+        (200, 2, told.len(), Status::OutputFault),
+        (200, 3, told.len(), Status::Done),
+        (0, 0, 0, Status::OutputFault),
+        (30, 0, 30, Status::OutputFault),
+        (70, 0, 70, Status::OutputFault),
+    ];
+    for (room, fail_at, written, want) in rows {
+        let mut media = SureSource::new(Blob::copied(alloc, file)?);
+        let mut report = MemSink::with_room(alloc, room, fail_at)?;
+        let mut judges: Vec<Box<dyn Judge>> = Vec::new(alloc);
+        judges.push(Box::new(alloc, FixedJudge::new(Verdict::Approved, 0))?)?;
+        let status = run(alloc, &Sha, &given, &mut media, &mut report, &mut judges);
+        assert_eq!(rt; status, want, "room for {room}, at call {fail_at}");
+        assert_eq!(rt; report.bytes().len(), written);
+        assert!(rt; told.as_bytes().starts_with(report.bytes()));
+        assert_eq!(rt; report.finished(), want == Status::Done);
+        assert_eq!(rt; judges.len(), 1);
+        assert_eq!(rt; judges[0].asked(), asked);
+    }
+    Ok(())
+}
+
+#[test]
+fn judges_are_asked_before_a_failing_write(rt: HostRuntime) -> Result<(), Fail> {
+    let alloc = rt.alloc();
+    assert_eq!(rt; Status::OutputFault.code(), 6);
+    writes_fail(&rt, alloc, "show", &ONE_MANIFEST, SHOWN, 0)?;
+    let store = hex::decode(alloc, SIGNED)?;
+    let file = in_jpeg(alloc, store.as_slice(), 63_984)?;
+    writes_fail(&rt, alloc, "questions", file.as_slice(), APPROVED, 1)
 }

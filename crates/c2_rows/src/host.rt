@@ -4,6 +4,7 @@ use c2_base::{Failed, HostFile, MemSink, Source};
 use c2_cmd::run;
 use c2_cmd::types::Status;
 use c2_hash::Sha;
+use c2_judge::Judge;
 use std::alloc::Global;
 use std::fs;
 use std::process::Abort;
@@ -22,14 +23,16 @@ fn a_file_is_read_at_its_places(rt: HostRuntime) -> Result<(), Fail> {
     fs::write(&rt, "six", b"abc")?;
     assert_eq!(rt; file.size(), Ok(6));
     assert_eq!(rt; file.read_at(2, &mut buf), Err(Failed));
+    fs::remove_file(&rt, "six")?;
     Ok(())
 }
 
 fn is_an_input_fault(rt: &impl Abort, alloc: Global, mut media: HostFile) -> Result<(), Fail> {
     let given = words(alloc, &["digest", "P"])?;
     let mut report = MemSink::with_room(alloc, 100, 0)?;
+    let mut judges: Vec<Box<dyn Judge>> = Vec::new(alloc);
     assert_eq!(rt;
-        run(alloc, &Sha, &given, &mut media, &mut report),
+        run(alloc, &Sha, &given, &mut media, &mut report, &mut judges),
         Status::InputFault
     );
     assert!(rt; report.bytes().is_empty());

@@ -1,6 +1,7 @@
 //! Worked rows and tables of faults: tests of whole runs over sources and sinks in memory.
 //!
-//! The expected bytes come from outside: from a computation by hand, and digests from Python's `hashlib`.
+//! The expected bytes come from outside: from a computation by hand, digests from Python's `hashlib`, and tables of stores from
+//! the program tests/real/rows.py.
 #![tactic(auto)]
 
 #[cfg(test)]
@@ -12,8 +13,22 @@ mod files;
 #[cfg(test)]
 mod host;
 #[cfg(test)]
+mod judges;
+#[cfg(test)]
 mod list;
 #[cfg(test)]
+mod manifests;
+#[cfg(test)]
 mod outside;
+#[cfg(test)]
+mod questions;
+#[cfg(test)]
+mod show_boxes;
+#[cfg(test)]
+mod show_claims;
+#[cfg(test)]
+mod show_stores;
+#[cfg(test)]
+mod tables;
 #[cfg(test)]
 mod words;

@@ -4,21 +4,26 @@ use c2_base::{Blob, MemSink, MemSource};
 use c2_cmd::types::{Command, RolesError, Status};
 use c2_cmd::{roles, run};
 use c2_hash::Sha;
-use std::alloc::Global;
+use c2_judge::{FixedJudge, Judge, Verdict};
+use std::alloc::{AllocError, Global};
 use std::process::Abort;
 use std::test::Fail;
 
-const USAGE: &str = "usage: c2 digest|list MEDIA\n";
+const USAGE: &str = "usage: c2 digest|list|show MEDIA; questions MEDIA [JUDGE..]\n";
 
 fn gives_usage(rt: &impl Abort, alloc: Global, given: &Vec<String>) -> Result<(), Fail> {
     assert_eq!(rt; roles(alloc, given), Err(RolesError::Usage));
-    // The media isn't read: its first call would fail.
+    // The media isn't read: its first call would fail. No judge is asked.
     let mut media = MemSource::new(Blob::copied(alloc, &ONE_PACKET)?, 7, 1);
     let mut report = MemSink::with_room(alloc, 100, 0)?;
+    let mut judges: Vec<Box<dyn Judge>> = Vec::new(alloc);
+    judges.push(Box::new(alloc, FixedJudge::new(Verdict::Approved, 0))?)?;
     assert_eq!(rt;
-        run(alloc, &Sha, given, &mut media, &mut report),
+        run(alloc, &Sha, given, &mut media, &mut report, &mut judges),
         Status::Usage
     );
+    assert_eq!(rt; judges.len(), 1);
+    assert_eq!(rt; judges[0].asked(), 0);
     comes_to(rt, alloc, given, &ONE_PACKET, USAGE, Status::Usage)
 }
 
@@ -34,23 +39,65 @@ fn words_that_fit_nothing_give_the_usage_line(rt: HostRuntime) -> Result<(), Fai
     gives_usage(&rt, alloc, &words(alloc, &["list"])?)?;
     gives_usage(&rt, alloc, &words(alloc, &["list", "P", "list"])?)?;
     gives_usage(&rt, alloc, &words(alloc, &["List", "P"])?)?;
+    gives_usage(&rt, alloc, &words(alloc, &["show"])?)?;
+    gives_usage(&rt, alloc, &words(alloc, &["show", "P", "Q"])?)?;
+    gives_usage(&rt, alloc, &words(alloc, &["questions"])?)?;
+    gives_usage(&rt, alloc, &words(alloc, &["questions", "-P"])?)?;
+    gives_usage(&rt, alloc, &words(alloc, &["questions", "P", ""])?)?;
+    gives_usage(&rt, alloc, &words(alloc, &["questions", "P", "-V"])?)?;
+    gives_usage(&rt, alloc, &words(alloc, &["questions", "P", "V", ""])?)?;
+    gives_usage(&rt, alloc, &words(alloc, &["question", "P"])?)?;
     gives_usage(&rt, alloc, &words(alloc, &["--help"])?)
+}
+
+// A command line of `questions` with so many names of judges.
+fn with_judges(alloc: Global, count: usize) -> Result<Vec<String>, AllocError> {
+    let mut given = words(alloc, &["questions", "P"])?;
+    for n in 0..count {
+        given.push(format!(in alloc; "judge{n}")?)?;
+    }
+    Ok(given)
+}
+
+#[test]
+fn at_most_64_judges_are_named(rt: HostRuntime) -> Result<(), Fail> {
+    let alloc = rt.alloc();
+    has_roles(&rt, alloc, &with_judges(alloc, 1)?, Command::Questions)?;
+    has_roles(&rt, alloc, &with_judges(alloc, 64)?, Command::Questions)?;
+    gives_usage(&rt, alloc, &with_judges(alloc, 65)?)
+}
+
+// The words have these roles: one media file, and names of judges behind it.
+fn has_roles(
+    rt: &impl Abort,
+    alloc: Global,
+    given: &Vec<String>,
+    command: Command,
+) -> Result<(), Fail> {
+    let found = roles(alloc, given);
+    assert!(rt; found.is_ok());
+    if let Ok(found) = found {
+        assert_eq!(rt; found.command, command);
+        assert_eq!(rt;
+            (found.media, found.second, found.third),
+            (Some(1), None, None)
+        );
+        assert_eq!(rt; (found.out, found.judges, found.count), (None, 2, None));
+    }
+    Ok(())
 }
 
 #[test]
 fn reading_commands_have_one_name(rt: HostRuntime) -> Result<(), Fail> {
     let alloc = rt.alloc();
-    for (word, command) in [("digest", Command::Digest), ("list", Command::List)] {
-        let found = roles(alloc, &words(alloc, &[word, "P"])?);
-        assert!(rt; found.is_ok());
-        if let Ok(found) = found {
-            assert_eq!(rt; found.command, command);
-            assert_eq!(rt;
-                (found.media, found.second, found.third),
-                (Some(1), None, None)
-            );
-            assert_eq!(rt; (found.out, found.judges, found.count), (None, 2, None));
-        }
+    let commands = [
+        ("digest", Command::Digest),
+        ("list", Command::List),
+        ("show", Command::Show),
+        ("questions", Command::Questions),
+    ];
+    for (word, command) in commands {
+        has_roles(&rt, alloc, &words(alloc, &[word, "P"])?, command)?;
     }
     Ok(())
 }

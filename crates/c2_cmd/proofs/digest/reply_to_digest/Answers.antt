@@ -1,7 +1,7 @@
 use Rattle.std.proofs.Common.{◌≡◌, ◌∙◌, ap}
 use Rattle.c2_spec.specs.declared.digest.Alg.TheVariants.{Sha256}
 use Rattle.c2_cmd.specs.Outcome.{digest_outcome, reports}
-use Rattle.c2_cmd.specs.Texts.{digest_line}
+use Rattle.c2_texts.specs.Texts.{digest_line}
 use Rattle.c2_cmd.specs.declared.types.Answer.TheVariants as answer
 use Rattle.c2_cmd.proofs.Replying.{reply_is, reply_of-opened}
 use Rattle.c2_cmd.proofs.digest.reply_to_digest.Goals as goal

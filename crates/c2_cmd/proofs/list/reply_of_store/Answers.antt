@@ -1,5 +1,5 @@
 use Rattle.std.proofs.Common.{ap}
-use Rattle.c2_cmd.proofs.Listing.{reply_of-tree}
+use Rattle.c2_cmd.proofs.Replying.{reply_of-tree}
 use Rattle.c2_cmd.specs.Outcome.{reports}
 use Rattle.c2_cmd.specs.declared.types.Answer.TheVariants as answer
 use Rattle.c2_cmd.proofs.list.reply_of_store.Goals as goal

@@ -1,0 +1,147 @@
+// What `show` and `questions` say of files.
+use crate::files::{ONE_MANIFEST, ONE_PACKET, comes_to, words};
+use crate::tables::in_jpeg;
+use c2_base::{Blob, MemSink, SureSource, VastSource};
+use c2_cmd::run;
+use c2_cmd::types::Status;
+use c2_hash::Sha;
+use c2_judge::Judge;
+use c2_jumbf::write_super;
+use std::alloc::Global;
+use std::process::Abort;
+use std::test::Fail;
+
+// What both commands say of files without a manifest.
+fn says_of_none(rt: &impl Abort, alloc: Global, command: &str) -> Result<(), Fail> {
+    let given = words(alloc, &[command, "P"])?;
+    let empty = "refused NotMedia 0\n";
+    comes_to(rt, alloc, &given, &[], empty, Status::Refused)?;
+    let picture = [0xFF, 0xD8, 0xFF, 0xD9];
+    comes_to(rt, alloc, &given, &picture, "none\n", Status::NoStore)?;
+    let no_manifest = "refused NoManifest 0\n";
+    comes_to(rt, alloc, &given, &ONE_PACKET, no_manifest, Status::Refused)
+}
+
+#[test]
+fn files_without_a_manifest_are_told_apart(rt: HostRuntime) -> Result<(), Fail> {
+    let alloc = rt.alloc();
+    says_of_none(&rt, alloc, "show")?;
+    says_of_none(&rt, alloc, "questions")
+}
+
+#[test]
+fn a_manifest_without_a_claim_is_shown_and_has_no_question(rt: HostRuntime) -> Result<(), Fail> {
+    let alloc = rt.alloc();
+    let given = words(alloc, &["show", "P"])?;
+    let shown = r#"{"active":"m","manifests":[{"boxes":[],"claim":null,"label":"m","update":false}]}
+"#;
+    comes_to(&rt, alloc, &given, &ONE_MANIFEST, shown, Status::Done)?;
+    let given = words(alloc, &["questions", "P"])?;
+    comes_to(
+        &rt,
+        alloc,
+        &given,
+        &ONE_MANIFEST,
+        "- m none\n",
+        Status::Done,
+    )
+}
+
+// What both commands say of a file of 2 to the 62 bytes.
+fn says_of_a_vast_file(rt: &impl Abort, alloc: Global, command: &str) -> Result<(), Fail> {
+    let given = words(alloc, &[command, "P"])?;
+    let mut media = VastSource::new(Blob::copied(alloc, &[])?, 1 << 62);
+    let mut report = MemSink::with_room(alloc, 100, 0)?;
+    let mut judges: Vec<Box<dyn Judge>> = Vec::new(alloc);
+    assert_eq!(rt;
+        run(alloc, &Sha, &given, &mut media, &mut report, &mut judges),
+        Status::Refused
+    );
+    assert_eq!(rt;
+        report.bytes(),
+        b"refused FileTooLarge 4611686018427387904\n".as_slice()
+    );
+    Ok(())
+}
+
+#[test]
+fn a_file_of_two_to_the_62_bytes_is_refused(rt: HostRuntime) -> Result<(), Fail> {
+    let alloc = rt.alloc();
+    says_of_a_vast_file(&rt, alloc, "show")?;
+    says_of_a_vast_file(&rt, alloc, "questions")
+}
+
+const MANIFEST: [u8; 16] = *b"c2ma\x00\x11\x00\x10\x80\x00\x00\xAA\x00\x38\x9B\x71";
+
+const STORE: [u8; 16] = *b"c2pa\x00\x11\x00\x10\x80\x00\x00\xAA\x00\x38\x9B\x71";
+
+// A JPEG with a store of so many empty manifests, their labels numbers.
+fn of_manifests(alloc: Global, count: usize) -> Result<Vec<u8>, Fail> {
+    let mut boxes = Vec::new(alloc);
+    for n in 0..count {
+        let name = format!(in alloc; "{n}")?;
+        let manifest = write_super(alloc, MANIFEST, name.as_str(), &[])?;
+        boxes.extend_from_slice(manifest.as_slice())?;
+    }
+    let store = write_super(alloc, STORE, "c2pa", boxes.as_slice())?;
+    in_jpeg(alloc, store.as_slice(), 10_000)
+}
+
+// The line of `show` over such a store.
+fn shown_manifests(alloc: Global, count: usize) -> Result<String, Fail> {
+    let mut line = String::new(alloc);
+    let last = count.saturating_sub(1);
+    write!(&mut line, "{{\"active\":\"{last}\",\"manifests\":[")?;
+    for n in 0..count {
+        if n > 0 {
+            line.push_str(",")?;
+        }
+        line.push_str(r#"{"boxes":[],"claim":null,"label":""#)?;
+        write!(&mut line, "{n}")?;
+        line.push_str(r#"","update":false}"#)?;
+    }
+    line.push_str("]}\n")?;
+    Ok(line)
+}
+
+#[test]
+fn at_most_1024_manifests_are_shown(rt: HostRuntime) -> Result<(), Fail> {
+    let alloc = rt.alloc();
+    let given = words(alloc, &["show", "P"])?;
+    let file = of_manifests(alloc, 1024)?;
+    let mut media = SureSource::new(Blob::from_vec(file));
+    let mut report = MemSink::with_room(alloc, 100_000, 0)?;
+    let mut judges: Vec<Box<dyn Judge>> = Vec::new(alloc);
+    assert_eq!(rt;
+        run(alloc, &Sha, &given, &mut media, &mut report, &mut judges),
+        Status::Done
+    );
+    let shown = shown_manifests(alloc, 1024)?;
+    assert_eq!(rt; report.bytes(), shown.as_bytes());
+    Ok(())
+}
+
+#[test]
+fn a_store_of_1025_manifests_is_refused(rt: HostRuntime) -> Result<(), Fail> {
+    let alloc = rt.alloc();
+    let file = of_manifests(alloc, 1025)?;
+    let refused = "refused TooMany 1025\n";
+    let given = words(alloc, &["show", "P"])?;
+    comes_to(
+        &rt,
+        alloc,
+        &given,
+        file.as_slice(),
+        refused,
+        Status::Refused,
+    )?;
+    let given = words(alloc, &["questions", "P"])?;
+    comes_to(
+        &rt,
+        alloc,
+        &given,
+        file.as_slice(),
+        refused,
+        Status::Refused,
+    )
+}

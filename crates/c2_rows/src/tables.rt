@@ -1,0 +1,105 @@
+// Tables of stores, and what commands come to over JPEGs around them.
+use crate::files::words;
+use c2_base::{Blob, MemSink, MemSource};
+use c2_cmd::run;
+use c2_hash::Sha;
+use c2_judge::Judge;
+use std::alloc::Global;
+use std::process::Abort;
+use std::test::Fail;
+
+/// A JPEG of the packets of a store and no picture. Each packet repeats the store's header, of 16 bytes where its length is
+/// a wide one, and has so many bytes more at most, or as many as the store has.
+pub fn in_jpeg(alloc: Global, store: &[u8], most: usize) -> Result<Vec<u8>, Fail> {
+    let width = if store.starts_with(&[0, 0, 0, 1]) {
+        16
+    } else {
+        8
+    };
+    let mut file = Vec::from_slice(alloc, &[0xFF, 0xD8])?;
+    let Some((header, body)) = store.split_at_checked(width) else {
+        return Ok(file);
+    };
+    let mut number: u32 = 0;
+    for piece in body.chunks(most.clamp(1, 63_984)) {
+        number = number.saturating_add(1);
+        push_packet(&mut file, number, header, piece)?;
+    }
+    file.extend_from_slice(&[0xFF, 0xD9])?;
+    Ok(file)
+}
+
+// A packet with this sequence number.
+fn push_packet(file: &mut Vec<u8>, number: u32, header: &[u8], piece: &[u8]) -> Result<(), Fail> {
+    let length = header.len().min(16) as u16 + piece.len().min(63_984) as u16 + 10;
+    file.extend_from_slice(&[0xFF, 0xEB])?;
+    file.extend_from_slice(&length.to_be_bytes())?;
+    file.extend_from_slice(&[0x4A, 0x50, 0x02, 0x11])?;
+    file.extend_from_slice(&number.to_be_bytes())?;
+    file.extend_from_slice(header)?;
+    file.extend_from_slice(piece)?;
+    Ok(())
+}
+
+/// Runs a command over a JPEG around each store of a table, and compares status and line.
+///
+/// A row is a store in hex, ` => `, and the status and the line that a command comes to; other lines say what the next row
+/// shows. So many rows has the table.
+pub fn rows_come_to(
+    rt: &impl Abort,
+    alloc: Global,
+    command: &str,
+    table: &str,
+    count: usize,
+) -> Result<(), Fail> {
+    let given = words(alloc, &[command, "P"])?;
+    let mut seen: usize = 0;
+    for row in table.lines() {
+        if let Some((hex, told)) = row.split_once(" => ") {
+            store_comes_to(rt, alloc, &given, hex, told)?;
+            seen = seen.saturating_add(1);
+        }
+    }
+    assert_eq!(rt; seen, count);
+    Ok(())
+}
+
+// Runs a command over a store in one packet and in several, which are read in pieces of 65,536 and of 7 bytes.
+fn store_comes_to(
+    rt: &impl Abort,
+    alloc: Global,
+    given: &Vec<String>,
+    hex: &str,
+    told: &str,
+) -> Result<(), Fail> {
+    let store = hex::decode(alloc, hex)?;
+    let file = in_jpeg(alloc, store.as_slice(), 63_984)?;
+    let media = MemSource::new(Blob::copied(alloc, file.as_slice())?, 7, 0);
+    let got = told_of(alloc, given, media)?;
+    assert_eq!(rt; got.as_str(), told, "in pieces: {hex}");
+    let media = MemSource::new(Blob::from_vec(file), 65_536, 0);
+    let got = told_of(alloc, given, media)?;
+    assert_eq!(rt; got.as_str(), told, "in one packet: {hex}");
+    let file = in_jpeg(alloc, store.as_slice(), 50)?;
+    let media = MemSource::new(Blob::from_vec(file), 65_536, 0);
+    let got = told_of(alloc, given, media)?;
+    assert_eq!(rt; got.as_str(), told, "in packets: {hex}");
+    Ok(())
+}
+
+// The status of a run without judges and its report, which is one line.
+fn told_of(alloc: Global, given: &Vec<String>, mut media: MemSource) -> Result<String, Fail> {
+    let mut sink = MemSink::with_room(alloc, 1000, 0)?;
+    let mut judges: Vec<Box<dyn Judge>> = Vec::new(alloc);
+    let status = run(alloc, &Sha, given, &mut media, &mut sink, &mut judges);
+    let code = status.code();
+    let mut told = format!(in alloc; "{code} ")?;
+    match str::from_utf8(sink.bytes()) {
+        Ok(report) => told.push_str(report.strip_suffix('\n').unwrap_or("no line"))?,
+        Err(_) => told.push_str("no text")?,
+    }
+    if !sink.finished() {
+        told.push_str(", not finished")?;
+    }
+    Ok(told)
+}
