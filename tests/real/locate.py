@@ -1,8 +1,7 @@
 #!/usr/bin/env python3
-"""What `c2 digest` and `c2 list` must print for a JPEG, computed apart from c2.
+"""The store of a JPEG, and what `c2 digest` must print, computed apart from c2; store.py has the other commands.
 
     locate.py digest FILE      the line of `c2 digest`, and its status
-    locate.py list FILE        the lines of `c2 list`, and its status (stores without a fault in their box tree alone)
 
 The file is read whole and cut into segments first; the packets are looked at afterwards. Nothing here was taken from c2's
 own code.
@@ -128,43 +127,12 @@ def digest(data):
     return f"{start} {length} {covered}", 0
 
 
-def boxes(store, at, end, depth, lines):
-    """Lines of the boxes in a region of a store that has no fault."""
-    while at < end:
-        total = int.from_bytes(store[at : at + 4], "big")
-        kind = store[at + 4 : at + 8]
-        head = 8
-        if total == 1:
-            total, head = int.from_bytes(store[at + 8 : at + 16], "big"), 16
-        label = "-"
-        if kind == b"jumb":
-            described = at + head
-            inner = 16 if store[described : described + 4] == b"\0\0\0\1" else 8
-            fields = store[described + inner :]
-            if fields[16] & 2:
-                text = fields[17:].split(b"\0", 1)[0].decode()
-                label = "".join("?" if ord(c) < 0x20 or ord(c) == 0x7F else c for c in text) or "-"
-        lines.append(f"{depth} {at} {total} {kind.hex()} {label}")
-        if kind == b"jumb":
-            boxes(store, at + head, at + total, depth + 1, lines)
-        at += total
-
-
-def listing(data):
-    found = locate(data)
-    if found is None:
-        return "none", 3
-    lines = []
-    boxes(found[2], 0, len(found[2]), 1, lines)
-    return "\n".join(lines), 0
-
-
 def main():
-    command, name = sys.argv[1:]
+    _, name = sys.argv[1:]
     with open(name, "rb") as file:
         data = file.read()
     try:
-        text, status = (digest if command == "digest" else listing)(data)
+        text, status = digest(data)
     except Refused as refused:
         text, status = f"refused {refused.reason} {refused.number}", 2
     print(text)
