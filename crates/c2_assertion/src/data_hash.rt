@@ -2,8 +2,8 @@
 ghost use Rattle.std.specs.Prelude.{◌≡◌, codes, IfOk, Some};
 ghost use Rattle.c2_spec.specs.Cbor.View.{view, items_view};
 ghost use Rattle.c2_spec.specs.Cbor.Lookup.{field_of};
-ghost use Rattle.c2_spec.specs.Fields.{IsAnswer, each_of, list_of, optional_list};
-ghost use Rattle.c2_spec.specs.Assertion.{range_of, data_hash_of};
+ghost use Rattle.c2_spec.specs.Cbor.Fields.{IsAnswer, each_of, list_of, optional_list};
+ghost use Rattle.c2_spec.specs.C2pa.Assertion.{range_of, data_hash_of};
 
 use c2_base::{NoMemory, Range, Ranges};
 use c2_cbor::{Cbor, field};
@@ -16,17 +16,17 @@ const MOST_EXCLUSIONS: usize = 1024;
 fn range_in(item: &Cbor) -> Option<Range>
     ensures { result ≡ range_of (view item.now) }
 {
-    let Some(start) = c2_fields::number(item, "start") else {
+    let Some(start) = c2_cbor_fields::number(item, "start") else {
         return None;
     };
-    let Some(length) = c2_fields::number(item, "length") else {
+    let Some(length) = c2_cbor_fields::number(item, "length") else {
         return None;
     };
     Some(Range { start, length })
 }
 
 /// The ranges that the items are, where all of them are.
-#[tactic(auto, using(c2_fields::proofs::Each::each_next, c2_fields::proofs::Each::each_none, c2_fields::proofs::Each::each_all))]
+#[tactic(auto, using(c2_cbor_fields::proofs::Each::each_next, c2_cbor_fields::proofs::Each::each_none, c2_cbor_fields::proofs::Each::each_all))]
 fn ranges_in(alloc: Global, items: &[Cbor]) -> Result<Option<Ranges>, NoMemory>
     ensures { IfOk result (λ found. found ≡ each_of range_of (items_view items.now)) }
 {
@@ -74,16 +74,16 @@ fn exclusions_of(alloc: Global, item: &Cbor) -> Result<Option<Ranges>, NoMemory>
 pub fn read_data_hash(alloc: Global, item: &Cbor) -> Result<DataHash, FieldError>
     ensures { IsAnswer FieldError.NoMemory (data_hash_of (view item.now)) result }
 {
-    if !c2_fields::is_map(item) {
+    if !c2_cbor_fields::is_map(item) {
         return Err(FieldError::Form);
     }
     let Some(exclusions) = exclusions_of(alloc, item)? else {
         return Err(FieldError::Form);
     };
-    let Some(alg) = c2_fields::optional_text(alloc, item, "alg")? else {
+    let Some(alg) = c2_cbor_fields::optional_text(alloc, item, "alg")? else {
         return Err(FieldError::Form);
     };
-    let Some(hash) = c2_fields::byte_string(alloc, item, "hash")? else {
+    let Some(hash) = c2_cbor_fields::byte_string(alloc, item, "hash")? else {
         return Err(FieldError::Form);
     };
     let count = exclusions.as_slice().len();

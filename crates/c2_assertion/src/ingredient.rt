@@ -2,8 +2,8 @@
 ghost use Rattle.std.specs.Prelude.{◌≡◌, codes, IfOk, option_map, option_and_then};
 ghost use Rattle.c2_spec.specs.Cbor.View.{view};
 ghost use Rattle.c2_spec.specs.Cbor.Lookup.{field_of};
-ghost use Rattle.c2_spec.specs.Fields.{IsAnswer, text_of};
-ghost use Rattle.c2_spec.specs.Assertion.{relationship_named, manifest_named, manifest_signed, references_agree, ingredient_of};
+ghost use Rattle.c2_spec.specs.Cbor.Fields.{IsAnswer, text_of};
+ghost use Rattle.c2_spec.specs.C2pa.Assertion.{relationship_named, manifest_named, manifest_signed, references_agree, ingredient_of};
 
 use c2_base::NoMemory;
 use c2_cbor::{Cbor, Ref};
@@ -29,7 +29,7 @@ fn relationship_in(word: &str) -> Option<Relationship>
 fn relationship_of(alloc: Global, item: &Cbor) -> Result<Option<Relationship>, NoMemory>
     ensures { IfOk result (λ found. found ≡ option_and_then relationship_named (text_of (field_of (codes "relationship") (view item.now)))) }
 {
-    match c2_fields::text(alloc, item, "relationship")? {
+    match c2_cbor_fields::text(alloc, item, "relationship")? {
         Some(word) => Ok(relationship_in(word.as_str())),
         None => Ok(None),
     }
@@ -87,16 +87,16 @@ fn agree(manifest: &Option<Ref>, signature: &Option<Ref>) -> bool
 pub fn read_ingredient(alloc: Global, item: &Cbor) -> Result<Ingredient, FieldError>
     ensures { IsAnswer FieldError.NoMemory (ingredient_of (view item.now)) result }
 {
-    if !c2_fields::is_map(item) {
+    if !c2_cbor_fields::is_map(item) {
         return Err(FieldError::Form);
     }
     let Some(relationship) = relationship_of(alloc, item)? else {
         return Err(FieldError::Form);
     };
-    let Some(manifest) = c2_fields::optional_reference(alloc, item, "activeManifest")? else {
+    let Some(manifest) = c2_cbor_fields::optional_reference(alloc, item, "activeManifest")? else {
         return Err(FieldError::Form);
     };
-    let Some(signature) = c2_fields::optional_reference(alloc, item, "claimSignature")? else {
+    let Some(signature) = c2_cbor_fields::optional_reference(alloc, item, "claimSignature")? else {
         return Err(FieldError::Form);
     };
     if !agree(&manifest, &signature) {

@@ -1,7 +1,7 @@
 // What an assertion is by its label.
 ghost use Rattle.std.specs.Prelude.{◌≡◌, eqb};
 ghost use Rattle.std.specs.List.{starts_with};
-ghost use Rattle.c2_spec.specs.Assertion.{kind_of_base, kind_of};
+ghost use Rattle.c2_spec.specs.C2pa.Assertion.{kind_of_base, kind_of};
 
 use c2_spec::Kind;
 use c2_uri::base_label;

@@ -14,9 +14,9 @@ use thiserror::Error;
 /// Fills `buf` with the bytes from `pos` on. Takes no memory. After `Failed` the buffer may hold some of them.
 pub fn fill_at<S: Source>(source: &mut S, pos: u64, buf: &mut [u8]) -> Result<(), Failed>
     requires { pos + length buf.old ≤ S.len source.old }
-    ensures stays { StaysSource S.len S.told S.faults source.old source.new }
+    ensures stays { StaysSource S.len S.known S.faults source.old source.new }
     ensures cause { HasCause (S.faults source.old) (S.faults source.new) result }
-    ensures filled { OnOk result (FilledAt (S.told source.old) pos buf.new) }
+    ensures filled { OnOk result (FilledAt (S.known source.old) pos buf.new) }
 {
     let mut done = 0;
     'reads: while done < buf.len() {
@@ -77,10 +77,10 @@ impl From<AllocError> for ReadAllError {
 
 /// All bytes of the source, where these are at most `most`; `TooLong` exactly where they are more.
 pub fn read_all<S: Source>(alloc: Global, source: &mut S, most: u64) -> Result<Blob, ReadAllError>
-    ensures bytes { IfOk result (λ blob. ForSome (S.told source.old) (λ bytes. blob ≡ bytes)) }
+    ensures bytes { IfOk result (λ blob. ForSome (S.known source.old) (λ bytes. blob ≡ bytes)) }
     ensures len { IfOk result (λ blob. length blob ≡ S.len source.old) }
     ensures fits { OnOk result (S.len source.old ≤ most) }
-    ensures stays { StaysSource S.len S.told S.faults source.old source.new }
+    ensures stays { StaysSource S.len S.known S.faults source.old source.new }
     ensures count { OnOk result (S.faults source.new ≡ S.faults source.old) }
     ensures reason { IfErr result (HasReason (S.len source.old) most (S.faults source.old) (S.faults source.new)) }
 {

@@ -30,34 +30,34 @@ impl<T: Drop> From<AllocFailed<T>> for NoMemory {
 
 /// Bytes at places, which may fail to come.
 ///
-/// Its length never changes, and neither do its bytes, where it tells them. Its count of faults never falls.
+/// Its length never changes, and neither do its bytes, where they are known. Its count of faults never falls.
 pub trait Source {
     // the number of bytes
     ghost len: { Self → ℕ };
 
-    // the bytes, where the source tells them
-    ghost told: { Self → Option (List ℕ) };
+    // the bytes, where they are known
+    ghost known: { Self → Option (List ℕ) };
 
     // how often it has failed
     ghost faults: { Self → ℕ };
 
     /// The length in bytes.
     fn size(&mut self) -> Result<u64, Failed>
-        ensures stays { StaysSource len told faults self.old self.new }
+        ensures stays { StaysSource len known faults self.old self.new }
         ensures cause { HasCause (faults self.old) (faults self.new) result }
         ensures length { IfOk result (λ n. n ≡ len self.old) };
 
     /// Puts bytes from `pos` on at the front of `buf`, and says how many: 0 only where `pos` isn't below the length, or
-    /// `buf` is empty. Where the bytes are told, the rest of `buf` stays as it was.
+    /// `buf` is empty. Where the bytes are known, the rest of `buf` stays as it was.
     fn read_at(&mut self, pos: u64, buf: &mut [u8]) -> Result<usize, Failed>
-        ensures stays { StaysSource len told faults self.old self.new }
+        ensures stays { StaysSource len known faults self.old self.new }
         ensures cause { HasCause (faults self.old) (faults self.new) result }
         ensures count { IfOk result (IsReadCount (len self.old) pos (length buf.old)) }
-        ensures bytes { IfOk result (λ n. ReadsAt (told self.old) pos n buf.old buf.new) };
+        ensures bytes { IfOk result (λ n. ReadsAt (known self.old) pos n buf.old buf.new) };
 
-    ghost told_len: { (s : Self) → ForSome (told s) (λ bytes. length bytes ≡ len s) };
+    ghost known_len: { (s : Self) → ForSome (known s) (λ bytes. length bytes ≡ len s) };
 
-    ghost told_bytes: { (s : Self) → ForSome (told s) (All (λ b. b < 2 ^ 8)) };
+    ghost known_bytes: { (s : Self) → ForSome (known s) (All (λ b. b < 2 ^ 8)) };
 
     ghost fits: { (s : Self) → len s < 2 ^ 64 };
 }

@@ -32,18 +32,18 @@ impl Source for SureSource {
 
     ghost len = { λ s. length s.bytes };
 
-    ghost told = { λ s. Some s.bytes };
+    ghost known = { λ s. Some s.bytes };
 
     ghost faults = { λ _. 0 };
 
-    ghost told_len = { λ s bytes e. Prim.cc };
+    ghost known_len = { λ s bytes e. Prim.cc };
 
-    ghost told_bytes = { λ s bytes e. Prim.rw (← same_Some s.bytes bytes e) s.are_bytes };
+    ghost known_bytes = { λ s bytes e. Prim.rw (← same_Some s.bytes bytes e) s.are_bytes };
 
     ghost fits = { λ s. s.fits };
 
     fn size(&mut self) -> Result<u64, Failed>
-        ensures stays { StaysSource ⟦<SureSource as Source>⟧.len ⟦<SureSource as Source>⟧.told ⟦<SureSource as Source>⟧.faults self.old self.new }
+        ensures stays { StaysSource ⟦<SureSource as Source>⟧.len ⟦<SureSource as Source>⟧.known ⟦<SureSource as Source>⟧.faults self.old self.new }
         ensures cause { HasCause (⟦<SureSource as Source>⟧.faults self.old) (⟦<SureSource as Source>⟧.faults self.new) result }
         ensures length { IfOk result (λ n. n ≡ ⟦<SureSource as Source>⟧.len self.old) }
         ensures same { self.new ≡ self.old }
@@ -52,10 +52,10 @@ impl Source for SureSource {
     }
 
     fn read_at(&mut self, pos: u64, buf: &mut [u8]) -> Result<usize, Failed>
-        ensures stays { StaysSource ⟦<SureSource as Source>⟧.len ⟦<SureSource as Source>⟧.told ⟦<SureSource as Source>⟧.faults self.old self.new }
+        ensures stays { StaysSource ⟦<SureSource as Source>⟧.len ⟦<SureSource as Source>⟧.known ⟦<SureSource as Source>⟧.faults self.old self.new }
         ensures cause { HasCause (⟦<SureSource as Source>⟧.faults self.old) (⟦<SureSource as Source>⟧.faults self.new) result }
         ensures count { IfOk result (IsReadCount (⟦<SureSource as Source>⟧.len self.old) pos (length buf.old)) }
-        ensures bytes { IfOk result (λ n. ReadsAt (⟦<SureSource as Source>⟧.told self.old) pos n buf.old buf.new) }
+        ensures bytes { IfOk result (λ n. ReadsAt (⟦<SureSource as Source>⟧.known self.old) pos n buf.old buf.new) }
         ensures same { self.new ≡ self.old }
         ensures gives { IfOk result (λ n. n ≡ readable (length (sure_bytes self.old)) pos (length buf.old)) }
     {
@@ -126,18 +126,18 @@ impl Source for MemSource {
 
     ghost len = { λ s. length s.bytes };
 
-    ghost told = { λ s. Some s.bytes };
+    ghost known = { λ s. Some s.bytes };
 
     ghost faults = { λ s. s.faults };
 
-    ghost told_len = { λ s bytes e. Prim.cc };
+    ghost known_len = { λ s bytes e. Prim.cc };
 
-    ghost told_bytes = { λ s bytes e. Prim.rw (← same_Some s.bytes bytes e) s.are_bytes };
+    ghost known_bytes = { λ s bytes e. Prim.rw (← same_Some s.bytes bytes e) s.are_bytes };
 
     ghost fits = { λ s. s.fits };
 
     fn size(&mut self) -> Result<u64, Failed>
-        ensures stays { StaysSource ⟦<MemSource as Source>⟧.len ⟦<MemSource as Source>⟧.told ⟦<MemSource as Source>⟧.faults self.old self.new }
+        ensures stays { StaysSource ⟦<MemSource as Source>⟧.len ⟦<MemSource as Source>⟧.known ⟦<MemSource as Source>⟧.faults self.old self.new }
         ensures cause { HasCause (⟦<MemSource as Source>⟧.faults self.old) (⟦<MemSource as Source>⟧.faults self.new) result }
         ensures length { IfOk result (λ n. n ≡ ⟦<MemSource as Source>⟧.len self.old) }
         ensures script { source_script self.new ≡ after_call (source_script self.old) }
@@ -148,10 +148,10 @@ impl Source for MemSource {
     }
 
     fn read_at(&mut self, pos: u64, buf: &mut [u8]) -> Result<usize, Failed>
-        ensures stays { StaysSource ⟦<MemSource as Source>⟧.len ⟦<MemSource as Source>⟧.told ⟦<MemSource as Source>⟧.faults self.old self.new }
+        ensures stays { StaysSource ⟦<MemSource as Source>⟧.len ⟦<MemSource as Source>⟧.known ⟦<MemSource as Source>⟧.faults self.old self.new }
         ensures cause { HasCause (⟦<MemSource as Source>⟧.faults self.old) (⟦<MemSource as Source>⟧.faults self.new) result }
         ensures count { IfOk result (IsReadCount (⟦<MemSource as Source>⟧.len self.old) pos (length buf.old)) }
-        ensures bytes { IfOk result (λ n. ReadsAt (⟦<MemSource as Source>⟧.told self.old) pos n buf.old buf.new) }
+        ensures bytes { IfOk result (λ n. ReadsAt (⟦<MemSource as Source>⟧.known self.old) pos n buf.old buf.new) }
         ensures script { source_script self.new ≡ after_call (source_script self.old) }
         ensures fails { is_err result ≡ is_due (source_script self.old).calls (source_script self.old).fail_at }
         ensures gives { IfOk result (λ n. n ≡ min (source_script self.old).most (readable (⟦<MemSource as Source>⟧.len self.old) pos (length buf.old))) }
@@ -168,7 +168,7 @@ impl Source for MemSource {
     }
 }
 
-/// A source for tests of a given length, which tells no bytes: those of `front`, and then zeros.
+/// A source for tests of a given length, which makes no bytes known: those of `front`, and then zeros.
 #[derive(Debug, Drop)]
 pub struct VastSource {
     front: Blob,
@@ -195,18 +195,18 @@ impl Source for VastSource {
 
     ghost len = { λ s. s.size };
 
-    ghost told = { λ _. None };
+    ghost known = { λ _. None };
 
     ghost faults = { λ _. 0 };
 
-    ghost told_len = { λ s bytes e. Prim.cc };
+    ghost known_len = { λ s bytes e. Prim.cc };
 
-    ghost told_bytes = { λ s bytes e. Prim.cc };
+    ghost known_bytes = { λ s bytes e. Prim.cc };
 
     ghost fits = { λ s. s.fits };
 
     fn size(&mut self) -> Result<u64, Failed>
-        ensures stays { StaysSource ⟦<VastSource as Source>⟧.len ⟦<VastSource as Source>⟧.told ⟦<VastSource as Source>⟧.faults self.old self.new }
+        ensures stays { StaysSource ⟦<VastSource as Source>⟧.len ⟦<VastSource as Source>⟧.known ⟦<VastSource as Source>⟧.faults self.old self.new }
         ensures cause { HasCause (⟦<VastSource as Source>⟧.faults self.old) (⟦<VastSource as Source>⟧.faults self.new) result }
         ensures length { IfOk result (λ n. n ≡ ⟦<VastSource as Source>⟧.len self.old) }
         ensures same { self.new ≡ self.old }
@@ -215,10 +215,10 @@ impl Source for VastSource {
     }
 
     fn read_at(&mut self, pos: u64, buf: &mut [u8]) -> Result<usize, Failed>
-        ensures stays { StaysSource ⟦<VastSource as Source>⟧.len ⟦<VastSource as Source>⟧.told ⟦<VastSource as Source>⟧.faults self.old self.new }
+        ensures stays { StaysSource ⟦<VastSource as Source>⟧.len ⟦<VastSource as Source>⟧.known ⟦<VastSource as Source>⟧.faults self.old self.new }
         ensures cause { HasCause (⟦<VastSource as Source>⟧.faults self.old) (⟦<VastSource as Source>⟧.faults self.new) result }
         ensures count { IfOk result (IsReadCount (⟦<VastSource as Source>⟧.len self.old) pos (length buf.old)) }
-        ensures bytes { IfOk result (λ n. ReadsAt (⟦<VastSource as Source>⟧.told self.old) pos n buf.old buf.new) }
+        ensures bytes { IfOk result (λ n. ReadsAt (⟦<VastSource as Source>⟧.known self.old) pos n buf.old buf.new) }
         ensures same { self.new ≡ self.old }
         ensures gives { IfOk result (λ n. n ≡ readable (vast_size self.old) pos (length buf.old)) }
         ensures piece { IfOk result (λ n. buf.new ≡ front_piece (vast_front self.old) pos n ++ drop n buf.old) }

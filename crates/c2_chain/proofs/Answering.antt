@@ -2,10 +2,10 @@
 use Rattle.std.proofs.Common.{◌≡◌, ◌⊎◌, inl, inr, ℕ, Bool, true, false, List, Option, Some, None, IfSome, sym, ap, ◌∙◌, subst}
 use Rattle.std.specs.Option.{option_and_then}
 use Rattle.c2_base.specs.declared.values.Question.{Question}
-use Rattle.c2_spec.specs.Claim.{IsClaim}
-use Rattle.c2_spec.specs.Manifest.{Manifest, Boxed, claim_bytes}
-use Rattle.c2_spec.specs.Sign1.{SignParts, SpellsMessage}
-use Rattle.c2_spec.specs.Uri.{uri_of}
+use Rattle.c2_spec.specs.C2pa.Claim.{IsClaim}
+use Rattle.c2_spec.specs.C2pa.Manifest.{Manifest, Superbox, claim_bytes}
+use Rattle.c2_spec.specs.C2pa.Sign1.{SignParts, SpellsMessage}
+use Rattle.c2_spec.specs.C2pa.Uri.{uri_of}
 use Rattle.c2_spec.specs.declared.claim.Claim.{Claim}
 use Rattle.c2_spec.specs.declared.sign1.SignError.{SignError}
 use Rattle.c2_spec.specs.declared.sign1.SignError.TheVariants.{Form, NoMemory}
@@ -35,12 +35,12 @@ not_both b e f = cc
 unnamed : (m : Manifest) (k : KeptClaim) → Keeps m (Some k) → Names m k.claim.signature false → IsQuestionOf m None
 unnamed m k h not_named q a = not_both (is_signature_uri m (uri_of k.claim.signature)) (subst (λ (c : Claim). Names m c.signature true) (claim_is m k q h a) a.names) not_named
 
-no_item : (m : Manifest) → None ≡ option_and_then (λ (b : Boxed). b.item) m.signature → IsQuestionOf m None
+no_item : (m : Manifest) → None ≡ option_and_then (λ (b : Superbox). b.item) m.signature → IsQuestionOf m None
 no_item m e q a = let bad = e ∙ a.has_item in cc (bad)
 
-asked : (m : Manifest) (k : KeptClaim) (message : List ℕ) (found : Option Question) → Keeps m (Some k) → Names m k.claim.signature true → Some message ≡ option_and_then (λ (b : Boxed). b.item) m.signature
+asked : (m : Manifest) (k : KeptClaim) (message : List ℕ) (found : Option Question) → Keeps m (Some k) → Names m k.claim.signature true → Some message ≡ option_and_then (λ (b : Superbox). b.item) m.signature
     → IsAsked message k.bytes.now found → IsQuestionOf m found
-asked m k message None h named e is = λ q a. is a.parts (subst (λ (x : List ℕ). SpellsMessage x a.parts) (some_same (option_and_then (λ (b : Boxed). b.item) m.signature) a.item message a.has_item (sym e)) a.is_message)
+asked m k message None h named e is = λ q a. is a.parts (subst (λ (x : List ℕ). SpellsMessage x a.parts) (some_same (option_and_then (λ (b : Superbox). b.item) m.signature) a.item message a.has_item (sym e)) a.is_message)
 asked m k message (Some q) h named e is =
     record {
       bytes = k.bytes.now;
@@ -85,18 +85,18 @@ pub unnamed_there : (o : Option Manifest) (found : Option KeptClaim) (k : KeptCl
     → NamesUnder label text r → text ≡ k.claim.signature → r ≡ false → AskedThere o None
 unnamed_there o found k label text r h same l names is e = unnamed_here o k label (subst (KeptThere o) same h) l (named_by label text k.claim.signature r false names is e)
 
-pub no_item_there : (o : Option Manifest) → IfSome o (λ m. None ≡ option_and_then (λ (b : Boxed). b.item) m.signature) → AskedThere o None
+pub no_item_there : (o : Option Manifest) → IfSome o (λ m. None ≡ option_and_then (λ (b : Superbox). b.item) m.signature) → AskedThere o None
 no_item_there None e = tt
 no_item_there (Some m) e = no_item m e
 
 asked_here : (o : Option Manifest) (k : KeptClaim) (label message : List ℕ) (found : Option Question) → KeptThere o (Some k) → IfSome o (λ m. m.label ≡ Some label)
-    → NamesUnder label k.claim.signature true → IfSome o (λ m. Some message ≡ option_and_then (λ (b : Boxed). b.item) m.signature) → IsAsked message k.bytes.now found → AskedThere o found
+    → NamesUnder label k.claim.signature true → IfSome o (λ m. Some message ≡ option_and_then (λ (b : Superbox). b.item) m.signature) → IsAsked message k.bytes.now found → AskedThere o found
 asked_here None k label message found h l names e is = tt
 asked_here (Some m) k label message found h l names e is = asked m k message found h (names m l) e is
 
 pub asked_there : (o : Option Manifest) (kept : Option KeptClaim) (k : KeptClaim) (label text message : List ℕ) (r : Bool) (found : Option Question) → KeptThere o kept → kept ≡ Some k
     → IfSome o (λ m. m.label ≡ Some label) → NamesUnder label text r → text ≡ k.claim.signature → r ≡ true
-    → IfSome o (λ m. Some message ≡ option_and_then (λ (b : Boxed). b.item) m.signature) → IsAsked message k.bytes.now found → AskedThere o found
+    → IfSome o (λ m. Some message ≡ option_and_then (λ (b : Superbox). b.item) m.signature) → IsAsked message k.bytes.now found → AskedThere o found
 asked_there o kept k label text message r found h same l names is e item q = asked_here o k label message found (subst (KeptThere o) same h) l (named_by label text k.claim.signature r true names is e) item q
 
 -- a question that a manifest has is the one that is answered

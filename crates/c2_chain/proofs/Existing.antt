@@ -4,9 +4,9 @@ use Rattle.std.proofs.lemmas.List.{length-drop, take_all}
 use Rattle.c2_spec.specs.Cbor.Item.{Item}
 use Rattle.c2_spec.specs.Cbor.Answers.{BeginsWith, EndsEarly}
 use Rattle.c2_spec.specs.Cbor.Spelling.{Spells}
-use Rattle.c2_spec.specs.Claim.{claim_of}
-use Rattle.c2_spec.specs.Fields.{HasItem, IsUnread, faulty, early}
-use Rattle.c2_spec.specs.Manifest.{Manifest, HasClaim, claim_bytes}
+use Rattle.c2_spec.specs.C2pa.Claim.{claim_of}
+use Rattle.c2_spec.specs.Cbor.Fields.{HasItem, IsUnread, faulty, early}
+use Rattle.c2_spec.specs.C2pa.Manifest.{Manifest, HasClaim, claim_bytes}
 use Rattle.c2_spec.specs.declared.cbor.CborError.{CborError}
 use Rattle.c2_spec.specs.declared.cbor.CborError.TheVariants as errors
 use Rattle.c2_spec.specs.declared.claim.Claim.{Claim}

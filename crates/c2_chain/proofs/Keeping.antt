@@ -3,8 +3,8 @@ use Rattle.std.proofs.Common.{◌≡◌, ℕ, zero, suc, ◌+◌, ◌<◌, ◌�
 use Rattle.std.specs.Option.{option_map}
 use Rattle.std.proofs.lemmas.List.{take_all}
 use Rattle.std.proofs.lemmas.Option.{slice_get_read}
-use Rattle.c2_spec.specs.Claim.{IsClaim}
-use Rattle.c2_spec.specs.Manifest.{Manifest, HasClaim, claim_bytes}
+use Rattle.c2_spec.specs.C2pa.Claim.{IsClaim}
+use Rattle.c2_spec.specs.C2pa.Manifest.{Manifest, HasClaim, claim_bytes}
 use Rattle.c2_rules.specs.Claims.{HaveClaims, Chained}
 use Rattle.c2_chain.specs.Kept.{KeepsBytes, Keeps, KeepEach, claims_of}
 use Rattle.c2_chain.specs.declared.kept.KeptClaim.{KeptClaim}

@@ -4,11 +4,11 @@ use Rattle.std.proofs.lemmas.Bool.{eqb-true}
 use Rattle.std.specs.Option.{option_and_then}
 use Rattle.c2_base.specs.declared.values.Question.{Question}
 use Rattle.c2_spec.specs.Cbor.Item.{Item, bytes, list, dict, tag, simple, Items, no_items, item}
-use Rattle.c2_spec.specs.Claim.{IsClaim}
-use Rattle.c2_spec.specs.Fields.{HasItem, IsUnread}
-use Rattle.c2_spec.specs.Manifest.{Manifest, Boxed, HasClaim, claim_bytes}
-use Rattle.c2_spec.specs.Sign1.{SignParts, message_list, IsMap, IsMessage, SpellsMessage, question_of}
-use Rattle.c2_spec.specs.Uri.{uri_of}
+use Rattle.c2_spec.specs.C2pa.Claim.{IsClaim}
+use Rattle.c2_spec.specs.Cbor.Fields.{HasItem, IsUnread}
+use Rattle.c2_spec.specs.C2pa.Manifest.{Manifest, Superbox, HasClaim, claim_bytes}
+use Rattle.c2_spec.specs.C2pa.Sign1.{SignParts, message_list, IsMap, IsMessage, SpellsMessage, question_of}
+use Rattle.c2_spec.specs.C2pa.Uri.{uri_of}
 use Rattle.c2_spec.specs.declared.cbor.CborError.{CborError}
 use Rattle.c2_spec.specs.declared.claim.Claim.{Claim}
 use Rattle.c2_sigstruct.specs.Parts.{bytes_in, is_null_item, is_dict, untagged, parts_if, parts_in_four, parts_in_items, parts_in_list}
@@ -106,7 +106,7 @@ message_bytes s held (inr (e, unread)) = inr (λ p h. never_both s h.message e h
 -- ---- a question or none
 
 abbrev pub signature_item : Manifest → Option (List ℕ)
-signature_item m = option_and_then (λ (b : Boxed). b.item) m.signature
+signature_item m = option_and_then (λ (b : Superbox). b.item) m.signature
 
 without_claim : (m : Manifest) → HasClaim m None → IsQuestionOf m None
 without_claim m none q h = none h.bytes h.claim h.has_bytes h.is_claim

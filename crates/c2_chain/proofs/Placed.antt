@@ -4,9 +4,9 @@ use Rattle.std.specs.Option.{option_map, option_and_then}
 use Rattle.std.proofs.lemmas.Option.{slice_get-get_or, slice_get-map, same_Some}
 use Rattle.std.proofs.lemmas.List.Elements.{All-get_or, All-from_recursion}
 use Rattle.std.proofs.lemmas.List.{length-map}
-use Rattle.c2_spec.specs.Jumbf.{Tree}
-use Rattle.c2_spec.specs.JumbfBoxes.{tree_count}
-use Rattle.c2_spec.specs.Manifest.{Boxed, Manifest, IsStoreOf, superboxes, claim_bytes, signature_in, boxed_at, item_at, manifest_boxes, manifest_at, manifests_of, store_of}
+use Rattle.c2_spec.specs.Jumbf.Tree.{Tree}
+use Rattle.c2_spec.specs.Jumbf.Boxes.{tree_count}
+use Rattle.c2_spec.specs.C2pa.Manifest.{Superbox, Manifest, IsStoreOf, superboxes, claim_bytes, signature_in, superbox_at, item_at, manifest_boxes, manifest_at, manifests_of, store_of}
 use Rattle.c2_spec.specs.declared.store.ManifestBoxes.{ManifestBoxes}
 use Rattle.c2_jumbf.proofs.BoxLemmas.{some_box}
 use Rattle.c2_store.proofs.Labelled.{IsInside, superboxes_inside}
@@ -46,25 +46,25 @@ at_manifest P t s i w a h = subst (λ (o : Option Manifest). IfSome o P) (sym a.
 -- ---- claim boxes
 
 pub claim_bytes_at : (t : Tree) (s : List ManifestBoxes) (i : ℕ) (cs : List ℕ) (o : Option (List ℕ)) → IsStoreOf t s → i < length s → Some cs ≡ option_map (λ (m : ManifestBoxes). m.claims) (slice_get s i)
-    → o ≡ claim_bytes (map (boxed_at t) cs) → IfSome (slice_get (manifests_of t) i) (λ m. o ≡ claim_bytes m.claims)
+    → o ≡ claim_bytes (map (superbox_at t) cs) → IfSome (slice_get (manifests_of t) i) (λ m. o ≡ claim_bytes m.claims)
 claim_bytes_at t s i cs o h l e is =
     let a = at_of t s i h l in
     let same = field_at (λ (m : ManifestBoxes). m.claims) t s i a.0 cs a.1 e in
-    at_manifest (λ m. o ≡ claim_bytes m.claims) t s i a.0 a.1 (is ∙ ap (λ (x : List ℕ). claim_bytes (map (boxed_at t) x)) same)
+    at_manifest (λ m. o ≡ claim_bytes m.claims) t s i a.0 a.1 (is ∙ ap (λ (x : List ℕ). claim_bytes (map (superbox_at t) x)) same)
 
 -- ---- the signature box
 
 signature_is : (t : Tree) (s : List ManifestBoxes) (i w : ℕ) (o : Option ℕ) → IsAt t s i w → Some o ≡ option_map (λ (m : ManifestBoxes). m.signature) (slice_get s i) → o ≡ signature_in t (superboxes t w)
 signature_is t s i w o a e = field_at (λ (m : ManifestBoxes). m.signature) t s i w o a e
 
-abbrev pub item_in : Option Boxed → Option (List ℕ)
-item_in o = option_and_then (λ (b : Boxed). b.item) o
+abbrev pub item_in : Option Superbox → Option (List ℕ)
+item_in o = option_and_then (λ (b : Superbox). b.item) o
 
 signature_item_at : (t : Tree) (s : List ManifestBoxes) (i : ℕ) (o : Option ℕ) (r : Option (List ℕ)) → IsStoreOf t s → i < length s → Some o ≡ option_map (λ (m : ManifestBoxes). m.signature) (slice_get s i)
-    → r ≡ item_in (option_map (boxed_at t) o) → IfSome (slice_get (manifests_of t) i) (λ m. r ≡ item_in m.signature)
+    → r ≡ item_in (option_map (superbox_at t) o) → IfSome (slice_get (manifests_of t) i) (λ m. r ≡ item_in m.signature)
 signature_item_at t s i o r h l e is =
     let a = at_of t s i h l in
-    at_manifest (λ m. r ≡ item_in m.signature) t s i a.0 a.1 (is ∙ ap (λ (x : Option ℕ). item_in (option_map (boxed_at t) x)) (signature_is t s i a.0 o a.1 e))
+    at_manifest (λ m. r ≡ item_in m.signature) t s i a.0 a.1 (is ∙ ap (λ (x : Option ℕ). item_in (option_map (superbox_at t) x)) (signature_is t s i a.0 o a.1 e))
 
 pub signature_item_some : (t : Tree) (s : List ManifestBoxes) (i j : ℕ) (r : Option (List ℕ)) → IsStoreOf t s → i < length s → Some (Some j) ≡ option_map (λ (m : ManifestBoxes). m.signature) (slice_get s i)
     → r ≡ item_at t j → IfSome (slice_get (manifests_of t) i) (λ m. r ≡ item_in m.signature)

@@ -4,9 +4,9 @@ use Rattle.std.specs.Option.{option_and_then}
 use Rattle.c2_base.specs.declared.values.Question.{Question}
 use Rattle.c2_spec.specs.Cbor.Item.{Item, tag}
 use Rattle.c2_spec.specs.Cbor.Spelling.{Spells}
-use Rattle.c2_spec.specs.Claim.{claim_of, IsClaim}
-use Rattle.c2_spec.specs.Manifest.{Manifest, Boxed, HasClaim, claim_bytes}
-use Rattle.c2_spec.specs.Sign1.{SignParts, message_list, SpellsMessage, question_of}
+use Rattle.c2_spec.specs.C2pa.Claim.{claim_of, IsClaim}
+use Rattle.c2_spec.specs.C2pa.Manifest.{Manifest, Superbox, HasClaim, claim_bytes}
+use Rattle.c2_spec.specs.C2pa.Sign1.{SignParts, message_list, SpellsMessage, question_of}
 use Rattle.c2_spec.specs.declared.claim.Claim.{Claim}
 use Rattle.c2_rules.specs.Claims.{HaveClaims}
 use Rattle.c2_rules.specs.Questions.{HasQuestion}
@@ -76,6 +76,6 @@ same_asked p q a b e f = ap (λ (x : SignParts). question_of x a) e ∙ ap (λ (
 pub one_question : (m : Manifest) (q r : Question) → HasQuestion m q → HasQuestion m r → q ≡ r
 one_question m q r a b =
     let claim : a.bytes ≡ b.bytes = one_some (claim_bytes m.claims) a.bytes b.bytes a.has_bytes b.has_bytes in
-    let item : b.item ≡ a.item = one_some (option_and_then (λ (x : Boxed). x.item) m.signature) b.item a.item b.has_item a.has_item in
+    let item : b.item ≡ a.item = one_some (option_and_then (λ (x : Superbox). x.item) m.signature) b.item a.item b.has_item a.has_item in
     let parts : a.parts ≡ b.parts = same_message a.item a.parts b.parts a.is_message (subst (λ (s : List ℕ). SpellsMessage s b.parts) item b.is_message) in
     a.is ∙ same_asked a.parts b.parts a.bytes b.bytes parts claim ∙ sym b.is

@@ -2,7 +2,7 @@
 use Rattle.std.specs.Prelude.{◌≡◌, ℕ, List, Some, None}
 use Rattle.std.specs.declared.option.Option.{Option}
 use Rattle.c2_base.specs.declared.values.Question.{Question}
-use Rattle.c2_spec.specs.Sign1.{SignParts, SpellsMessage, question_of}
+use Rattle.c2_spec.specs.C2pa.Sign1.{SignParts, SpellsMessage, question_of}
 
 -- the bytes are a message of which this is asked, or are none
 abbrev pub IsAsked : List ℕ → List ℕ → Option Question → Type 0

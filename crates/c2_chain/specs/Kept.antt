@@ -1,9 +1,9 @@
 -- What a chain keeps of the manifests of a store.
 use Rattle.std.specs.Prelude.{◌≡◌, ℕ, List, [], ◌∷◌, length, map, Some, None, option_map, ⊤}
 use Rattle.std.specs.declared.option.Option.{Option}
-use Rattle.c2_spec.specs.Jumbf.{Tree}
-use Rattle.c2_spec.specs.Claim.{IsClaim}
-use Rattle.c2_spec.specs.Manifest.{Manifest, IsStoreOf, HasClaim, claim_bytes, manifests_of}
+use Rattle.c2_spec.specs.Jumbf.Tree.{Tree}
+use Rattle.c2_spec.specs.C2pa.Claim.{IsClaim}
+use Rattle.c2_spec.specs.C2pa.Manifest.{Manifest, IsStoreOf, HasClaim, claim_bytes, manifests_of}
 use Rattle.c2_spec.specs.declared.claim.Claim.{Claim}
 use Rattle.c2_spec.specs.declared.store.ManifestBoxes.{ManifestBoxes}
 use Rattle.c2_rules.specs.Claims.{HaveClaims}

@@ -1,8 +1,8 @@
 // What judges are asked of a manifest.
 ghost use Rattle.std.specs.Prelude.{◌≡◌, ◌<◌, Some, length, slice_get, option_map, IfOk, IfSome};
 ghost use Rattle.c2_base.specs.declared.values.Question.{Question as AnyQuestion};
-ghost use Rattle.c2_spec.specs.Manifest.{Manifest};
-ghost use Rattle.c2_spec.specs.Uri.{uri_of, target_view};
+ghost use Rattle.c2_spec.specs.C2pa.Manifest.{Manifest};
+ghost use Rattle.c2_spec.specs.C2pa.Uri.{uri_of, target_view};
 ghost use Rattle.c2_rules.specs.Questions as form;
 ghost use Rattle.c2_rules.specs.Questions.{HasQuestion, IsQuestionOf};
 ghost use Rattle.c2_chain.specs.Asked.{IsAsked};

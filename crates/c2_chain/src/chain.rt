@@ -1,6 +1,6 @@
 // The manifests of a store with their claims.
 ghost use Rattle.std.specs.Prelude.{◌≡◌, ◌<◌, Some, length, slice_get, option_map, option_and_then, IfOk, IfSome};
-ghost use Rattle.c2_spec.specs.Manifest.{Boxed, IsStoreOf, HasClaim, manifests_of};
+ghost use Rattle.c2_spec.specs.C2pa.Manifest.{Superbox, IsStoreOf, HasClaim, manifests_of};
 ghost use Rattle.c2_rules.specs.Claims.{HaveClaims};
 ghost use Rattle.c2_chain.specs.Kept.{Keeps};
 ghost use Rattle.c2_chain.specs.declared.kept.KeptClaim.{KeptClaim as Kept};
@@ -23,7 +23,7 @@ pub struct Chain<'t> {
 }
 
 impl<'t> Model for Chain<'t> {
-    ghost use Rattle.c2_spec.specs.Manifest.{manifests_of};
+    ghost use Rattle.c2_spec.specs.C2pa.Manifest.{manifests_of};
     ghost use Rattle.c2_rules.specs.Claims.{Chained};
     ghost use Rattle.c2_chain.specs.Kept.{claims_of, IsChain};
 
@@ -79,7 +79,7 @@ pub fn label<'t>(chain: &'t Chain<'_>, i: usize) -> &'t str
 /// The item of a manifest's signature box.
 pub fn signature_item<'t>(chain: &'t Chain<'_>, i: usize) -> Option<&'t [u8]>
     requires { i < length chain.now.manifests }
-    ensures { IfSome (slice_get chain.now.manifests i) (λ m. option_map (λ b. b.now) result ≡ option_and_then (λ (b : Boxed). b.item) m.signature) }
+    ensures { IfSome (slice_get chain.now.manifests i) (λ m. option_map (λ b. b.now) result ≡ option_and_then (λ (b : Superbox). b.item) m.signature) }
 {
     boxes::signature_item(chain.tree, chain.store, i)
 }

@@ -1,6 +1,6 @@
 // What is kept of a manifest.
 ghost use Rattle.std.specs.Prelude.{◌≡◌, ◌<◌, IfOk, IfSome, length, slice_get};
-ghost use Rattle.c2_spec.specs.Manifest.{IsStoreOf, manifests_of};
+ghost use Rattle.c2_spec.specs.C2pa.Manifest.{IsStoreOf, manifests_of};
 ghost use Rattle.c2_chain.specs.Kept.{KeepsBytes, Keeps, KeepEach};
 
 use crate::boxes::claim_bytes;

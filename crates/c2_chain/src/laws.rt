@@ -2,8 +2,8 @@
 ghost use Rattle.std.specs.Prelude.{◌≡◌, ◌⊎◌, ℕ, List, Option, IfSome, option_and_then};
 ghost use Rattle.c2_base.specs.declared.values.Question.{Question};
 ghost use Rattle.c2_spec.specs.Cbor.Item.{Item};
-ghost use Rattle.c2_spec.specs.Fields.{HasItem, IsUnread};
-ghost use Rattle.c2_spec.specs.Manifest.{Manifest, Boxed, HasClaim, claim_bytes};
+ghost use Rattle.c2_spec.specs.Cbor.Fields.{HasItem, IsUnread};
+ghost use Rattle.c2_spec.specs.C2pa.Manifest.{Manifest, Superbox, HasClaim, claim_bytes};
 ghost use Rattle.c2_spec.specs.declared.cbor.CborError.{CborError};
 ghost use Rattle.c2_chain.specs.Existing.{IsHeld};
 ghost use Rattle.c2_spec.specs.declared.claim.Claim.{Claim};
@@ -38,5 +38,5 @@ pub fn each_manifest_has_a_claim_or_not()
 
 /// A manifest whose claim bytes and signature item a program can hold has a question or none.
 pub fn each_manifest_has_a_question_or_not()
-    ensures { (m : Manifest) → IfSome (claim_bytes m.claims) IsHeld → IfSome (option_and_then (λ (b : Boxed). b.item) m.signature) IsHeld → (found : Option Question) × IsQuestionOf m found }
+    ensures { (m : Manifest) → IfSome (claim_bytes m.claims) IsHeld → IfSome (option_and_then (λ (b : Superbox). b.item) m.signature) IsHeld → (found : Option Question) × IsQuestionOf m found }
 {}

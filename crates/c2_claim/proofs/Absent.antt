@@ -1,8 +1,8 @@
 -- Bytes that are refused are no claim; for callers of `read`.
 use Rattle.std.proofs.Common.{◌≢◌, ℕ, List, Err, refl, sym, ◌∙◌}
 use Rattle.c2_spec.specs.Cbor.Item.{Item}
-use Rattle.c2_spec.specs.Fields.{HasItem}
-use Rattle.c2_spec.specs.Claim.{claim_of, IsClaim, Agrees}
+use Rattle.c2_spec.specs.Cbor.Fields.{HasItem}
+use Rattle.c2_spec.specs.C2pa.Claim.{claim_of, IsClaim, Agrees}
 use Rattle.c2_spec.specs.declared.claim.Claim.{Claim}
 use Rattle.c2_spec.specs.declared.claim.ClaimError.{ClaimError}
 use Rattle.c2_spec.specs.declared.claim.ClaimError.TheVariants.{Cbor, Fields, NoMemory}

@@ -2,8 +2,8 @@
 use Rattle.std.proofs.Common.{◌≡◌, ◌⊎◌, inl, inr, ℕ, List, Err, refl, sym, subst}
 use Rattle.c2_spec.specs.Cbor.Faults.{HasFault}
 use Rattle.c2_spec.specs.Cbor.Answers.{EndsEarly}
-use Rattle.c2_spec.specs.Fields.{IsUnread, faulty, early}
-use Rattle.c2_spec.specs.Claim.{RefusesItem}
+use Rattle.c2_spec.specs.Cbor.Fields.{IsUnread, faulty, early}
+use Rattle.c2_spec.specs.C2pa.Claim.{RefusesItem}
 use Rattle.c2_spec.specs.declared.cbor.CborError.{CborError}
 use Rattle.c2_spec.specs.declared.cbor.CborError.TheVariants as faults
 use Rattle.c2_spec.specs.declared.claim.ClaimError.{ClaimError}

@@ -2,8 +2,8 @@
 ghost use Rattle.std.specs.Prelude.{◌≡◌};
 ghost use Rattle.c2_spec.specs.Cbor.Item.{Item};
 ghost use Rattle.c2_spec.specs.Cbor.View.{view};
-ghost use Rattle.c2_spec.specs.Fields.{HasItem, IsUnread};
-ghost use Rattle.c2_spec.specs.Claim.{claim_of, IsRead, Agrees, RefusesItem};
+ghost use Rattle.c2_spec.specs.Cbor.Fields.{HasItem, IsUnread};
+ghost use Rattle.c2_spec.specs.C2pa.Claim.{claim_of, IsRead, Agrees, RefusesItem};
 ghost use Rattle.c2_spec.specs.declared.cbor.CborError.{CborError as AnyError};
 ghost use Rattle.c2_claim.specs.Unread.{claim_error};
 
@@ -15,25 +15,25 @@ use std::alloc::Global;
 fn claim_in(alloc: Global, item: &Cbor) -> Result<Claim, ClaimError>
     ensures { Agrees (claim_of (view item.now)) result }
 {
-    if !c2_fields::is_map(item) {
+    if !c2_cbor_fields::is_map(item) {
         return Err(ClaimError::Fields(ClaimField::Whole));
     }
-    let Some(instance) = c2_fields::text(alloc, item, "instanceID")? else {
+    let Some(instance) = c2_cbor_fields::text(alloc, item, "instanceID")? else {
         return Err(ClaimError::Fields(ClaimField::InstanceId));
     };
-    let Some(signature) = c2_fields::text(alloc, item, "signature")? else {
+    let Some(signature) = c2_cbor_fields::text(alloc, item, "signature")? else {
         return Err(ClaimError::Fields(ClaimField::Signature));
     };
-    let Some(created) = c2_fields::references(alloc, item, "created_assertions")? else {
+    let Some(created) = c2_cbor_fields::references(alloc, item, "created_assertions")? else {
         return Err(ClaimError::Fields(ClaimField::Created));
     };
-    let Some(gathered) = c2_fields::optional_references(alloc, item, "gathered_assertions")? else {
+    let Some(gathered) = c2_cbor_fields::optional_references(alloc, item, "gathered_assertions")? else {
         return Err(ClaimError::Fields(ClaimField::Gathered));
     };
-    let Some(redacted) = c2_fields::optional_texts(alloc, item, "redacted_assertions")? else {
+    let Some(redacted) = c2_cbor_fields::optional_texts(alloc, item, "redacted_assertions")? else {
         return Err(ClaimError::Fields(ClaimField::Redacted));
     };
-    let Some(alg) = c2_fields::optional_text(alloc, item, "alg")? else {
+    let Some(alg) = c2_cbor_fields::optional_text(alloc, item, "alg")? else {
         return Err(ClaimError::Fields(ClaimField::Alg));
     };
     Ok(Claim {

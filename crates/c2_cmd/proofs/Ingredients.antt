@@ -4,9 +4,9 @@ use Rattle.std.specs.List.{flat_map}
 use Rattle.std.specs.Option.{option_map, option_or, option_and_then}
 use Rattle.std.proofs.lemmas.List.{drop_more, length-map}
 use Rattle.std.proofs.Math.Seq.{drop-length}
-use Rattle.c2_spec.specs.Jumbf.{Tree}
-use Rattle.c2_spec.specs.JumbfBoxes.{box_at, any_label}
-use Rattle.c2_spec.specs.Manifest.{Manifest, manifest_at, manifest_boxes, manifests_of, IsStoreOf, StoreTest, store_test, first_refusal, manifest_tests, count_tests, superboxes, is_store}
+use Rattle.c2_spec.specs.Jumbf.Tree.{Tree}
+use Rattle.c2_spec.specs.Jumbf.Boxes.{box_at, any_label}
+use Rattle.c2_spec.specs.C2pa.Manifest.{Manifest, manifest_at, manifest_boxes, manifests_of, IsStoreOf, StoreTest, store_test, first_refusal, manifest_tests, count_tests, superboxes, is_store}
 use Rattle.c2_spec.specs.declared.store.ManifestBoxes.{ManifestBoxes}
 use Rattle.c2_spec.specs.declared.store.StoreError.TheVariants.{NotStore}
 use Rattle.c2_store.proofs.Picking.{first_refusal_append}

@@ -2,7 +2,7 @@
 use Rattle.std.proofs.Common.{refl, ℕ, List, [], ◌∷◌}
 use Rattle.c2_base.specs.declared.values.Question.{Question}
 use Rattle.c2_spec.specs.declared.panel.Verdict.{Verdict}
-use Rattle.c2_spec.specs.Panel.{verdicts, panel_size, Counted, MovedBelow, FailedAt}
+use Rattle.c2_spec.specs.Judges.Panel.{verdicts, panel_size, Counted, MovedBelow, FailedAt}
 use Rattle.c2_rules.specs.Asking.{HaveAsked, HaveAskedFront, HaveFailed}
 
 pub asked_one : (said : List (Question → Verdict)) (q : Question) (before now : List ℕ) → MovedBelow Counted (panel_size (verdicts said q)) before now → HaveAsked said (q ∷ []) before now

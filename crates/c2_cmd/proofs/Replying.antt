@@ -7,9 +7,9 @@ use Rattle.c2_base.specs.declared.values.Question.{Question}
 use Rattle.c2_spec.specs.declared.digest.Alg.{Alg}
 use Rattle.c2_spec.specs.declared.panel.Verdict.{Verdict}
 use Rattle.c2_spec.specs.Located.{Located}
-use Rattle.c2_spec.specs.Jpeg.{IsLocated}
-use Rattle.c2_spec.specs.Jumbf.{Tree, SpellsTree}
-use Rattle.c2_spec.specs.JumbfFaults.{JumbfFault}
+use Rattle.c2_spec.specs.Jpeg.Store.{IsLocated}
+use Rattle.c2_spec.specs.Jumbf.Tree.{Tree, SpellsTree}
+use Rattle.c2_spec.specs.Jumbf.Faults.{JumbfFault}
 use Rattle.c2_spec.specs.StoreTree.{StoreTree, refused, spelled, IsStoreTree}
 use Rattle.c2_spec.specs.declared.jumbf.JumbfError.{JumbfError}
 use Rattle.c2_cmd.specs.declared.types.Roles.{Roles}
@@ -17,7 +17,7 @@ use Rattle.c2_cmd.specs.declared.reply.Reply.{Reply}
 use Rattle.c2_cmd.specs.Outcome.{Outcome, IsCommandOutcome, IsOutcome, IsTreeOutcome, tree_outcome, inputs, uses_media}
 use Rattle.c2_cmd.specs.declared.open.Opened.{Opened}
 use Rattle.c2_cmd.specs.Open.{located_of}
-use Rattle.c2_cmd.specs.Run.{Tells}
+use Rattle.c2_cmd.specs.Run.{AreKnown}
 use Rattle.c2_cmd.specs.Words.{reads_media}
 use Rattle.c2_cmd.specs.Reply.{outcome_of, IsReply}
 
@@ -34,10 +34,10 @@ reply_of-located P file what reply is only r = record {
 }
 
 -- a reply to the command is the reply to words with these roles, where the source that they use tells its bytes
-pub reply_of-told : (said : Question → Verdict) (hash : Alg → List ℕ → List ℕ) (told : Option (List ℕ)) (found : Option Roles) (roles : Roles) (reply : Reply) → found ≡ Some roles → is_some roles.media ≡ reads_media roles.command → reads_media roles.command ≡ true → Tells found told
-    → ((file : List ℕ) → told ≡ Some file → IsReply (IsCommandOutcome roles.command roles (inputs (Some file) None None said hash)) reply) → IsReply (IsOutcome found (inputs told None None said hash)) reply
-reply_of-told said hash None found roles reply is media reads tells r = absurd (false≢true (tells.media_told (ap uses_media is ∙ media ∙ reads)))
-reply_of-told said hash (Some file) found roles reply is media reads tells r = rw is (r file refl)
+pub reply_of-known : (said : Question → Verdict) (hash : Alg → List ℕ → List ℕ) (known : Option (List ℕ)) (found : Option Roles) (roles : Roles) (reply : Reply) → found ≡ Some roles → is_some roles.media ≡ reads_media roles.command → reads_media roles.command ≡ true → AreKnown found known
+    → ((file : List ℕ) → known ≡ Some file → IsReply (IsCommandOutcome roles.command roles (inputs (Some file) None None said hash)) reply) → IsReply (IsOutcome found (inputs known None None said hash)) reply
+reply_of-known said hash None found roles reply is media reads tells r = absurd (false≢true (tells.media_told (ap uses_media is ∙ media ∙ reads)))
+reply_of-known said hash (Some file) found roles reply is media reads tells r = rw is (r file refl)
 
 -- the same over what was opened
 pub reply_of-opened : (P : Located → Outcome → Type 0) (file : List ℕ) (opened it : Opened) (reply : Reply) → opened ≡ it → IsLocated file (located_of opened) → ((w : Located) → IsLocated file w → w ≡ located_of opened) → IsReply (P (located_of it)) reply

@@ -1,4 +1,4 @@
--- Outcomes over the manifests of a store, and what the judges are asked of it: what is known over a box tree is known over the
+-- Outcomes over the manifests of a store, and what the judges are asked of it: what is not_left over a box tree is not_left over the
 -- file.
 use Rattle.std.proofs.Common.{◌≡◌, refl, sym, ◌∙◌, ap, subst, ◌⊎◌, inl, inr, ℕ, List, [], Option, Some, None, Ok, Err}
 use Rattle.std.specs.Prelude.{is_some}
@@ -13,12 +13,12 @@ use Rattle.c2_spec.specs.declared.reason.Reason.{Reason}
 use Rattle.c2_spec.specs.declared.reason.Reason.TheVariants as reason
 use Rattle.c2_spec.specs.declared.store.StoreError.{StoreError}
 use Rattle.c2_spec.specs.declared.store.StoreError.TheVariants as errors
-use Rattle.c2_spec.specs.Jpeg.{IsLocated}
-use Rattle.c2_spec.specs.Jumbf.{Tree, SpellsTree}
-use Rattle.c2_spec.specs.JumbfFaults.{JumbfFault}
+use Rattle.c2_spec.specs.Jpeg.Store.{IsLocated}
+use Rattle.c2_spec.specs.Jumbf.Tree.{Tree, SpellsTree}
+use Rattle.c2_spec.specs.Jumbf.Faults.{JumbfFault}
 use Rattle.c2_spec.specs.Located.{Located}
 use Rattle.c2_spec.specs.Located as located
-use Rattle.c2_spec.specs.Manifest.{Manifest, manifests_of, store_refusal}
+use Rattle.c2_spec.specs.C2pa.Manifest.{Manifest, manifests_of, store_refusal}
 use Rattle.c2_spec.specs.StoreTree.{StoreTree, IsStoreTree, tree_refusal}
 use Rattle.c2_spec.specs.StoreTree as tree
 use Rattle.c2_rules.specs.Asking.{HaveAsked}
@@ -30,7 +30,7 @@ use Rattle.c2_chain.proofs.Unique.{one_list_of_claims}
 use Rattle.c2_cmd.specs.Outcome.{Outcome, reports, tree_outcome, IsStoreOutcome, IsMediaOutcome, IsShown, shown, AsksOfShape, AsksOfTree, AsksOfMedia, Asks, CommandAsks, inputs, uses_media}
 use Rattle.c2_cmd.specs.Reply.{outcome_of, IsReply, IsTreeRefusal, IsStoreRefusal, IsFoundOutcome, IsTypedOutcome, AsksOfFound, AsksOfTyped, HasAsked}
 use Rattle.c2_cmd.specs.Open.{located_of}
-use Rattle.c2_cmd.specs.Run.{Tells}
+use Rattle.c2_cmd.specs.Run.{AreKnown}
 use Rattle.c2_cmd.specs.Words.{reads_media}
 use Rattle.c2_cmd.specs.declared.open.Opened.{Opened}
 use Rattle.c2_cmd.specs.declared.reply.Fault.{Fault}
@@ -105,9 +105,9 @@ refused_box (boxes.DuplicateLabel at) what e = (reason.DuplicateLabel, at, cc (e
 refused_box (boxes.TooDeep at) what e = (reason.TooDeep, at, cc (e))
 refused_box boxes.NoMemory what e = absurd (cc (e))
 
-known : {A B : Type 0} → (A → ⊥) → A ⊎ B → B
-known not (inl a) = absurd (not a)
-known not (inr b) = b
+not_left : {A B : Type 0} → (A → ⊥) → A ⊎ B → B
+not_left not (inl a) = absurd (not a)
+not_left not (inr b) = b
 
 -- over bytes that spell no box tree
 unspelled_only : (P : Tree → Outcome → Type 0) (start len : ℕ) (store : List ℕ) (error : JumbfError) (of_box : StoreTree) → tree_refusal error ≡ Some of_box → ((d : JumbfError) → JumbfFault store d → error ≡ d) → ((u : Tree) → SpellsTree store u → ⊥) → (e : Outcome) (what : Shape) (s : StoreTree) → IsStoreTree store s
@@ -126,8 +126,8 @@ unspelled_reply P start len store error reply fault no_tree one r =
     let not = refuses_box error r.what r.refuses in
     let form = refused_box error r.what r.refuses in
     record {
-      holds = unspelled_holds P start len store error reply form.0 form.1 (known not fault) (r.refuses ∙ ap Some form.2) (r.outcome ∙ ap tree_outcome form.2);
-      only = λ e h. unspelled_only P start len store error r.what r.refuses (λ d f. known not (one d f)) (λ u is. not (no_tree u is)) e h.0 h.1.0 h.1.1 h.1.2 h.2 ∙ sym r.outcome;
+      holds = unspelled_holds P start len store error reply form.0 form.1 (not_left not fault) (r.refuses ∙ ap Some form.2) (r.outcome ∙ ap tree_outcome form.2);
+      only = λ e h. unspelled_only P start len store error r.what r.refuses (λ d f. not_left not (one d f)) (λ u is. not (no_tree u is)) e h.0 h.1.0 h.1.1 h.1.2 h.2 ∙ sym r.outcome;
     }
 
 -- ---- questions
@@ -240,7 +240,7 @@ opened_asks file opened it old new said b n fb fn result same only h =
 
 -- a store error that refuses is no want of memory
 pub refuses_store : (t : Tree) (error : StoreError) (reply : Reply) → (error ≡ errors.NoMemory) ⊎ (store_refusal t ≡ Some error) → IsStoreRefusal error reply → store_refusal t ≡ Some error
-refuses_store t error reply h r = known (λ memory. let both = sym r.refuses ∙ ap store_shape memory in cc (both)) h
+refuses_store t error reply h r = not_left (λ memory. let both = sym r.refuses ∙ ap store_shape memory in cc (both)) h
 
 -- the reply of `show` over the chain of a store
 pub shown_reply : (t : Tree) (s : Chained) (reply : Reply) → s.manifests ≡ manifests_of t → HaveClaims s.manifests s.claims → outcome_of reply ≡ reports answer.Done (show_line s) → IsReply (IsShown t) reply
@@ -254,9 +254,9 @@ shown_reply t s reply same have out =
     }
 
 -- what `questions` asks is what its words ask, where the source that they use tells its bytes
-pub asked_of-told : {J T : Type 0} (one : Question → Verdict) (hash : Alg → List ℕ → List ℕ) (told : Option (List ℕ)) (found : Option Roles) (roles : Roles) (old new : J) (said : List (Question → Verdict)) (b n fb fn : List ℕ) (result : Result T Fault) → found ≡ Some roles → is_some roles.media ≡ reads_media roles.command
-    → roles.command ≡ command.Questions → Tells found told → ((file : List ℕ) → told ≡ Some file → HasAsked (AsksOfMedia file) old new said b n fb fn result) → HasAsked (Asks found (inputs told None None one hash)) old new said b n fb fn result
-asked_of-told one hash None found roles old new said b n fb fn result is media questions tells h = absurd (false≢true (tells.media_told (ap uses_media is ∙ media ∙ ap reads_media questions)))
-asked_of-told one hash (Some file) found roles old new said b n fb fn result is media questions tells h =
+pub asked_of-known : {J T : Type 0} (one : Question → Verdict) (hash : Alg → List ℕ → List ℕ) (known : Option (List ℕ)) (found : Option Roles) (roles : Roles) (old new : J) (said : List (Question → Verdict)) (b n fb fn : List ℕ) (result : Result T Fault) → found ≡ Some roles → is_some roles.media ≡ reads_media roles.command
+    → roles.command ≡ command.Questions → AreKnown found known → ((file : List ℕ) → known ≡ Some file → HasAsked (AsksOfMedia file) old new said b n fb fn result) → HasAsked (Asks found (inputs known None None one hash)) old new said b n fb fn result
+asked_of-known one hash None found roles old new said b n fb fn result is media questions tells h = absurd (false≢true (tells.media_told (ap uses_media is ∙ media ∙ ap reads_media questions)))
+asked_of-known one hash (Some file) found roles old new said b n fb fn result is media questions tells h =
     let i = inputs (Some file) None None one hash in
     asked_lift (AsksOfMedia file) (Asks found i) old new said b n fb fn result (λ qs asks. subst (λ (c : Command). CommandAsks c file qs) questions (subst (λ (r : Option Roles). Asks r i qs) is asks)) (h file refl)

@@ -17,8 +17,8 @@ between-more from at n file begun =
     cc
 
 -- one piece of the source more
-pub TakesIn-more : {S : Type 0} (holds : S → Alg → List ℕ → Type 0) (told told' : Option (List ℕ)) (from at n : ℕ) (piece : List ℕ) (s0 s1 s2 : S) → from ≤ at → told' ≡ told → length piece ≡ n → TakesIn holds told from at s0 s1 → FilledAt told' at piece → ((alg : Alg) (list : List ℕ) → holds s1 alg list → holds s2 alg (list ++ piece)) → TakesIn holds told from (at + n) s0 s2
-TakesIn-more holds told told' from at n piece s0 s1 s2 begun same size before filled call file is alg list h =
+pub TakesIn-more : {S : Type 0} (holds : S → Alg → List ℕ → Type 0) (known known' : Option (List ℕ)) (from at n : ℕ) (piece : List ℕ) (s0 s1 s2 : S) → from ≤ at → known' ≡ known → length piece ≡ n → TakesIn holds known from at s0 s1 → FilledAt known' at piece → ((alg : Alg) (list : List ℕ) → holds s1 alg list → holds s2 alg (list ++ piece)) → TakesIn holds known from (at + n) s0 s2
+TakesIn-more holds known known' from at n piece s0 s1 s2 begun same size before filled call file is alg list h =
     let piece_is : piece ≡ take (length piece) (drop at file) = filled file (same ∙ is) in
     let short : take (length piece) (drop at file) ≡ take n (drop at file) = ap (λ k. take k (drop at file)) size in
     let joined : (list ++ between from at file) ++ piece ≡ list ++ between from (at + n) file =

@@ -6,12 +6,12 @@ use Rattle.c2_spec.specs.declared.digest.Alg.{Alg}
 use Rattle.c2_spec.specs.declared.digest.Alg.TheVariants.{Sha256}
 use Rattle.c2_spec.specs.declared.panel.Verdict.{Verdict}
 use Rattle.c2_spec.specs.Located.{Located, refused, absent, here}
-use Rattle.c2_spec.specs.Jpeg.{IsLocated}
+use Rattle.c2_spec.specs.Jpeg.Store.{IsLocated}
 use Rattle.c2_spec.specs.StoreTree.{StoreTree, IsStoreTree}
 use Rattle.c2_spec.specs.StoreTree as tree
-use Rattle.c2_spec.specs.Jumbf.{Tree}
-use Rattle.c2_spec.specs.Manifest.{Manifest, manifests_of}
-use Rattle.c2_spec.specs.Question.{question_digest}
+use Rattle.c2_spec.specs.Jumbf.Tree.{Tree}
+use Rattle.c2_spec.specs.C2pa.Manifest.{Manifest, manifests_of}
+use Rattle.c2_spec.specs.Judges.Question.{question_digest}
 use Rattle.c2_spec.specs.declared.claim.Claim.{Claim}
 use Rattle.c2_rules.specs.Claims.{HaveClaims, active_of}
 use Rattle.c2_rules.specs.Ingredients.{first_ingredient, assertion_uri, label_text}

@@ -8,6 +8,6 @@ use Rattle.c2_spec.specs.declared.digest.Alg.{Alg}
 abbrev pub between : ℕ → ℕ → List ℕ → List ℕ
 between from to file = take (to - from) (drop from file)
 
--- where the bytes are told, a state that stood for a list stands for it with these behind it
+-- where the bytes are known, a state that stood for a list stands for it with these behind it
 abbrev pub TakesIn : {S : Type 0} → (S → Alg → List ℕ → Type 0) → Option (List ℕ) → ℕ → ℕ → S → S → Type 0
-TakesIn {S} holds told from to old new = ForSome told (λ file. (alg : Alg) (list : List ℕ) → holds old alg list → holds new alg (list ++ between from to file))
+TakesIn {S} holds known from to old new = ForSome known (λ file. (alg : Alg) (list : List ℕ) → holds old alg list → holds new alg (list ++ between from to file))

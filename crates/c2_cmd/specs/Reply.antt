@@ -6,9 +6,9 @@ use Rattle.c2_base.specs.declared.values.Question.{Question}
 use Rattle.c2_spec.specs.declared.jumbf.JumbfError.{JumbfError}
 use Rattle.c2_spec.specs.declared.reason.Reason.{Reason}
 use Rattle.c2_spec.specs.declared.store.StoreError.{StoreError}
-use Rattle.c2_spec.specs.Jumbf.{Tree}
+use Rattle.c2_spec.specs.Jumbf.Tree.{Tree}
 use Rattle.c2_spec.specs.declared.panel.Verdict.{Verdict}
-use Rattle.c2_spec.specs.Panel.{SomeRose}
+use Rattle.c2_spec.specs.Judges.Panel.{SomeRose}
 use Rattle.c2_spec.specs.Located.{Located, here}
 use Rattle.c2_spec.specs.StoreTree.{StoreTree, tree_refusal}
 use Rattle.c2_rules.specs.Asking.{HaveAsked, HaveAskedFront, HaveFailed}

@@ -5,7 +5,7 @@ use Rattle.c2_base.specs.Causes.{Rose}
 use Rattle.c2_base.specs.Sink.{then_written, HasWrittenFront}
 use Rattle.c2_base.specs.declared.values.Question.{Question}
 use Rattle.c2_spec.specs.declared.panel.Verdict.{Verdict}
-use Rattle.c2_spec.specs.Panel.{SomeRose}
+use Rattle.c2_spec.specs.Judges.Panel.{SomeRose}
 use Rattle.c2_rules.specs.Asking.{HaveAsked, HaveAskedFront, HaveFailed}
 use Rattle.c2_cmd.specs.Outcome.{Outcome, uses_media}
 use Rattle.c2_cmd.specs.declared.types.Answer.{Answer}
@@ -22,7 +22,7 @@ status_of answer.NoStore = NoStore
 status_of answer.Usage = Usage
 
 -- the sources that the command uses tell their bytes
-pub record Tells (roles : Option Roles) (media : Option (List ℕ)) : Type 0 where
+pub record AreKnown (roles : Option Roles) (media : Option (List ℕ)) : Type 0 where
   pub media_told : uses_media roles ≡ true → IsSome media
 
 -- a sink took all of a text and is finished

@@ -23,9 +23,9 @@ pub fn reply_to_digest<H: Hashing, S: Source>(
     hashing: &H,
     media: &mut S,
 ) -> Result<Reply, Fault>
-    ensures reply { IfOk result (λ reply. ForSome (S.told media.old) (λ file. IsReply (IsDigestOutcome (H.digest_of Alg.Sha256) file) reply)) }
+    ensures reply { IfOk result (λ reply. ForSome (S.known media.old) (λ file. IsReply (IsDigestOutcome (H.digest_of Alg.Sha256) file) reply)) }
     ensures words { IfOk result (λ reply. reply.answer ≢ Answer.Usage) }
-    ensures stays { StaysSource S.len S.told S.faults media.old media.new }
+    ensures stays { StaysSource S.len S.known S.faults media.old media.new }
     ensures count { OnOk result (S.faults media.new ≡ S.faults media.old) }
     ensures fault { IfErr result (HasReason (S.faults media.old) (S.faults media.new)) }
 {

@@ -3,7 +3,7 @@ ghost use Rattle.std.specs.Prelude.{◌≡◌, ℕ, ◌+◌, ◌≤◌, Ok, Some
 ghost use Rattle.std.specs.Option.{ForSome};
 ghost use Rattle.c2_base.specs.Source.{StaysSource};
 ghost use Rattle.c2_spec.specs.Located.{Located, said, refusal};
-ghost use Rattle.c2_spec.specs.Jpeg.{IsLocated};
+ghost use Rattle.c2_spec.specs.Jpeg.Store.{IsLocated};
 ghost use Rattle.c2_cmd.specs.Reply.{HasReason};
 ghost use Rattle.c2_cmd.specs.Open.{located_of, IsWithin, IsFaultOf};
 
@@ -28,10 +28,10 @@ pub enum Opened {
 
 /// Makes the container's tests.
 pub fn open<S: Source>(alloc: Global, media: &mut S) -> Result<Opened, Fault>
-    ensures found { IfOk result (λ opened. ForSome (S.told media.old) (λ file. IsLocated file (located_of opened))) }
-    ensures only { IfOk result (λ opened. ForSome (S.told media.old) (λ file. (what : Located) → IsLocated file what → what ≡ located_of opened)) }
+    ensures found { IfOk result (λ opened. ForSome (S.known media.old) (λ file. IsLocated file (located_of opened))) }
+    ensures only { IfOk result (λ opened. ForSome (S.known media.old) (λ file. (what : Located) → IsLocated file what → what ≡ located_of opened)) }
     ensures within { IfOk result (IsWithin (S.len media.old)) }
-    ensures stays { StaysSource S.len S.told S.faults media.old media.new }
+    ensures stays { StaysSource S.len S.known S.faults media.old media.new }
     ensures count { OnOk result (S.faults media.new ≡ S.faults media.old) }
     ensures fault { IfErr result (HasReason (S.faults media.old) (S.faults media.new)) }
 {

@@ -19,8 +19,8 @@ pub fn digest_outside<H: Hashing, S: Source>(
 ) -> Result<Digest, Failed>
     requires room { 0 < length buf.old }
     requires inside { start + len ≤ S.len source.old }
-    ensures digest { IfOk result (λ digest. ForSome (S.told source.old) (λ file. digest ≡ H.digest_of Alg.Sha256 (outside start len file))) }
-    ensures stays { StaysSource S.len S.told S.faults source.old source.new }
+    ensures digest { IfOk result (λ digest. ForSome (S.known source.old) (λ file. digest ≡ H.digest_of Alg.Sha256 (outside start len file))) }
+    ensures stays { StaysSource S.len S.known S.faults source.old source.new }
     ensures cause { HasCause (S.faults source.old) (S.faults source.new) result }
 {
     let size = source.size()?;
@@ -42,8 +42,8 @@ fn update_between<H: Hashing, S: Source>(
     requires room { 0 < length buf.old }
     requires ordered { from ≤ to }
     requires inside { to ≤ S.len source.old }
-    ensures taken { OnOk result (TakesIn H.holds (S.told source.old) from to state.old state.new) }
-    ensures stays { StaysSource S.len S.told S.faults source.old source.new }
+    ensures taken { OnOk result (TakesIn H.holds (S.known source.old) from to state.old state.new) }
+    ensures stays { StaysSource S.len S.known S.faults source.old source.new }
     ensures cause { HasCause (S.faults source.old) (S.faults source.new) result }
 {
     let mut at = from;

@@ -2,10 +2,10 @@
 ghost use Rattle.std.specs.Prelude.{◌≡◌, ◌≢◌, ◌<◌, ◌+◌, [], ◌∷◌, length, map, All, IfOk, IfErr, OnOk, None, vec_len, codes, string_bytes};
 ghost use Rattle.std.specs.Option.{ForSome, option_map};
 ghost use Rattle.c2_base.specs.Source.{StaysSource};
-ghost use Rattle.c2_spec.specs.JumbfBoxes.{tree_count};
-ghost use Rattle.c2_spec.specs.Manifest.{IsStoreOf};
-ghost use Rattle.c2_spec.specs.Panel.{panel_says, NoneFell};
-ghost use Rattle.c2_spec.specs.Question.{question_digest};
+ghost use Rattle.c2_spec.specs.Jumbf.Boxes.{tree_count};
+ghost use Rattle.c2_spec.specs.C2pa.Manifest.{IsStoreOf};
+ghost use Rattle.c2_spec.specs.Judges.Panel.{panel_says, NoneFell};
+ghost use Rattle.c2_spec.specs.Judges.Question.{question_digest};
 ghost use Rattle.c2_rules.specs.Ingredients.{is_ingredient_label, assertion_uri};
 ghost use Rattle.c2_texts.specs.Texts as form;
 ghost use Rattle.c2_cmd.specs.Active.{first_label, IsActiveManifest};
@@ -35,12 +35,12 @@ pub fn reply_to_questions<S: Source>(
     judges: &mut Vec<Box<dyn Judge>>,
 ) -> Result<Reply, Fault>
     requires { Unit {0} }
-    ensures reply { IfOk result (λ reply. ForSome (S.told media.old) (λ file. IsReply (IsMediaOutcome (IsQuestioned (panel_says (map (λ j. says j) judges.old.items))) file) reply)) }
+    ensures reply { IfOk result (λ reply. ForSome (S.known media.old) (λ file. IsReply (IsMediaOutcome (IsQuestioned (panel_says (map (λ j. says j) judges.old.items))) file) reply)) }
     ensures words { IfOk result (λ reply. reply.answer ≢ Answer.Usage) }
-    ensures stays { StaysSource S.len S.told S.faults media.old media.new }
+    ensures stays { StaysSource S.len S.known S.faults media.old media.new }
     ensures count { OnOk result (S.faults media.new ≡ S.faults media.old) }
     ensures fault { IfErr result (HasReasonWith (S.faults media.old) (S.faults media.new) (map (λ j. judge_faults j) judges.old.items) (map (λ j. judge_faults j) judges.new.items)) }
-    ensures asked { ForSome (S.told media.old) (λ file. HasAsked (AsksOfMedia file) judges.old judges.new (map (λ j. says j) judges.old.items) (map (λ j. asked_times j) judges.old.items) (map (λ j. asked_times j) judges.new.items) (map (λ j. judge_faults j) judges.old.items) (map (λ j. judge_faults j) judges.new.items) result) }
+    ensures asked { ForSome (S.known media.old) (λ file. HasAsked (AsksOfMedia file) judges.old judges.new (map (λ j. says j) judges.old.items) (map (λ j. asked_times j) judges.old.items) (map (λ j. asked_times j) judges.new.items) (map (λ j. judge_faults j) judges.old.items) (map (λ j. judge_faults j) judges.new.items) result) }
     ensures judges_len { vec_len judges.new ≡ vec_len judges.old }
     ensures judges_same { map (λ j. says j) judges.new.items ≡ map (λ j. says j) judges.old.items }
     ensures judges_ok { OnOk result (map (λ j. judge_faults j) judges.new.items ≡ map (λ j. judge_faults j) judges.old.items) }

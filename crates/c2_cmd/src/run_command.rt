@@ -4,10 +4,10 @@ ghost use Rattle.c2_base.specs.Causes.{HasCause};
 ghost use Rattle.c2_base.specs.Source.{StaysSource};
 ghost use Rattle.c2_base.specs.Sink.{HasWrittenFront};
 ghost use Rattle.c2_base.specs.declared.values.Question.{Question};
-ghost use Rattle.c2_spec.specs.Panel.{panel_says, NoneFell};
+ghost use Rattle.c2_spec.specs.Judges.Panel.{panel_says, NoneFell};
 ghost use Rattle.c2_cmd.specs.Words.{roles_of};
 ghost use Rattle.c2_cmd.specs.Outcome.{Outcome, IsOutcome, Asks, inputs, uses_media, uses_judges};
-ghost use Rattle.c2_cmd.specs.Run.{Tells, Delivers, HasReport, HasFailed, HasJudgeFailed, HasPanel, WithoutFault, WhereReplied};
+ghost use Rattle.c2_cmd.specs.Run.{AreKnown, Delivers, HasReport, HasFailed, HasJudgeFailed, HasPanel, WithoutFault, WhereReplied};
 ghost use Rattle.c2_cmd.specs.Reply.{IsReply, HasReasonWith, HasAsked};
 
 use crate::digest::reply_to_digest;
@@ -41,11 +41,11 @@ pub fn run<H: Hashing, A: Source, W: Sink>(
 ) -> Status
     requires { Unit {0} }
     // What the words come to is reported, and what is reported is what they come to.
-    ensures report { Tells (roles_of (map string_bytes words.now.items)) (A.told media.old) → (expected : Outcome)
-        → IsOutcome (roles_of (map string_bytes words.now.items)) (inputs (A.told media.old) None None (panel_says (map (λ j. says j) judges.old.items)) H.digest_of) expected
+    ensures report { AreKnown (roles_of (map string_bytes words.now.items)) (A.known media.old) → (expected : Outcome)
+        → IsOutcome (roles_of (map string_bytes words.now.items)) (inputs (A.known media.old) None None (panel_says (map (λ j. says j) judges.old.items)) H.digest_of) expected
         → HasReport expected (W.written report.old) (W.written report.new) (W.finished report.old) (W.finished report.new) result }
-    ensures outcome { Tells (roles_of (map string_bytes words.now.items)) (A.told media.old) → WhereReplied ((expected : Outcome)
-        × IsOutcome (roles_of (map string_bytes words.now.items)) (inputs (A.told media.old) None None (panel_says (map (λ j. says j) judges.old.items)) H.digest_of) expected) result }
+    ensures outcome { AreKnown (roles_of (map string_bytes words.now.items)) (A.known media.old) → WhereReplied ((expected : Outcome)
+        × IsOutcome (roles_of (map string_bytes words.now.items)) (inputs (A.known media.old) None None (panel_says (map (λ j. says j) judges.old.items)) H.digest_of) expected) result }
 
     // The causes of the answers that are no outcome of the files.
     ensures usage { result ≡ Status.Usage → roles_of (map string_bytes words.now.items) ≡ None }
@@ -57,7 +57,7 @@ pub fn run<H: Hashing, A: Source, W: Sink>(
     ensures judges_quiet { WithoutFault (map (λ j. judge_faults j) judges.new.items ≡ map (λ j. judge_faults j) judges.old.items) result }
 
     // What stays as it was.
-    ensures media_stays { StaysSource A.len A.told A.faults media.old media.new }
+    ensures media_stays { StaysSource A.len A.known A.faults media.old media.new }
     ensures media_unnamed { uses_media (roles_of (map string_bytes words.now.items)) ≡ false → media.new ≡ media.old }
     ensures report_unwritten { result ≡ Status.JudgeFault → report.new ≡ report.old }
     ensures report_later { W.faults report.old ≤ W.faults report.new }
@@ -67,10 +67,10 @@ pub fn run<H: Hashing, A: Source, W: Sink>(
     ensures judges_len { vec_len judges.new ≡ vec_len judges.old }
     ensures judges_same { map (λ j. says j) judges.new.items ≡ map (λ j. says j) judges.old.items }
     ensures judges_unnamed { uses_judges (roles_of (map string_bytes words.now.items)) ≡ false → judges.new ≡ judges.old }
-    ensures judges_unasked { Tells (roles_of (map string_bytes words.now.items)) (A.told media.old)
-        → Asks (roles_of (map string_bytes words.now.items)) (inputs (A.told media.old) None None (panel_says (map (λ j. says j) judges.old.items)) H.digest_of) [] → judges.new ≡ judges.old }
-    ensures judges_asked { Tells (roles_of (map string_bytes words.now.items)) (A.told media.old) → (qs : List Question)
-        → Asks (roles_of (map string_bytes words.now.items)) (inputs (A.told media.old) None None (panel_says (map (λ j. says j) judges.old.items)) H.digest_of) qs
+    ensures judges_unasked { AreKnown (roles_of (map string_bytes words.now.items)) (A.known media.old)
+        → Asks (roles_of (map string_bytes words.now.items)) (inputs (A.known media.old) None None (panel_says (map (λ j. says j) judges.old.items)) H.digest_of) [] → judges.new ≡ judges.old }
+    ensures judges_asked { AreKnown (roles_of (map string_bytes words.now.items)) (A.known media.old) → (qs : List Question)
+        → Asks (roles_of (map string_bytes words.now.items)) (inputs (A.known media.old) None None (panel_says (map (λ j. says j) judges.old.items)) H.digest_of) qs
         → HasPanel (map (λ j. says j) judges.old.items) qs (map (λ j. asked_times j) judges.old.items) (map (λ j. asked_times j) judges.new.items) (map (λ j. judge_faults j) judges.old.items) (map (λ j. judge_faults j) judges.new.items) result }
     ensures judges_asked_later { NoneFell (map (λ j. asked_times j) judges.old.items) (map (λ j. asked_times j) judges.new.items) }
     ensures judges_faults_later { NoneFell (map (λ j. judge_faults j) judges.old.items) (map (λ j. judge_faults j) judges.new.items) }
@@ -101,18 +101,18 @@ fn reply_to<H: Hashing, A: Source>(
     judges: &mut Vec<Box<dyn Judge>>,
 ) -> Result<Reply, Fault>
     requires { Unit {0} }
-    ensures reply { Tells (roles_of (map string_bytes words.now.items)) (A.told media.old)
-        → IfOk result (IsReply (IsOutcome (roles_of (map string_bytes words.now.items)) (inputs (A.told media.old) None None (panel_says (map (λ j. says j) judges.old.items)) H.digest_of))) }
+    ensures reply { AreKnown (roles_of (map string_bytes words.now.items)) (A.known media.old)
+        → IfOk result (IsReply (IsOutcome (roles_of (map string_bytes words.now.items)) (inputs (A.known media.old) None None (panel_says (map (λ j. says j) judges.old.items)) H.digest_of))) }
     ensures usage { IfOk result (λ reply. reply.answer ≡ Answer.Usage → roles_of (map string_bytes words.now.items) ≡ None) }
     ensures unnamed { uses_media (roles_of (map string_bytes words.now.items)) ≡ false → media.new ≡ media.old }
     ensures named { IfErr result (λ e. e ≡ Fault.Input → uses_media (roles_of (map string_bytes words.now.items)) ≡ true) }
-    ensures stays { StaysSource A.len A.told A.faults media.old media.new }
+    ensures stays { StaysSource A.len A.known A.faults media.old media.new }
     ensures count { OnOk result (A.faults media.new ≡ A.faults media.old) }
     ensures fault { IfErr result (HasReasonWith (A.faults media.old) (A.faults media.new) (map (λ j. judge_faults j) judges.old.items) (map (λ j. judge_faults j) judges.new.items)) }
     ensures judges_named { IfErr result (λ e. e ≡ Fault.Judge → uses_judges (roles_of (map string_bytes words.now.items)) ≡ true) }
     ensures judges_unnamed { uses_judges (roles_of (map string_bytes words.now.items)) ≡ false → judges.new ≡ judges.old }
-    ensures asked { Tells (roles_of (map string_bytes words.now.items)) (A.told media.old)
-        → HasAsked (Asks (roles_of (map string_bytes words.now.items)) (inputs (A.told media.old) None None (panel_says (map (λ j. says j) judges.old.items)) H.digest_of)) judges.old judges.new (map (λ j. says j) judges.old.items) (map (λ j. asked_times j) judges.old.items) (map (λ j. asked_times j) judges.new.items) (map (λ j. judge_faults j) judges.old.items) (map (λ j. judge_faults j) judges.new.items) result }
+    ensures asked { AreKnown (roles_of (map string_bytes words.now.items)) (A.known media.old)
+        → HasAsked (Asks (roles_of (map string_bytes words.now.items)) (inputs (A.known media.old) None None (panel_says (map (λ j. says j) judges.old.items)) H.digest_of)) judges.old judges.new (map (λ j. says j) judges.old.items) (map (λ j. asked_times j) judges.old.items) (map (λ j. asked_times j) judges.new.items) (map (λ j. judge_faults j) judges.old.items) (map (λ j. judge_faults j) judges.new.items) result }
     ensures judges_len { vec_len judges.new ≡ vec_len judges.old }
     ensures judges_same { map (λ j. says j) judges.new.items ≡ map (λ j. says j) judges.old.items }
     ensures judges_ok { OnOk result (map (λ j. judge_faults j) judges.new.items ≡ map (λ j. judge_faults j) judges.old.items) }

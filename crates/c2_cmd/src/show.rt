@@ -2,7 +2,7 @@
 ghost use Rattle.std.specs.Prelude.{◌≡◌, ◌≢◌, IfOk, IfErr, OnOk};
 ghost use Rattle.std.specs.Option.{ForSome};
 ghost use Rattle.c2_base.specs.Source.{StaysSource};
-ghost use Rattle.c2_spec.specs.Manifest.{IsStoreOf};
+ghost use Rattle.c2_spec.specs.C2pa.Manifest.{IsStoreOf};
 ghost use Rattle.c2_cmd.specs.Outcome.{IsShown, IsMediaOutcome};
 ghost use Rattle.c2_cmd.specs.Reply.{IsReply, HasReason, IsFoundOutcome, found_at};
 
@@ -20,9 +20,9 @@ use std::alloc::Global;
 
 /// The reply to `show`.
 pub fn reply_to_show<S: Source>(alloc: Global, media: &mut S) -> Result<Reply, Fault>
-    ensures reply { IfOk result (λ reply. ForSome (S.told media.old) (λ file. IsReply (IsMediaOutcome IsShown file) reply)) }
+    ensures reply { IfOk result (λ reply. ForSome (S.known media.old) (λ file. IsReply (IsMediaOutcome IsShown file) reply)) }
     ensures words { IfOk result (λ reply. reply.answer ≢ Answer.Usage) }
-    ensures stays { StaysSource S.len S.told S.faults media.old media.new }
+    ensures stays { StaysSource S.len S.known S.faults media.old media.new }
     ensures count { OnOk result (S.faults media.new ≡ S.faults media.old) }
     ensures fault { IfErr result (HasReason (S.faults media.old) (S.faults media.new)) }
 {

@@ -4,7 +4,7 @@ use Rattle.c2_base.specs.declared.media.Found.{Found}
 use Rattle.c2_base.specs.declared.media.MediaError.{MediaError}
 use Rattle.c2_base.specs.declared.media.MediaError.TheVariants.{NotMedia, FileTooLarge, Truncated, BadMarker, BadSegment, BadPacket, TwoStores, BadBox, BadProvenanceBox, StoreTooLarge, TooManyBoxes, ReadFault, NoMemory}
 use Rattle.c2_spec.specs.Located.{Located, refused, absent, here, refusal, said, HasReason}
-use Rattle.c2_spec.specs.Jpeg.{IsLocated, IsJpegRefusal, FirstJpegFault, SegmentFault, segment}
+use Rattle.c2_spec.specs.Jpeg.Store.{IsLocated, IsJpegRefusal, FirstJpegFault, SegmentFault, segment}
 use Rattle.c2_jpegseg.specs.Answers.{IsFoundOr, IsWalkedOr, IsWalkError, Finding, refusing, lacking, holding, IsFinding, located_of}
 use Rattle.c2_jpegseg.specs.Causes.{OrOutside, IsCaused}
 use Rattle.c2_jpegseg.proofs.Outside.{or_outside-map}

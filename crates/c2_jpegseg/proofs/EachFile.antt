@@ -9,9 +9,9 @@ use borrow.Author.Tests.{ltb-false, lt-ltb}
 use Rattle.c2_base.specs.declared.media.MediaError.{MediaError}
 use Rattle.c2_base.specs.declared.media.MediaError.TheVariants.{NotMedia, FileTooLarge, BadPacket, TwoStores, StoreTooLarge, ReadFault, NoMemory}
 use Rattle.c2_spec.specs.Located.{Located, absent, here, refusal}
-use Rattle.c2_spec.specs.JpegSegments.{Segment, IsSegment, EndsSegments, HasSegments, MarkerFault, nothing_left, no_marker, fill_alone, bad_marker, no_length, short_length, cut_short, place_after, marker_bytes, segment_bytes, after_marker, is_alone, is_segment_marker}
-use Rattle.c2_spec.specs.JpegPackets.{Packet, packet_in, is_packet, is_store_start, is_stray, stated_length}
-use Rattle.c2_spec.specs.Jpeg.{AllPass, at_marker, at_segment, at_end, FirstJpegFault, too_large, not_media, segment, IsLocated, continues, goes_on, first_packet_fault, fault_after, fault_from, from_start, is_open, is_open_from, missing_bytes}
+use Rattle.c2_spec.specs.Jpeg.Segments.{Segment, IsSegment, EndsSegments, HasSegments, MarkerFault, nothing_left, no_marker, fill_alone, bad_marker, no_length, short_length, cut_short, place_after, marker_bytes, segment_bytes, after_marker, is_alone, is_segment_marker}
+use Rattle.c2_spec.specs.Jpeg.Packets.{Packet, packet_in, is_packet, is_store_start, is_stray, stated_length}
+use Rattle.c2_spec.specs.Jpeg.Store.{AllPass, at_marker, at_segment, at_end, FirstJpegFault, too_large, not_media, segment, IsLocated, continues, goes_on, first_packet_fault, fault_after, fault_from, from_start, is_open, is_open_from, missing_bytes}
 use Rattle.c2_jpegseg.specs.Causes.{OrOutside}
 use Rattle.c2_jpegseg.specs.Runs.{Collected}
 use Rattle.c2_jpegseg.specs.Walks.{IsRunOf, IsState, Walks}

@@ -6,7 +6,7 @@ use Rattle.std.proofs.lemmas.Bool.{cases_lt}
 use Rattle.std.specs.Int.{w16, to_be_bytes}
 use Rattle.c2_base.specs.declared.media.MediaError.{MediaError}
 use Rattle.c2_base.specs.declared.media.MediaError.TheVariants.{Truncated, BadSegment, BadMarker}
-use Rattle.c2_spec.specs.JpegSegments.{Segment, EndsSegments, MarkerFault, nothing_left, no_marker, fill_alone, bad_marker, no_length, short_length, cut_short, marker_bytes, segment_bytes, is_alone, is_segment_marker}
+use Rattle.c2_spec.specs.Jpeg.Segments.{Segment, EndsSegments, MarkerFault, nothing_left, no_marker, fill_alone, bad_marker, no_length, short_length, cut_short, marker_bytes, segment_bytes, is_alone, is_segment_marker}
 use Rattle.c2_jpegseg.proofs.Outside.{or_outside-map}
 use Rattle.c2_jpegseg.specs.declared.marker.Extent.{Extent}
 use Rattle.c2_jpegseg.specs.declared.marker.Marker.{Marker}
@@ -88,13 +88,13 @@ part_length file from to le inside = length-take-le (to - from) (drop from file)
 
 pub sized_is : (file : List ℕ) (at : ℕ) (m : Marker) (e : Extent) → at < m.place → m.place < length file → IsMarkerAt file at m
     → is_segment_marker m.code ≡ true → is_alone m.code ≡ false → IsSized file m e → IsExtent file at e
-sized_is file at m e lt inside is marker sized known =
-    subst (IsExtent file at) (sym known.is) (record {
+sized_is file at m e lt inside is marker sized extent =
+    subst (IsExtent file at) (sym extent.is) (record {
       fill = m.place - at - 1;
-      later = omega (arith, known.least);
-      inside = known.inside;
-      ordered = omega (arith, known.least);
-      legal = record { marker = marker; alone = λ h. cc; fits = omega (arith, size, known.high, known.low) };
+      later = omega (arith, extent.least);
+      inside = extent.inside;
+      ordered = omega (arith, extent.least);
+      legal = record { marker = marker; alone = λ h. cc; fits = omega (arith, size, extent.high, extent.low) };
       bytes = marker_split file at m lt inside is
           ∙ ap (λ (x : List ℕ). marker_bytes (m.place - at - 1) m.code ++ x) whole
           ∙ sym (append_assoc (marker_bytes (m.place - at - 1) m.code) (to_be_bytes w16 (length payload + 2) ++ payload) (drop to file))
@@ -108,12 +108,12 @@ sized_is file at m e lt inside is marker sized known =
     payload = take (to - (m.place + 3)) (drop (m.place + 3) file)
 
     size : length payload + 2 ≡ length_at file m.place
-    size = omega (arith, part_length file (m.place + 3) to (omega (arith, known.least)) known.inside, known.least)
+    size = omega (arith, part_length file (m.place + 3) to (omega (arith, extent.least)) extent.inside, extent.least)
 
     whole : drop (m.place + 1) file ≡ (to_be_bytes w16 (length payload + 2) ++ payload) ++ drop to file
-    whole = length_split file m.place (omega (arith, known.least, known.inside))
-        ∙ ap (λ (x : List ℕ). get_or file (m.place + 1) 0 ∷ get_or file (m.place + 2) 0 ∷ x) (part_split file (m.place + 3) to (omega (arith, known.least)) known.inside)
-        ∙ ap (λ (x : List ℕ). x ++ (payload ++ drop to file)) (sym (two_bytes (get_or file (m.place + 1) 0) (get_or file (m.place + 2) 0) (length payload + 2) known.high known.low size))
+    whole = length_split file m.place (omega (arith, extent.least, extent.inside))
+        ∙ ap (λ (x : List ℕ). get_or file (m.place + 1) 0 ∷ get_or file (m.place + 2) 0 ∷ x) (part_split file (m.place + 3) to (omega (arith, extent.least)) extent.inside)
+        ∙ ap (λ (x : List ℕ). x ++ (payload ++ drop to file)) (sym (two_bytes (get_or file (m.place + 1) 0) (get_or file (m.place + 2) 0) (length payload + 2) extent.high extent.low size))
         ∙ sym (append_assoc (to_be_bytes w16 (length payload + 2)) payload (drop to file))
 
 and_not : (a b : Bool) → a ≡ true → b ≡ false → (a && not b) ≡ true
@@ -129,15 +129,15 @@ truncated file at n le e = subst (λ k. MarkerFault at (drop at file) (Truncated
 -- the faults of a length are faults of the marker
 pub sized_fault : (file : List ℕ) (at : ℕ) (m : Marker) (e : MediaError) → at < m.place → m.place < length file → IsMarkerAt file at m
     → is_segment_marker m.code ≡ true → is_alone m.code ≡ false → SizedFault file at m.place e → MarkerFault at (drop at file) e
-sized_fault file at m (Truncated n) lt inside is marker sized known =
-    truncated file at n (omega arith) known.0 (⊎_elim (λ short. no_length (m.place - at - 1) m.code (drop (m.place + 1) file) (marker_split file at m lt inside is) (and_not _ _ marker sized) (omega (arith, length-drop (m.place + 1) file, short)))
+sized_fault file at m (Truncated n) lt inside is marker sized extent =
+    truncated file at n (omega arith) extent.0 (⊎_elim (λ short. no_length (m.place - at - 1) m.code (drop (m.place + 1) file) (marker_split file at m lt inside is) (and_not _ _ marker sized) (omega (arith, length-drop (m.place + 1) file, short)))
     (λ cut. cut_short (m.place - at - 1) m.code (get_or file (m.place + 1) 0) (get_or file (m.place + 2) 0) (drop (m.place + 3) file)
-    (marker_split file at m lt inside is ∙ ap (λ (x : List ℕ). marker_bytes (m.place - at - 1) m.code ++ x) (length_split file m.place cut.0)) (and_not _ _ marker sized) cut.1 (omega (arith, length-drop (m.place + 3) file, cut.2))) known.1)
-sized_fault file at m (BadSegment p) lt inside is marker sized known =
-    subst (λ k. MarkerFault at (drop at file) (BadSegment k)) (sym known.0)
+    (marker_split file at m lt inside is ∙ ap (λ (x : List ℕ). marker_bytes (m.place - at - 1) m.code ++ x) (length_split file m.place cut.0)) (and_not _ _ marker sized) cut.1 (omega (arith, length-drop (m.place + 3) file, cut.2))) extent.1)
+sized_fault file at m (BadSegment p) lt inside is marker sized extent =
+    subst (λ k. MarkerFault at (drop at file) (BadSegment k)) (sym extent.0)
     (short_length (m.place - at - 1) m.code (get_or file (m.place + 1) 0) (get_or file (m.place + 2) 0) (drop (m.place + 3) file)
-    (marker_split file at m lt inside is ∙ ap (λ (x : List ℕ). marker_bytes (m.place - at - 1) m.code ++ x) (length_split file m.place known.1)) (and_not _ _ marker sized) known.2)
-sized_fault file at m _ lt inside is marker sized known = absurd known
+    (marker_split file at m lt inside is ∙ ap (λ (x : List ℕ). marker_bytes (m.place - at - 1) m.code ++ x) (length_split file m.place extent.1)) (and_not _ _ marker sized) extent.2)
+sized_fault file at m _ lt inside is marker sized extent = absurd extent
 
 -- no marker at all: nothing is left, or nothing but fill
 pub no_marker_left : (file : List ℕ) (at n : ℕ) → at ≤ length file → n ≡ length file → drop at file ≡ replicate (length file - at) 255 → MarkerFault at (drop at file) (Truncated n)
@@ -161,4 +161,4 @@ end_here file at m lt inside is ends = record { fill = m.place - at - 1; marker 
 -- the same of an error that may come from outside
 pub sized_error : (file : List ℕ) (at : ℕ) (m : Marker) (e : MediaError) → at < m.place → m.place < length file → IsMarkerAt file at m → is_segment_marker m.code ≡ true → is_alone m.code ≡ false
     → OrOutside e (SizedFault file at m.place e) → OrOutside e (MarkerFault at (drop at file) e)
-sized_error file at m e lt inside is marker sized known = or_outside-map e (SizedFault file at m.place e) (MarkerFault at (drop at file) e) (sized_fault file at m e lt inside is marker sized) known
+sized_error file at m e lt inside is marker sized extent = or_outside-map e (SizedFault file at m.place e) (MarkerFault at (drop at file) e) (sized_fault file at m e lt inside is marker sized) extent

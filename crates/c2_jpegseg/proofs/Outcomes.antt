@@ -2,9 +2,9 @@
 use Rattle.std.proofs.Common.{◌≡◌, ℕ, ◌+◌, ◌-◌, ◌<◌, ◌≤◌, Bool, ◌&&◌, true, false, cond, List, length, Option, Some, None, refl, sym, ap, ◌∙◌, subst}
 use Rattle.c2_base.specs.declared.media.MediaError.{MediaError}
 use Rattle.c2_base.specs.declared.media.MediaError.TheVariants.{BadPacket, TwoStores}
-use Rattle.c2_spec.specs.JpegSegments.{Segment, place_after}
-use Rattle.c2_spec.specs.JpegPackets.{packet_in, is_packet, is_store_start, is_stray, is_further_packet, is_first_packet}
-use Rattle.c2_spec.specs.Jpeg.{fault_after, continues, goes_on, first_packet_fault, SegmentFault}
+use Rattle.c2_spec.specs.Jpeg.Segments.{Segment, place_after}
+use Rattle.c2_spec.specs.Jpeg.Packets.{packet_in, is_packet, is_store_start, is_stray, is_further_packet, is_first_packet}
+use Rattle.c2_spec.specs.Jpeg.Store.{fault_after, continues, goes_on, first_packet_fault, SegmentFault}
 use Rattle.c2_jpegseg.specs.Runs.{Collected}
 use Rattle.c2_jpegseg.specs.declared.marker.Extent.{Extent}
 use Rattle.c2_jpegseg.specs.declared.packet.Packet.{Packet as Held}

@@ -2,7 +2,7 @@
 use Rattle.std.proofs.Common.{◌≡◌, ℕ, ◌+◌, ◌≤◌, Bool, true, false, cond, List, ◌++◌, length, take, drop, refl, sym, ap, ◌∙◌, arith, eqb}
 use Rattle.std.proofs.lemmas.List.{length-take-le, length-drop, take-take, take-append-le, take_at}
 use Rattle.std.specs.Int.{w32, from_be_bytes}
-use Rattle.c2_spec.specs.JpegPackets as jpeg
+use Rattle.c2_spec.specs.Jpeg.Packets as jpeg
 use Rattle.c2_jpegseg.specs.Packets.{IsHeader}
 
 header_cases : (b : Bool) (n : ℕ) → n ≡ cond b 16 8 → 8 ≤ n

@@ -6,7 +6,7 @@ use Rattle.std.specs.Int.{w16, to_be_bytes}
 use borrow.Author.Tests.{ltb-true, lt-ltb, le-ltb, ne_eqb, not-true}
 use Rattle.c2_base.specs.declared.media.MediaError.{MediaError}
 use Rattle.c2_base.specs.declared.media.MediaError.TheVariants.{Truncated, BadSegment, BadMarker}
-use Rattle.c2_spec.specs.JpegSegments.{Segment, IsSegment, EndsSegments, MarkerFault, nothing_left, no_marker, fill_alone, bad_marker, no_length, short_length, cut_short, marker_bytes, segment_bytes, is_alone, is_segment_marker, is_sized}
+use Rattle.c2_spec.specs.Jpeg.Segments.{Segment, IsSegment, EndsSegments, MarkerFault, nothing_left, no_marker, fill_alone, bad_marker, no_length, short_length, cut_short, marker_bytes, segment_bytes, is_alone, is_segment_marker, is_sized}
 use Rattle.c2_jpegseg.proofs.Markers.{spelled_alone, spelled_sized}
 use Rattle.c2_jpegseg.proofs.Steps.{both}
 

@@ -4,9 +4,9 @@ use Rattle.std.proofs.lemmas.List.{same_from_push, append-nil}
 use Rattle.std.proofs.lemmas.List.Concat.{flat_map-append}
 use Rattle.std.proofs.lemmas.List.Sums.{sum_by-append}
 use Rattle.std.specs.List.{AllByRecursion, flat_map, sum_by}
-use Rattle.c2_spec.specs.JpegSegments.{Segment, IsSegment, HasSegments, place_after, segment_bytes, start_of_image}
-use Rattle.c2_spec.specs.JpegPackets.{IsPacketRun, packet_in, is_packet, is_store_start}
-use Rattle.c2_spec.specs.Jpeg.{AllPass, fault_after, from_start, body_len}
+use Rattle.c2_spec.specs.Jpeg.Segments.{Segment, IsSegment, HasSegments, place_after, segment_bytes, start_of_image}
+use Rattle.c2_spec.specs.Jpeg.Packets.{IsPacketRun, packet_in, is_packet, is_store_start}
+use Rattle.c2_spec.specs.Jpeg.Store.{AllPass, fault_after, from_start, body_len}
 
 -- what holds of each of two lists holds of each of both
 pub each-append : {X : Type 0} (P : X → Type 0) (xs ys : List X) → AllByRecursion P xs → AllByRecursion P ys → AllByRecursion P (xs ++ ys)

@@ -1,6 +1,6 @@
 -- How a JPEG file begins.
 use Rattle.std.proofs.Common.{◌≡◌, ◌≢◌, ℕ, ◌<◌, ◌≤◌, Bool, true, false, ◌&&◌, List, [], ◌∷◌, ◌++◌, length, get_or, take, drop, None, refl, sym, ◌∙◌, arith, eqb}
-use Rattle.c2_spec.specs.JpegSegments.{Segment, start_of_image}
+use Rattle.c2_spec.specs.Jpeg.Segments.{Segment, start_of_image}
 use Rattle.c2_jpegseg.specs.Answers.{IsBegun}
 use Rattle.c2_jpegseg.specs.Walks.{Walks}
 use Rattle.c2_jpegseg.proofs.Steps.{both}

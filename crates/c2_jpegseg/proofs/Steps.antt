@@ -6,9 +6,9 @@ use Rattle.std.proofs.lemmas.Bool.{cases_lt}
 use Rattle.std.specs.List.{AllByRecursion, flat_map, sum_by, range_with_len}
 use Rattle.c2_base.specs.declared.media.MediaError.{MediaError}
 use Rattle.c2_base.specs.declared.media.MediaError.TheVariants.{BadPacket, TwoStores}
-use Rattle.c2_spec.specs.JpegSegments.{Segment, place_after, segment_bytes, MarkerFault, EndsSegments}
-use Rattle.c2_spec.specs.JpegPackets.{packet_in, is_packet, is_store_start, is_stray, is_first_packet, stated_length}
-use Rattle.c2_spec.specs.Jpeg.{fault_after, fault_from, from_start, missing_bytes, body_len, continues, goes_on, first_packet_fault, is_open_from, SegmentFault, at_marker, at_segment, at_end, HoldsStore, HasJpegStore, HasNoJpegStore}
+use Rattle.c2_spec.specs.Jpeg.Segments.{Segment, place_after, segment_bytes, MarkerFault, EndsSegments}
+use Rattle.c2_spec.specs.Jpeg.Packets.{packet_in, is_packet, is_store_start, is_stray, is_first_packet, stated_length}
+use Rattle.c2_spec.specs.Jpeg.Store.{fault_after, fault_from, from_start, missing_bytes, body_len, continues, goes_on, first_packet_fault, is_open_from, SegmentFault, at_marker, at_segment, at_end, HoldsStore, HasJpegStore, HasNoJpegStore}
 use Rattle.c2_jpegseg.specs.Runs.{Collected}
 use Rattle.c2_jpegseg.specs.declared.marker.Extent.{Extent}
 use Rattle.c2_jpegseg.specs.Segments.{segment_of, IsExtent}

@@ -6,10 +6,10 @@ use Rattle.std.proofs.lemmas.Slice.Eq.{bytes_eq-Decides}
 use borrow.Author.Tests.{le-ltb, le-leb, eq-eqb, both_ways}
 use Rattle.c2_base.specs.declared.media.MediaError.{MediaError}
 use Rattle.c2_base.specs.declared.media.MediaError.TheVariants.{NotMedia, FileTooLarge, BadPacket, StoreTooLarge}
-use Rattle.c2_spec.specs.JpegSegments.{Segment, IsSegment, EndsSegments, HasSegments, place_after, segment_bytes, start_of_image}
-use Rattle.c2_spec.specs.JpegPackets.{Packet, packet_in, is_packet, is_store_start, is_stray, stated_length}
+use Rattle.c2_spec.specs.Jpeg.Segments.{Segment, IsSegment, EndsSegments, HasSegments, place_after, segment_bytes, start_of_image}
+use Rattle.c2_spec.specs.Jpeg.Packets.{Packet, packet_in, is_packet, is_store_start, is_stray, stated_length}
 use Rattle.c2_jpegseg.specs.Answers.{Finding, refusing, lacking, holding, IsFinding}
-use Rattle.c2_spec.specs.Jpeg.{AllPass, HoldsStore, FailsAfter, at_marker, at_segment, at_end, too_large, not_media, segment, goes_on, first_packet_fault, fault_after, is_open, is_open_from, missing_bytes}
+use Rattle.c2_spec.specs.Jpeg.Store.{AllPass, HoldsStore, FailsAfter, at_marker, at_segment, at_end, too_large, not_media, segment, goes_on, first_packet_fault, fault_after, is_open, is_open_from, missing_bytes}
 use Rattle.c2_jpegseg.specs.Runs.{Collected}
 use Rattle.c2_jpegseg.specs.Walks.{IsRunOf}
 use Rattle.c2_jpegseg.proofs.SegmentLists.{each-front, each-back, passing-push, from_start-none}

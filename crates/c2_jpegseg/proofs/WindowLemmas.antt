@@ -32,5 +32,5 @@ pub filled_front : (file buf rest : List ℕ) (room pos : ℕ) → length buf �
 filled_front file buf rest room pos len is = take_at buf rest room len ∙ is ∙ ap (λ n. take n (drop pos file)) len
 
 -- a source that stayed is still shown
-pub shows_same : (len len' : ℕ) (told told' : Option (List ℕ)) (w : Window) → len ≡ len' → told ≡ told' → Shows len told w → Shows len' told' w
-shows_same len len' told told' w same_len same_told shows = subst (λ n. Shows n told' w) same_len (subst (λ t. Shows len t w) same_told shows)
+pub shows_same : (len len' : ℕ) (known known' : Option (List ℕ)) (w : Window) → len ≡ len' → known ≡ known' → Shows len known w → Shows len' known' w
+shows_same len len' known known' w same_len same_told shows = subst (λ n. Shows n known' w) same_len (subst (λ t. Shows len t w) same_told shows)

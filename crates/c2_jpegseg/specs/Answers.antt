@@ -3,9 +3,9 @@ use Rattle.std.specs.Prelude.{◌≡◌, ◌≢◌, ℕ, ◌<◌, ⊤, Bool, tru
 use Rattle.c2_base.specs.declared.media.Found.{Found}
 use Rattle.c2_base.specs.declared.media.MediaError.{MediaError}
 use Rattle.c2_base.specs.declared.media.MediaError.TheVariants.{Truncated, BadMarker, BadSegment, BadPacket, TwoStores, StoreTooLarge, ReadFault, NoMemory}
-use Rattle.c2_spec.specs.JpegSegments.{start_of_image}
+use Rattle.c2_spec.specs.Jpeg.Segments.{start_of_image}
 use Rattle.c2_spec.specs.Located.{Located, absent, here, refusal}
-use Rattle.c2_spec.specs.Jpeg.{HasJpegStore, HasNoJpegStore, SegmentFault, FirstJpegFault}
+use Rattle.c2_spec.specs.Jpeg.Store.{HasJpegStore, HasNoJpegStore, SegmentFault, FirstJpegFault}
 use Rattle.c2_jpegseg.specs.Causes.{OrOutside}
 use Rattle.c2_jpegseg.specs.Walks.{Walks}
 

@@ -1,8 +1,8 @@
 -- What the packets of the code stand for, for private clauses.
 use Rattle.std.specs.Prelude.{◌≡◌, ℕ, ⊤, true, false, List, Option, Some, None, length, take}
 use Rattle.std.specs.Int.{w32, from_be_bytes}
-use Rattle.c2_spec.specs.JpegSegments.{Segment}
-use Rattle.c2_spec.specs.JpegPackets as jpeg
+use Rattle.c2_spec.specs.Jpeg.Segments.{Segment}
+use Rattle.c2_spec.specs.Jpeg.Packets as jpeg
 use Rattle.c2_jpegseg.specs.Segments.{segment_of}
 use Rattle.c2_jpegseg.specs.declared.marker.Extent.{Extent}
 use Rattle.c2_jpegseg.specs.declared.packet.Packet.{Packet}

@@ -2,7 +2,7 @@
 use Rattle.std.specs.Prelude.{◌≡◌, ◌≤◌, ◌<◌, ◌+◌, ℕ, ⊤, List, ◌++◌, length, take, Option, Some, None}
 use Rattle.c2_base.specs.declared.media.MediaError.{MediaError}
 use Rattle.c2_base.specs.declared.media.MediaError.TheVariants.{BadPacket, TwoStores, StoreTooLarge, NoMemory}
-use Rattle.c2_spec.specs.JpegPackets.{Packet, stated_length}
+use Rattle.c2_spec.specs.Jpeg.Packets.{Packet, stated_length}
 use Rattle.c2_jpegseg.specs.declared.run.Run.{Run}
 
 pub record Collected : Type 0 where

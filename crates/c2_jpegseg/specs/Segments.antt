@@ -2,7 +2,7 @@
 use Rattle.std.specs.Prelude.{◌≡◌, ℕ, ◌+◌, ◌-◌, ◌*◌, ◌<◌, ◌≤◌, ◌⊎◌, ⊤, true, false, List, ◌++◌, length, take, drop, replicate, slice_index, Option, Some, None, Result, Ok, Err}
 use Rattle.c2_base.specs.declared.media.MediaError.{MediaError}
 use Rattle.c2_base.specs.declared.media.MediaError.TheVariants.{Truncated, BadMarker, BadSegment, ReadFault}
-use Rattle.c2_spec.specs.JpegSegments.{Segment, IsSegment, EndsSegments, MarkerFault, segment_bytes, is_segment_marker, is_alone}
+use Rattle.c2_spec.specs.Jpeg.Segments.{Segment, IsSegment, EndsSegments, MarkerFault, segment_bytes, is_segment_marker, is_alone}
 use Rattle.c2_jpegseg.specs.Causes.{OrOutside}
 use Rattle.c2_jpegseg.specs.declared.marker.Extent.{Extent}
 use Rattle.c2_jpegseg.specs.declared.marker.Kind.{Kind}

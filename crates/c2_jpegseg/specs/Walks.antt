@@ -1,9 +1,9 @@
 -- What the walk knows of the segments before its place, for private clauses.
 use Rattle.std.specs.Prelude.{◌≡◌, ◌<◌, ◌≤◌, ℕ, true, false, List, [], ◌∷◌, ◌++◌, length, drop, Option, Some, None}
 use Rattle.std.specs.List.{AllByRecursion}
-use Rattle.c2_spec.specs.JpegSegments.{Segment, HasSegments, place_after}
-use Rattle.c2_spec.specs.JpegPackets.{IsPacketRun, packet_in, is_store_start, is_stray, stated_length}
-use Rattle.c2_spec.specs.Jpeg.{AllPass}
+use Rattle.c2_spec.specs.Jpeg.Segments.{Segment, HasSegments, place_after}
+use Rattle.c2_spec.specs.Jpeg.Packets.{IsPacketRun, packet_in, is_store_start, is_stray, stated_length}
+use Rattle.c2_spec.specs.Jpeg.Store.{AllPass}
 use Rattle.c2_jpegseg.specs.declared.marker.Extent.{Extent}
 use Rattle.c2_jpegseg.specs.declared.packet.Packet.{Packet}
 use Rattle.c2_jpegseg.specs.Packets.{PacketOf}

@@ -3,7 +3,7 @@
 ghost use Rattle.std.specs.Prelude.{◌≡◌, ◌^◌, ◌<◌, ℕ, List};
 ghost use Rattle.std.specs.List.{All};
 ghost use Rattle.c2_spec.specs.Located.{Located};
-ghost use Rattle.c2_spec.specs.Jpeg.{IsLocated};
+ghost use Rattle.c2_spec.specs.Jpeg.Store.{IsLocated};
 
 /// Whatever bytes a file has, it comes to one thing: a store in a range, no store, or a refusal.
 pub fn each_file_is_located()

@@ -79,13 +79,13 @@ fn marker_from<S: Source>(
 ) -> Result<Option<Marker>, Failed>
     requires size { size ≡ S.len source.old }
     requires inside { at ≤ size }
-    requires shows { Shows (S.len source.old) (S.told source.old) window.old }
-    ensures stays { StaysSource S.len S.told S.faults source.old source.new }
+    requires shows { Shows (S.len source.old) (S.known source.old) window.old }
+    ensures stays { StaysSource S.len S.known S.faults source.old source.new }
     ensures cause { HasCause (S.faults source.old) (S.faults source.new) result }
-    ensures shows { OnOk result (Shows (S.len source.old) (S.told source.old) window.new) }
+    ensures shows { OnOk result (Shows (S.len source.old) (S.known source.old) window.new) }
     ensures inside { IfOk result (λ o. IfSome o (λ m. (at ≤ m.place) × (m.place < size))) }
     ensures code { IfOk result (λ o. IfSome o (λ m. m.code ≢ 255)) }
-    ensures place { IfOk result (λ o. ForSome (S.told source.old) (λ file. IsMarkerFrom file at o)) }
+    ensures place { IfOk result (λ o. ForSome (S.known source.old) (λ file. IsMarkerFrom file at o)) }
 {
     for place in at..size {
         let code = window.byte_at(source, place)?;
@@ -108,14 +108,14 @@ fn sized_at<S: Source>(
     requires later { at < marker.place }
     requires inside { marker.place < size }
     requires bounded { size < 4611686018427387904 }
-    requires shows { Shows (S.len source.old) (S.told source.old) window.old }
-    ensures stays { StaysSource S.len S.told S.faults source.old source.new }
+    requires shows { Shows (S.len source.old) (S.known source.old) window.old }
+    ensures stays { StaysSource S.len S.known S.faults source.old source.new }
     ensures count { OnOk result (S.faults source.new ≡ S.faults source.old) }
     ensures cause { IfErr result (IsCaused (S.faults source.old) (S.faults source.new)) }
-    ensures shows { OnOk result (Shows (S.len source.old) (S.told source.old) window.new) }
+    ensures shows { OnOk result (Shows (S.len source.old) (S.known source.old) window.new) }
     ensures inside { IfOk result (λ e. (at < e.end) × (e.end ≤ size) × (e.body ≤ e.end) × (e.end ≤ e.body + 65533)) }
     ensures error { IfErr result (IsMarkerError at size) }
-    ensures sized { ForSome (S.told source.old) (λ file. IsSizedOr file at marker result) }
+    ensures sized { ForSome (S.known source.old) (λ file. IsSizedOr file at marker result) }
 {
     let place = marker.place;
     if size - place < 3 {
@@ -147,14 +147,14 @@ pub fn segment_at<S: Source>(
     requires size { size ≡ S.len source.old }
     requires inside { at ≤ size }
     requires bounded { size < 4611686018427387904 }
-    requires shows { Shows (S.len source.old) (S.told source.old) window.old }
-    ensures stays { StaysSource S.len S.told S.faults source.old source.new }
+    requires shows { Shows (S.len source.old) (S.known source.old) window.old }
+    ensures stays { StaysSource S.len S.known S.faults source.old source.new }
     ensures count { OnOk result (S.faults source.new ≡ S.faults source.old) }
     ensures cause { IfErr result (IsCaused (S.faults source.old) (S.faults source.new)) }
-    ensures shows { OnOk result (Shows (S.len source.old) (S.told source.old) window.new) }
+    ensures shows { OnOk result (Shows (S.len source.old) (S.known source.old) window.new) }
     ensures inside { IfOk result (IsNextBy at size) }
     ensures error { IfErr result (IsMarkerError at size) }
-    ensures next { ForSome (S.told source.old) (λ file. IsNextOr file at result) }
+    ensures next { ForSome (S.known source.old) (λ file. IsNextOr file at result) }
 {
     let Some(marker) = marker_from(source, window, at, size)? else {
         return Err(MediaError::Truncated(size));

@@ -1,7 +1,7 @@
 // Box segments of APP11.
 ghost use Rattle.std.specs.Prelude.{◌≡◌, ◌==◌, ◌+◌, ◌<◌, ◌≤◌, length, take, drop, true, false, IfSome, IfNone};
 ghost use Rattle.std.specs.Int.{w16, w32, w64, from_be_bytes};
-ghost use Rattle.c2_spec.specs.JpegPackets as jpeg;
+ghost use Rattle.c2_spec.specs.Jpeg.Packets as jpeg;
 ghost use Rattle.c2_jpegseg.specs.Packets.{view, bare, IsHeader, HasHeader, Reads};
 
 /// A box segment: its number, its place in the run, the header that each packet repeats, and its body.
@@ -91,7 +91,7 @@ fn is_jumb(header: &[u8]) -> bool
 }
 
 /// Whether the packet is the first one of a C2PA store.
-#[tactic(auto, unfolding(c2_spec::specs::JpegPackets::is_first_packet))]
+#[tactic(auto, unfolding(c2_spec::specs::Jpeg::Packets::is_first_packet))]
 pub fn is_first(packet: &Packet<'_>) -> bool
     requires { IsHeader packet.now.header.now }
     ensures { result ≡ jpeg.is_first_packet (view packet.now) }
@@ -103,7 +103,7 @@ pub fn is_first(packet: &Packet<'_>) -> bool
 }
 
 /// Whether the packet is a further one of a JUMBF box under this number.
-#[tactic(auto, unfolding(c2_spec::specs::JpegPackets::is_further_packet))]
+#[tactic(auto, unfolding(c2_spec::specs::Jpeg::Packets::is_further_packet))]
 pub fn is_further(en: u16, packet: &Packet<'_>) -> bool
     requires { IsHeader packet.now.header.now }
     ensures { result ≡ jpeg.is_further_packet en (view packet.now) }

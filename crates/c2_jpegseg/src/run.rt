@@ -1,6 +1,6 @@
 // The run of packets that holds a store.
 ghost use Rattle.std.specs.Prelude.{◌≡◌, ◌+◌, ◌-◌, ◌<◌, ◌≤◌, length, take, vec_len, true, None, Some, OnOk, IfOk, IfErr};
-ghost use Rattle.c2_spec.specs.Jpeg as jpeg;
+ghost use Rattle.c2_spec.specs.Jpeg.Store as jpeg;
 ghost use Rattle.c2_jpegseg.specs.Causes.{OrOutside};
 ghost use Rattle.c2_jpegseg.specs.Packets.{view, IsHeader};
 
@@ -36,7 +36,7 @@ impl Run {
     ///
     /// Room for the whole store is taken at once, but no more than there are bytes left in the file: what a header states is no
     /// reason to take memory.
-    #[tactic(auto, using(crate::proofs::PacketLemmas::at_least_8, crate::proofs::PacketLemmas::header_first), unfolding(c2_spec::specs::Jpeg::first_packet_fault))]
+    #[tactic(auto, using(crate::proofs::PacketLemmas::at_least_8, crate::proofs::PacketLemmas::header_first), unfolding(c2_spec::specs::Jpeg::Store::first_packet_fault))]
     pub fn start(
         alloc: Global,
         at: u64,
@@ -97,7 +97,7 @@ impl Run {
     }
 
     /// Whether the packet goes on with the run.
-    #[tactic(auto, unfolding(c2_spec::specs::Jpeg::goes_on))]
+    #[tactic(auto, unfolding(c2_spec::specs::Jpeg::Store::goes_on))]
     pub fn goes_on(&self, packet: &Packet<'_>) -> bool
         ensures goes { result ≡ jpeg.goes_on self.now.en (take self.now.header_len self.now.store.items) (self.now.count + 1) (self.now.total - length self.now.store.items) (view packet.now) }
         ensures some { result ≡ true → 0 < length packet.now.body.now }

@@ -4,8 +4,8 @@ ghost use Rattle.std.specs.Option.{ForSome};
 ghost use Rattle.c2_base.specs.Causes.{HasCause};
 ghost use Rattle.c2_base.specs.Source.{StaysSource};
 ghost use Rattle.c2_spec.specs.Located.{Located, said, HasReason};
-ghost use Rattle.c2_spec.specs.JpegSegments.{EndsSegments};
-ghost use Rattle.c2_spec.specs.Jpeg.{IsLocated, IsJpegRefusal};
+ghost use Rattle.c2_spec.specs.Jpeg.Segments.{EndsSegments};
+ghost use Rattle.c2_spec.specs.Jpeg.Store.{IsLocated, IsJpegRefusal};
 ghost use Rattle.c2_jpegseg.specs.Answers.{IsBegun, IsWalkedOr, IsFoundOr, IsWalkError};
 ghost use Rattle.c2_jpegseg.specs.Causes.{IsCaused, OrOutside};
 ghost use Rattle.c2_jpegseg.specs.Packets.{PacketOf, HasHeader};
@@ -28,12 +28,12 @@ const TOO_LARGE: u64 = 4_611_686_018_427_387_904;
 /// Whether the file begins with SOI.
 fn is_jpeg<S: Source>(source: &mut S, window: &mut Window, size: u64) -> Result<bool, Failed>
     requires size { size ≡ S.len source.old }
-    requires shows { Shows (S.len source.old) (S.told source.old) window.old }
-    ensures stays { StaysSource S.len S.told S.faults source.old source.new }
+    requires shows { Shows (S.len source.old) (S.known source.old) window.old }
+    ensures stays { StaysSource S.len S.known S.faults source.old source.new }
     ensures cause { HasCause (S.faults source.old) (S.faults source.new) result }
-    ensures shows { OnOk result (Shows (S.len source.old) (S.told source.old) window.new) }
+    ensures shows { OnOk result (Shows (S.len source.old) (S.known source.old) window.new) }
     ensures inside { IfOk result (λ b. b ≡ true → 2 ≤ size) }
-    ensures begun { IfOk result (λ b. ForSome (S.told source.old) (λ file. IsBegun file b)) }
+    ensures begun { IfOk result (λ b. ForSome (S.known source.old) (λ file. IsBegun file b)) }
 {
     if size < 2 {
         return Ok(false);
@@ -48,10 +48,10 @@ fn load_packet<S: Source>(source: &mut S, window: &mut Window, extent: Extent) -
     requires inside { extent.end ≤ S.len source.old }
     requires ordered { extent.body ≤ extent.end }
     requires short { extent.end ≤ extent.body + 65533 }
-    requires shows { Shows (S.len source.old) (S.told source.old) window.old }
-    ensures stays { StaysSource S.len S.told S.faults source.old source.new }
+    requires shows { Shows (S.len source.old) (S.known source.old) window.old }
+    ensures stays { StaysSource S.len S.known S.faults source.old source.new }
     ensures cause { HasCause (S.faults source.old) (S.faults source.new) result }
-    ensures shows { OnOk result (Shows (S.len source.old) (S.told source.old) window.new) }
+    ensures shows { OnOk result (Shows (S.len source.old) (S.known source.old) window.new) }
     ensures covers { OnOk result (extent.marker ≡ 0xEB → Covers window.new extent.body (extent.end - extent.body)) }
 {
     if extent.marker != APP11 {
@@ -87,15 +87,15 @@ fn walk<S: Source>(
     requires size { size ≡ S.len source.old }
     requires inside { 2 ≤ size }
     requires bounded { size < 4611686018427387904 }
-    requires shows { Shows (S.len source.old) (S.told source.old) window.old }
-    requires begun { ForSome (S.told source.old) (λ file. Walks file 2 None) }
-    ensures stays { StaysSource S.len S.told S.faults source.old source.new }
+    requires shows { Shows (S.len source.old) (S.known source.old) window.old }
+    requires begun { ForSome (S.known source.old) (λ file. Walks file 2 None) }
+    ensures stays { StaysSource S.len S.known S.faults source.old source.new }
     ensures count { OnOk result (S.faults source.new ≡ S.faults source.old) }
     ensures cause { IfErr result (IsCaused (S.faults source.old) (S.faults source.new)) }
     ensures within { IfOk result (λ found. IfSome found (λ f. f.start + f.length ≤ size)) }
     ensures store { IfOk result (λ found. IfSome found (λ f. length f.store ≤ 33554432)) }
     ensures error { IfErr result (IsWalkError size) }
-    ensures walked { ForSome (S.told source.old) (λ file. IsWalkedOr file result) }
+    ensures walked { ForSome (S.known source.old) (λ file. IsWalkedOr file result) }
 {
     let mut at: u64 = 2;
     let mut run = None;
@@ -128,12 +128,12 @@ fn walk<S: Source>(
 
 /// The search, told by cases.
 fn search<S: Source>(alloc: Global, source: &mut S) -> Result<Option<Found>, MediaError>
-    ensures found { ForSome (S.told source.old) (λ file. IsFoundOr file result) }
+    ensures found { ForSome (S.known source.old) (λ file. IsFoundOr file result) }
     ensures within { IfOk result (λ found. IfSome found (λ f. f.start + f.length ≤ S.len source.old)) }
     ensures store { IfOk result (λ found. IfSome found (λ f. length f.store ≤ 33554432)) }
     ensures refusal { IfErr result (IsJpegRefusal (S.len source.old)) }
     ensures small { OnOk result (S.len source.old < 2 ^ 62) }
-    ensures stays { StaysSource S.len S.told S.faults source.old source.new }
+    ensures stays { StaysSource S.len S.known S.faults source.old source.new }
     ensures count { OnOk result (S.faults source.new ≡ S.faults source.old) }
     ensures reason { IfErr result (HasReason (S.len source.old) (S.faults source.old) (S.faults source.new)) }
 {
@@ -164,15 +164,15 @@ fn search<S: Source>(alloc: Global, source: &mut S) -> Result<Option<Found>, Med
 #[tactic(auto, using(crate::proofs::Answers::said_is, crate::proofs::Answers::only_said))]
 pub fn locate<S: Source>(alloc: Global, source: &mut S) -> Result<Option<Found>, MediaError>
     // Where the source tells its bytes: what is answered holds, and what holds is answered.
-    ensures found { ForSome (S.told source.old) (λ file. IfSome (said result) (IsLocated file)) }
-    ensures only { ForSome (S.told source.old) (λ file. (what : Located) → IsLocated file what → IfSome (said result) (λ s. s ≡ what)) }
+    ensures found { ForSome (S.known source.old) (λ file. IfSome (said result) (IsLocated file)) }
+    ensures only { ForSome (S.known source.old) (λ file. (what : Located) → IsLocated file what → IfSome (said result) (λ s. s ≡ what)) }
 
-    // These hold of every source, also of one that tells no bytes.
+    // These hold of every source, also of one that makes no bytes known.
     ensures within { IfOk result (λ found. IfSome found (λ f. f.start + f.length ≤ S.len source.old)) }
     ensures store { IfOk result (λ found. IfSome found (λ f. length f.store ≤ 33554432)) }
     ensures refusal { IfErr result (IsJpegRefusal (S.len source.old)) }
     ensures small { OnOk result (S.len source.old < 2 ^ 62) }
-    ensures stays { StaysSource S.len S.told S.faults source.old source.new }
+    ensures stays { StaysSource S.len S.known S.faults source.old source.new }
     ensures count { OnOk result (S.faults source.new ≡ S.faults source.old) }
     ensures reason { IfErr result (HasReason (S.len source.old) (S.faults source.old) (S.faults source.new)) }
 {

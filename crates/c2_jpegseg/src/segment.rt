@@ -1,6 +1,6 @@
 // One segment of the walk.
 ghost use Rattle.std.specs.Prelude.{◌≡◌, ◌<◌, ◌≤◌, ℕ, List, length, None, Some, OnOk, IfOk, IfErr};
-ghost use Rattle.c2_spec.specs.Jpeg.{SegmentFault};
+ghost use Rattle.c2_spec.specs.Jpeg.Store.{SegmentFault};
 ghost use Rattle.c2_jpegseg.specs.Causes.{OrOutside};
 ghost use Rattle.c2_jpegseg.specs.Packets.{HasHeader};
 ghost use Rattle.c2_jpegseg.specs.Runs.{collected, all_collected, EndsBy, IsSegmentError};

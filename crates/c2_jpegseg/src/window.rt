@@ -29,9 +29,9 @@ fn fill_front<S: Source>(
 ) -> Result<(), Failed>
     requires inside { pos + count ≤ S.len source.old }
     requires room { count ≤ length bytes.old }
-    ensures stays { StaysSource S.len S.told S.faults source.old source.new }
+    ensures stays { StaysSource S.len S.known S.faults source.old source.new }
     ensures cause { HasCause (S.faults source.old) (S.faults source.new) result }
-    ensures filled { OnOk result (ForSome (S.told source.old) (λ file. take count bytes.new ≡ take count (drop pos file))) }
+    ensures filled { OnOk result (ForSome (S.known source.old) (λ file. take count bytes.new ≡ take count (drop pos file))) }
 {
     fill_at(source, pos, &mut bytes[..count])?;
     Ok(())
@@ -40,7 +40,7 @@ fn fill_front<S: Source>(
 impl Window {
     /// A window without bytes, on a source of `size` bytes.
     pub fn new(alloc: Global, size: u64) -> Result<Window, NoMemory>
-        ensures { IfOk result (λ w. (told : Option (List ℕ)) → Shows size told w) }
+        ensures { IfOk result (λ w. (known : Option (List ℕ)) → Shows size known w) }
     {
         let bytes = vec![in alloc; 0; WINDOW]?;
         Ok(Window {
@@ -64,10 +64,10 @@ impl Window {
     pub fn load<S: Source>(&mut self, source: &mut S, pos: u64, count: usize) -> Result<(), Failed>
         requires inside { pos + count ≤ S.len source.old }
         requires room { count ≤ 65536 }
-        requires shows { Shows (S.len source.old) (S.told source.old) self.old }
-        ensures stays { StaysSource S.len S.told S.faults source.old source.new }
+        requires shows { Shows (S.len source.old) (S.known source.old) self.old }
+        ensures stays { StaysSource S.len S.known S.faults source.old source.new }
         ensures cause { HasCause (S.faults source.old) (S.faults source.new) result }
-        ensures shows { OnOk result (Shows (S.len source.old) (S.told source.old) self.new) }
+        ensures shows { OnOk result (Shows (S.len source.old) (S.known source.old) self.new) }
         ensures covers { OnOk result (Covers self.new pos count) }
     {
         if self.from <= pos && pos + count as u64 <= self.from + self.used as u64 {
@@ -83,11 +83,11 @@ impl Window {
     /// The byte at `pos`.
     pub fn byte_at<S: Source>(&mut self, source: &mut S, pos: u64) -> Result<u8, Failed>
         requires inside { pos < S.len source.old }
-        requires shows { Shows (S.len source.old) (S.told source.old) self.old }
-        ensures stays { StaysSource S.len S.told S.faults source.old source.new }
+        requires shows { Shows (S.len source.old) (S.known source.old) self.old }
+        ensures stays { StaysSource S.len S.known S.faults source.old source.new }
         ensures cause { HasCause (S.faults source.old) (S.faults source.new) result }
-        ensures shows { OnOk result (Shows (S.len source.old) (S.told source.old) self.new) }
-        ensures byte { IfOk result (λ b. ForSome (S.told source.old) (λ file. b ≡ slice_index file pos)) }
+        ensures shows { OnOk result (Shows (S.len source.old) (S.known source.old) self.new) }
+        ensures byte { IfOk result (λ b. ForSome (S.known source.old) (λ file. b ≡ slice_index file pos)) }
     {
         self.load(source, pos, 1)?;
         let bytes = self.bytes.as_slice();

@@ -4,7 +4,7 @@ use Rattle.std.specs.Prelude.{MatchResult}
 use Rattle.hex.specs.Hex.{encode_lower, decode_sized}
 use Rattle.hex.specs.declared.error.FromHexError.{FromHexError}
 use Rattle.hex.proofs.HexLemmas.{decode_sized-encode_lower}
-use Rattle.c2_spec.specs.VerdictFile.{IsId}
+use Rattle.c2_spec.specs.Judges.VerdictFile.{IsId}
 use Rattle.c2_judge.proofs.Lines.{id_bytes}
 
 -- what `decode_to_slice` says of its answer

@@ -10,8 +10,8 @@ use Rattle.hex.proofs.HexLemmas.{length-encode_with, IsDigits-lower_digits}
 use Rattle.c2_spec.specs.declared.panel.Verdict.{Verdict}
 use Rattle.c2_spec.specs.declared.panel.Verdict.TheVariants.{Approved, Mismatch, Untrusted, Invalid, Silent}
 use Rattle.c2_spec.specs.declared.panel.VerdictRow.{VerdictRow}
-use Rattle.c2_spec.specs.Panel.{verdict_name}
-use Rattle.c2_spec.specs.VerdictFile.{IsId, IsRow, line_of}
+use Rattle.c2_spec.specs.Judges.Panel.{verdict_name}
+use Rattle.c2_spec.specs.Judges.VerdictFile.{IsId, IsRow, line_of}
 use Rattle.c2_judge.specs.Reading.{has_feed, FirstLine, word_said}
 
 -- the bytes of an id, past its end too

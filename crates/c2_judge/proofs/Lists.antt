@@ -2,7 +2,7 @@
 use Rattle.std.proofs.Common.{◌≡◌, ℕ, ◌+◌, ◌<◌, ◌≤◌, Result, Ok, Err, OnOk, OnErr, IfOk, List, [], ◌∷◌, length, take, drop, map, get_or, set, refl, sym, ap, subst, ◌∙◌, arith}
 use Rattle.std.proofs.lemmas.List.{map-set, take-set, drop-set-lt, length-map, length-set, get_or-set_same, get_or-map, drop_more, drop-map}
 use Rattle.std.proofs.Math.Seq.{map-set_same}
-use Rattle.c2_spec.specs.Panel.{Failing, MovedAt}
+use Rattle.c2_spec.specs.Judges.Panel.{Failing, MovedAt}
 
 pub MovedAt-map-set : {J : Type 0} (Step : ℕ → ℕ → Type 0) (f : J → ℕ) (xs : List J) (i : ℕ) (x y : J) → i < length xs → x ≡ get_or xs i x → Step (f x) (f y) → MovedAt Step i (map f xs) (map f (set xs i y))
 MovedAt-map-set Step f xs i x y lt at rose =

@@ -13,9 +13,9 @@ use Rattle.c2_spec.specs.declared.panel.Verdict.TheVariants.{Silent}
 use Rattle.c2_spec.specs.declared.panel.VerdictRow.{VerdictRow}
 use Rattle.c2_spec.specs.declared.panel.ListError.{ListError}
 use Rattle.c2_spec.specs.declared.panel.ListError.TheVariants.{TooLarge, BadRow, NoMemory}
-use Rattle.c2_spec.specs.Panel.{verdict_name}
-use Rattle.c2_spec.specs.Question.{question_digest}
-use Rattle.c2_spec.specs.VerdictFile.{most_bytes, IsRow, line_of, lines_of, EndsOpen, HasRows, HasBadLine, BeginsWithRow, SaysFile, HasListReason, rows_say}
+use Rattle.c2_spec.specs.Judges.Panel.{verdict_name}
+use Rattle.c2_spec.specs.Judges.Question.{question_digest}
+use Rattle.c2_spec.specs.Judges.VerdictFile.{most_bytes, IsRow, line_of, lines_of, EndsOpen, HasRows, HasBadLine, BeginsWithRow, SaysFile, HasListReason, rows_say}
 use Rattle.c2_judge.specs.Reading.{has_feed, word_said, said_at, HasReadRows}
 use Rattle.c2_judge.proofs.Lines.{id_bytes, line_clean, front_of_line, word_of_line, word_read, cons_first, lines, lines-feed, lines-open, first_of}
 

@@ -4,7 +4,7 @@ use Rattle.std.proofs.lemmas.Bool.{cases_lt}
 use Rattle.std.proofs.lemmas.List.{get_or-take, get_or-drop, drop-drop, drop_more, drop_all}
 use Rattle.c2_spec.specs.declared.panel.Verdict.{Verdict}
 use Rattle.c2_spec.specs.declared.panel.Verdict.TheVariants.{Approved, Mismatch, Untrusted, Invalid, Silent}
-use Rattle.c2_spec.specs.Panel.{first_said, panel_size, Counted, Failing, MovedAt, MovedBelow, FailedAt, SomeRose, NoneFell}
+use Rattle.c2_spec.specs.Judges.Panel.{first_said, panel_size, Counted, Failing, MovedAt, MovedBelow, FailedAt, SomeRose, NoneFell}
 
 pub on_err : {T E P : Type 0} (r : Result T E) → P → OnErr r P
 on_err (Ok x) p = tt

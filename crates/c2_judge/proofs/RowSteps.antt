@@ -13,7 +13,7 @@ use Rattle.std.proofs.lemmas.List.{length-append, append_assoc}
 use Rattle.std.proofs.lemmas.List.Elements.{All-push}
 use Rattle.c2_spec.specs.declared.panel.Verdict.{Verdict}
 use Rattle.c2_spec.specs.declared.panel.VerdictRow.{VerdictRow}
-use Rattle.c2_spec.specs.VerdictFile.{IsRow, line_of, lines_of, EndsOpen, HasRows, HasBadLine, BeginsWithRow, listed}
+use Rattle.c2_spec.specs.Judges.VerdictFile.{IsRow, line_of, lines_of, EndsOpen, HasRows, HasBadLine, BeginsWithRow, listed}
 use Rattle.c2_judge.specs.Reading.{FirstLine, at_id, AddsRow, Lists, Progress}
 use Rattle.c2_judge.proofs.Lines.{line_clean, same_line}
 

@@ -13,7 +13,7 @@ use Rattle.c2_spec.specs.declared.panel.Verdict.TheVariants.{Approved, Mismatch,
 use Rattle.c2_spec.specs.declared.panel.VerdictRow.{VerdictRow}
 use Rattle.c2_spec.specs.declared.panel.ListError.{ListError}
 use Rattle.c2_spec.specs.declared.panel.ListError.TheVariants.{TooLarge, BadRow, NoMemory}
-use Rattle.c2_spec.specs.VerdictFile.{IsRow, lines_of, EndsOpen, HasRows, HasBadLine, listed}
+use Rattle.c2_spec.specs.Judges.VerdictFile.{IsRow, lines_of, EndsOpen, HasRows, HasBadLine, listed}
 
 -- a line feed is among the bytes
 abbrev pub has_feed : List ℕ → Bool

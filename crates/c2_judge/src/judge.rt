@@ -3,7 +3,7 @@ ghost use Rattle.std.specs.Prelude.{◌≡◌, ℕ, IfOk};
 ghost use Rattle.c2_base.specs.Causes.{HasCause};
 ghost use Rattle.c2_base.specs.declared.values.Question.{Question};
 ghost use Rattle.c2_spec.specs.declared.panel.Verdict.{Verdict};
-ghost use Rattle.c2_spec.specs.Panel.{Counted};
+ghost use Rattle.c2_spec.specs.Judges.Panel.{Counted};
 
 use crate::Verdict;
 use c2_base::Question;

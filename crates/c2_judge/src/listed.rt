@@ -1,12 +1,12 @@
 // A judge by a verdict file.
 ghost use Rattle.std.specs.Prelude.{◌≡◌, ℕ, ◌≤◌, ◌<◌, ◌⊎◌, List, length, Err, IfOk, IfErr, IsOk, MatchResult};
 ghost use Rattle.c2_base.specs.Causes.{HasCause};
-ghost use Rattle.c2_spec.specs.Panel.{Counted};
-ghost use Rattle.c2_spec.specs.Question.{question_digest};
+ghost use Rattle.c2_spec.specs.Judges.Panel.{Counted};
+ghost use Rattle.c2_spec.specs.Judges.Question.{question_digest};
 ghost use Rattle.c2_base.specs.declared.values.Question.{Question};
 ghost use Rattle.c2_spec.specs.declared.panel.VerdictRow as row_type;
 ghost use Rattle.c2_spec.specs.declared.panel.ListError.TheVariants as error;
-ghost use Rattle.c2_spec.specs.VerdictFile.{most_bytes, HasRows, HasBadLine, SaysFile, HasListReason, rows_say};
+ghost use Rattle.c2_spec.specs.Judges.VerdictFile.{most_bytes, HasRows, HasBadLine, SaysFile, HasListReason, rows_say};
 ghost use Rattle.c2_judge.specs.Reading.{said_at};
 
 use crate::file::{Verdicts, read_rows};

@@ -1,6 +1,6 @@
 // A panel of judges.
 ghost use Rattle.std.specs.Prelude.{◌≡◌, ◌∷◌, ℕ, ◌+◌, ◌<◌, map, drop, IfOk, OnOk, OnErr, vec_len};
-ghost use Rattle.c2_spec.specs.Panel.{verdicts, panel_says, panel_size, Counted, Failing, MovedAt, MovedBelow, FailedAt, SomeRose, NoneFell};
+ghost use Rattle.c2_spec.specs.Judges.Panel.{verdicts, panel_says, panel_size, Counted, Failing, MovedAt, MovedBelow, FailedAt, SomeRose, NoneFell};
 
 use crate::{Judge, JudgeFailed, Verdict};
 use c2_base::Question;

@@ -1,7 +1,7 @@
 // The bytes of a question, and its id.
 ghost use Rattle.std.specs.Prelude.{◌≡◌, ℕ, List, ◌++◌};
 ghost use Rattle.c2_spec.specs.declared.digest.Alg.{Alg};
-ghost use Rattle.c2_spec.specs.Question.{with_length, question_bytes, question_digest};
+ghost use Rattle.c2_spec.specs.Judges.Question.{with_length, question_bytes, question_digest};
 
 use c2_base::Question;
 use c2_hash::{Alg, Digest, Hashing, Sha};

@@ -2,7 +2,7 @@
 ghost use Rattle.std.specs.Prelude.{◌≡◌, ◌≢◌, ℕ, List, MatchOption};
 ghost use Rattle.hex.specs.Hex.{encode_lower};
 ghost use Rattle.c2_spec.specs.declared.panel.VerdictRow as row_type;
-ghost use Rattle.c2_spec.specs.VerdictFile.{IsId, IsRow, line_of};
+ghost use Rattle.c2_spec.specs.Judges.VerdictFile.{IsId, IsRow, line_of};
 ghost use Rattle.c2_judge.specs.Reading.{FirstLine, word_said};
 
 use c2_spec::{Verdict, VerdictRow};

@@ -3,8 +3,8 @@ use Rattle.std.proofs.Common.{◌≡◌, ℕ, zero, suc, ◌+◌, ◌-◌, ◌<�
 use Rattle.std.specs.Int.{w32, to_be_bytes}
 use Rattle.std.proofs.lemmas.List.{drop-drop, drop_at, get_or-map, length-drop, length-map, append-nil, take_at}
 use Rattle.std.specs.List.{AllByRecursion}
-use Rattle.c2_spec.specs.Jumbf.{IsDescription, description_bytes, Tree, Trees, leaf, super, none, more, tree_bytes, trees_bytes, head_len, boxed, jumb_kind, jumd_kind, description_payload, IsLegalTree, AreLegalTrees}
-use Rattle.c2_spec.specs.JumbfBoxes.{AnyBox, node, described, IndexedBox, tree_count, boxes_from, boxes_from_all, boxes_of, box_at, any_bytes, any_wide, any_kind, any_contents}
+use Rattle.c2_spec.specs.Jumbf.Tree.{IsDescription, description_bytes, Tree, Trees, leaf, super, none, more, tree_bytes, trees_bytes, head_len, boxed, jumb_kind, jumd_kind, description_payload, IsLegalTree, AreLegalTrees}
+use Rattle.c2_spec.specs.Jumbf.Boxes.{AnyBox, node, described, IndexedBox, tree_count, boxes_from, boxes_from_all, boxes_of, box_at, any_bytes, any_wide, any_kind, any_contents}
 use Rattle.c2_jumbf.specs.declared.rows.Row.{Row}
 use Rattle.c2_jumbf.specs.Flat.{row_of}
 use Rattle.c2_jumbf.specs.Parsed.{IsParsed}

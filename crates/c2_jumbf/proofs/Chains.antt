@@ -5,8 +5,8 @@ use Rattle.std.proofs.lemmas.Option.{slice_get_past}
 use Rattle.std.specs.List.{slice_get, Contains, AllByRecursion}
 use Rattle.std.proofs.lemmas.Slice.Eq.{bytes_eq-Decides}
 use borrow.Author.Tests.{both_ways}
-use Rattle.c2_spec.specs.Jumbf.{description_bytes, head_len, Tree, Trees, leaf, super, none, more, tree_bytes}
-use Rattle.c2_spec.specs.JumbfBoxes.{AnyBox, node, described, IndexedBox, tree_count, trees_count, boxes_from, boxes_from_all, boxes_of, box_at, indices_from, children_of, child_indices, any_label}
+use Rattle.c2_spec.specs.Jumbf.Tree.{description_bytes, head_len, Tree, Trees, leaf, super, none, more, tree_bytes}
+use Rattle.c2_spec.specs.Jumbf.Boxes.{AnyBox, node, described, IndexedBox, tree_count, trees_count, boxes_from, boxes_from_all, boxes_of, box_at, indices_from, children_of, child_indices, any_label}
 use Rattle.c2_jumbf.specs.Flat.{any_count, row_of}
 use Rattle.c2_jumbf.specs.Labels.{is_label}
 use Rattle.c2_jumbf.proofs.Trees.{length-boxes}

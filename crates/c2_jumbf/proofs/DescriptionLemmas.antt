@@ -1,9 +1,9 @@
 -- The description of a superbox is the box behind it, and has its type UUID and its label.
 use Rattle.std.proofs.Common.{◌≡◌, ◌≢◌, ℕ, suc, ◌+◌, ◌-◌, ◌<◌, ◌≤◌, true, List, ◌++◌, length, get_or, take, drop, Option, Some, None, refl, sym, ap, ◌∙◌, subst, arith, length-append}
 use Rattle.std.proofs.lemmas.List.{get_or-drop, length-drop}
-use Rattle.c2_spec.specs.Jumbf.{Description, IsDescription, label_bytes, fixed_bytes, private_bytes, Tree, leaf, super, IsLegalTree}
-use Rattle.c2_spec.specs.JumbfFaults.{is_set, IsLabelPart, LabelFault, DescriptionFault}
-use Rattle.c2_spec.specs.JumbfBoxes.{AnyBox, node, described, IndexedBox, tree_count, boxes_of, box_at, any_uuid, any_label, any_contents}
+use Rattle.c2_spec.specs.Jumbf.Tree.{Description, IsDescription, label_bytes, fixed_bytes, private_bytes, Tree, leaf, super, IsLegalTree}
+use Rattle.c2_spec.specs.Jumbf.Faults.{is_set, IsLabelPart, LabelFault, DescriptionFault}
+use Rattle.c2_spec.specs.Jumbf.Boxes.{AnyBox, node, described, IndexedBox, tree_count, boxes_of, box_at, any_uuid, any_label, any_contents}
 use Rattle.c2_spec.proofs.JumbfParts.{label_once, no_fields, own_label, front_same, desc_split}
 use Rattle.c2_jumbf.specs.Described.{any_description, IsPayload}
 use Rattle.c2_jumbf.specs.Flat.{any_count, row_of}

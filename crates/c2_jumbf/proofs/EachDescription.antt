@@ -9,8 +9,8 @@ use Rattle.std.specs.Int.{w32, w64, from_be_bytes}
 use borrow.Author.Tests.{leb-true, ltb-false, both_ways}
 use Rattle.c2_spec.specs.declared.jumbf.JumbfError.{JumbfError}
 use Rattle.c2_spec.specs.declared.jumbf.JumbfError.TheVariants.{BadHead, Overrun}
-use Rattle.c2_spec.specs.Jumbf.{PlainBox, Description, IsFields, IsLabel, IsLabelByte, label_bytes, description_payload, FitsHead, head_len}
-use Rattle.c2_spec.specs.JumbfFaults.{tells_wide, told_total, told_kind, told_payload, has_head, box_head_fault, toggle_byte, is_set, IsLabelPart, IsFixedPart, LabelFault, DescriptionFault}
+use Rattle.c2_spec.specs.Jumbf.Tree.{PlainBox, Description, IsFields, IsLabel, IsLabelByte, label_bytes, description_payload, FitsHead, head_len}
+use Rattle.c2_spec.specs.Jumbf.Faults.{tells_wide, told_total, told_kind, told_payload, has_head, box_head_fault, toggle_byte, is_set, IsLabelPart, IsFixedPart, LabelFault, DescriptionFault}
 use Rattle.c2_jumbf.specs.declared.front.Front.{Front}
 use Rattle.c2_jumbf.specs.declared.fields.Fields.{Fields}
 use Rattle.c2_jumbf.specs.Heads.{IsHead}

@@ -9,9 +9,9 @@ use Rattle.std.specs.Str.{bytes_eq}
 use borrow.Author.Tests.{both_ways}
 use Rattle.c2_spec.specs.declared.jumbf.JumbfError.{JumbfError}
 use Rattle.c2_spec.specs.declared.jumbf.JumbfError.TheVariants.{NoDescription, BadDescription, DuplicateLabel, TooDeep, Trailing}
-use Rattle.c2_spec.specs.Jumbf.{Description, description_payload, description_bytes, FitsHead, head_len, boxed, jumb_kind, jumd_kind, Tree, Trees, leaf, super, none, tree_bytes, trees_bytes, tree_label, tree_labels, IsNewLabel, IsLegalTree, AreLegalTrees, AreDistinctLabels, SpellsTree}
-use Rattle.c2_spec.specs.JumbfFaults.{tells_wide, told_total, told_kind, told_payload, box_head_fault, IsSuperbox, OpensSuperbox, TreeFault, JumbfFault}
-use Rattle.c2_spec.specs.JumbfBoxes.{node}
+use Rattle.c2_spec.specs.Jumbf.Tree.{Description, description_payload, description_bytes, FitsHead, head_len, boxed, jumb_kind, jumd_kind, Tree, Trees, leaf, super, none, tree_bytes, trees_bytes, tree_label, tree_labels, IsNewLabel, IsLegalTree, AreLegalTrees, AreDistinctLabels, SpellsTree}
+use Rattle.c2_spec.specs.Jumbf.Faults.{tells_wide, told_total, told_kind, told_payload, box_head_fault, IsSuperbox, OpensSuperbox, TreeFault, JumbfFault}
+use Rattle.c2_spec.specs.Jumbf.Boxes.{node}
 use Rattle.c2_spec.proofs.JumbfHeads.{good_at}
 use Rattle.c2_jumbf.specs.Flat.{ChildFault}
 use Rattle.c2_jumbf.specs.Heads.{IsHead}

@@ -4,8 +4,8 @@ use Rattle.std.proofs.lemmas.List.{take-append-drop, drop_more, length-take-le, 
 use Rattle.std.specs.List.{AllByRecursion}
 use Rattle.std.specs.Str.{IsUtf8}
 use Rattle.c2_spec.specs.declared.jumbf.JumbfError.{JumbfError}
-use Rattle.c2_spec.specs.Jumbf.{PlainBox, Description, IsLabel, IsLabelByte, label_bytes, fixed_bytes, private_bytes, toggles}
-use Rattle.c2_spec.specs.JumbfFaults.{tells_wide, told_kind, told_payload, box_head_fault, IsLabelPart, IsFixedPart, LabelFault, DescriptionFault, BehindLabel, is_set}
+use Rattle.c2_spec.specs.Jumbf.Tree.{PlainBox, Description, IsLabel, IsLabelByte, label_bytes, fixed_bytes, private_bytes, toggles}
+use Rattle.c2_spec.specs.Jumbf.Faults.{tells_wide, told_kind, told_payload, box_head_fault, IsLabelPart, IsFixedPart, LabelFault, DescriptionFault, BehindLabel, is_set}
 use Rattle.c2_spec.proofs.JumbfParts.{one, one_eqb, small_bit, sum_is, parts_sum, desc_split}
 use Rattle.c2_jumbf.specs.declared.front.Front.{Front}
 use Rattle.c2_jumbf.specs.declared.fields.Fields.{Fields}

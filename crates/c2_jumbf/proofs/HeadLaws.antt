@@ -4,9 +4,9 @@ use Rattle.std.proofs.lemmas.List.{length-take-le, length-drop, take-take, take-
 use Rattle.std.proofs.lemmas.Nat.{be_bytes_4, be_bytes_8}
 use Rattle.std.specs.Int.{w32, w64, to_be_bytes, from_be_bytes}
 use borrow.Author.Tests.{eqb-true}
-use Rattle.c2_spec.specs.Jumbf.{head_len, boxed, head_bytes, FitsHead}
-use Rattle.c2_spec.specs.JumbfFaults.{tells_wide, told_total, told_kind, told_payload, box_head_fault}
-use Rattle.c2_spec.specs.JumbfBoxes.{told_head}
+use Rattle.c2_spec.specs.Jumbf.Tree.{head_len, boxed, head_bytes, FitsHead}
+use Rattle.c2_spec.specs.Jumbf.Faults.{tells_wide, told_total, told_kind, told_payload, box_head_fault}
+use Rattle.c2_spec.specs.Jumbf.Boxes.{told_head}
 use Rattle.c2_spec.proofs.JumbfHeads.{good_at}
 use Rattle.c2_jumbf.specs.declared.front.Front.{Front}
 use Rattle.c2_jumbf.specs.Heads.{IsHead}

@@ -12,7 +12,7 @@ use Rattle.std.proofs.lemmas.Cmp.{nat_list_cmp_total, tied_itself}
 use Rattle.std.proofs.lemmas.Map.Text.{is_eq-slice_cmp}
 use Rattle.std.proofs.lemmas.Slice.Eq.{bytes_eq-Decides}
 use borrow.Author.Tests.{both_ways, not-true, not-false}
-use Rattle.c2_spec.specs.Jumbf.{IsNewLabel}
+use Rattle.c2_spec.specs.Jumbf.Tree.{IsNewLabel}
 use Rattle.c2_jumbf.specs.declared.labels.Siblings.{Siblings}
 use Rattle.c2_jumbf.specs.Labels.{given, set_has, texts, IsUpTo, Rising, Holds, IsAdded}
 

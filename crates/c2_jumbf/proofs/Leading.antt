@@ -2,8 +2,8 @@
 use Rattle.std.proofs.Common.{◌≡◌, ◌≢◌, ℕ, zero, suc, ◌+◌, ◌<◌, List, [], ◌∷◌, ◌++◌, length, get_or, drop, map, Option, Some, None, refl, sym, ap, ◌∙◌, subst, append_assoc, arith}
 use Rattle.std.proofs.lemmas.List.{drop-drop, drop_at, drop_more, drop_all, get_or-map, length-map}
 use Rattle.std.specs.List.{AllByRecursion, Contains}
-use Rattle.c2_spec.specs.Jumbf.{description_bytes, head_len, Tree, Trees, leaf, super, none, more, tree_bytes, tree_label, tree_labels, IsNewLabel, AreDistinctLabels, IsLegalTree}
-use Rattle.c2_spec.specs.JumbfBoxes.{AnyBox, node, described, IndexedBox, tree_count, boxes_from, boxes_from_all, boxes_of, box_at, any_label, indices_from, children_of, child_indices, LabelsLead}
+use Rattle.c2_spec.specs.Jumbf.Tree.{description_bytes, head_len, Tree, Trees, leaf, super, none, more, tree_bytes, tree_label, tree_labels, IsNewLabel, AreDistinctLabels, IsLegalTree}
+use Rattle.c2_spec.specs.Jumbf.Boxes.{AnyBox, node, described, IndexedBox, tree_count, boxes_from, boxes_from_all, boxes_of, box_at, any_label, indices_from, children_of, child_indices, LabelsLead}
 use Rattle.c2_jumbf.proofs.Trees.{length-boxes}
 use Rattle.c2_jumbf.proofs.BoxLemmas.{IsLegalBox, own_boxes, inner_boxes, box_stands, box_index, box_inside}
 use Rattle.c2_jumbf.proofs.Chains.{Chain, chain_of, after_of, front_box_is, head_of}

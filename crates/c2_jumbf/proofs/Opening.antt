@@ -3,8 +3,8 @@ use Rattle.std.proofs.Common.{◌≡◌, ◌≢◌, ℕ, ◌+◌, ◌-◌, ◌^�
 use Rattle.std.proofs.lemmas.List.{length-drop, drop-take, drop-drop, length-take-le}
 use Rattle.c2_spec.specs.declared.jumbf.JumbfError.{JumbfError}
 use Rattle.c2_spec.specs.declared.jumbf.JumbfError.TheVariants.{TooDeep, NoDescription, BadDescription, DuplicateLabel}
-use Rattle.c2_spec.specs.Jumbf.{Description, IsDescription, description_payload, description_bytes, FitsHead, head_len, boxed, jumb_kind, jumd_kind, IsNewLabel}
-use Rattle.c2_spec.specs.JumbfFaults.{tells_wide, told_payload, box_head_fault, TreeFault, IsSuperbox, DescriptionFault}
+use Rattle.c2_spec.specs.Jumbf.Tree.{Description, IsDescription, description_payload, description_bytes, FitsHead, head_len, boxed, jumb_kind, jumd_kind, IsNewLabel}
+use Rattle.c2_spec.specs.Jumbf.Faults.{tells_wide, told_payload, box_head_fault, TreeFault, IsSuperbox, DescriptionFault}
 use Rattle.c2_spec.proofs.JumbfHeads.{good_at}
 use Rattle.c2_jumbf.specs.declared.rows.Row.{Row}
 use Rattle.c2_jumbf.specs.declared.front.Front.{Front}

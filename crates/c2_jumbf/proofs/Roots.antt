@@ -3,8 +3,8 @@ use Rattle.std.proofs.Common.{◌≡◌, ◌⊎◌, inl, inr, ⊎_elim, ℕ, ◌
 use Rattle.std.proofs.lemmas.List.{length-drop, drop_all, append-nil}
 use Rattle.c2_spec.specs.declared.jumbf.JumbfError.{JumbfError}
 use Rattle.c2_spec.specs.declared.jumbf.JumbfError.TheVariants.{Trailing, NoMemory}
-use Rattle.c2_spec.specs.Jumbf.{Tree, tree_bytes, SpellsTree}
-use Rattle.c2_spec.specs.JumbfFaults.{JumbfFault}
+use Rattle.c2_spec.specs.Jumbf.Tree.{Tree, tree_bytes, SpellsTree}
+use Rattle.c2_spec.specs.Jumbf.Faults.{JumbfFault}
 use Rattle.c2_spec.proofs.JumbfOneTree.{spells_once}
 use Rattle.c2_spec.proofs.JumbfNoFault.{no_fault}
 use Rattle.c2_spec.proofs.JumbfOneFault.{first_once}

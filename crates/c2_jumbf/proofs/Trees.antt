@@ -3,9 +3,9 @@ use Rattle.std.proofs.Common.{◌≡◌, ◌≢◌, ℕ, ◌+◌, ◌-◌, ◌<�
 use Rattle.std.proofs.lemmas.List.{length-drop, append-nil, drop-drop, drop_all, length-map, map-append}
 use Rattle.std.specs.List.{AllByRecursion}
 use Rattle.c2_spec.specs.declared.jumbf.JumbfError.{JumbfError}
-use Rattle.c2_spec.specs.Jumbf.{Tree, Trees, leaf, super, none, more, tree_bytes, trees_bytes, description_bytes, tree_label, tree_labels, IsLegalTree, AreLegalTrees, AreDistinctLabels, IsNewLabel, head_len}
-use Rattle.c2_spec.specs.JumbfFaults.{TreeFault}
-use Rattle.c2_spec.specs.JumbfBoxes.{IndexedBox, tree_count, trees_count, boxes_from, boxes_from_all}
+use Rattle.c2_spec.specs.Jumbf.Tree.{Tree, Trees, leaf, super, none, more, tree_bytes, trees_bytes, description_bytes, tree_label, tree_labels, IsLegalTree, AreLegalTrees, AreDistinctLabels, IsNewLabel, head_len}
+use Rattle.c2_spec.specs.Jumbf.Faults.{TreeFault}
+use Rattle.c2_spec.specs.Jumbf.Boxes.{IndexedBox, tree_count, trees_count, boxes_from, boxes_from_all}
 use Rattle.c2_jumbf.specs.declared.rows.Row.{Row}
 use Rattle.c2_jumbf.specs.declared.labels.Siblings.{Siblings}
 use Rattle.c2_jumbf.specs.Labels.{Holds}

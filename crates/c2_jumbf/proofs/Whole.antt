@@ -2,9 +2,9 @@
 use Rattle.std.proofs.Common.{◌≡◌, ◌≢◌, ℕ, ◌+◌, ◌-◌, ◌^◌, ◌<◌, ◌≤◌, List, [], ◌∷◌, ◌++◌, length, get_or, take, drop, set, Option, refl, sym, ap, ◌∙◌, subst, append_assoc, arith, length-append}
 use Rattle.std.proofs.lemmas.List.{length-drop, drop-take, set_at, length-take-le, get_or_at}
 use Rattle.c2_spec.specs.declared.jumbf.JumbfError.{JumbfError}
-use Rattle.c2_spec.specs.Jumbf.{Description, Tree, leaf, super, tree_bytes, trees_bytes, description_bytes, tree_labels, FitsHead, head_len, boxed, jumb_kind}
-use Rattle.c2_spec.specs.JumbfFaults.{tells_wide, told_kind, told_total, told_payload, TreeFault}
-use Rattle.c2_spec.specs.JumbfBoxes.{trees_count}
+use Rattle.c2_spec.specs.Jumbf.Tree.{Description, Tree, leaf, super, tree_bytes, trees_bytes, description_bytes, tree_labels, FitsHead, head_len, boxed, jumb_kind}
+use Rattle.c2_spec.specs.Jumbf.Faults.{tells_wide, told_kind, told_total, told_payload, TreeFault}
+use Rattle.c2_spec.specs.Jumbf.Boxes.{trees_count}
 use Rattle.c2_jumbf.specs.declared.rows.Row.{Row}
 use Rattle.c2_jumbf.specs.declared.front.Front.{Front}
 use Rattle.c2_jumbf.specs.declared.labels.Siblings.{Siblings}

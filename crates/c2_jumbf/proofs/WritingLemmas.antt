@@ -1,8 +1,8 @@
 -- The bytes of a superbox as they are put together.
 use Rattle.std.proofs.Common.{◌≡◌, ℕ, suc, ◌+◌, List, [], ◌∷◌, ◌++◌, length, ap, ◌∙◌, append_assoc, arith, length-append}
 use Rattle.std.specs.Int.{w32, to_be_bytes}
-use Rattle.c2_spec.specs.Jumbf.{jumb_kind, jumd_kind, description_payload, description_bytes}
-use Rattle.c2_spec.specs.JumbfWriting.{fresh_description, fresh_super}
+use Rattle.c2_spec.specs.Jumbf.Tree.{jumb_kind, jumd_kind, description_payload, description_bytes}
+use Rattle.c2_spec.specs.Jumbf.Writing.{fresh_description, fresh_super}
 use Rattle.c2_spec.proofs.JumbfParts.{desc_split}
 
 payload_size : (uuid label : List ℕ) → length uuid ≡ 16 → length (description_payload (fresh_description uuid label)) ≡ 18 + length label

@@ -1,7 +1,7 @@
 -- The description of a superbox; for private clauses.
 use Rattle.std.specs.Prelude.{◌≡◌, ℕ, List, Option, Some, None}
-use Rattle.c2_spec.specs.Jumbf.{Description, IsDescription, description_payload, leaf, super}
-use Rattle.c2_spec.specs.JumbfBoxes.{AnyBox, node, described}
+use Rattle.c2_spec.specs.Jumbf.Tree.{Description, IsDescription, description_payload, leaf, super}
+use Rattle.c2_spec.specs.Jumbf.Boxes.{AnyBox, node, described}
 
 abbrev pub any_description : AnyBox → Option Description
 any_description (node (leaf b)) = None

@@ -3,8 +3,8 @@ use Rattle.std.specs.Prelude.{◌≡◌, ◌⊎◌, ◌<◌, true, false, Bool, 
 use Rattle.std.specs.Option.{option_map}
 use denote.Ref.{Bor}
 use Rattle.c2_jumbf.specs.declared.fields.Fields.{Fields}
-use Rattle.c2_spec.specs.Jumbf.{PlainBox, IsPlainBox, private_bytes, Description, IsFields, IsLabel, description_payload}
-use Rattle.c2_spec.specs.JumbfFaults.{IsNotOneBox}
+use Rattle.c2_spec.specs.Jumbf.Tree.{PlainBox, IsPlainBox, private_bytes, Description, IsFields, IsLabel, description_payload}
+use Rattle.c2_spec.specs.Jumbf.Faults.{IsNotOneBox}
 
 -- the bytes of a text, where there is one
 abbrev pub text_of : Option (Bor (List ℕ)) → Option (List ℕ)

@@ -5,9 +5,9 @@ use Rattle.c2_jumbf.specs.declared.front.Front.{Front}
 use Rattle.c2_jumbf.specs.declared.labels.Siblings.{Siblings}
 use Rattle.c2_jumbf.specs.Labels.{Holds}
 use Rattle.c2_spec.specs.declared.jumbf.JumbfError.{JumbfError}
-use Rattle.c2_spec.specs.Jumbf.{Tree, Trees, Description, IsDescription, description_bytes, head_len, tree_bytes, trees_bytes, tree_label, tree_labels, IsLegalTree, AreLegalTrees, AreDistinctLabels, IsNewLabel}
-use Rattle.c2_spec.specs.JumbfFaults.{TreeFault, told_payload}
-use Rattle.c2_spec.specs.JumbfBoxes.{AnyBox, node, described, IndexedBox, tree_count, boxes_from, boxes_from_all, any_bytes, any_wide}
+use Rattle.c2_spec.specs.Jumbf.Tree.{Tree, Trees, Description, IsDescription, description_bytes, head_len, tree_bytes, trees_bytes, tree_label, tree_labels, IsLegalTree, AreLegalTrees, AreDistinctLabels, IsNewLabel}
+use Rattle.c2_spec.specs.Jumbf.Faults.{TreeFault, told_payload}
+use Rattle.c2_spec.specs.Jumbf.Boxes.{AnyBox, node, described, IndexedBox, tree_count, boxes_from, boxes_from_all, any_bytes, any_wide}
 
 abbrev pub any_count : AnyBox → ℕ
 any_count (node t) = tree_count t

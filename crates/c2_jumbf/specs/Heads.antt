@@ -1,8 +1,8 @@
 -- What the head of a box tells; for private clauses.
 use Rattle.std.specs.Prelude.{◌≡◌, ◌≤◌, None, List, ℕ, length}
 use Rattle.c2_jumbf.specs.declared.front.Front.{Front}
-use Rattle.c2_spec.specs.Jumbf.{head_len}
-use Rattle.c2_spec.specs.JumbfFaults.{box_head_fault, tells_wide, told_total, told_kind}
+use Rattle.c2_spec.specs.Jumbf.Tree.{head_len}
+use Rattle.c2_spec.specs.Jumbf.Faults.{box_head_fault, tells_wide, told_total, told_kind}
 
 pub record IsHead (region : List ℕ) (h : Front) : Type 0 where
   pub good : box_head_fault 0 region ≡ None

@@ -10,7 +10,7 @@ use Rattle.std.specs.BTreeSet as sorted
 use Rattle.std.specs.BTreeSet.{BTreeSet}
 use denote.Ref.{Bor}
 use Rattle.c2_jumbf.specs.declared.labels.Siblings.{Siblings}
-use Rattle.c2_spec.specs.Jumbf.{IsNewLabel}
+use Rattle.c2_spec.specs.Jumbf.Tree.{IsNewLabel}
 
 -- the labels that are there
 abbrev pub given : List (Option (List ℕ)) → List (List ℕ)

@@ -1,6 +1,6 @@
 -- The description of a superbox as it is read; for private clauses.
 use Rattle.std.specs.Prelude.{◌≡◌, ◌-◌, ◌≤◌, ◌+◌, ℕ, List, take, drop}
-use Rattle.c2_spec.specs.Jumbf.{jumd_kind}
+use Rattle.c2_spec.specs.Jumbf.Tree.{jumd_kind}
 use Rattle.c2_jumbf.specs.declared.front.Front.{Front}
 use Rattle.c2_jumbf.specs.declared.reading.Own.{Own}
 use Rattle.c2_jumbf.specs.Heads.{IsHead}

@@ -4,7 +4,7 @@ use Rattle.std.specs.Coded.{Coded, Coded-set, code_by, coded_ℕ, coded×, coded
 use Rattle.std.proofs.Common.{refl}
 use mathlib.Core.HLevel.{is_prop→PathP}
 use Rattle.c2_jumbf.specs.declared.rows.Row.{Row}
-use Rattle.c2_spec.specs.Jumbf.{Tree, SpellsTree}
+use Rattle.c2_spec.specs.Jumbf.Tree.{Tree, SpellsTree}
 use Rattle.c2_spec.proofs.JumbfOneTree.{spells_once}
 use Rattle.c2_spec.proofs.JumbfCode.{spells_prop}
 use Rattle.c2_jumbf.specs.Flat.{rows}

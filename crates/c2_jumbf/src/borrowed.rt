@@ -16,7 +16,7 @@ pub struct Tree<'t> {
 }
 
 impl<'t> Model for Tree<'t> {
-    ghost use Rattle.c2_spec.specs.Jumbf.{Tree};
+    ghost use Rattle.c2_spec.specs.Jumbf.Tree.{Tree};
     ghost use Rattle.c2_spec.proofs.JumbfCode.{tree_code};
     ghost use Rattle.c2_jumbf.specs.Parsed.{IsParsed, parsed_prop};
 

@@ -2,8 +2,8 @@
 ghost use Rattle.std.specs.Prelude.{◌≡◌, ◌+◌, ◌^◌, ◌<◌, ◌≤◌, ℕ, List, Option, Some, None, IfSome, IfNone, length};
 ghost use Rattle.std.specs.Int.{w32, to_be_bytes};
 ghost use Rattle.std.specs.Option.{option_map};
-ghost use Rattle.c2_spec.specs.Jumbf.{IsLegalTree, head_len};
-ghost use Rattle.c2_spec.specs.JumbfBoxes.{tree_count, box_at, any_kind, any_wide, any_bytes, any_contents, any_uuid, any_label};
+ghost use Rattle.c2_spec.specs.Jumbf.Tree.{IsLegalTree, head_len};
+ghost use Rattle.c2_spec.specs.Jumbf.Boxes.{tree_count, box_at, any_kind, any_wide, any_bytes, any_contents, any_uuid, any_label};
 ghost use Rattle.c2_jumbf.specs.Flat.{row_of};
 ghost use Rattle.c2_jumbf.specs.Described.{any_description, IsPayload};
 

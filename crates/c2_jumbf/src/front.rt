@@ -1,8 +1,8 @@
 // Heads of boxes.
 ghost use Rattle.std.specs.Prelude.{◌≡◌, ◌+◌, ◌<◌, ◌≤◌, length, take, drop, None, Some, IfOk, IfErr};
 ghost use Rattle.std.specs.Int.{w32, w64, to_be_bytes, from_be_bytes};
-ghost use Rattle.c2_spec.specs.JumbfFaults.{box_head_fault, tells_wide, told_total, told_kind};
-ghost use Rattle.c2_spec.specs.JumbfBoxes.{told_head};
+ghost use Rattle.c2_spec.specs.Jumbf.Faults.{box_head_fault, tells_wide, told_total, told_kind};
+ghost use Rattle.c2_spec.specs.Jumbf.Boxes.{told_head};
 ghost use Rattle.c2_jumbf.specs.Heads.{IsHead};
 
 use c2_spec::{Head, JumbfError};
@@ -39,7 +39,7 @@ fn u64_at(bytes: &[u8], at: usize) -> u64
 }
 
 /// The head of the box that stands at the front of the bytes and ends within them; `at` is its place.
-#[tactic(auto, unfolding(c2_spec::specs::JumbfFaults::box_head_fault))]
+#[tactic(auto, unfolding(c2_spec::specs::Jumbf::Faults::box_head_fault))]
 pub fn head_at(bytes: &[u8], at: usize) -> Result<Front, JumbfError>
     ensures ok { IfOk result (IsHead bytes.now) }
     ensures err { IfErr result (λ e. box_head_fault at bytes.now ≡ Some e) }

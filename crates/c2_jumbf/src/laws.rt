@@ -2,8 +2,8 @@
 
 ghost use Rattle.std.specs.Prelude.{◌≡◌, ◌⊎◌, ◌^◌, ◌<◌, ℕ, List};
 ghost use Rattle.std.specs.List.{All};
-ghost use Rattle.c2_spec.specs.Jumbf.{Tree, SpellsTree};
-ghost use Rattle.c2_spec.specs.JumbfFaults.{JumbfFault};
+ghost use Rattle.c2_spec.specs.Jumbf.Tree.{Tree, SpellsTree};
+ghost use Rattle.c2_spec.specs.Jumbf.Faults.{JumbfFault};
 ghost use Rattle.c2_spec.specs.declared.jumbf.JumbfError.{JumbfError};
 
 /// Whatever the bytes are, they spell one legal tree, or one test is the first that fails; never both.

@@ -1,8 +1,8 @@
 // Trees of boxes are read in one pass: each box by its tests, its record written as it is met.
 ghost use Rattle.std.specs.Prelude.{◌≡◌, ◌⊎◌, ◌+◌, ◌^◌, ◌<◌, ◌≤◌, ℕ, List, length, Option, IfOk, IfErr, OnOk, MatchResult};
-ghost use Rattle.c2_spec.specs.Jumbf.{SpellsTree};
-ghost use Rattle.c2_spec.specs.Jumbf as format;
-ghost use Rattle.c2_spec.specs.JumbfFaults.{TreeFault, JumbfFault};
+ghost use Rattle.c2_spec.specs.Jumbf.Tree.{SpellsTree};
+ghost use Rattle.c2_spec.specs.Jumbf.Tree as format;
+ghost use Rattle.c2_spec.specs.Jumbf.Faults.{TreeFault, JumbfFault};
 ghost use Rattle.c2_jumbf.specs.Heads.{IsHead};
 ghost use Rattle.c2_jumbf.specs.Own.{IsOwn};
 ghost use Rattle.c2_jumbf.specs.Labels.{Holds};

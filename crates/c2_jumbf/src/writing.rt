@@ -2,8 +2,8 @@
 ghost use Rattle.std.specs.Prelude.{◌≡◌, ◌+◌, ◌<◌, ◌≤◌, ◌⊎◌, ◌++◌, ℕ, List, length, true, false, IfOk, IfErr};
 ghost use Rattle.std.specs.Int.{w32, from_be_bytes};
 ghost use Rattle.std.specs.Bool.{OnTrue, OnFalse};
-ghost use Rattle.c2_spec.specs.Jumbf.{SpellsTree, tree_bytes, boxed, IsDescription};
-ghost use Rattle.c2_spec.specs.JumbfWriting.{most_bytes, IsWrittenLabel, fresh_description, fresh_super, super_size, SuperRefused};
+ghost use Rattle.c2_spec.specs.Jumbf.Tree.{SpellsTree, tree_bytes, boxed, IsDescription};
+ghost use Rattle.c2_spec.specs.Jumbf.Writing.{most_bytes, IsWrittenLabel, fresh_description, fresh_super, super_size, SuperRefused};
 
 use crate::borrowed::Tree;
 use crate::fields::label_end;

@@ -3,10 +3,10 @@
 use Rattle.std.specs.Prelude.{◌≡◌, ℕ, Bool, true, false, ◌&&◌, List, Some, None, option_and_then}
 use Rattle.std.specs.declared.option.Option.{Option}
 use Rattle.c2_base.specs.declared.values.Question.{Question}
-use Rattle.c2_spec.specs.Claim.{IsClaim}
-use Rattle.c2_spec.specs.Manifest.{Manifest, Boxed, claim_bytes, is_given}
-use Rattle.c2_spec.specs.Sign1.{SignParts, SpellsMessage, question_of}
-use Rattle.c2_spec.specs.Uri.{PlainUri, PlainTarget, whole, assertion, signature, other, uri_of}
+use Rattle.c2_spec.specs.C2pa.Claim.{IsClaim}
+use Rattle.c2_spec.specs.C2pa.Manifest.{Manifest, Superbox, claim_bytes, is_given}
+use Rattle.c2_spec.specs.C2pa.Sign1.{SignParts, SpellsMessage, question_of}
+use Rattle.c2_spec.specs.C2pa.Uri.{PlainUri, PlainTarget, whole, assertion, signature, other, uri_of}
 use Rattle.c2_spec.specs.declared.claim.Claim.{Claim}
 
 -- a URI in a manifest speaks of this manifest: it names none, or this one
@@ -37,7 +37,7 @@ pub record HasQuestion (m : Manifest) (q : Question) : Type 0 where
   pub names : is_signature_uri m (uri_of claim.signature) ≡ true
   -- the signature box is there and has an item
   pub item : List ℕ
-  pub has_item : option_and_then (λ (b : Boxed). b.item) m.signature ≡ Some item
+  pub has_item : option_and_then (λ (b : Superbox). b.item) m.signature ≡ Some item
   -- the item is a signed message
   pub parts : SignParts
   pub is_message : SpellsMessage item parts

@@ -2,7 +2,7 @@
 use Rattle.std.specs.Prelude.{ℕ, Bool, true, false, ◌&&◌, ◌==◌, List, Some, None, if◌then◌else◌}
 use Rattle.std.specs.declared.option.Option.{Option}
 use Rattle.c2_spec.specs.Cbor.Item.{Item, bytes, list, dict, tag, simple, Items, no_items, item}
-use Rattle.c2_spec.specs.Sign1.{SignParts}
+use Rattle.c2_spec.specs.C2pa.Sign1.{SignParts}
 
 abbrev pub bytes_in : Item → Option (List ℕ)
 bytes_in (bytes b) = Some b

@@ -3,7 +3,7 @@ ghost use Rattle.std.specs.Prelude.{◌≡◌, IfOk};
 ghost use Rattle.c2_spec.specs.Cbor.View.{view};
 ghost use Rattle.c2_spec.specs.Cbor.Legal.{IsLegal};
 ghost use Rattle.c2_spec.specs.Cbor.Deterministic.{deterministic};
-ghost use Rattle.c2_spec.specs.Sign1.{parts_of, IsHeader, sig_structure, question_of};
+ghost use Rattle.c2_spec.specs.C2pa.Sign1.{parts_of, IsHeader, sig_structure, question_of};
 
 use crate::Sign1;
 use c2_base::{Blob, NoMemory, Question, Text};

@@ -1,7 +1,7 @@
 // Taking a message apart.
 ghost use Rattle.std.specs.Prelude.{◌≡◌, option_map};
 ghost use Rattle.c2_spec.specs.Cbor.View.{view, items_view};
-ghost use Rattle.c2_spec.specs.Sign1.{parts_of};
+ghost use Rattle.c2_spec.specs.C2pa.Sign1.{parts_of};
 ghost use Rattle.c2_sigstruct.specs.Parts.{bytes_in, is_null_item, is_dict, untagged, parts_in_four, parts_in_items, parts_in_list};
 
 use c2_base::Blob;

@@ -2,7 +2,7 @@
 ghost use Rattle.std.specs.Prelude.{◌≡◌, ◌⊎◌, IfOk, IfErr};
 ghost use Rattle.c2_spec.specs.Cbor.View.{view};
 ghost use Rattle.c2_spec.specs.Cbor.Answers.{Gives};
-ghost use Rattle.c2_spec.specs.Sign1.{SignParts, parts_of, SpellsMessage, IsHeader};
+ghost use Rattle.c2_spec.specs.C2pa.Sign1.{SignParts, parts_of, SpellsMessage, IsHeader};
 ghost use Rattle.c2_spec.specs.declared.sign1.SignError.TheVariants.{Form, NoMemory};
 
 use crate::message::{of_list, untag};

@@ -2,9 +2,9 @@
 use Rattle.std.proofs.Common.{◌≡◌, ℕ, ◌+◌, ◌<◌, ◌≤◌, Bool, true, false, cond, List, [], ◌∷◌, ◌++◌, All, refl, sym, ap, ◌∙◌, subst, append_assoc, append-nil, rules}
 use Rattle.std.specs.List.{filter}
 use Rattle.std.proofs.lemmas.List.Elements.{All-push}
-use Rattle.c2_spec.specs.Jumbf.{Tree}
-use Rattle.c2_spec.specs.JumbfBoxes.{tree_count, child_indices}
-use Rattle.c2_spec.specs.Manifest.{is_superbox, superboxes}
+use Rattle.c2_spec.specs.Jumbf.Tree.{Tree}
+use Rattle.c2_spec.specs.Jumbf.Boxes.{tree_count, child_indices}
+use Rattle.c2_spec.specs.C2pa.Manifest.{is_superbox, superboxes}
 use Rattle.c2_jumbf.proofs.Chains.{after_of, Chain, chain_of, chain_more, chain_end}
 
 -- those that were found, and the children that are still to come from a place on

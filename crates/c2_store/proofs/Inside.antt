@@ -3,9 +3,9 @@ use Rattle.std.proofs.Common.{◌≡◌, ℕ, zero, suc, ◌<◌, Bool, true, fa
 use Rattle.std.specs.List.{find, AllByRecursion}
 use Rattle.std.specs.Option.{option_map}
 use Rattle.std.proofs.lemmas.List.Elements.{All-from_recursion}
-use Rattle.c2_spec.specs.Jumbf.{Tree}
-use Rattle.c2_spec.specs.JumbfBoxes.{tree_count, box_at}
-use Rattle.c2_spec.specs.Manifest.{has_type, is_named, inside, superboxes, assertion_store_in, manifest_boxes, IsStoreOf}
+use Rattle.c2_spec.specs.Jumbf.Tree.{Tree}
+use Rattle.c2_spec.specs.Jumbf.Boxes.{tree_count, box_at}
+use Rattle.c2_spec.specs.C2pa.Manifest.{has_type, is_named, inside, superboxes, assertion_store_in, manifest_boxes, IsStoreOf}
 use Rattle.c2_spec.specs.declared.store.ManifestBoxes.{ManifestBoxes}
 use Rattle.c2_jumbf.proofs.BoxLemmas.{some_box}
 use Rattle.c2_store.proofs.Labelled.{IsInside, filter_inside, superboxes_inside}

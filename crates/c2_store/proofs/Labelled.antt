@@ -2,9 +2,9 @@
 use Rattle.std.proofs.Common.{◌≡◌, ℕ, zero, suc, ◌+◌, ◌<◌, Bool, true, false, cond, not, List, [], ◌∷◌, ◌++◌, length, get_or, map, Option, Some, None, slice_get, refl, sym, ap, ◌∙◌, subst, arith}
 use Rattle.std.specs.List.{filter, flat_map, AllByRecursion}
 use Rattle.std.specs.Option.{option_map, option_or}
-use Rattle.c2_spec.specs.Jumbf.{Tree}
-use Rattle.c2_spec.specs.JumbfBoxes.{tree_count, box_at, child_indices, any_label}
-use Rattle.c2_spec.specs.Manifest.{StoreTest, store_test, first_refusal, is_store, is_manifest, is_manifest_label, is_superbox, superboxes, manifest_tests, manifest_boxes, count_tests, IsStoreOf}
+use Rattle.c2_spec.specs.Jumbf.Tree.{Tree}
+use Rattle.c2_spec.specs.Jumbf.Boxes.{tree_count, box_at, child_indices, any_label}
+use Rattle.c2_spec.specs.C2pa.Manifest.{StoreTest, store_test, first_refusal, is_store, is_manifest, is_manifest_label, is_superbox, superboxes, manifest_tests, manifest_boxes, count_tests, IsStoreOf}
 use Rattle.c2_spec.specs.declared.store.ManifestBoxes.{ManifestBoxes}
 use Rattle.c2_spec.specs.declared.store.StoreError.{StoreError}
 use Rattle.c2_spec.specs.declared.store.StoreError.TheVariants.{NotStore, ManifestType, ManifestLabel}

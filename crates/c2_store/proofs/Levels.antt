@@ -3,8 +3,8 @@ use Rattle.std.proofs.Common.{◌≡◌, ℕ, zero, suc, ◌+◌, ◌-◌, ◌<�
 use Rattle.std.proofs.Math.ListN.{get_or-append}
 use Rattle.std.proofs.lemmas.List.{get_or-drop, get_or-append-add, length-drop, append-nil}
 use Rattle.std.specs.List.{AllByRecursion}
-use Rattle.c2_spec.specs.Jumbf.{description_bytes, Tree, Trees, leaf, super, none, more, tree_bytes, head_len}
-use Rattle.c2_spec.specs.JumbfBoxes.{node, described, IndexedBox, tree_count, trees_count, boxes_from, boxes_from_all, boxes_of, box_at}
+use Rattle.c2_spec.specs.Jumbf.Tree.{description_bytes, Tree, Trees, leaf, super, none, more, tree_bytes, head_len}
+use Rattle.c2_spec.specs.Jumbf.Boxes.{node, described, IndexedBox, tree_count, trees_count, boxes_from, boxes_from_all, boxes_of, box_at}
 use Rattle.c2_jumbf.specs.Flat.{any_count}
 use Rattle.c2_jumbf.proofs.Trees.{length-boxes_all}
 use Rattle.c2_jumbf.proofs.BoxLemmas.{box_index, count_is}

@@ -4,7 +4,7 @@ use Rattle.std.specs.List.{filter, find, flat_map}
 use Rattle.std.specs.Option.{option_map, option_or}
 use Rattle.std.proofs.lemmas.List.{drop_more}
 use Rattle.std.proofs.Math.Seq.{drop-length}
-use Rattle.c2_spec.specs.Manifest.{StoreTest, first_refusal}
+use Rattle.c2_spec.specs.C2pa.Manifest.{StoreTest, first_refusal}
 use Rattle.c2_spec.specs.declared.store.StoreError.{StoreError}
 
 -- a function of what is left of a list, one member on

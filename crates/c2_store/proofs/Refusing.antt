@@ -2,8 +2,8 @@
 use Rattle.std.proofs.Common.{◌≡◌, ℕ, Bool, true, false, not, List, ◌∷◌, ◌++◌, length, Option, Some, refl, sym, ap, ◌∙◌, cond}
 use Rattle.std.specs.List.{flat_map}
 use Rattle.std.specs.Option.{option_or}
-use Rattle.c2_spec.specs.Jumbf.{Tree}
-use Rattle.c2_spec.specs.Manifest.{StoreTest, store_test, first_refusal, is_store, superboxes, manifest_tests, count_tests, store_refusal}
+use Rattle.c2_spec.specs.Jumbf.Tree.{Tree}
+use Rattle.c2_spec.specs.C2pa.Manifest.{StoreTest, store_test, first_refusal, is_store, superboxes, manifest_tests, count_tests, store_refusal}
 use Rattle.c2_spec.specs.declared.store.StoreError.{StoreError}
 use Rattle.c2_spec.specs.declared.store.StoreError.TheVariants.{NotStore}
 use Rattle.c2_store.proofs.Picking.{first_refusal_append}

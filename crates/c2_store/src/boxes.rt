@@ -1,7 +1,7 @@
 // Boxes by type and label, and the superboxes in a box.
 ghost use Rattle.std.specs.Prelude.{◌≡◌, ◌<◌, [], ◌∷◌, ◌++◌, if◌then◌else◌, All, IfOk, OnOk};
-ghost use Rattle.c2_spec.specs.JumbfBoxes.{tree_count, box_at, any_uuid};
-ghost use Rattle.c2_spec.specs.Manifest as form;
+ghost use Rattle.c2_spec.specs.Jumbf.Boxes.{tree_count, box_at, any_uuid};
+ghost use Rattle.c2_spec.specs.C2pa.Manifest as form;
 ghost use Rattle.c2_jumbf.proofs.Chains.{after_of};
 
 use c2_base::NoMemory;

@@ -1,7 +1,7 @@
 // The item of a box.
 ghost use Rattle.std.specs.Prelude.{◌≡◌, ◌<◌, option_map};
-ghost use Rattle.c2_spec.specs.JumbfBoxes.{tree_count};
-ghost use Rattle.c2_spec.specs.Manifest.{item_at};
+ghost use Rattle.c2_spec.specs.Jumbf.Boxes.{tree_count};
+ghost use Rattle.c2_spec.specs.C2pa.Manifest.{item_at};
 
 use c2_jumbf::{Tree, child, contents, kind};
 

@@ -1,7 +1,7 @@
 // The boxes of one manifest.
 ghost use Rattle.std.specs.Prelude.{◌≡◌, ◌<◌, All, IfOk, IfSome, codes};
-ghost use Rattle.c2_spec.specs.JumbfBoxes.{tree_count, box_at};
-ghost use Rattle.c2_spec.specs.Manifest as form;
+ghost use Rattle.c2_spec.specs.Jumbf.Boxes.{tree_count, box_at};
+ghost use Rattle.c2_spec.specs.C2pa.Manifest as form;
 
 use crate::boxes::{has_label, has_uuid, push_if, superboxes};
 use c2_base::NoMemory;

@@ -2,9 +2,9 @@
 ghost use Rattle.std.specs.Prelude.{◌≡◌, ◌⊎◌, ◌<◌, ◌==◌, All, IfOk, MatchResult, Some, None, map, length};
 ghost use Rattle.std.specs.List.{flat_map, list_any};
 ghost use Rattle.std.specs.Option.{option_or};
-ghost use Rattle.c2_spec.specs.JumbfBoxes.{tree_count, box_at, any_label};
-ghost use Rattle.c2_spec.specs.Manifest as form;
-ghost use Rattle.c2_spec.specs.Manifest.{first_refusal, manifest_tests, manifest_boxes, store_refusal, store_of};
+ghost use Rattle.c2_spec.specs.Jumbf.Boxes.{tree_count, box_at, any_label};
+ghost use Rattle.c2_spec.specs.C2pa.Manifest as form;
+ghost use Rattle.c2_spec.specs.C2pa.Manifest.{first_refusal, manifest_tests, manifest_boxes, store_refusal, store_of};
 
 use crate::boxes::{has_label, has_uuid, superboxes};
 use crate::manifests::{MANIFEST, STORE, UPDATE, manifest};

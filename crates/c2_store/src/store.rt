@@ -1,7 +1,7 @@
 // What a store keeps.
 ghost use Rattle.std.specs.Prelude.{◌≡◌, ◌<◌, Some, length, slice_get, option_map, option_and_then};
-ghost use Rattle.c2_spec.specs.JumbfBoxes.{box_at, any_label};
-ghost use Rattle.c2_spec.specs.Manifest.{IsStoreOf};
+ghost use Rattle.c2_spec.specs.Jumbf.Boxes.{box_at, any_label};
+ghost use Rattle.c2_spec.specs.C2pa.Manifest.{IsStoreOf};
 ghost use Rattle.c2_spec.specs.declared.store.ManifestBoxes.{ManifestBoxes as Boxes};
 
 use c2_jumbf::{Tree, label_of};

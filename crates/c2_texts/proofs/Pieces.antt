@@ -7,9 +7,9 @@ use Rattle.serde_json.proofs.OnLiterals.{serde_json_on_literals}
 use Rattle.serde_json.specs.Data.{Data, boolean, string, array, object, no_members, member}
 use Rattle.serde_json.specs.View.{items_of}
 use Rattle.serde_json.specs.Written.{items_text, comma_if, compact_text}
-use Rattle.c2_spec.specs.Jumbf.{Tree}
-use Rattle.c2_spec.specs.JumbfBoxes.{box_at, any_label}
-use Rattle.c2_spec.specs.Manifest.{Manifest, boxed_at, manifest_at, manifests_of, store_of}
+use Rattle.c2_spec.specs.Jumbf.Tree.{Tree}
+use Rattle.c2_spec.specs.Jumbf.Boxes.{box_at, any_label}
+use Rattle.c2_spec.specs.C2pa.Manifest.{Manifest, superbox_at, manifest_at, manifests_of, store_of}
 use Rattle.c2_spec.specs.declared.cbor.Ref.{Ref}
 use Rattle.c2_spec.specs.declared.claim.Claim.{Claim}
 use Rattle.c2_spec.specs.declared.store.ManifestBoxes.{ManifestBoxes}
@@ -70,20 +70,20 @@ of_parts : (t : Tree) (boxes : List ℕ) (label : List ℕ) (update : Bool) (cla
     → Some boxes ≡ option_map (λ (m : ManifestBoxes). m.assertions) m
     → Some label ≡ option_and_then (λ (m : ManifestBoxes). any_label (box_at t m.whole).box) m
     → Some update ≡ option_map (λ (m : ManifestBoxes). m.is_update) m
-    → o5 ≡ o0 ++ compact_text (object (member (codes "boxes") (array (items_of (filter_map box_data (map (boxed_at t) boxes)))) (member (codes "claim") (claim_or_null claim) (member (codes "label") (string label) (member (codes "update") (boolean update) no_members)))))
+    → o5 ≡ o0 ++ compact_text (object (member (codes "boxes") (array (items_of (filter_map box_data (map (superbox_at t) boxes)))) (member (codes "claim") (claim_or_null claim) (member (codes "label") (string label) (member (codes "update") (boolean update) no_members)))))
     → Some o5 ≡ option_map (λ (m : ManifestBoxes). o0 ++ compact_text (manifest_data (manifest_at t m) claim)) m
 of_parts t boxes label update claim o0 o5 None a b c e = absurd (cc (a))
 of_parts t boxes label update claim o0 o5 (Some m) a b c e =
     let boxes_are : boxes ≡ m.assertions = cc (a) in
     let update_is : update ≡ m.is_update = cc (c) in
-    let data_is : object (member (codes "boxes") (array (items_of (filter_map box_data (map (boxed_at t) boxes)))) (member (codes "claim") (claim_or_null claim) (member (codes "label") (string label) (member (codes "update") (boolean update) no_members)))) ≡ manifest_data (manifest_at t m) claim = simp (boxes_are, update_is, ← b) refl in
+    let data_is : object (member (codes "boxes") (array (items_of (filter_map box_data (map (superbox_at t) boxes)))) (member (codes "claim") (claim_or_null claim) (member (codes "label") (string label) (member (codes "update") (boolean update) no_members)))) ≡ manifest_data (manifest_at t m) claim = simp (boxes_are, update_is, ← b) refl in
     ap Some (e ∙ ap (λ (x : Data). o0 ++ compact_text x) data_is)
 
 pub manifest_written : (t : Tree) (boxes : List ℕ) (label : List ℕ) (update : Bool) (claim : Option Claim) (o0 o1 named o2 o3 o4 o5 : List ℕ) (m : Option ManifestBoxes)
     → Some boxes ≡ option_map (λ (m : ManifestBoxes). m.assertions) m
     → Some label ≡ option_and_then (λ (m : ManifestBoxes). any_label (box_at t m.whole).box) m
     → Some update ≡ option_map (λ (m : ManifestBoxes). m.is_update) m
-    → o1 ≡ o0 ++ (codes "{\"boxes\":" ++ compact_text (array (items_of (filter_map box_data (map (boxed_at t) boxes)))))
+    → o1 ≡ o0 ++ (codes "{\"boxes\":" ++ compact_text (array (items_of (filter_map box_data (map (superbox_at t) boxes)))))
     → named ≡ o1 ++ codes ",\"claim\":" → o2 ≡ named ++ compact_text (claim_or_null claim)
     → o3 ≡ o2 ++ (codes ",\"label\":" ++ compact_text (string label))
     → o4 ≡ o3 ++ (codes ",\"update\":" ++ compact_text (boolean update))
@@ -94,7 +94,7 @@ manifest_written t boxes label update claim o0 o1 named o2 o3 o4 o5 m boxes_are 
     let second : o2 ≡ o1 ++ (codes ",\"claim\":" ++ compact_text (claim_or_null claim)) = b ∙ ap (λ x. x ++ compact_text (claim_or_null claim)) n ∙ append_assoc o1 (codes ",\"claim\":") (compact_text (claim_or_null claim)) in
     of_parts t boxes label update claim o0 o5 m boxes_are label_is update_is
     (four (codes "{\"boxes\":") (codes ",\"claim\":") (codes ",\"label\":") (codes ",\"update\":")
-    (compact_text (array (items_of (filter_map box_data (map (boxed_at t) boxes))))) (compact_text (claim_or_null claim)) (compact_text (string label)) (compact_text (boolean update))
+    (compact_text (array (items_of (filter_map box_data (map (superbox_at t) boxes))))) (compact_text (claim_or_null claim)) (compact_text (string label)) (compact_text (boolean update))
     o0 o1 o2 o3 o4 o5 a second d e f)
 
 -- ---- manifests

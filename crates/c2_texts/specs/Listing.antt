@@ -1,7 +1,7 @@
 -- For private clauses: the lines of `list` with labels as they are.
 use Rattle.std.specs.Prelude.{ℕ, List, [], ◌∷◌, length, codes, Option, Some, None}
 use Rattle.std.specs.Int.{w32, to_be_bytes}
-use Rattle.c2_spec.specs.JumbfBoxes.{IndexedBox, any_bytes, any_kind, any_label}
+use Rattle.c2_spec.specs.Jumbf.Boxes.{IndexedBox, any_bytes, any_kind, any_label}
 use Rattle.c2_texts.specs.Texts.{box_numbers, box_row}
 
 abbrev pub plain_column : Option (List ℕ) → List ℕ

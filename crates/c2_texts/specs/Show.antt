@@ -6,7 +6,7 @@ use Rattle.hex.specs.Hex.{encode_lower}
 use Rattle.serde_json.specs.Data.{Data, null, boolean, number, unsigned, string, array, object, no_members, member}
 use Rattle.serde_json.specs.View.{items_of}
 use Rattle.serde_json.specs.Written.{compact_text}
-use Rattle.c2_spec.specs.Manifest.{Manifest, Boxed}
+use Rattle.c2_spec.specs.C2pa.Manifest.{Manifest, Superbox}
 use Rattle.c2_spec.specs.declared.cbor.Ref.{Ref}
 use Rattle.c2_spec.specs.declared.claim.Claim.{Claim}
 use Rattle.c2_rules.specs.Claims.{Chained, active_of}
@@ -40,7 +40,7 @@ abbrev pub labelled_data : ℕ → Option (List ℕ) → Option Data
 labelled_data size None = None
 labelled_data size (Some label) = Some (object (member (codes "label") (string label) (member (codes "size") (number (unsigned size)) no_members)))
 
-abbrev pub box_data : Boxed → Option Data
+abbrev pub box_data : Superbox → Option Data
 box_data b = labelled_data (length b.contents) b.label
 
 -- the label of a manifest, which each manifest of a store has

@@ -5,10 +5,10 @@ use Rattle.std.specs.List.{flat_map}
 use Rattle.hex.specs.Hex.{encode_lower}
 use Rattle.c2_spec.specs.declared.reason.Reason.{Reason}
 use Rattle.c2_spec.specs.Reason.{reason_name}
-use Rattle.c2_spec.specs.Jumbf.{Tree}
-use Rattle.c2_spec.specs.Panel.{verdict_name}
+use Rattle.c2_spec.specs.Jumbf.Tree.{Tree}
+use Rattle.c2_spec.specs.Judges.Panel.{verdict_name}
 use Rattle.c2_spec.specs.declared.panel.Verdict.{Verdict}
-use Rattle.c2_spec.specs.JumbfBoxes.{IndexedBox, boxes_of, any_bytes, any_kind, any_label}
+use Rattle.c2_spec.specs.Jumbf.Boxes.{IndexedBox, boxes_of, any_bytes, any_kind, any_label}
 
 -- a line of text ends with a line feed
 abbrev pub line : List ℕ → List ℕ

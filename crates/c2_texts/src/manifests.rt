@@ -5,8 +5,8 @@ ghost use Rattle.std.specs.Option.{option_map};
 ghost use Rattle.serde_json.specs.Data.{Data, array};
 ghost use Rattle.serde_json.specs.View.{items_of, view};
 ghost use Rattle.serde_json.specs.Written.{compact_text};
-ghost use Rattle.c2_spec.specs.JumbfBoxes.{tree_count};
-ghost use Rattle.c2_spec.specs.Manifest.{IsStoreOf, boxed_at, manifest_at};
+ghost use Rattle.c2_spec.specs.Jumbf.Boxes.{tree_count};
+ghost use Rattle.c2_spec.specs.C2pa.Manifest.{IsStoreOf, superbox_at, manifest_at};
 ghost use Rattle.c2_texts.specs.Items.{items_inside};
 ghost use Rattle.c2_texts.specs.Show as form;
 
@@ -21,7 +21,7 @@ use std::alloc::{AllocError, Global};
 // A box, where it has a label.
 fn box_value(alloc: Global, tree: &Tree<'_>, i: usize) -> Result<Option<Value>, AllocError>
     requires { i < tree_count tree.now }
-    ensures { IfOk result (λ value. option_map view value ≡ form.box_data (boxed_at tree.now i)) }
+    ensures { IfOk result (λ value. option_map view value ≡ form.box_data (superbox_at tree.now i)) }
 {
     let Some(label) = label_of(tree, i) else {
         return Ok(None);
@@ -40,7 +40,7 @@ fn push_box(
     i: usize,
 ) -> Result<bool, AllocError>
     requires { i < tree_count tree.now }
-    ensures { IfOk result (λ later. (rest : List Data) → string_bytes out.new ++ items_inside later rest ≡ string_bytes out.old ++ items_inside before (cons_option (form.box_data (boxed_at tree.now i)) rest)) }
+    ensures { IfOk result (λ later. (rest : List Data) → string_bytes out.new ++ items_inside later rest ≡ string_bytes out.old ++ items_inside before (cons_option (form.box_data (superbox_at tree.now i)) rest)) }
 {
     let Some(value) = box_value(alloc, tree, i)? else {
         return Ok(before);
@@ -57,7 +57,7 @@ fn push_boxes(
     boxes: &[usize],
 ) -> Result<(), AllocError>
     requires { All (λ i. i < tree_count tree.now) boxes.now }
-    ensures { OnOk result (string_bytes out.new ≡ string_bytes out.old ++ items_inside false (filter_map form.box_data (map (boxed_at tree.now) boxes.now))) }
+    ensures { OnOk result (string_bytes out.new ≡ string_bytes out.old ++ items_inside false (filter_map form.box_data (map (superbox_at tree.now) boxes.now))) }
 {
     let mut later = false;
     for i in boxes {
@@ -74,7 +74,7 @@ fn push_labelled(
     boxes: &[usize],
 ) -> Result<(), AllocError>
     requires { All (λ i. i < tree_count tree.now) boxes.now }
-    ensures { OnOk result (string_bytes out.new ≡ string_bytes out.old ++ (codes "{\"boxes\":" ++ compact_text (array (items_of (filter_map form.box_data (map (boxed_at tree.now) boxes.now)))))) }
+    ensures { OnOk result (string_bytes out.new ≡ string_bytes out.old ++ (codes "{\"boxes\":" ++ compact_text (array (items_of (filter_map form.box_data (map (superbox_at tree.now) boxes.now)))))) }
 {
     out.push_str("{\"boxes\":[")?;
     push_boxes(alloc, out, tree, boxes)?;

@@ -1,6 +1,6 @@
 // The words that reports print for refusals and verdicts.
 ghost use Rattle.std.specs.Prelude.{◌≡◌};
-ghost use Rattle.c2_spec.specs.Panel as panel_form;
+ghost use Rattle.c2_spec.specs.Judges.Panel as panel_form;
 ghost use Rattle.c2_spec.specs.Reason as reason_form;
 
 use c2_spec::{Reason, Verdict};

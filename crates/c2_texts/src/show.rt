@@ -1,7 +1,7 @@
 // The line of `show`.
 ghost use Rattle.std.specs.Prelude.{◌≡◌, ◌++◌, IfOk, OnOk, false, string_bytes};
 ghost use Rattle.serde_json.specs.View.{view};
-ghost use Rattle.c2_spec.specs.Manifest.{IsStoreOf, manifests_of};
+ghost use Rattle.c2_spec.specs.C2pa.Manifest.{IsStoreOf, manifests_of};
 ghost use Rattle.c2_rules.specs.Claims.{active_of};
 ghost use Rattle.c2_texts.specs.Items.{items_inside};
 ghost use Rattle.c2_texts.specs.Show as form;

@@ -1,6 +1,6 @@
 // The lines of `list`.
 ghost use Rattle.std.specs.Prelude.{◌≡◌, ◌<◌, IfOk, string_bytes};
-ghost use Rattle.c2_spec.specs.JumbfBoxes.{box_at, tree_count};
+ghost use Rattle.c2_spec.specs.Jumbf.Boxes.{box_at, tree_count};
 ghost use Rattle.c2_jumbf.specs.Fields.{text_of};
 ghost use Rattle.c2_texts.specs.Listing.{plain_box_line, plain_column};
 ghost use Rattle.c2_texts.specs.Texts as form;

@@ -1,7 +1,7 @@
 -- The base of a label, place by place.
 use Rattle.std.proofs.Common.{◌≡◌, ℕ, ◌+◌, ◌-◌, ◌<◌, Bool, true, false, cond, List, [], ◌∷◌, ◌++◌, length, take, drop, get_or, sym, ap, ◌∙◌, append_assoc, append-nil, arith}
 use Rattle.std.proofs.lemmas.List.{drop_more, take_more, take_all, length-drop}
-use Rattle.c2_spec.specs.Uri.{is_number_suffix, base_of}
+use Rattle.c2_spec.specs.C2pa.Uri.{is_number_suffix, base_of}
 
 base_at : (xs : List ℕ) (i : ℕ) (b : Bool) → i < length xs → is_number_suffix (drop i xs) ≡ b → base_of (drop i xs) ≡ cond b [] (get_or xs i 0 ∷ base_of (drop (i + 1) xs))
 base_at xs i b lt is =

@@ -7,7 +7,7 @@ use Rattle.std.specs.Str.Pattern.{FindsTextPrefix, StripsPrefix}
 use Rattle.std.proofs.lemmas.Bool.{cases_Bool}
 use Rattle.std.proofs.lemmas.Bool.Decides.{Decides-eqb}
 use Rattle.std.proofs.lemmas.Slice.Eq.{starts_is}
-use Rattle.c2_spec.specs.Uri.{after_piece}
+use Rattle.c2_spec.specs.C2pa.Uri.{after_piece}
 
 pub strip_is : (piece text : List ℕ) (r : Option (Bor (List ℕ))) → MatchOption r (FindsTextPrefix piece text None) (λ x. StripsPrefix (FindsTextPrefix piece) text x.now)
     → option_map (λ t. t.now) r ≡ after_piece piece text

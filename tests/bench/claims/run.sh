@@ -10,7 +10,7 @@ cp -r "$here/../../.." "$work/repository"
 cd "$work/repository"
 mkdir -p crates/c2_claims_bench/src
 cp "$here/main.rattle" crates/c2_claims_bench/src/main.rt
-echo 'c2_claims_bench: c2_base c2_spec c2_cbor c2_fields c2_claim c2_jumbf c2_store' >> crates.txt
+echo 'c2_claims_bench: c2_base c2_spec c2_cbor c2_cbor_fields c2_claim c2_jumbf c2_store' >> crates.txt
 (cd crates/c2_claims_bench && rt run > "$work/build.log" 2>&1 || true)
 program=$(find crates/c2_claims_bench/out -type f -name 'c2_claims_bench*' -perm -u+x | head -1)
 [ -n "$program" ] || { tail -5 "$work/build.log"; exit 1; }

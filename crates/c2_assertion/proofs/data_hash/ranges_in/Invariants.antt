@@ -1,8 +1,8 @@
 use Rattle.std.proofs.Common.{◌≡◌, drop}
 use Rattle.c2_spec.specs.Cbor.View.{items_view}
-use Rattle.c2_spec.specs.Assertion.{range_of}
-use Rattle.c2_spec.specs.Fields.{each_of}
-use Rattle.c2_fields.proofs.Each.{behind}
+use Rattle.c2_spec.specs.C2pa.Assertion.{range_of}
+use Rattle.c2_spec.specs.Cbor.Fields.{each_of}
+use Rattle.c2_cbor_fields.proofs.Each.{behind}
 use Rattle.c2_assertion.proofs.data_hash.ranges_in.Given as goal
 
 abbrev pub invariant-loop-item : goal.invariant-loop-item

@@ -7,9 +7,9 @@ abbrev pub invariant-reads : goal.invariant-reads
 invariant-reads g l = record {
   in_buf : l.done ≤ length l.buf;
   in_source : l.pos + length l.buf ≤ g.S.Source.len l.initial.source;
-  stays : StaysSource g.S.Source.len g.S.Source.told g.S.Source.faults l.initial.source l.source;
+  stays : StaysSource g.S.Source.len g.S.Source.known g.S.Source.faults l.initial.source l.source;
   count : g.S.Source.faults l.source ≡ g.S.Source.faults l.initial.source;
-  front : ForSome (g.S.Source.told l.initial.source) (λ bytes. take l.done l.buf ≡ take l.done (drop l.pos bytes));
+  front : ForSome (g.S.Source.known l.initial.source) (λ bytes. take l.done l.buf ≡ take l.done (drop l.pos bytes));
 }
 
 abbrev pub decreases-reads : goal.decreases-reads

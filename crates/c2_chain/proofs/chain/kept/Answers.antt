@@ -1,4 +1,4 @@
-use Rattle.c2_spec.specs.Manifest.{manifests_of}
+use Rattle.c2_spec.specs.C2pa.Manifest.{manifests_of}
 use Rattle.c2_chain.proofs.Keeping.{kept_in}
 use Rattle.c2_chain.proofs.chain.kept.Goals as goal
 

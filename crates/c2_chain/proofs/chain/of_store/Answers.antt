@@ -1,4 +1,4 @@
-use Rattle.c2_spec.specs.Manifest.{manifests_of}
+use Rattle.c2_spec.specs.C2pa.Manifest.{manifests_of}
 use Rattle.c2_chain.proofs.Placed.{stored_count}
 use Rattle.c2_chain.proofs.Keeping.{claims_kept, kept_count}
 use Rattle.c2_chain.proofs.chain.of_store.Goals as goal

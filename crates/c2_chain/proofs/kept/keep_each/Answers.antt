@@ -1,5 +1,5 @@
 use Rattle.std.proofs.Common.{◌<◌, length, arith}
-use Rattle.c2_spec.specs.Manifest.{manifests_of}
+use Rattle.c2_spec.specs.C2pa.Manifest.{manifests_of}
 use Rattle.c2_chain.proofs.Placed.{stored_count}
 use Rattle.c2_chain.proofs.Keeping.{keep_more}
 use Rattle.c2_chain.proofs.kept.keep_each.Goals as goal

@@ -1,5 +1,5 @@
 use Rattle.std.proofs.Common.{take}
-use Rattle.c2_spec.specs.Manifest.{manifests_of}
+use Rattle.c2_spec.specs.C2pa.Manifest.{manifests_of}
 use Rattle.c2_chain.specs.Kept.{KeepEach}
 use Rattle.c2_chain.proofs.kept.keep_each.Given as goal
 

@@ -1,4 +1,4 @@
-use Rattle.c2_spec.specs.Manifest.{manifests_of}
+use Rattle.c2_spec.specs.C2pa.Manifest.{manifests_of}
 use Rattle.c2_chain.proofs.Keeping.{kept_at}
 use Rattle.c2_chain.proofs.kept.keep_manifest.Goals as goal
 

@@ -7,8 +7,8 @@ use Rattle.c2_cmd.proofs.Replying.{reply_is, reply_of-opened}
 use Rattle.c2_cmd.proofs.digest.reply_to_digest.Goals as goal
 
 pub returns-in-Ok-clause-reply : goal.returns-in-Ok-clause-reply
-returns-in-Ok-clause-reply g c file told =
+returns-in-Ok-clause-reply g c file known =
     let hash = g.H.Hashing.digest_of Sha256 in
-    let digest = c.in-Ok.ensures.digest file (c.in_ok-found.ensures.stays.same_bytes ∙ told) in
+    let digest = c.in-Ok.ensures.digest file (c.in_ok-found.ensures.stays.same_bytes ∙ known) in
     let out = c.in_ok-reply-in-Ok.ensures.reply ∙ ap (λ d. reports answer.Done (digest_line c.in-Here.found.start c.in-Here.found.length d)) digest in
-    reply_of-opened (λ what expected. expected ≡ digest_outcome hash file what) file _ _ _ c.in-Here.is (c.in_ok-found.ensures.found file told) (c.in_ok-found.ensures.only file told) (reply_is _ _ out)
+    reply_of-opened (λ what expected. expected ≡ digest_outcome hash file what) file _ _ _ c.in-Here.is (c.in_ok-found.ensures.found file known) (c.in_ok-found.ensures.only file known) (reply_is _ _ out)

@@ -9,9 +9,9 @@ invariant-pieces g l = record {
   in_range : l.at ≤ l.to;
   room : 0 < length l.buf;
   inside : l.to ≤ g.S.Source.len l.initial.source;
-  stays : StaysSource g.S.Source.len g.S.Source.told g.S.Source.faults l.initial.source l.source;
+  stays : StaysSource g.S.Source.len g.S.Source.known g.S.Source.faults l.initial.source l.source;
   count : g.S.Source.faults l.source ≡ g.S.Source.faults l.initial.source;
-  taken : TakesIn g.H.Hashing.holds (g.S.Source.told l.initial.source) l.from l.at l.initial.state l.state;
+  taken : TakesIn g.H.Hashing.holds (g.S.Source.known l.initial.source) l.from l.at l.initial.state l.state;
 }
 
 abbrev pub decreases-pieces : goal.decreases-pieces

@@ -1,6 +1,6 @@
 use Rattle.std.proofs.Common.{subst, ℕ, List, map}
 use Rattle.c2_spec.specs.Located.{here}
-use Rattle.c2_spec.specs.Panel.{panel_says}
+use Rattle.c2_spec.specs.Judges.Panel.{panel_says}
 use Rattle.c2_cmd.specs.Outcome.{IsQuestioned, AsksOfTree}
 use Rattle.c2_cmd.specs.Reply.{IsReply, IsFoundOutcome, AsksOfFound, found_at}
 use Rattle.c2_cmd.proofs.Storing.{unspelled_reply, spelled_reply, refused_reply, accepted_reply, refuses_store, asked_lift, asked_nothing, found_asks, found_nothing, found_refused}

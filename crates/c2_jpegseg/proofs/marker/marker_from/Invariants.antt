@@ -7,8 +7,8 @@ use Rattle.c2_jpegseg.proofs.marker.marker_from.Given as goal
 -- the bytes passed are fill
 abbrev pub invariant-loop-place : goal.invariant-loop-place
 invariant-loop-place g l = record {
-  stays : StaysSource g.S.Source.len g.S.Source.told g.S.Source.faults l.initial.source l.source;
+  stays : StaysSource g.S.Source.len g.S.Source.known g.S.Source.faults l.initial.source l.source;
   count : g.S.Source.faults l.source ≡ g.S.Source.faults l.initial.source;
-  shows : Shows (g.S.Source.len l.initial.source) (g.S.Source.told l.initial.source) l.window;
-  fill : ForSome (g.S.Source.told l.initial.source) (λ file. drop l.at file ≡ replicate (l.place - l.at) 255 ++ drop l.place file);
+  shows : Shows (g.S.Source.len l.initial.source) (g.S.Source.known l.initial.source) l.window;
+  fill : ForSome (g.S.Source.known l.initial.source) (λ file. drop l.at file ≡ replicate (l.place - l.at) 255 ++ drop l.place file);
 }

@@ -1,27 +1,27 @@
 use Rattle.std.proofs.Common.{length, ◌≡◌, ◌∙◌, sym, subst, arith}
 use Rattle.c2_base.specs.declared.media.MediaError.TheVariants.{FileTooLarge}
-use Rattle.c2_spec.specs.Jpeg.{SegmentFault, FirstJpegFault, too_large, not_media, segment}
+use Rattle.c2_spec.specs.Jpeg.Store.{SegmentFault, FirstJpegFault, too_large, not_media, segment}
 use Rattle.c2_jpegseg.specs.Answers.{IsBegun}
 use Rattle.c2_jpegseg.specs.Windows.{Shows}
 use Rattle.c2_jpegseg.proofs.Outside.{or_outside-map}
 use Rattle.c2_jpegseg.proofs.search.search.Goals as goal
 
 pub returns-then-size-ge-TOO_LARGE-clause-found : goal.returns-then-size-ge-TOO_LARGE-clause-found
-returns-then-size-ge-TOO_LARGE-clause-found g c file told =
-    let size : length file ≡ c.in_ok-size.size = g.met.S.Source.told_len c.args.source.now file told ∙ sym c.in_ok-size.ensures.length in
+returns-then-size-ge-TOO_LARGE-clause-found g c file known =
+    let size : length file ≡ c.in_ok-size.size = g.met.S.Source.known_len c.args.source.now file known ∙ sym c.in_ok-size.ensures.length in
     subst (λ n. FirstJpegFault file (FileTooLarge n)) size (too_large (omega arith))
 
 pub is_jpeg-requires-clause-shows : goal.is_jpeg-requires-clause-shows
 is_jpeg-requires-clause-shows g c =
-    subst (λ n. Shows n (g.S.Source.told c.size.new.self) c.in_ok-window.window) (c.in_ok-size.ensures.length ∙ sym c.in_ok-size.ensures.stays.same_len) (c.in_ok-window.ensures (g.S.Source.told c.size.new.self))
+    subst (λ n. Shows n (g.S.Source.known c.size.new.self) c.in_ok-window.window) (c.in_ok-size.ensures.length ∙ sym c.in_ok-size.ensures.stays.same_len) (c.in_ok-window.ensures (g.S.Source.known c.size.new.self))
 
 pub returns-then-not-branch-clause-found : goal.returns-then-not-branch-clause-found
-returns-then-not-branch-clause-found g c file told =
-    let size : length file ≡ c.in_ok-size.size = g.met.S.Source.told_len c.args.source.now file told ∙ sym c.in_ok-size.ensures.length in
-    not_media (omega arith) (subst (IsBegun file) c.if-not-branch.true (c.in_ok-is_jpeg.ensures.begun file (c.in_ok-size.ensures.stays.same_bytes ∙ told)))
+returns-then-not-branch-clause-found g c file known =
+    let size : length file ≡ c.in_ok-size.size = g.met.S.Source.known_len c.args.source.now file known ∙ sym c.in_ok-size.ensures.length in
+    not_media (omega arith) (subst (IsBegun file) c.if-not-branch.true (c.in_ok-is_jpeg.ensures.begun file (c.in_ok-size.ensures.stays.same_bytes ∙ known)))
 
 pub returns-clause-found : goal.returns-clause-found
-returns-clause-found g c file told =
-    let size : length file ≡ c.in_ok-size.size = g.met.S.Source.told_len c.args.source.now file told ∙ sym c.in_ok-size.ensures.length in
+returns-clause-found g c file known =
+    let size : length file ≡ c.in_ok-size.size = g.met.S.Source.known_len c.args.source.now file known ∙ sym c.in_ok-size.ensures.length in
     or_outside-map c.in-Err.error (SegmentFault file c.in-Err.error) (FirstJpegFault file c.in-Err.error) (segment c.in-Err.error (omega arith))
-    (c.in-Err.ensures.walked file (c.in_ok-is_jpeg.ensures.stays.same_bytes ∙ c.in_ok-size.ensures.stays.same_bytes ∙ told))
+    (c.in-Err.ensures.walked file (c.in_ok-is_jpeg.ensures.stays.same_bytes ∙ c.in_ok-size.ensures.stays.same_bytes ∙ known))

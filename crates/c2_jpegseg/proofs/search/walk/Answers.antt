@@ -1,5 +1,5 @@
 use Rattle.std.proofs.Common.{length, ◌≡◌, ◌∙◌, ◌-◌, sym, subst, refl, arith, Some}
-use Rattle.c2_spec.specs.Jpeg.{SegmentFault, HasJpegStore}
+use Rattle.c2_spec.specs.Jpeg.Store.{SegmentFault, HasJpegStore}
 use Rattle.c2_jpegseg.specs.Runs.{collected, all_collected}
 use Rattle.c2_jpegseg.specs.Walks.{Walks}
 use Rattle.c2_jpegseg.proofs.Outside.{or_outside-map}
@@ -8,19 +8,19 @@ use Rattle.c2_jpegseg.proofs.WindowLemmas.{shows_same}
 use Rattle.c2_jpegseg.proofs.search.walk.Goals as goal
 
 pub returns-in-Err-clause-walked : goal.returns-in-Err-clause-walked
-returns-in-Err-clause-walked g c file told =
+returns-in-Err-clause-walked g c file known =
     let before = c.segments.invariant in
-    or_outside-map c.in-Err.error _ (SegmentFault file c.in-Err.error) (refuse-marker file c.segments.at (all_collected c.segments.run) c.in-Err.error (before.walks file told))
-    (c.in-Err.ensures.next file (before.stays.same_bytes ∙ told))
+    or_outside-map c.in-Err.error _ (SegmentFault file c.in-Err.error) (refuse-marker file c.segments.at (all_collected c.segments.run) c.in-Err.error (before.walks file known))
+    (c.in-Err.ensures.next file (before.stays.same_bytes ∙ known))
 
 pub returns-in-Err-step-clause-walked : goal.returns-in-Err-step-clause-walked
-returns-in-Err-step-clause-walked g c file told =
+returns-in-Err-step-clause-walked g c file known =
     let before = c.segments.invariant in
-    let told' = before.stays.same_bytes ∙ told in
+    let known' = before.stays.same_bytes ∙ known in
     let next = rw c.in-Ok-Segment.field-0-is at c.in-Ok-Segment.ensures.next in
-    let size : length file ≡ g.S.Source.len c.args.source.now = g.met.S.Source.told_len c.args.source.now file told in
-    let shows = shows_same _ (length file) _ (Some file) _ (c.in-Ok-Segment.ensures.stays.same_len ∙ before.stays.same_len ∙ sym size) (c.in-Ok-Segment.ensures.stays.same_bytes ∙ told') c.in_ok-load_packet.ensures.shows in
-    c.in-Err-step.ensures.err file (record { extent = c.in-Ok-Segment.extent; walks = before.walks file told; stands = next file told'; ends = refl; packet_is = c.packet_at-packet.ensures.packet file shows })
+    let size : length file ≡ g.S.Source.len c.args.source.now = g.met.S.Source.known_len c.args.source.now file known in
+    let shows = shows_same _ (length file) _ (Some file) _ (c.in-Ok-Segment.ensures.stays.same_len ∙ before.stays.same_len ∙ sym size) (c.in-Ok-Segment.ensures.stays.same_bytes ∙ known') c.in_ok-load_packet.ensures.shows in
+    c.in-Err-step.ensures.err file (record { extent = c.in-Ok-Segment.extent; walks = before.walks file known; stands = next file known'; ends = refl; packet_is = c.packet_at-packet.ensures.packet file shows })
 
 pub segments-preserved : goal.segments-preserved
 segments-preserved g c =
@@ -39,30 +39,30 @@ segments-preserved g c =
       count = load.cause.ok ∙ found.count ∙ before.count;
       shows = shows_same _ _ _ _ _ (found.stays.same_len ∙ before.stays.same_len) (found.stays.same_bytes ∙ before.stays.same_bytes) load.shows;
       before = c.in-Ok.ensures.ends;
-      walks = λ file told.
-          let told' = before.stays.same_bytes ∙ told in
-          let size : length file ≡ g.S.Source.len c.args.source.now = g.met.S.Source.told_len c.args.source.now file told in
-          let shows = shows_same _ (length file) _ (Some file) _ (found.stays.same_len ∙ before.stays.same_len ∙ sym size) (found.stays.same_bytes ∙ told') load.shows in
-          c.in-Ok.ensures.ok file (record { extent = c.in-Ok-Segment.extent; walks = before.walks file told; stands = next file told'; ends = refl; packet_is = c.packet_at-packet.ensures.packet file shows });
+      walks = λ file known.
+          let known' = before.stays.same_bytes ∙ known in
+          let size : length file ≡ g.S.Source.len c.args.source.now = g.met.S.Source.known_len c.args.source.now file known in
+          let shows = shows_same _ (length file) _ (Some file) _ (found.stays.same_len ∙ before.stays.same_len ∙ sym size) (found.stays.same_bytes ∙ known') load.shows in
+          c.in-Ok.ensures.ok file (record { extent = c.in-Ok-Segment.extent; walks = before.walks file known; stands = next file known'; ends = refl; packet_is = c.packet_at-packet.ensures.packet file shows });
     }
 
 pub returns-in_default-clause-walked : goal.returns-in_default-clause-walked
-returns-in_default-clause-walked g c file told =
+returns-in_default-clause-walked g c file known =
     let before = c.segments.invariant in
     let next = rw c.in-Ok-End.field-0-is at c.in-Ok-End.ensures.next in
-    let size : length file ≡ g.S.Source.len c.args.source.now = g.met.S.Source.told_len c.args.source.now file told in
-    no-store file c.segments.at (omega arith) (subst (λ r. Walks file c.segments.at (all_collected r)) c.in_default.is (before.walks file told)) (next file (before.stays.same_bytes ∙ told))
+    let size : length file ≡ g.S.Source.len c.args.source.now = g.met.S.Source.known_len c.args.source.now file known in
+    no-store file c.segments.at (omega arith) (subst (λ r. Walks file c.segments.at (all_collected r)) c.in_default.is (before.walks file known)) (next file (before.stays.same_bytes ∙ known))
 
 pub returns-then-len-run-clause-walked : goal.returns-then-len-run-clause-walked
-returns-then-len-run-clause-walked g c file told =
+returns-then-len-run-clause-walked g c file known =
     let before = c.segments.invariant in
     let next = rw c.in-Ok-End.field-0-is at c.in-Ok-End.ensures.next in
-    refuse-end file c.segments.at (collected c.in-Some.run') (subst (λ r. Walks file c.segments.at (all_collected r)) c.in-Some.is (before.walks file told)) (next file (before.stays.same_bytes ∙ told)) (omega arith)
+    refuse-end file c.segments.at (collected c.in-Some.run') (subst (λ r. Walks file c.segments.at (all_collected r)) c.in-Some.is (before.walks file known)) (next file (before.stays.same_bytes ∙ known)) (omega arith)
 
 pub returns-clause-walked : goal.returns-clause-walked
-returns-clause-walked g c file told =
+returns-clause-walked g c file known =
     let before = c.segments.invariant in
     let next = rw c.in-Ok-End.field-0-is at c.in-Ok-End.ensures.next in
-    let size : length file ≡ g.S.Source.len c.args.source.now = g.met.S.Source.told_len c.args.source.now file told in
+    let size : length file ≡ g.S.Source.len c.args.source.now = g.met.S.Source.known_len c.args.source.now file known in
     subst (HasJpegStore file c.in-Some.run'.start (c.in-Some.run'.end - c.in-Some.run'.start)) (sym c.from_vec.ensures)
-    (store-here file c.segments.at (collected c.in-Some.run') (omega arith) (subst (λ r. Walks file c.segments.at (all_collected r)) c.in-Some.is (before.walks file told)) (next file (before.stays.same_bytes ∙ told)) (omega arith))
+    (store-here file c.segments.at (collected c.in-Some.run') (omega arith) (subst (λ r. Walks file c.segments.at (all_collected r)) c.in-Some.is (before.walks file known)) (next file (before.stays.same_bytes ∙ known)) (omega arith))

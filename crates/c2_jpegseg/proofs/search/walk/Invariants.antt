@@ -10,11 +10,11 @@ use Rattle.c2_jpegseg.proofs.search.walk.Given as goal
 abbrev pub invariant-segments : goal.invariant-segments
 invariant-segments g l = record {
   inside : l.at ≤ l.size;
-  stays : StaysSource g.S.Source.len g.S.Source.told g.S.Source.faults l.initial.source l.source;
+  stays : StaysSource g.S.Source.len g.S.Source.known g.S.Source.faults l.initial.source l.source;
   count : g.S.Source.faults l.source ≡ g.S.Source.faults l.initial.source;
-  shows : Shows (g.S.Source.len l.initial.source) (g.S.Source.told l.initial.source) l.window;
+  shows : Shows (g.S.Source.len l.initial.source) (g.S.Source.known l.initial.source) l.window;
   before : EndsBy l.at l.run;
-  walks : ForSome (g.S.Source.told l.initial.source) (λ file. Walks file l.at (all_collected l.run));
+  walks : ForSome (g.S.Source.known l.initial.source) (λ file. Walks file l.at (all_collected l.run));
 }
 
 abbrev pub decreases-segments : goal.decreases-segments

@@ -1,5 +1,5 @@
 use Rattle.std.proofs.Common.{sym}
-use Rattle.c2_spec.specs.Jpeg.{SegmentFault}
+use Rattle.c2_spec.specs.Jpeg.Store.{SegmentFault}
 use Rattle.c2_jpegseg.proofs.Outside.{or_outside-map}
 use Rattle.c2_jpegseg.proofs.Outcomes.{begin-no_packet, begin-other, begin-start, begin-refused}
 use Rattle.c2_jpegseg.proofs.segment.begin.Goals as goal

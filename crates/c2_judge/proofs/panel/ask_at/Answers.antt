@@ -1,6 +1,6 @@
 use Rattle.std.proofs.Common.{arith}
 use Rattle.c2_judge.proofs.Lists.{MovedAt-map-set, kept, kept_on_ok, rose_on_err, said_on_ok}
-use Rattle.c2_spec.specs.Panel.{Counted}
+use Rattle.c2_spec.specs.Judges.Panel.{Counted}
 use Rattle.c2_judge.proofs.panel.ask_at.Goals as goal
 
 pub returns-clause-answer : goal.returns-clause-answer

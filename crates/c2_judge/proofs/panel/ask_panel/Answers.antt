@@ -2,7 +2,7 @@ use Rattle.std.proofs.Common.{arith, ap, ◌∙◌, ◌+◌}
 use Rattle.std.proofs.lemmas.List.{length-map}
 use Rattle.c2_base.specs.declared.values.Question.{Question}
 use Rattle.c2_spec.specs.declared.panel.Verdict.{Verdict}
-use Rattle.c2_spec.specs.Panel.{verdicts, Counted}
+use Rattle.c2_spec.specs.Judges.Panel.{verdicts, Counted}
 use Rattle.c2_judge.proofs.PanelSteps.{answer_found, size_found, size_all, answer_more, size_more, MovedBelow-more, failed_at, counted_none_fell, same_none_fell, failing_none_fell}
 use Rattle.c2_judge.proofs.panel.ask_panel.Goals as goal
 

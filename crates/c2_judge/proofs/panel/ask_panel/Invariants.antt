@@ -1,5 +1,5 @@
 use Rattle.std.proofs.Common.{◌≡◌, ◌+◌, map, drop, vec_len}
-use Rattle.c2_spec.specs.Panel.{verdicts, first_said, panel_size, MovedBelow, Counted}
+use Rattle.c2_spec.specs.Judges.Panel.{verdicts, first_said, panel_size, MovedBelow, Counted}
 use Rattle.c2_judge.proofs.panel.ask_panel.Given as goal
 
 abbrev pub invariant-loop-i : goal.invariant-loop-i

@@ -1,5 +1,5 @@
 use Rattle.std.proofs.lemmas.List.{take_rest}
-use Rattle.c2_spec.specs.JumbfBoxes.{box_at}
+use Rattle.c2_spec.specs.Jumbf.Boxes.{box_at}
 use Rattle.c2_jumbf.proofs.DescriptionLemmas.{label_missing, label_here, label_not_bad}
 use Rattle.c2_jumbf.proofs.boxes.label_of.Goals as goal
 

@@ -1,6 +1,6 @@
 use Rattle.std.proofs.Common.{arith, sym}
 use Rattle.std.proofs.lemmas.List.{length-take-le}
-use Rattle.c2_spec.specs.JumbfBoxes.{box_at}
+use Rattle.c2_spec.specs.Jumbf.Boxes.{box_at}
 use Rattle.c2_jumbf.proofs.DescriptionLemmas.{payload_long, uuid_missing, uuid_here}
 use Rattle.c2_jumbf.proofs.boxes.uuid_of.Goals as goal
 

@@ -1,5 +1,5 @@
 use Rattle.std.proofs.Common.{length}
-use Rattle.c2_spec.specs.JumbfBoxes.{path_labels}
+use Rattle.c2_spec.specs.Jumbf.Boxes.{path_labels}
 use Rattle.c2_jumbf.proofs.Leading.{Walked}
 use Rattle.c2_jumbf.proofs.children.find.Given as goal
 

@@ -1,7 +1,7 @@
 use Rattle.std.proofs.Common.{inl, inr, ⊎_elim, ℕ, List, length, subst, ◌+◌, arith, ◌≤◌}
 use Rattle.std.proofs.lemmas.List.{take_rest}
-use Rattle.c2_spec.specs.Jumbf.{tree_labels}
-use Rattle.c2_spec.specs.JumbfFaults.{TreeFault}
+use Rattle.c2_spec.specs.Jumbf.Tree.{tree_labels}
+use Rattle.c2_spec.specs.Jumbf.Faults.{TreeFault}
 use Rattle.c2_jumbf.specs.Flat.{IsTreeAt}
 use Rattle.c2_jumbf.proofs.Trees.{filled_none, filled_more, filled_fault}
 use Rattle.c2_jumbf.proofs.Whole.{leaf_pushed, super_written, super_fault}

@@ -1,5 +1,5 @@
 use Rattle.std.proofs.Common.{inl, inr, ⊎_elim, []}
-use Rattle.c2_spec.specs.JumbfFaults.{JumbfFault}
+use Rattle.c2_spec.specs.Jumbf.Faults.{JumbfFault}
 use Rattle.c2_jumbf.proofs.Roots.{root_trailing, root_whole}
 use Rattle.c2_jumbf.proofs.reading.rows_of.Goals as goal
 

@@ -1,6 +1,6 @@
 use Rattle.std.proofs.Common.{◌≡◌, inr, arith, subst, ◌-◌, ◌^◌, min}
 use Rattle.c2_spec.specs.declared.jumbf.WriteError.TheVariants.{TooLarge}
-use Rattle.c2_spec.specs.JumbfWriting.{SuperRefused, super_size}
+use Rattle.c2_spec.specs.Jumbf.Writing.{SuperRefused, super_size}
 use Rattle.c2_jumbf.proofs.writing.write_super.Goals as goal
 
 pub returns-then-not-is_written_label-clause-err : goal.returns-then-not-is_written_label-clause-err

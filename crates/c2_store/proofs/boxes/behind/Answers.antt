@@ -1,6 +1,6 @@
 use Rattle.c2_store.proofs.Levels.{behind_here}
 use Rattle.std.proofs.Common.{◌≤◌, arith}
-use Rattle.c2_spec.specs.JumbfBoxes.{box_at}
+use Rattle.c2_spec.specs.Jumbf.Boxes.{box_at}
 use Rattle.c2_store.proofs.boxes.behind.Goals as goal
 
 pub returns-then-depth-level : goal.returns-then-depth-level

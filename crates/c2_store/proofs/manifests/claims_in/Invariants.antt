@@ -1,5 +1,5 @@
 use Rattle.std.proofs.Common.{◌≡◌, ◌++◌, drop}
-use Rattle.c2_spec.specs.Manifest.{claims_in}
+use Rattle.c2_spec.specs.C2pa.Manifest.{claims_in}
 use Rattle.c2_store.proofs.manifests.claims_in.Given as goal
 
 abbrev pub invariant-loop-i : goal.invariant-loop-i

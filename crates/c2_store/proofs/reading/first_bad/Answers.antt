@@ -1,5 +1,5 @@
 use Rattle.std.proofs.Common.{arith}
-use Rattle.c2_spec.specs.Manifest.{manifest_tests}
+use Rattle.c2_spec.specs.C2pa.Manifest.{manifest_tests}
 use Rattle.c2_store.proofs.Picking.{refusal_here, refusal_next}
 use Rattle.c2_store.proofs.reading.first_bad.Goals as goal
 

@@ -1,5 +1,5 @@
 use Rattle.std.proofs.Common.{◌≡◌, map, take}
-use Rattle.c2_spec.specs.Manifest.{manifest_boxes}
+use Rattle.c2_spec.specs.C2pa.Manifest.{manifest_boxes}
 use Rattle.c2_store.proofs.reading.manifests_of.Given as goal
 
 abbrev pub invariant-loop-i : goal.invariant-loop-i

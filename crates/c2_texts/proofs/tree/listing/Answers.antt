@@ -1,5 +1,5 @@
 use Rattle.std.proofs.Common.{◌<◌, arith, rules, string_bytes}
-use Rattle.c2_spec.specs.JumbfBoxes.{tree_count}
+use Rattle.c2_spec.specs.Jumbf.Boxes.{tree_count}
 use Rattle.c2_texts.proofs.BoxLines.{lines_more, lines_whole}
 use Rattle.c2_texts.proofs.tree.listing.Goals as goal
 

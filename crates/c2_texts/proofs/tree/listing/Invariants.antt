@@ -1,7 +1,7 @@
 use Rattle.std.proofs.Common.{◌≡◌, take, string_bytes}
 use Rattle.std.specs.List.{flat_map}
-use Rattle.c2_spec.specs.Jumbf.{IsLegalTree}
-use Rattle.c2_spec.specs.JumbfBoxes.{boxes_of, tree_count}
+use Rattle.c2_spec.specs.Jumbf.Tree.{IsLegalTree}
+use Rattle.c2_spec.specs.Jumbf.Boxes.{boxes_of, tree_count}
 use Rattle.c2_texts.specs.Texts.{box_line}
 use Rattle.c2_texts.proofs.tree.listing.Given as goal
 

@@ -3,7 +3,7 @@ use Rattle.c2_jpegseg.proofs.WindowLemmas.{shown_byte}
 use Rattle.c2_jpegseg.proofs.window.Window.byte_at.Goals as goal
 
 pub returns-clause-byte : goal.returns-clause-byte
-returns-clause-byte g c file told =
+returns-clause-byte g c file known =
     let shows = c.in_ok-load.ensures.shows in
     let covers = c.in_ok-load.ensures.covers in
-    ap (λ b. get_or b (c.args.pos - c.load.new.self.from) 0) c.as_slice-bytes.ensures.value ∙ shown_byte file _ _ _ _ (shows.bytes file told) covers.from covers.to
+    ap (λ b. get_or b (c.args.pos - c.load.new.self.from) 0) c.as_slice-bytes.ensures.value ∙ shown_byte file _ _ _ _ (shows.bytes file known) covers.from covers.to

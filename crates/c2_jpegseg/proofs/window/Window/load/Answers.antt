@@ -8,6 +8,6 @@ returns-clause-shows g c = record {
   room = c.requires.shows.room;
   in_room = omega arith;
   inside = omega arith;
-  bytes = λ file told.
-      ap (λ (x : List ℕ). take c.min-room.result x) (take_at c.fill_front.new.bytes _ _ (c.fill_front.auto.bytes ∙ c.deref_mut.ensures.len)) ∙ c.in_ok-fill_front.ensures.filled file told;
+  bytes = λ file known.
+      ap (λ (x : List ℕ). take c.min-room.result x) (take_at c.fill_front.new.bytes _ _ (c.fill_front.auto.bytes ∙ c.deref_mut.ensures.len)) ∙ c.in_ok-fill_front.ensures.filled file known;
 }

@@ -5,7 +5,7 @@ use Rattle.std.proofs.lemmas.List.{drop_more}
 use Rattle.std.proofs.Math.Seq.{drop-length}
 use Rattle.c2_spec.specs.Cbor.Item.{Item}
 use Rattle.c2_spec.specs.Cbor.View.{view, items_view}
-use Rattle.c2_spec.specs.Fields.{each_of, joined}
+use Rattle.c2_spec.specs.Cbor.Fields.{each_of, joined}
 use Rattle.c2_spec.specs.declared.cbor.Cbor.{Cbor}
 
 -- with these in front, where the rest is there

@@ -28,7 +28,7 @@ fn asks(
     alloc: Global,
     file: &[u8],
     judges: &mut Vec<Box<dyn Judge>>,
-    told: &str,
+    known: &str,
     status: Status,
 ) -> Result<(), Fail> {
     let given = words(alloc, &["questions", "P", "V", "W"])?;
@@ -36,7 +36,7 @@ fn asks(
     let mut report = MemSink::with_room(alloc, 1000, 0)?;
     let ended = run(alloc, &Sha, &given, &mut media, &mut report, judges);
     assert_eq!(rt; ended, status);
-    assert_eq!(rt; report.bytes(), told.as_bytes());
+    assert_eq!(rt; report.bytes(), known.as_bytes());
     assert_eq!(rt; report.finished(), status != Status::JudgeFault);
     Ok(())
 }
@@ -46,13 +46,13 @@ fn no_judge_is_silent(rt: HostRuntime) -> Result<(), Fail> {
     let alloc = rt.alloc();
     let file = jpeg_of(alloc, SIGNED)?;
     let mut judges: Vec<Box<dyn Judge>> = Vec::new(alloc);
-    let told = line_with(alloc, "silent")?;
+    let known = line_with(alloc, "silent")?;
     asks(
         &rt,
         alloc,
         file.as_slice(),
         &mut judges,
-        told.as_str(),
+        known.as_str(),
         Status::Done,
     )
 }
@@ -75,13 +75,13 @@ fn judges_are_asked_until_one_is_not_silent(rt: HostRuntime) -> Result<(), Fail>
         let mut judges: Vec<Box<dyn Judge>> = Vec::new(alloc);
         judges.push(Box::new(alloc, FixedJudge::new(first, 0))?)?;
         judges.push(Box::new(alloc, FixedJudge::new(second, 0))?)?;
-        let told = line_with(alloc, verdict)?;
+        let known = line_with(alloc, verdict)?;
         asks(
             &rt,
             alloc,
             file.as_slice(),
             &mut judges,
-            told.as_str(),
+            known.as_str(),
             Status::Done,
         )?;
         assert_eq!(rt; judges.len(), 2);
@@ -197,15 +197,15 @@ fn a_judge_fails_at_the_ask_that_was_set(rt: HostRuntime) -> Result<(), Fail> {
     let alloc = rt.alloc();
     let file = jpeg_of(alloc, SIGNED)?;
     let file = file.as_slice();
-    let told = line_with(alloc, "approved")?;
-    let told = told.as_str();
+    let known = line_with(alloc, "approved")?;
+    let known = known.as_str();
     let mut first: Vec<Box<dyn Judge>> = Vec::new(alloc);
     first.push(Box::new(alloc, FixedJudge::new(Verdict::Approved, 1))?)?;
     asks(&rt, alloc, file, &mut first, "", Status::JudgeFault)?;
-    asks(&rt, alloc, file, &mut first, told, Status::Done)?;
+    asks(&rt, alloc, file, &mut first, known, Status::Done)?;
     let mut second: Vec<Box<dyn Judge>> = Vec::new(alloc);
     second.push(Box::new(alloc, FixedJudge::new(Verdict::Approved, 2))?)?;
-    asks(&rt, alloc, file, &mut second, told, Status::Done)?;
+    asks(&rt, alloc, file, &mut second, known, Status::Done)?;
     asks(&rt, alloc, file, &mut second, "", Status::JudgeFault)?;
     Ok(())
 }
@@ -238,13 +238,13 @@ fn a_verdict_file_is_asked_by_the_id(rt: HostRuntime) -> Result<(), Fail> {
         };
         let mut judges: Vec<Box<dyn Judge>> = Vec::new(alloc);
         judges.push(Box::new(alloc, judge)?)?;
-        let told = line_with(alloc, verdict)?;
+        let known = line_with(alloc, verdict)?;
         asks(
             &rt,
             alloc,
             file.as_slice(),
             &mut judges,
-            told.as_str(),
+            known.as_str(),
             Status::Done,
         )?;
         assert_eq!(rt; judges.len(), 1);

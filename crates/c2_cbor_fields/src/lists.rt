@@ -2,7 +2,7 @@
 ghost use Rattle.std.specs.Prelude.{◌≡◌, IfOk, Some};
 ghost use Rattle.c2_spec.specs.Cbor.View.{view, items_view};
 ghost use Rattle.c2_spec.specs.Cbor.Lookup.{field_of, ref_of};
-ghost use Rattle.c2_spec.specs.Fields as form;
+ghost use Rattle.c2_spec.specs.Cbor.Fields as form;
 
 use crate::single::text_in;
 use c2_base::{NoMemory, Text, Texts};

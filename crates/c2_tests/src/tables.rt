@@ -55,8 +55,8 @@ pub fn rows_come_to(
     let given = words(alloc, &[command, "P"])?;
     let mut seen: usize = 0;
     for row in table.lines() {
-        if let Some((hex, told)) = row.split_once(" => ") {
-            store_comes_to(rt, alloc, &given, hex, told)?;
+        if let Some((hex, known)) = row.split_once(" => ") {
+            store_comes_to(rt, alloc, &given, hex, known)?;
             seen = seen.saturating_add(1);
         }
     }
@@ -70,20 +70,20 @@ fn store_comes_to(
     alloc: Global,
     given: &Vec<String>,
     hex: &str,
-    told: &str,
+    known: &str,
 ) -> Result<(), Fail> {
     let store = hex::decode(alloc, hex)?;
     let file = in_jpeg(alloc, store.as_slice(), 63_984)?;
     let media = MemSource::new(Blob::copied(alloc, file.as_slice())?, 7, 0);
     let got = told_of(alloc, given, media)?;
-    assert_eq!(rt; got.as_str(), told, "in pieces: {hex}");
+    assert_eq!(rt; got.as_str(), known, "in pieces: {hex}");
     let media = MemSource::new(Blob::from_vec(file), 65_536, 0);
     let got = told_of(alloc, given, media)?;
-    assert_eq!(rt; got.as_str(), told, "in one packet: {hex}");
+    assert_eq!(rt; got.as_str(), known, "in one packet: {hex}");
     let file = in_jpeg(alloc, store.as_slice(), 50)?;
     let media = MemSource::new(Blob::from_vec(file), 65_536, 0);
     let got = told_of(alloc, given, media)?;
-    assert_eq!(rt; got.as_str(), told, "in packets: {hex}");
+    assert_eq!(rt; got.as_str(), known, "in packets: {hex}");
     Ok(())
 }
 
@@ -93,13 +93,13 @@ fn told_of(alloc: Global, given: &Vec<String>, mut media: MemSource) -> Result<S
     let mut judges: Vec<Box<dyn Judge>> = Vec::new(alloc);
     let status = run(alloc, &Sha, given, &mut media, &mut sink, &mut judges);
     let code = status.code();
-    let mut told = format!(in alloc; "{code} ")?;
+    let mut known = format!(in alloc; "{code} ")?;
     match str::from_utf8(sink.bytes()) {
-        Ok(report) => told.push_str(report.strip_suffix('\n').unwrap_or("no line"))?,
-        Err(_) => told.push_str("no text")?,
+        Ok(report) => known.push_str(report.strip_suffix('\n').unwrap_or("no line"))?,
+        Err(_) => known.push_str("no text")?,
     }
     if !sink.finished() {
-        told.push_str(", not finished")?;
+        known.push_str(", not finished")?;
     }
-    Ok(told)
+    Ok(known)
 }

@@ -80,7 +80,7 @@ fn reads_fail(
     alloc: Global,
     command: &str,
     file: &[u8],
-    told: &str,
+    known: &str,
     asked: u64,
 ) -> Result<(), Fail> {
     let given = words(alloc, &[command, "P"])?;
@@ -93,7 +93,7 @@ fn reads_fail(
         assert_eq!(rt; judges.len(), 1);
         if status != Status::InputFault {
             assert_eq!(rt; status, Status::Done, "at call {fail_at}");
-            assert_eq!(rt; report.bytes(), told.as_bytes());
+            assert_eq!(rt; report.bytes(), known.as_bytes());
             assert_eq!(rt; judges[0].asked(), asked);
             // The length, and the bytes of the file at 7 each.
             assert!(rt; (file.len() / 7) as u64 <= fail_at, "at call {fail_at}");
@@ -123,14 +123,14 @@ fn writes_fail(
     alloc: Global,
     command: &str,
     file: &[u8],
-    told: &str,
+    known: &str,
     asked: u64,
 ) -> Result<(), Fail> {
     let given = words(alloc, &[command, "P"])?;
     let rows: [(usize, u64, usize, Status); 6] = [
         (200, 1, 0, Status::OutputFault),
-        (200, 2, told.len(), Status::OutputFault),
-        (200, 3, told.len(), Status::Done),
+        (200, 2, known.len(), Status::OutputFault),
+        (200, 3, known.len(), Status::Done),
         (0, 0, 0, Status::OutputFault),
         (30, 0, 30, Status::OutputFault),
         (70, 0, 70, Status::OutputFault),
@@ -143,7 +143,7 @@ fn writes_fail(
         let status = run(alloc, &Sha, &given, &mut media, &mut report, &mut judges);
         assert_eq!(rt; status, want, "room for {room}, at call {fail_at}");
         assert_eq!(rt; report.bytes().len(), written);
-        assert!(rt; told.as_bytes().starts_with(report.bytes()));
+        assert!(rt; known.as_bytes().starts_with(report.bytes()));
         assert_eq!(rt; report.finished(), want == Status::Done);
         assert_eq!(rt; judges.len(), 1);
         assert_eq!(rt; judges[0].asked(), asked);

@@ -2,7 +2,7 @@
 ghost use Rattle.std.specs.Prelude.{◌≡◌, IfOk, Some};
 ghost use Rattle.c2_spec.specs.Cbor.View.{view};
 ghost use Rattle.c2_spec.specs.Cbor.Lookup.{field_of};
-ghost use Rattle.c2_spec.specs.Fields as form;
+ghost use Rattle.c2_spec.specs.Cbor.Fields as form;
 
 use c2_base::{Blob, NoMemory, Text};
 use c2_cbor::{Cbor, Ref, field, read_ref};
