@@ -1,3 +1,4 @@
+mod CoverRows
 mod JpegRows
 pub mod JumbfHeads
 pub mod JumbfParts
@@ -6,3 +7,4 @@ pub mod JumbfNoFault
 pub mod JumbfOneFault
 pub mod JumbfCode
 pub mod JumbfRows
+pub mod Kept

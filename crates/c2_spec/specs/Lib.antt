@@ -1,5 +1,6 @@
 pub mod C2pa
 pub mod Cbor
+pub mod Cover
 pub mod Digest
 pub mod Jpeg
 pub mod Judges

@@ -9,7 +9,7 @@ use Rattle.c2_base.specs.declared.media.MediaError.{MediaError}
 use Rattle.c2_base.specs.declared.media.MediaError.TheVariants.{NotMedia, FileTooLarge, Truncated, BadMarker, BadSegment, BadPacket, TwoStores, BadBox, BadProvenanceBox, StoreTooLarge, TooManyBoxes}
 use Rattle.c2_spec.specs.Located.{Located, refused, absent, here, refusal}
 use Rattle.c2_spec.specs.Jpeg.Segments.{Segment, IsSegment, EndsSegments, HasSegments, MarkerFault, segment_bytes, start_of_image, place_after}
-use Rattle.c2_spec.specs.Jpeg.Packets.{Packet, IsPacketRun, is_packet, packet_in, stated_length, is_first_packet, is_store_start, is_stray}
+use Rattle.c2_spec.specs.Jpeg.Packets.{Packet, IsPacketRun, is_packet, packet_in, stated_length, is_store_start, is_stray}
 
 -- Among these segments neighbouring ones hold this store, from `start` on in `len` bytes of the file: they are one run of
 -- packets of the length that their header states, and no other segment begins a store or belongs to this one.
