@@ -1,4 +1,5 @@
 mod CoverRows
+mod BmffRows
 mod JpegRows
 pub mod JumbfHeads
 pub mod JumbfParts

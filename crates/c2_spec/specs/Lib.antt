@@ -1,5 +1,7 @@
+pub mod Bmff
 pub mod C2pa
 pub mod Cbor
+pub mod Container
 pub mod Cover
 pub mod Digest
 pub mod Jpeg
