@@ -1,6 +1,13 @@
+mod AssertionRows
+mod CborRows
+mod ClaimRows
 mod CoverRows
 mod BmffRows
 mod JpegRows
+mod PanelRows
+mod Sign1Rows
+mod StoreRows
+mod UriRows
 pub mod JumbfHeads
 pub mod JumbfParts
 pub mod JumbfOneTree
