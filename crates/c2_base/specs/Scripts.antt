@@ -1,5 +1,5 @@
 -- What the sources and sinks in memory hold, and what a call of theirs changes.
-use Rattle.std.specs.Prelude.{ℕ, ◌+◌, ◌-◌, ◌==◌, nat_lt, nat_le, min, Bool, true, false, ◌&&◌, ◌||◌, List, [], ◌++◌, length, take, drop, replicate, if◌then◌else◌, vec_len}
+use Rattle.std.specs.Prelude.{ℕ, ◌-◌, ◌==◌, nat_lt, nat_le, min, Bool, true, false, ◌&&◌, ◌||◌, List, ◌++◌, length, take, if◌then◌else◌, vec_len}
 use Rattle.c2_base.specs.Causes.{one_more}
 use Rattle.c2_base.specs.declared.sources.SureSource.{SureSource}
 use Rattle.c2_base.specs.declared.sources.MemSource.{MemSource}
