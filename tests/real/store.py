@@ -6,7 +6,8 @@
     store.py show FILE                        its manifests and claims, as JSON
     store.py questions FILE [VERDICTFILE..]   the question on the active manifest's signature, and what the verdict files say
 
-Nothing here was taken from c2's own code. Words that don't fit aren't looked at.
+Nothing here was taken from c2's own code. Another command exits with c2's status for words that don't fit; what follows the
+command isn't looked at.
 """
 
 import hashlib
@@ -22,6 +23,7 @@ from locate import C2PA, Refused, digest, locate
 MOST_MANIFESTS = 1_024
 LARGEST_VERDICT_FILE = 1_048_576
 VERDICT_ROW = re.compile(rb"([0-9a-f]{64}) (approved|mismatch|untrusted|invalid)")
+COMMANDS = "digest", "list", "show", "questions"
 DONE, REFUSED, NO_STORE, USAGE, INPUT_FAULT, JUDGE_FAULT = 0, 2, 3, 4, 5, 7
 
 HashedUri = namedtuple("HashedUri", "url hash alg")
@@ -271,6 +273,8 @@ def report(command, data, judges=()):
 
 def answer(command, name, *verdict_files):
     """The bytes that words must print, and the status."""
+    if command not in COMMANDS:
+        return b"", USAGE
     judges = [read_verdicts(verdicts) for verdicts in verdict_files]
     try:
         with open(name, "rb") as file:

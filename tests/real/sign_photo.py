@@ -1,0 +1,181 @@
+#!/usr/bin/env python3
+"""Signs a JPEG or a BMFF file, apart from c2: puts a C2PA manifest store with one manifest into it.
+
+    sign_photo.py --key KEY.pem --chain CHAIN.pem [--alg ES256] MEDIA SIGNED
+
+CHAIN.pem has the signer's certificate and then those above it. The algorithm is one of ES256, ES384, ES512, PS256, PS384,
+PS512 and EdDSA. A store that MEDIA has already isn't looked for.
+"""
+
+import argparse
+import hashlib
+
+from cryptography import x509
+from cryptography.hazmat.primitives import hashes, serialization
+from cryptography.hazmat.primitives.asymmetric import ec, padding
+from cryptography.hazmat.primitives.asymmetric.utils import decode_dss_signature
+
+from cbor import head
+from make import after_app0
+from make_store import (
+    array,
+    assertion,
+    assertion_uri,
+    assertions,
+    box,
+    claim_box,
+    data,
+    item,
+    jpeg,
+    manifest,
+    mapping,
+    sign1,
+    signature_box,
+    store,
+    tag,
+    text,
+    uint,
+)
+
+LABEL = "urn:c2pa:11111111-2222-4333-8444-555555555555"
+TITLE = "A picture of a street"
+C2PA_BMFF_BOX = bytes.fromhex("d8fec3d61b0e483c92975828877ec481")
+# The names of COSE (RFC 9053, section 2, and RFC 8230), their numbers less the sign and 1, and their hashes.
+ALGORITHMS = {
+    "ES256": (6, hashes.SHA256()),
+    "ES384": (34, hashes.SHA384()),
+    "ES512": (35, hashes.SHA512()),
+    "PS256": (36, hashes.SHA256()),
+    "PS384": (37, hashes.SHA384()),
+    "PS512": (38, hashes.SHA512()),
+    "EdDSA": (7, None),
+}
+
+
+class Signer:
+    """A key, its certificates, and the headers of a message that it signs."""
+
+    def __init__(self, key, chain, algorithm="ES256", protects_chain=False):
+        self.key, self.algorithm = key, algorithm
+        number, self.hash = ALGORITHMS[algorithm]
+        encoded = [data(certificate.public_bytes(serialization.Encoding.DER)) for certificate in chain]
+        # header 33 (RFC 9360): one certificate, or a list of them
+        certificates = [(uint(33), encoded[0] if len(encoded) == 1 else array(*encoded))] if encoded else []
+        said, pad = [(uint(1), head(1, number))], [("pad", data(bytes(7)))]
+        self.protected = mapping(*said, *certificates) if protects_chain else mapping(*said)
+        free = [] if protects_chain else certificates
+        # The header's keys in an order that a tool could choose, and in the order of their encoding.
+        self.unprotected, self.unprotected_in_order = mapping(*pad, *free), mapping(*free, *pad)
+
+    def signature(self, message):
+        if self.algorithm == "EdDSA":
+            return self.key.sign(message)
+        if self.algorithm.startswith("PS"):
+            return self.key.sign(message, padding.PSS(padding.MGF1(self.hash), self.hash.digest_size), self.hash)
+        # COSE has the two numbers side by side (RFC 9053, section 2.1).
+        width = (self.key.key_size + 7) // 8
+        return b"".join(half.to_bytes(width, "big") for half in decode_dss_signature(self.key.sign(message, ec.ECDSA(self.hash))))
+
+
+class Signed:
+    """A signed media file, and the parts that its signature stands on."""
+
+    def __init__(self, signer, media):
+        self.signer, self.media = signer, media
+        self.bytes = self.bmff_file() if media[4:8] == b"ftyp" else self.jpeg_file()
+
+    def jpeg_file(self):
+        place = after_app0(self.media)
+        packets = lambda contents: jpeg(contents, self.media[:place], self.media[place:])
+        # The store is as long with every number and digest, so its length is known from a first try.
+        length = len(packets(self.store(data_hash(place, 0, bytes(32))))) - len(self.media)
+        return packets(self.store(data_hash(place, length, hashlib.sha256(self.media).digest())))
+
+    def bmff_file(self):
+        contents = self.store(bmff_hash(self.media))
+        return self.media + box(b"uuid", C2PA_BMFF_BOX + bytes(4) + b"manifest\0" + bytes(8) + contents)
+
+    def store(self, binding):
+        actions = assertion("c2pa.actions.v2", mapping(("actions", array(mapping(("action", text("c2pa.created")))))))
+        label, bound = binding
+        self.claim = claim_of(assertion_uri(actions, "c2pa.actions.v2"), assertion_uri(bound, label))
+        self.signed_bytes = signed_bytes(self.signer.protected, self.claim)
+        self.signature = self.signer.signature(self.signed_bytes)
+        message = tag(18, sign1(self.signer.protected, self.signer.unprotected, signature=self.signature))
+        boxes = assertions(actions, bound), claim_box(item(self.claim)), signature_box(item(message))
+        return store(manifest(LABEL, *boxes))
+
+
+def claim_of(*created):
+    """A claim over assertions, its keys in no order of encoding."""
+    return mapping(
+        ("instanceID", text("xmp:iid:11111111-2222-4333-8444-555555555555")),
+        ("claim_generator_info", mapping(("name", text("A newsroom's tool")))),
+        ("signature", text(f"self#jumbf=/c2pa/{LABEL}/c2pa.signature")),
+        ("created_assertions", array(*created)),
+        ("dc:title", text(TITLE)),
+        ("alg", text("sha256")),
+    )
+
+
+def data_hash(start, length, digest):
+    """The hard binding to all but one range; it is as long with every number."""
+    exclusions = array(mapping(("start", uint(start, 8)), ("length", uint(length, 8))))
+    fields = ("exclusions", exclusions), ("alg", text("sha256")), ("hash", data(digest)), ("pad", data(b""))
+    return "c2pa.hash.data", assertion("c2pa.hash.data", mapping(*fields))
+
+
+def bmff_hash(media):
+    """The hard binding to a BMFF file: each root box but `ftyp`, `mfra` and the store's own, after its place in 8 bytes."""
+    own = array(mapping(("value", data(C2PA_BMFF_BOX)), ("offset", uint(8))))
+    exclusions = mapping(("data", own), ("xpath", text("/uuid"))), mapping(("xpath", text("/ftyp"))), mapping(("xpath", text("/mfra")))
+    digest = hashlib.sha256()
+    for start, kind, contents in root_boxes(media):
+        if kind not in (b"ftyp", b"mfra"):
+            digest.update(start.to_bytes(8, "big") + contents)
+    fields = ("alg", text("sha256")), ("hash", data(digest.digest())), ("exclusions", array(*exclusions))
+    return "c2pa.hash.bmff.v2", assertion("c2pa.hash.bmff.v2", mapping(*fields))
+
+
+def root_boxes(media):
+    """Start, kind and bytes of each root box (ISO/IEC 14496-12)."""
+    at = 0
+    while at < len(media):
+        length, kind = int.from_bytes(media[at : at + 4], "big"), media[at + 4 : at + 8]
+        if length == 1:
+            length = int.from_bytes(media[at + 8 : at + 16], "big")
+        assert length >= 8, "a box that runs to the end of the file leaves no place for a store"
+        yield at, kind, media[at : at + length]
+        at += length
+
+
+def signed_bytes(protected, claim):
+    """The Sig_structure of a COSE_Sign1 message over a claim (RFC 9052, section 4.4), byte by byte."""
+    return b"\x84\x6aSignature1" + data(protected) + b"\x40" + data(claim)
+
+
+def certificates_of(name):
+    """The certificates of a PEM file in their order."""
+    with open(name, "rb") as file:
+        blocks = file.read().split(b"-----BEGIN CERTIFICATE-----")[1:]
+    return [x509.load_pem_x509_certificate(b"-----BEGIN CERTIFICATE-----" + block) for block in blocks]
+
+
+def main():
+    parser = argparse.ArgumentParser(description="Signs a JPEG or a BMFF file, apart from c2.")
+    parser.add_argument("--key", required=True)
+    parser.add_argument("--chain", required=True)
+    parser.add_argument("--alg", choices=ALGORITHMS, default="ES256")
+    parser.add_argument("media")
+    parser.add_argument("signed")
+    given = parser.parse_args()
+    with open(given.key, "rb") as file:
+        key = serialization.load_pem_private_key(file.read(), None)
+    with open(given.media, "rb") as file:
+        media = file.read()
+    with open(given.signed, "wb") as file:
+        file.write(Signed(Signer(key, certificates_of(given.chain), given.alg), media).bytes)
+
+
+if __name__ == "__main__":
+    main()
