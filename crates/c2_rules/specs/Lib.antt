@@ -1,5 +1,16 @@
-pub mod Asking
-pub mod Claims
+-- What a file's store is read as, the check list over it, and what judges are asked. Read in this order.
+pub mod Shape
 pub mod Ingredients
 pub mod Questions
-pub mod Shape
+pub mod Claims
+pub mod Asking
+pub mod Tests
+pub mod Codes
+pub mod Readings
+pub mod Chains
+pub mod ReadStore
+pub mod Seen
+pub mod Rules
+pub mod Binding
+pub mod CheckList
+pub mod Validated

@@ -9,10 +9,13 @@ use Rattle.c2_spec.specs.C2pa.Sign1.{SignParts, SpellsMessage, question_of}
 use Rattle.c2_spec.specs.C2pa.Uri.{PlainUri, PlainTarget, whole, assertion, signature, other, uri_of}
 use Rattle.c2_spec.specs.declared.claim.Claim.{Claim}
 
--- a URI in a manifest speaks of this manifest: it names none, or this one
+-- a URI in a manifest speaks of the manifest with this label: it names none, or this one
+abbrev pub is_own_label : Option (List ℕ) → Option (List ℕ) → Bool
+is_own_label own None = true
+is_own_label own (Some label) = is_given own label
+
 abbrev pub is_own : Manifest → Option (List ℕ) → Bool
-is_own m None = true
-is_own m (Some label) = is_given m.label label
+is_own m named = is_own_label m.label named
 
 abbrev pub is_signature : PlainTarget → Bool
 is_signature whole = false
@@ -20,10 +23,13 @@ is_signature (assertion label) = false
 is_signature signature = true
 is_signature (other path) = false
 
--- the URI of the signature of this manifest, or no such URI
+-- the URI of the signature of the manifest with this label, or no such URI
+abbrev pub is_signature_in : Option (List ℕ) → Option PlainUri → Bool
+is_signature_in own None = false
+is_signature_in own (Some u) = is_own_label own u.manifest && is_signature u.target
+
 abbrev pub is_signature_uri : Manifest → Option PlainUri → Bool
-is_signature_uri m None = false
-is_signature_uri m (Some u) = is_own m u.manifest && is_signature u.target
+is_signature_uri m u = is_signature_in m.label u
 
 -- Judges are asked this of a manifest, where its claim and its signature can be read.
 pub record HasQuestion (m : Manifest) (q : Question) : Type 0 where

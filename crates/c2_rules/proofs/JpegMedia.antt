@@ -1,0 +1,35 @@
+-- A file whose segments begin a JPEG is no BMFF file, so it comes to what it does as a JPEG.
+use Rattle.std.proofs.Common.{◌≡◌, ℕ, true, false, List, sym, ap, subst, refl}
+use Rattle.std.specs.Bool.{MatchBool}
+use Rattle.c2_spec.specs.Bmff.Store.{IsBmffLocated}
+use Rattle.c2_spec.specs.Container.{IsLocated, begins_jpeg, is_bmff, jpeg as jpeg_container}
+use Rattle.c2_spec.specs.Jpeg.Store as jpeg
+use Rattle.c2_spec.specs.Jpeg.Store.{HasJpegStore}
+use Rattle.c2_spec.specs.Jpeg.Segments.{Segment, HasSegments}
+use Rattle.c2_spec.specs.Located.{Located, here}
+use Rattle.c2_rules.specs.Binding.{Media, IsMedia}
+
+pub no_bmff : (file : List ℕ) (segments : List Segment) (rest : List ℕ) → HasSegments file segments rest → is_bmff file ≡ false
+no_bmff file segments rest h = ap is_bmff h.bytes
+
+pub begins : (file : List ℕ) (segments : List Segment) (rest : List ℕ) → HasSegments file segments rest → begins_jpeg file ≡ true
+begins file segments rest h = ap begins_jpeg h.bytes
+
+-- a JPEG with these bytes
+abbrev pub jpeg_media : List ℕ → Media
+jpeg_media file = record { bytes = file; container = jpeg_container }
+
+pub is_jpeg_media : (file : List ℕ) → begins_jpeg file ≡ true → IsMedia file (jpeg_media file)
+is_jpeg_media file e = record { bytes = refl; container = e }
+
+pub as_jpeg : (file : List ℕ) (what : Located) → is_bmff file ≡ false → jpeg.IsLocated file what → IsLocated file what
+as_jpeg file what e h = subst (λ b. MatchBool b (IsBmffLocated file what) (jpeg.IsLocated file what)) (sym e) h
+
+pub of_jpeg : (file : List ℕ) (what : Located) → is_bmff file ≡ false → IsLocated file what → jpeg.IsLocated file what
+of_jpeg file what e h = subst (λ b. MatchBool b (IsBmffLocated file what) (jpeg.IsLocated file what)) e h
+
+pub store_no_bmff : (file : List ℕ) (start len : ℕ) (store : List ℕ) → HasJpegStore file start len store → is_bmff file ≡ false
+store_no_bmff file start len store h = no_bmff file h.segments h.rest h.begins
+
+pub store_located : (file : List ℕ) (start len : ℕ) (store : List ℕ) → HasJpegStore file start len store → IsLocated file (here start len store)
+store_located file start len store h = as_jpeg file (here start len store) (store_no_bmff file start len store h) h
