@@ -16,3 +16,9 @@ pub mod JumbfOneFault
 pub mod JumbfCode
 pub mod JumbfRows
 pub mod Kept
+pub mod BmffTests
+pub mod BmffOneList
+pub mod BmffPassing
+pub mod BmffNoFault
+pub mod BmffOneStore
+pub mod BmffOneOutcome

@@ -1,0 +1,5 @@
+use Rattle.c2_spec.proofs.BmffOneOutcome.{one_bmff_located}
+use Rattle.c2_bmff.proofs.laws.a_bmff_file_comes_to_one_thing.Goals as goal
+
+pub returns : goal.returns
+returns c = one_bmff_located

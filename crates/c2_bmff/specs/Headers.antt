@@ -1,0 +1,29 @@
+-- What the first 16 bytes of a box tell, where so many bytes of the file are left; for private clauses.
+use Rattle.std.specs.Prelude.{◌≡◌, ℕ, ◌+◌, ◌≤◌, ◌&&◌, List, Option, Some, None, nat_le, nat_lt, ◌==◌, if◌then◌else◌}
+use Rattle.std.specs.Str.{bytes_eq}
+use Rattle.c2_spec.specs.Bmff.Boxes.{stated_size, stated_long_size, stated_kind, stated_header_len, uuid_kind}
+use Rattle.c2_bmff.specs.declared.header.BoxHead.{BoxHead}
+use Rattle.c2_bmff.specs.declared.header.HeadError.{HeadError}
+use Rattle.c2_bmff.specs.declared.header.HeadError.TheVariants.{Short, Bad}
+
+abbrev pub header_total : ℕ → List ℕ → ℕ
+header_total left bytes = if stated_size bytes == 0 then left else if stated_size bytes == 1 then stated_long_size bytes else stated_size bytes
+
+unfoldable pub header_fault : ℕ → List ℕ → Option HeadError
+header_fault left bytes =
+    if nat_lt left 8 then Some Short
+    else if nat_lt left (stated_header_len bytes) then Some Short
+    else if nat_le 2 (stated_size bytes) && nat_lt (stated_size bytes) 8 then Some Bad
+    else if (stated_size bytes == 1) && nat_lt (stated_long_size bytes) 16 then Some Bad
+    else if nat_lt left (header_total left bytes) then Some Short
+    else if bytes_eq (stated_kind bytes) uuid_kind && nat_lt (header_total left bytes) (stated_header_len bytes + 16) then Some Bad
+    else None
+
+pub record IsHeader (left : ℕ) (bytes : List ℕ) (h : BoxHead) : Type 0 where
+  pub good : header_fault left bytes ≡ None
+  pub header : h.header ≡ stated_header_len bytes
+  pub length : h.length ≡ header_total left bytes
+  pub kind : h.kind ≡ stated_kind bytes
+  pub to_end : h.to_end ≡ (stated_size bytes == 0)
+  pub least : h.header ≤ h.length
+  pub inside : h.length ≤ left

@@ -1,0 +1,118 @@
+// Headers of boxes.
+ghost use Rattle.std.specs.Prelude.{◌≡◌, ◌+◌, ◌<◌, ◌≤◌, length, take, drop, min, None, Some, IfOk, IfErr};
+ghost use Rattle.std.specs.Int.{w32, w64, from_be_bytes};
+ghost use Rattle.c2_bmff.specs.Headers.{header_fault, IsHeader};
+
+// The type of a box that begins with a user type of 16 bytes.
+const UUID: [u8; 4] = *b"uuid";
+
+/// What the header of a box states (ISO/IEC 14496-12, 4.2).
+#[derive(Clone, Copy, Debug, PartialEq, Eq)]
+pub struct BoxHead {
+    /// The header's length in bytes: 16 with a 64-bit size, else 8.
+    pub header: u64,
+    /// The box's length in bytes, with its header.
+    pub length: u64,
+    /// The box's type.
+    pub kind: [u8; 4],
+    /// The box states no size and runs to the end of the file.
+    pub to_end: bool,
+}
+
+/// Why there is no box. Which comes first where two hold is said at `box_fault` in `c2_spec`, module `Bmff.Boxes`.
+#[derive(Clone, Copy, Debug, PartialEq, Eq)]
+pub enum HeadError {
+    /// The file ends before the header or the box does.
+    Short,
+
+    /// The size is below its header's length, or a `uuid` box has no room for its user type.
+    Bad,
+}
+
+// The number in the four bytes from `at` on.
+fn u32_at(bytes: &[u8], at: usize) -> u32
+    requires { at + 4 ≤ length bytes.now }
+    ensures { result ≡ from_be_bytes w32 (take 4 (drop at bytes.now)) }
+{
+    u32::from_be_bytes([bytes[at], bytes[at + 1], bytes[at + 2], bytes[at + 3]])
+}
+
+// The number in the eight bytes from `at` on.
+fn u64_at(bytes: &[u8], at: usize) -> u64
+    requires { at + 8 ≤ length bytes.now }
+    ensures { result ≡ from_be_bytes w64 (take 8 (drop at bytes.now)) }
+{
+    u64::from_be_bytes([
+        bytes[at],
+        bytes[at + 1],
+        bytes[at + 2],
+        bytes[at + 3],
+        bytes[at + 4],
+        bytes[at + 5],
+        bytes[at + 6],
+        bytes[at + 7],
+    ])
+}
+
+// The box type after the size.
+fn kind_in(bytes: &[u8]) -> [u8; 4]
+    requires { 8 ≤ length bytes.now }
+    ensures { result ≡ take 4 (drop 4 bytes.now) }
+{
+    [bytes[4], bytes[5], bytes[6], bytes[7]]
+}
+
+/// The header of the box that begins with `bytes`, where `left` bytes of the file are left from there. A box of size 0 has the
+/// length `left`.
+///
+/// `bytes` are the first 16 of those that are left, or all of them where fewer are. Takes no memory.
+#[tactic(auto, unfolding(crate::specs::Headers::header_fault))]
+pub fn head(bytes: &[u8], left: u64) -> Result<BoxHead, HeadError>
+    requires first { length bytes.now ≡ min 16 left }
+    ensures ok { IfOk result (IsHeader left bytes.now) }
+    ensures err { IfErr result (λ e. header_fault left bytes.now ≡ Some e) }
+{
+    if left < 8 {
+        return Err(HeadError::Short);
+    }
+    let size = u32_at(bytes, 0);
+    let kind = kind_in(bytes);
+    let is_uuid = kind == UUID;
+    if size == 1 {
+        if left < 16 {
+            return Err(HeadError::Short);
+        }
+        let length = u64_at(bytes, 8);
+        if length < 16 {
+            return Err(HeadError::Bad);
+        }
+        if left < length {
+            return Err(HeadError::Short);
+        }
+        if is_uuid && length < 32 {
+            return Err(HeadError::Bad);
+        }
+        return Ok(BoxHead {
+            header: 16,
+            length,
+            kind,
+            to_end: false,
+        });
+    }
+    if size >= 2 && size < 8 {
+        return Err(HeadError::Bad);
+    }
+    let length = if size == 0 { left } else { size as u64 };
+    if left < length {
+        return Err(HeadError::Short);
+    }
+    if is_uuid && length < 24 {
+        return Err(HeadError::Bad);
+    }
+    Ok(BoxHead {
+        header: 8,
+        length,
+        kind,
+        to_end: size == 0,
+    })
+}

@@ -1,0 +1,18 @@
+// What holds of every BMFF file.
+ghost use Rattle.std.specs.Prelude.{◌≡◌, ℕ, List};
+ghost use Rattle.c2_base.specs.declared.media.MediaError.{MediaError};
+ghost use Rattle.c2_spec.specs.Bmff.Boxes.{Box, HasRoots, RootFault};
+ghost use Rattle.c2_spec.specs.Bmff.Store.{IsBmffLocated};
+ghost use Rattle.c2_spec.specs.Located.{Located};
+
+/// A file is the concatenation of one list of root boxes at most, and then no test of theirs fails.
+pub fn a_file_has_one_list_of_roots()
+    ensures once { (file : List ℕ) (a b : List Box) → HasRoots file a → HasRoots file b → a ≡ b }
+    ensures fault { (file : List ℕ) (roots : List Box) (e : MediaError) → HasRoots file roots
+        → RootFault file e → ⊥ }
+{}
+
+/// A BMFF file comes to one thing at most: one refusal, no store, or one store in one range.
+pub fn a_bmff_file_comes_to_one_thing()
+    ensures { (file : List ℕ) (v w : Located) → IsBmffLocated file v → IsBmffLocated file w → v ≡ w }
+{}

@@ -1,0 +1,11 @@
+//! The boxes of a BMFF file (ISO/IEC 14496-12), and the C2PA store in one of them.
+//!
+//! What a box, a list of root boxes, a store and a refusal are stands in `c2_spec`, modules `Bmff.Boxes` and `Bmff.Store`.
+#![tactic(auto)]
+
+mod header;
+mod laws;
+mod roots;
+
+pub use header::{BoxHead, HeadError, head};
+pub use laws::{a_bmff_file_comes_to_one_thing, a_file_has_one_list_of_roots};
