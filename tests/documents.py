@@ -1,11 +1,11 @@
 #!/usr/bin/env python3
-"""Looks whether docs/PROMISES.md and the crates say the same.
+"""Looks whether the documents and the crates say the same.
 
-    documents.py      prints each name that isn't there, and each edit that no promise names; the status is 1 then
+    documents.py      prints what differs; the status is 1 then
 
-A promise's table has a column for the function and clause, one for the edit and one for the test. Each name between backticks in
-these must be one in the crates: an edit a file in a crate's must-fail, a test a function, a clause a name after `ensures` or a
-function.
+The tables of docs/PROMISES.md and README.md have columns for the function and clause, the edit and the test. Each name between
+backticks in these must be one in the crates, and each edit must be named. Each line of Rust that a document shows must be one of
+the sources, and each file that it links to must be there.
 """
 
 import glob
@@ -14,7 +14,8 @@ import re
 import sys
 
 TOP = os.path.join(os.path.dirname(os.path.abspath(__file__)), "..")
-COLUMNS = {"edit": ("edit",), "test": ("test",), "clause": ("clause", "function")}
+COLUMNS = {"edit": ("edit",), "test": ("test",), "clause": ("clause", "function", "by")}
+DOCUMENTS = [f"{TOP}/README.md", f"{TOP}/examples/README.md", f"{TOP}/tests/README.md", *sorted(glob.glob(f"{TOP}/docs/*.md"))]
 
 
 def cells(line):
@@ -23,15 +24,18 @@ def cells(line):
 
 def columns_of(header):
     """Which column of a table is for what, by the words of its header."""
-    named = [cell.lower() for cell in cells(header)]
-    return {kind: next((i for i, cell in enumerate(named) if any(word in cell for word in words)), None) for kind, words in COLUMNS.items()}
+    named = [re.findall(r"[a-z]+", cell.lower()) for cell in cells(header)]
+    return {kind: next((i for i, cell in enumerate(named) if set(words) & set(cell)), None) for kind, words in COLUMNS.items()}
+
+
+def text_of(path):
+    with open(path, encoding="utf-8") as file:
+        return file.read()
 
 
 def names_in(path):
     """The kind and name of each name between backticks in the columns of a document's tables."""
-    columns = None
-    with open(path, encoding="utf-8") as file:
-        lines = file.read().splitlines()
+    columns, lines = None, text_of(path).splitlines()
     for line, following in zip(lines, lines[1:] + [""]):
         if not line.startswith("|"):
             columns = None
@@ -44,26 +48,36 @@ def names_in(path):
                     yield from ((kind, name) for span in re.findall(r"`([^`]+)`", row[place]) for name in re.findall(r"\w+", span))
 
 
-def words_of_crates():
-    """Functions, clauses, types and constants of the crates, and the files of their sources."""
-    words = set()
-    for path in glob.glob(f"{TOP}/crates/*/src/**/*.rt", recursive=True):
-        with open(path, encoding="utf-8") as file:
-            words |= set(re.findall(r"\w+", file.read()))
-        words |= {os.path.basename(path)[: -len(".rt")], os.path.relpath(path, f"{TOP}/crates").split(os.sep)[0]}
-    return words
+def shown_rust(path):
+    """Each line of the blocks of Rust that a document shows."""
+    for block in re.findall(r"(?ms)^```rust$(.*?)^```$", text_of(path)):
+        yield from (line.strip() for line in block.splitlines() if line.strip())
+
+
+def links(path):
+    """The files that a document links to."""
+    for link in re.findall(r"\]\(([^)#:]+)\)", text_of(path)):
+        yield link, os.path.join(os.path.dirname(path), link)
 
 
 def main():
+    sources = {path: text_of(path) for path in glob.glob(f"{TOP}/crates/*/src/**/*.rt", recursive=True)}
     edits = {os.path.basename(path)[: -len(".edit")] for path in glob.glob(f"{TOP}/crates/*/must-fail/*.edit")}
-    words, named, wrong = words_of_crates(), set(), []
-    for kind, name in names_in(f"{TOP}/docs/PROMISES.md"):
-        if kind == "edit":
-            named.add(name)
-        if name not in (edits if kind == "edit" else words) and not name.isdigit():
-            wrong.append(f"no {kind} is named {name}")
-    wrong += [f"no promise names the edit {name}" for name in sorted(edits - named)]
-    print("\n".join(sorted(set(wrong))) or "documents and crates name the same")
+    words = {word for text in sources.values() for word in re.findall(r"\w+", text)}
+    words |= {part for path in sources for part in re.findall(r"\w+", os.path.relpath(path, f"{TOP}/crates"))}
+    lines = {line.strip() for text in sources.values() for line in text.splitlines()}
+    named, wrong = set(), set()
+    for path in DOCUMENTS:
+        short = os.path.relpath(path, TOP)
+        for kind, name in names_in(path):
+            if kind == "edit":
+                named.add(name)
+            if name not in (edits if kind == "edit" else words) and not name.isdigit():
+                wrong.add(f"{short}: no {kind} is named {name}")
+        wrong |= {f"{short}: no source has the line {line}" for line in shown_rust(path) if line not in lines}
+        wrong |= {f"{short}: no file {link}" for link, target in links(path) if not os.path.exists(target)}
+    wrong |= {f"no promise names the edit {name}" for name in edits - named}
+    print("\n".join(sorted(wrong)) or "the documents and the crates say the same")
     sys.exit(bool(wrong))
 
 
