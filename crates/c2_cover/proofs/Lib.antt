@@ -1,0 +1,8 @@
+mod CountLemmas
+mod KeptCount
+mod MergedLemmas
+mod MergingSteps
+mod PassingLemmas
+mod ReadingLemmas
+mod StretchLemmas
+mod UnreadLemmas

@@ -1,0 +1,36 @@
+use Rattle.std.proofs.Common.{[], ◌++◌, take, sym, ap, ◌∙◌, refl, arith, append_assoc}
+use Rattle.std.proofs.lemmas.List.{append-nil}
+use Rattle.c2_cover.proofs.digest.digest_cover.Goals as goal
+
+pub pieces-init : goal.pieces-init
+pieces-init g c = record {
+  room = c.requires.room;
+  size = c.requires.size ∙ sym c.new-reader.ensures.size;
+  stays = record { same_len = refl; same_bytes = refl; later = omega arith };
+  count = refl;
+  hashed = λ file known. record { prefix = []; held = c.start-state.ensures; joined = sym (c.new-reader.ensures.text file) };
+}
+
+pub pieces-preserved : goal.pieces-preserved
+pieces-preserved g c =
+    let before = c.pieces.invariant in
+    let call = c.in_ok-count.ensures in
+    record {
+      room = omega (arith, before.room, c.next.auto.buf);
+      size = before.size ∙ sym call.same_size;
+      stays = record { same_len = call.stays.same_len ∙ before.stays.same_len; same_bytes = call.stays.same_bytes ∙ before.stays.same_bytes; later = omega (arith, call.stays.later, before.stays.later) };
+      count = call.cause.ok ∙ before.count;
+      hashed = λ file known.
+          let h = before.hashed file known in
+          record {
+            prefix = h.prefix ++ take c.in_ok-count.count c.next.new.buf;
+            held = c.update.ensures c.args.alg h.prefix h.held;
+            joined = h.joined ∙ ap (λ xs. h.prefix ++ xs) (call.piece.piece file (before.stays.same_bytes ∙ known)) ∙ sym (append_assoc h.prefix _ _);
+          };
+    }
+
+pub returns-clause-digest : goal.returns-clause-digest
+returns-clause-digest g c file known =
+    let h = c.pieces.invariant.hashed file known in
+    let end = c.in_ok-count.ensures.piece.nothing c.if-count-eq0.true file (c.pieces.invariant.stays.same_bytes ∙ known) in
+    c.finish.ensures _ _ h.held ∙ ap (g.H.Hashing.digest_of c.args.alg) (sym (h.joined ∙ ap (λ xs. h.prefix ++ xs) end ∙ append-nil h.prefix))

@@ -1,0 +1,18 @@
+use Rattle.std.proofs.Common.{◌≡◌, ◌<◌, length}
+use Rattle.std.specs.Option.{ForSome}
+use Rattle.c2_base.specs.Source.{StaysSource}
+use Rattle.c2_cover.specs.Covers.{text_of, rest_of, left_of}
+use Rattle.c2_cover.specs.Digests.{IsHashed}
+use Rattle.c2_cover.proofs.digest.digest_cover.Given as goal
+
+abbrev pub invariant-pieces : goal.invariant-pieces
+invariant-pieces g l = record {
+  room : 0 < length l.buf;
+  size : g.S.Source.len l.fn.source ≡ l.reader.size;
+  stays : StaysSource g.S.Source.len g.S.Source.known g.S.Source.faults l.fn.source l.source;
+  count : g.S.Source.faults l.source ≡ g.S.Source.faults l.fn.source;
+  hashed : ForSome (g.S.Source.known l.fn.source) (λ file. IsHashed g.H.Hashing.holds l.fn.alg (text_of l.cover file) (rest_of l.reader file) l.state);
+}
+
+abbrev pub decreases-pieces : goal.decreases-pieces
+decreases-pieces g l = left_of l.reader
