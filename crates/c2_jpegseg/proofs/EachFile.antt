@@ -7,20 +7,22 @@ use Rattle.std.specs.List.{All, AllByRecursion}
 use Rattle.std.specs.Int.{w16, to_be_bytes}
 use borrow.Author.Tests.{ltb-false, lt-ltb}
 use Rattle.c2_base.specs.declared.media.MediaError.{MediaError}
-use Rattle.c2_base.specs.declared.media.MediaError.TheVariants.{NotMedia, FileTooLarge, BadPacket, TwoStores, StoreTooLarge, ReadFault, NoMemory}
+use Rattle.c2_base.specs.declared.media.MediaError.TheVariants.{NotMedia, FileTooLarge, BadPacket, StoreTooLarge, ReadFault, NoMemory}
 use Rattle.c2_spec.specs.Located.{Located, absent, here, refusal}
 use Rattle.c2_spec.specs.Jpeg.Segments.{Segment, IsSegment, EndsSegments, HasSegments, MarkerFault, nothing_left, no_marker, fill_alone, bad_marker, no_length, short_length, cut_short, place_after, marker_bytes, segment_bytes, after_marker, is_alone, is_segment_marker}
 use Rattle.c2_spec.specs.Jpeg.Packets.{Packet, packet_in, is_packet, is_store_start, is_stray, stated_length}
-use Rattle.c2_spec.specs.Jpeg.Store.{AllPass, at_marker, at_segment, at_end, FirstJpegFault, too_large, not_media, segment, IsLocated, continues, goes_on, first_packet_fault, fault_after, fault_from, from_start, is_open, is_open_from, missing_bytes}
+use Rattle.c2_spec.specs.Jpeg.Store.{NoneBegins, PacketFault, bad_first, not_next, second_store, stray_packet, at_marker, at_segment, at_end, FirstJpegFault, too_large, not_media, segment, IsLocated, first_packet_fault}
 use Rattle.c2_jpegseg.specs.Causes.{OrOutside}
+use Rattle.c2_jpegseg.specs.Packets.{goes_on}
 use Rattle.c2_jpegseg.specs.Runs.{Collected}
 use Rattle.c2_jpegseg.specs.Walks.{IsRunOf, IsState, Walks}
 use Rattle.c2_jpegseg.proofs.Answers.{refusal_is}
 use Rattle.c2_jpegseg.proofs.Markers.{spelled_alone, spelled_sized, two_bytes}
 use Rattle.c2_jpegseg.proofs.Reading.{marker_shape}
-use Rattle.c2_jpegseg.proofs.SegmentLists.{each-push, each-back, begins-push, passing-push}
+use Rattle.c2_jpegseg.proofs.SegmentLists.{each-push, each-back, begins-push}
 use Rattle.c2_jpegseg.proofs.Starts.{too_short, begun_is}
-use Rattle.c2_jpegseg.proofs.Steps.{both, fault-none, fault-open, fault-whole, from_start-run, missing-run, started, continued, passed, store-in}
+use Rattle.c2_jpegseg.proofs.PacketRuns.{no-packet-next, other-packet-next}
+use Rattle.c2_jpegseg.proofs.Steps.{no-fault, part-in, started, continued, passed, store-in}
 
 abbrev Bytes : List ℕ → Type 0
 Bytes xs = AllByRecursion (λ b. b < 256) xs
@@ -123,10 +125,6 @@ Tells (Some ReadFault) = ⊥
 Tells (Some NoMemory) = ⊥
 Tells (Some _) = Unit {0}
 
-tells_cond : (b : Bool) (x y : Option MediaError) → Tells x → Tells y → Tells (cond b x y)
-tells_cond true x y h k = h
-tells_cond false x y h k = k
-
 tells_three : (a b c : Bool) (p n : ℕ) → Tells (cond a (Some (BadPacket p)) (cond b (Some (StoreTooLarge n)) (cond c (Some (BadPacket p)) None)))
 tells_three true b c p n = tt
 tells_three false true c p n = tt
@@ -137,18 +135,11 @@ tells_first : (p : ℕ) (q : Packet) → Tells (first_packet_fault p q)
 unfolding first_packet_fault
 tells_first p q = tells_three (ltb (stated_length q.header) (length q.header)) (ltb 33554432 (stated_length q.header)) (ltb (stated_length q.header) (length q.header + length q.body)) p (stated_length q.header)
 
-tells_four : (a b c d : Bool) (p : ℕ) → Tells (cond a (cond b None (Some (BadPacket p))) (cond c (Some (TwoStores p)) (cond d (Some (BadPacket p)) None)))
-tells_four true true c d p = tt
-tells_four true false c d p = tt
-tells_four false b true d p = tt
-tells_four false b false true p = tt
-tells_four false b false false p = tt
-
-tells_from : (before : List Segment) (p : ℕ) (s : Segment) → Tells (fault_from before p s)
-unfolding fault_from
-tells_from [] p s = tells_cond (is_store_start s) (first_packet_fault p (packet_in s)) None (tells_first p (packet_in s)) tt
-tells_from (f ∷ more) p s =
-    tells_four (ltb 0 (missing_bytes f more)) (continues (packet_in f).en (packet_in f).header (length (f ∷ more) + 1) (missing_bytes f more) s) (is_store_start s) (is_stray (packet_in f).en s) p
+tells_packet : (before : List Segment) (s : Segment) (e : MediaError) → PacketFault before s e → Tells (Some e)
+tells_packet before s _ (bad_first e _ _ fails) = subst Tells fails (tells_first (place_after before) (packet_in s))
+tells_packet before s _ (not_next _ _ _ _) = tt
+tells_packet before s _ (second_store _ _ _ _ _) = tt
+tells_packet before s _ (stray_packet _ _ _ _ _) = tt
 
 tells_marker : (p : ℕ) (rest : List ℕ) (e : MediaError) → MarkerFault p rest e → Tells (Some e)
 tells_marker p rest _ (nothing_left _) = tt
@@ -180,10 +171,10 @@ refusing file e tells fault = go (refusal e) refl (refusal_is file e (inside_of 
     go None is h = absurd (no_silence e tells is)
     go (Some what) is h = (what, h)
 
--- the state behind one more segment that passes
-record Onward (segments : List Segment) : Type 0 where
-  run : Option Collected
-  state : IsState segments run
+-- the state behind one more segment, or the segment's fault
+data Onward (segments : List Segment) (s : Segment) : Type 0 where
+  goes_on_to : (run : Option Collected) → IsState (segments ++ s ∷ []) run → Onward segments s
+  fails_with : (fault : MediaError) → PacketFault segments s fault → Onward segments s
 
 not_some : (e : MediaError) → Some e ≡ None → ⊥
 not_some e h = cc
@@ -201,8 +192,9 @@ first_fits p q = go (ltb (stated_length q.header) (length q.header)) (ltb 335544
     go false false true x y z e = absurd (not_some _ e)
     go false false false x y z e = (ltb-false _ _ z, ltb-false _ _ y)
 
-onward_none : (segments : List Segment) (s : Segment) → AllByRecursion (λ t. is_store_start t ≡ false) segments → fault_after segments s ≡ None → Onward (segments ++ s ∷ [])
-onward_none segments s none passes = go (is_store_start s) refl
+-- where no store began
+onward_none : (segments : List Segment) (s : Segment) → NoneBegins segments → Onward segments s
+onward_none segments s none = go (is_store_start s) refl
   where
     q : Packet
     q = packet_in s
@@ -210,67 +202,58 @@ onward_none segments s none passes = go (is_store_start s) refl
     r : Collected
     r = record { start = place_after segments; end = place_after (segments ++ s ∷ []); en = q.en; header = q.header; count = 1; total = stated_length q.header; store = q.header ++ q.body }
 
-    go : (b : Bool) → is_store_start s ≡ b → Onward (segments ++ s ∷ [])
-    go false other = record { run = None; state = each-push (λ t. is_store_start t ≡ false) segments s none other }
-    go true starts =
-        let fits = first_fits (place_after segments) q (ap (λ b. cond b (first_packet_fault (place_after segments) q) None) (sym starts) ∙ sym (fault-none segments s none) ∙ passes) in
+    test : (x : Option MediaError) → is_store_start s ≡ true → first_packet_fault (place_after segments) q ≡ x → Onward segments s
+    test (Some fault) starts is = fails_with fault (bad_first fault none starts is)
+    test None starts is =
+        let fits = first_fits (place_after segments) q is in
         let size : length (q.header ++ q.body) ≡ length q.header + length q.body = length-append q.header q.body in
-        record {
-          run = Some r;
-          state = started segments s (place_after segments) (place_after (segments ++ s ∷ [])) r none starts
-              (record { from = refl; to = refl; en = refl; header = refl; count = refl; total = refl; bytes = refl; fits = omega (arith, size, fits.0); small = fits.1 }) refl refl;
-        }
+        goes_on_to (Some r) (started segments s (place_after segments) (place_after (segments ++ s ∷ [])) r none starts
+        (record { from = refl; to = refl; en = refl; header = refl; count = refl; total = refl; bytes = refl; fits = omega (arith, size, fits.0); small = fits.1 }) refl refl)
 
-continues_is : (en : ℕ) (header : List ℕ) (k most : ℕ) (s : Segment) → continues en header k most s ≡ true → (is_packet s ≡ true) × (goes_on en header k most (packet_in s) ≡ true)
-unfolding continues
-continues_is en header k most s h = both _ _ h
+    go : (b : Bool) → is_store_start s ≡ b → Onward segments s
+    go false other = goes_on_to None (each-push (λ t. is_store_start t ≡ false) segments s none other)
+    go true starts = test (first_packet_fault (place_after segments) q) starts refl
 
-onward_open : (segments : List Segment) (s : Segment) (r : Collected) → IsRunOf segments r → length r.store < r.total → fault_after segments s ≡ None → Onward (segments ++ s ∷ [])
-onward_open segments s r h short passes = go (continues r.en r.header (r.count + 1) (r.total - length r.store) s) refl (sym (fault-open segments s r h short) ∙ passes)
+-- where a store is open
+onward_open : (segments : List Segment) (s : Segment) (r : Collected) → IsRunOf segments r → length r.store < r.total → Onward segments s
+onward_open segments s r h short = go (is_packet s) (goes_on r.en r.header (r.count + 1) (r.total - length r.store) (packet_in s)) refl refl
   where
     new : Collected
     new = record { start = r.start; end = place_after (segments ++ s ∷ []); en = r.en; header = r.header; count = r.count + 1; total = r.total; store = r.store ++ (packet_in s).body }
 
-    go : (b : Bool) → continues r.en r.header (r.count + 1) (r.total - length r.store) s ≡ b → cond b None (Some (BadPacket (place_after segments))) ≡ None → Onward (segments ++ s ∷ [])
-    go true on e =
-        let is = continues_is _ _ _ _ _ on in
-        record {
-          run = Some new;
-          state = continued segments s (place_after (segments ++ s ∷ [])) r new h short is.0 is.1 (record { from = refl; to = refl; en = refl; header = refl; count = refl; total = refl; bytes = refl }) refl;
-        }
-    go false on e = absurd (not_some _ e)
+    go : (a b : Bool) → is_packet s ≡ a → goes_on r.en r.header (r.count + 1) (r.total - length r.store) (packet_in s) ≡ b → Onward segments s
+    go false b none on = fails_with _ (not_next _ _ (part-in segments r h short) (no-packet-next segments s r h none))
+    go true false packet other = fails_with _ (not_next _ _ (part-in segments r h short) (other-packet-next segments s r h other))
+    go true true packet on = goes_on_to (Some new) (continued segments s (place_after (segments ++ s ∷ [])) r new h short packet on
+        (record { from = refl; to = refl; en = refl; header = refl; count = refl; total = refl; bytes = refl }) refl)
 
-onward_whole : (segments : List Segment) (s : Segment) (r : Collected) → IsRunOf segments r → r.total ≤ length r.store → fault_after segments s ≡ None → Onward (segments ++ s ∷ [])
-onward_whole segments s r h whole passes = go (is_store_start s) (is_stray r.en s) refl refl (sym (fault-whole segments s r h whole) ∙ passes)
+-- where a store is whole
+onward_whole : (segments : List Segment) (s : Segment) (r : Collected) → IsRunOf segments r → r.total ≤ length r.store → Onward segments s
+onward_whole segments s r h whole = go (is_store_start s) (is_stray r.en s) refl refl
   where
-    go : (a b : Bool) → is_store_start s ≡ a → is_stray r.en s ≡ b → cond a (Some (TwoStores (place_after segments))) (cond b (Some (BadPacket (place_after segments))) None) ≡ None → Onward (segments ++ s ∷ [])
-    go true b x y e = absurd (not_some _ e)
-    go false true x y e = absurd (not_some _ e)
-    go false false x y e = record { run = Some r; state = passed segments s r h whole x y }
+    go : (a b : Bool) → is_store_start s ≡ a → is_stray r.en s ≡ b → Onward segments s
+    go true b starts other = fails_with _ (second_store _ _ _ (store-in segments r h whole) starts)
+    go false true starts stray = fails_with _ (stray_packet _ _ _ (store-in segments r h whole) (ap (λ en. is_stray en s) (sym h.en) ∙ stray))
+    go false false starts other = goes_on_to (Some r) (passed segments s r h whole starts other)
 
-onward : (segments : List Segment) (s : Segment) (run : Option Collected) → IsState segments run → fault_after segments s ≡ None → Onward (segments ++ s ∷ [])
-onward segments s None h passes = onward_none segments s h passes
-onward segments s (Some r) h passes = ⊎_elim (λ short. onward_open segments s r h short passes) (λ whole. onward_whole segments s r h whole passes) (cases_lt (length r.store) r.total)
+onward : (segments : List Segment) (s : Segment) (run : Option Collected) → IsState segments run → Onward segments s
+onward segments s None h = onward_none segments s h
+onward segments s (Some r) h = ⊎_elim (λ short. onward_open segments s r h short) (λ whole. onward_whole segments s r h whole) (cases_lt (length r.store) r.total)
 
--- Segments that pass, and the bytes behind them.
+-- Segments without a fault, and the bytes behind them.
 record Reached (file : List ℕ) (segments : List Segment) (rest : List ℕ) : Type 0 where
   fits : length file < 2 ^ 62
   bytes : Bytes rest
   begins : HasSegments file segments rest
-  passing : AllPass segments
   run : Option Collected
   state : IsState segments run
 
 -- where the segments end
 at_the_end : (file : List ℕ) (segments : List Segment) (rest : List ℕ) (run : Option Collected) → Reached file segments rest → IsState segments run → EndsSegments rest → Outcome file
-unfolding is_open_from
 at_the_end file segments rest None w state ends = (absent, record { fits = w.fits; segments = segments; rest = rest; begins = w.begins; ends = ends; none = state })
 at_the_end file segments rest (Some r) w state ends = ⊎_elim
-    (λ short.
-    let left : missing_bytes state.first (state.others ++ state.after) ≡ r.total - length r.store = missing-run segments r state in
-    let waits : is_open segments ≡ true = ap is_open_from (from_start-run segments r state) ∙ lt-ltb 0 (missing_bytes state.first (state.others ++ state.after)) (omega (arith, left, short)) in
-    refusing file (BadPacket (place_after segments)) tt
-    (segment _ w.fits (record { before = segments; rest = rest; begins = w.begins; passing = w.passing; fails = at_end ends waits refl })))
+    (λ short. refusing file (BadPacket (place_after segments)) tt
+    (segment _ w.fits (record { before = segments; rest = rest; begins = w.begins; passing = no-fault segments (Some r) state; fails = at_end _ _ ends (part-in segments r state short) refl })))
     (λ whole. (here r.start (r.end - r.start) r.store, record { fits = w.fits; segments = segments; rest = rest; begins = w.begins; ends = ends; holds = store-in segments r state whole }))
     (cases_lt (length r.store) r.total)
 
@@ -286,24 +269,22 @@ shorter s rest more shape =
 next : (file : List ℕ) (segments : List Segment) (rest : List ℕ) → Reached file segments rest → ((further : List Segment) (more : List ℕ) → length more < length rest → Reached file further more → Outcome file) → Outcome file
 next file segments rest w onwards = go (front_of (place_after segments) rest w.bytes)
   where
-    test : (s : Segment) (more : List ℕ) → IsSegment s → rest ≡ segment_bytes s ++ more → (x : Option MediaError) → Tells x → fault_after segments s ≡ x → Outcome file
-    test s more legal shape (Some e) tells fails =
-        refusing file e tells (segment e w.fits (record { before = segments; rest = rest; begins = w.begins; passing = w.passing; fails = at_segment s more legal shape fails }))
-    test s more legal shape None tells passes =
-        let on = onward segments s w.run w.state passes in
+    test : (s : Segment) (more : List ℕ) → IsSegment s → rest ≡ segment_bytes s ++ more → Onward segments s → Outcome file
+    test s more legal shape (fails_with e fails) =
+        refusing file e (tells_packet segments s e fails) (segment e w.fits (record { before = segments; rest = rest; begins = w.begins; passing = no-fault segments w.run w.state; fails = at_segment s more legal shape fails }))
+    test s more legal shape (goes_on_to run state) =
         onwards (segments ++ s ∷ []) more (shorter s rest more shape) (record {
           fits = w.fits;
           bytes = each-back (λ b. b < 256) (segment_bytes s) more (subst Bytes shape w.bytes);
           begins = begins-push file segments s rest more w.begins legal shape;
-          passing = passing-push segments s w.passing passes;
-          run = on.run;
-          state = on.state;
+          run = run;
+          state = state;
         })
 
     go : Front (place_after segments) rest → Outcome file
     go (stops ends) = at_the_end file segments rest w.run w w.state ends
-    go (breaks e fault) = refusing file e (tells_marker _ _ _ fault) (segment e w.fits (record { before = segments; rest = rest; begins = w.begins; passing = w.passing; fails = at_marker fault }))
-    go (goes s more legal shape) = test s more legal shape (fault_after segments s) (tells_from (from_start segments) (place_after segments) s) refl
+    go (breaks e fault) = refusing file e (tells_marker _ _ _ fault) (segment e w.fits (record { before = segments; rest = rest; begins = w.begins; passing = no-fault segments w.run w.state; fails = at_marker fault }))
+    go (goes s more legal shape) = test s more legal shape (onward segments s w.run w.state)
 
 -- and all the others
 walk : (n : ℕ) (file : List ℕ) (segments : List Segment) (rest : List ℕ) → length rest < n → Reached file segments rest → Outcome file
@@ -321,7 +302,6 @@ begun file bytes fits two = go (eqb (get_or file 0 0) 255 && eqb (get_or file 1 
           fits = fits;
           bytes = each-back (λ b. b < 256) (take 2 file) (drop 2 file) (subst Bytes (sym (take-append-drop 2 file)) bytes);
           begins = w.begins;
-          passing = w.passing;
           run = None;
           state = w.state;
         })

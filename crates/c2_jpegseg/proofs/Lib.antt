@@ -2,10 +2,12 @@ pub mod Outside
 pub mod Markers
 pub mod PacketLemmas
 pub mod SegmentLists
+pub mod PacketRuns
 pub mod Steps
 pub mod Outcomes
 pub mod Starts
 pub mod Reading
+pub mod OneStore
 pub mod Unique
 pub mod Answers
 pub mod WindowLemmas

@@ -1,19 +1,20 @@
 -- What each case of a segment makes of the walk.
-use Rattle.std.proofs.Common.{◌≡◌, ℕ, ◌+◌, ◌-◌, ◌<◌, ◌≤◌, Bool, ◌&&◌, true, false, cond, List, length, Option, Some, None, refl, sym, ap, ◌∙◌, subst}
+use Rattle.std.proofs.Common.{◌≡◌, ℕ, ◌+◌, ◌-◌, ◌<◌, ◌≤◌, Bool, ◌&&◌, true, false, List, length, Option, Some, None, sym, ap, ◌∙◌, subst}
 use Rattle.c2_base.specs.declared.media.MediaError.{MediaError}
 use Rattle.c2_base.specs.declared.media.MediaError.TheVariants.{BadPacket, TwoStores}
 use Rattle.c2_spec.specs.Jpeg.Segments.{Segment, place_after}
 use Rattle.c2_spec.specs.Jpeg.Packets.{packet_in, is_packet, is_store_start, is_stray, is_further_packet, is_first_packet}
-use Rattle.c2_spec.specs.Jpeg.Store.{fault_after, continues, goes_on, first_packet_fault, SegmentFault}
+use Rattle.c2_spec.specs.Jpeg.Store.{first_packet_fault, PacketFault, IsNextPacket, bad_first, not_next, second_store, stray_packet, SegmentFault}
 use Rattle.c2_jpegseg.specs.Runs.{Collected}
 use Rattle.c2_jpegseg.specs.declared.marker.Extent.{Extent}
 use Rattle.c2_jpegseg.specs.declared.packet.Packet.{Packet as Held}
-use Rattle.c2_jpegseg.specs.Packets.{view, PacketOf}
+use Rattle.c2_jpegseg.specs.Packets.{view, PacketOf, goes_on}
 use Rattle.c2_jpegseg.specs.Segments.{segment_of, IsExtent}
 use Rattle.c2_jpegseg.specs.Runs.{IsStarted, IsContinued}
 use Rattle.c2_jpegseg.specs.Walks.{Walks, Stands}
 use Rattle.c2_jpegseg.proofs.SegmentLists.{each-push}
-use Rattle.c2_jpegseg.proofs.Steps.{fault-none, fault-open, fault-whole, started, continued, passed, end-place, advance, refuse}
+use Rattle.c2_jpegseg.proofs.PacketRuns.{no-packet-next, other-packet-next}
+use Rattle.c2_jpegseg.proofs.Steps.{started, continued, passed, part-in, store-in, end-place, advance, refuse}
 
 -- the tests of a segment by those of its packet
 no_packet_start : (s : Segment) → is_packet s ≡ false → is_store_start s ≡ false
@@ -32,20 +33,10 @@ packet_stray : (en : ℕ) (s : Segment) (b : Bool) → is_packet s ≡ true → 
 unfolding is_stray
 packet_stray en s b h e = ap (λ t. t && is_further_packet en (packet_in s)) h ∙ e
 
-no_packet_goes : (en : ℕ) (header : List ℕ) (k most : ℕ) (s : Segment) → is_packet s ≡ false → continues en header k most s ≡ false
-unfolding continues
-no_packet_goes en header k most s h = ap (λ b. b && goes_on en header k most (packet_in s)) h
-
-pub packet_goes : (en : ℕ) (header : List ℕ) (k most : ℕ) (s : Segment) (b : Bool) → is_packet s ≡ true → goes_on en header k most (packet_in s) ≡ b → continues en header k most s ≡ b
-unfolding continues
-packet_goes en header k most s b h e = ap (λ t. t && goes_on en header k most (packet_in s)) h ∙ e
-
 -- no store began: the segment begins none
 pass_by : (file : List ℕ) (at : ℕ) (e : Extent) (w : Walks file at None) (x : IsExtent file at e) → is_store_start (segment_of x.fill file e) ≡ false → Walks file e.end None
 pass_by file at e w x other =
-    advance file at None None e w x
-    (fault-none w.segments (segment_of x.fill file e) w.state ∙ ap (λ b. cond b (first_packet_fault (place_after w.segments) (packet_in (segment_of x.fill file e))) None) other)
-    (each-push (λ t. is_store_start t ≡ false) w.segments (segment_of x.fill file e) w.state other)
+    advance file at None None e w x (each-push (λ t. is_store_start t ≡ false) w.segments (segment_of x.fill file e) w.state other)
 
 begin_no_packet : (file : List ℕ) (at : ℕ) (e : Extent) (packet : Option Held) → Walks file at None → IsExtent file at e → PacketOf file e packet → packet ≡ None → Walks file e.end None
 begin_no_packet file at e packet w x reads none =
@@ -57,12 +48,6 @@ begin_other file at e packet p w x reads some other =
     pass_by file at e w x (packet_start (segment_of x.fill file e) false r.0 (ap is_first_packet (sym r.1) ∙ other))
 
 -- a store begins
-start_test : (file : List ℕ) (at : ℕ) (e : Extent) (w : Walks file at None) (x : IsExtent file at e) → is_store_start (segment_of x.fill file e) ≡ true
-    → fault_after w.segments (segment_of x.fill file e) ≡ first_packet_fault at (packet_in (segment_of x.fill file e))
-start_test file at e w x begins =
-    fault-none w.segments (segment_of x.fill file e) w.state ∙ ap (λ b. cond b (first_packet_fault (place_after w.segments) (packet_in (segment_of x.fill file e))) None) begins
-    ∙ ap (λ p. first_packet_fault p (packet_in (segment_of x.fill file e))) (sym w.place)
-
 begin_start : (file : List ℕ) (at : ℕ) (e : Extent) (packet : Option Held) (p : Held) (r : Collected) → Walks file at None → IsExtent file at e → PacketOf file e packet → packet ≡ Some p → is_first_packet (view p) ≡ true
     → first_packet_fault at (view p) ≡ None → IsStarted at e.end (view p) r → Walks file e.end (Some r)
 begin_start file at e packet p r w x reads some first passes k =
@@ -70,7 +55,6 @@ begin_start file at e packet p r w x reads some first passes k =
     let s : Segment = segment_of x.fill file e in
     let begins : is_store_start s ≡ true = packet_start s true h.0 (ap is_first_packet (sym h.1) ∙ first) in
     advance file at None (Some r) e w x
-    (start_test file at e w x begins ∙ ap (first_packet_fault at) (sym h.1) ∙ passes)
     (started w.segments s at e.end r w.state begins (subst (λ q. IsStarted at e.end q r) h.1 k) w.place (end-place file at e w.segments w.place x))
 
 begin_refused : (file : List ℕ) (at : ℕ) (e : Extent) (packet : Option Held) (p : Held) (fault : MediaError) → Walks file at None → IsExtent file at e → PacketOf file e packet → packet ≡ Some p → is_first_packet (view p) ≡ true
@@ -78,25 +62,26 @@ begin_refused : (file : List ℕ) (at : ℕ) (e : Extent) (packet : Option Held)
 begin_refused file at e packet p fault w x reads some first fails =
     let h : PacketOf file e (Some p) = subst (PacketOf file e) some reads in
     let s : Segment = segment_of x.fill file e in
-    refuse file at None e fault w x (start_test file at e w x (packet_start s true h.0 (ap is_first_packet (sym h.1) ∙ first)) ∙ ap (first_packet_fault at) (sym h.1) ∙ fails)
+    let test : first_packet_fault (place_after w.segments) (packet_in s) ≡ Some fault = ap (λ p. first_packet_fault p (packet_in s)) (sym w.place) ∙ ap (first_packet_fault at) (sym h.1) ∙ fails in
+    refuse file at None e fault w x (bad_first fault w.state (packet_start s true h.0 (ap is_first_packet (sym h.1) ∙ first)) test)
 
 -- a store waits for its next packet
-next_test : (file : List ℕ) (at : ℕ) (e : Extent) (r : Collected) (b : Bool) (w : Walks file at (Some r)) (x : IsExtent file at e) → length r.store < r.total
-    → continues r.en r.header (r.count + 1) (r.total - length r.store) (segment_of x.fill file e) ≡ b → fault_after w.segments (segment_of x.fill file e) ≡ cond b None (Some (BadPacket at))
-next_test file at e r b w x short goes =
-    fault-open w.segments (segment_of x.fill file e) r w.state short
-    ∙ ap (λ t. cond t None (Some (BadPacket (place_after w.segments)))) goes ∙ ap (λ p. cond b None (Some (BadPacket p))) (sym w.place)
+refuse_next : (file : List ℕ) (at : ℕ) (e : Extent) (r : Collected) (w : Walks file at (Some r)) (x : IsExtent file at e) → length r.store < r.total
+    → (IsNextPacket w.state.first w.state.others (segment_of x.fill file e) → ⊥) → SegmentFault file (BadPacket at)
+refuse_next file at e r w x short other =
+    refuse file at (Some r) e (BadPacket at) w x
+    (subst (λ p. PacketFault w.segments (segment_of x.fill file e) (BadPacket p)) (sym w.place) (not_next _ _ (part-in w.segments r w.state short) other))
 
 proceed_no_packet : (file : List ℕ) (at : ℕ) (e : Extent) (packet : Option Held) (r : Collected) → Walks file at (Some r) → IsExtent file at e → PacketOf file e packet → length r.store < r.total → packet ≡ None → SegmentFault file (BadPacket at)
 proceed_no_packet file at e packet r w x reads short none =
-    refuse file at (Some r) e (BadPacket at) w x (next_test file at e r false w x short (no_packet_goes _ _ _ _ _ (subst (PacketOf file e) none reads)))
+    refuse_next file at e r w x short (no-packet-next w.segments (segment_of x.fill file e) r w.state (subst (PacketOf file e) none reads))
 
 proceed_other : (file : List ℕ) (at : ℕ) (e : Extent) (packet : Option Held) (p : Held) (r : Collected) → Walks file at (Some r) → IsExtent file at e → PacketOf file e packet → length r.store < r.total → packet ≡ Some p
     → goes_on r.en r.header (r.count + 1) (r.total - length r.store) (view p) ≡ false → SegmentFault file (BadPacket at)
 proceed_other file at e packet p r w x reads short some other =
     let h : PacketOf file e (Some p) = subst (PacketOf file e) some reads in
-    refuse file at (Some r) e (BadPacket at) w x (next_test file at e r false w x short
-    (packet_goes _ _ _ _ _ false h.0 (ap (goes_on r.en r.header (r.count + 1) (r.total - length r.store)) (sym h.1) ∙ other)))
+    refuse_next file at e r w x short
+    (other-packet-next w.segments (segment_of x.fill file e) r w.state (ap (goes_on r.en r.header (r.count + 1) (r.total - length r.store)) (sym h.1) ∙ other))
 
 proceed_next : (file : List ℕ) (at : ℕ) (e : Extent) (packet : Option Held) (p : Held) (r new : Collected) → Walks file at (Some r) → IsExtent file at e → PacketOf file e packet → length r.store < r.total → packet ≡ Some p
     → goes_on r.en r.header (r.count + 1) (r.total - length r.store) (view p) ≡ true → IsContinued e.end (view p) r new → Walks file e.end (Some new)
@@ -105,32 +90,25 @@ proceed_next file at e packet p r new w x reads short some next k =
     let s : Segment = segment_of x.fill file e in
     let goes : goes_on r.en r.header (r.count + 1) (r.total - length r.store) (packet_in s) ≡ true = ap (goes_on r.en r.header (r.count + 1) (r.total - length r.store)) (sym h.1) ∙ next in
     advance file at (Some r) (Some new) e w x
-    (next_test file at e r true w x short (packet_goes _ _ _ _ _ true h.0 goes))
     (continued w.segments s e.end r new w.state short h.0 goes (subst (λ q. IsContinued e.end q r new) h.1 k) (end-place file at e w.segments w.place x))
 
 -- a store is whole
-after_test : (file : List ℕ) (at : ℕ) (e : Extent) (r : Collected) (b c : Bool) (w : Walks file at (Some r)) (x : IsExtent file at e) → r.total ≤ length r.store
-    → is_store_start (segment_of x.fill file e) ≡ b → is_stray r.en (segment_of x.fill file e) ≡ c → fault_after w.segments (segment_of x.fill file e) ≡ cond b (Some (TwoStores at)) (cond c (Some (BadPacket at)) None)
-after_test file at e r b c w x whole start stray =
-    fault-whole w.segments (segment_of x.fill file e) r w.state whole
-    ∙ ap (λ t. cond t (Some (TwoStores (place_after w.segments))) (cond (is_stray r.en (segment_of x.fill file e)) (Some (BadPacket (place_after w.segments))) None)) start
-    ∙ ap (λ t. cond b (Some (TwoStores (place_after w.segments))) (cond t (Some (BadPacket (place_after w.segments))) None)) stray
-    ∙ ap (λ p. cond b (Some (TwoStores p)) (cond c (Some (BadPacket p)) None)) (sym w.place)
-
 pass_no_packet : (file : List ℕ) (at : ℕ) (e : Extent) (packet : Option Held) (r : Collected) → Walks file at (Some r) → IsExtent file at e → PacketOf file e packet → r.total ≤ length r.store → packet ≡ None → Walks file e.end (Some r)
 pass_no_packet file at e packet r w x reads whole none =
     let n : PacketOf file e None = subst (PacketOf file e) none reads in
     let s : Segment = segment_of x.fill file e in
     let start : is_store_start s ≡ false = no_packet_start s n in
     let stray : is_stray r.en s ≡ false = no_packet_stray r.en s n in
-    advance file at (Some r) (Some r) e w x (after_test file at e r false false w x whole start stray) (passed w.segments s r w.state whole start stray)
+    advance file at (Some r) (Some r) e w x (passed w.segments s r w.state whole start stray)
 
 pass_second : (file : List ℕ) (at : ℕ) (e : Extent) (packet : Option Held) (p : Held) (r : Collected) → Walks file at (Some r) → IsExtent file at e → PacketOf file e packet → r.total ≤ length r.store → packet ≡ Some p → is_first_packet (view p) ≡ true
     → SegmentFault file (TwoStores at)
 pass_second file at e packet p r w x reads whole some first =
     let h : PacketOf file e (Some p) = subst (PacketOf file e) some reads in
     let s : Segment = segment_of x.fill file e in
-    refuse file at (Some r) e (TwoStores at) w x (after_test file at e r true (is_stray r.en s) w x whole (packet_start s true h.0 (ap is_first_packet (sym h.1) ∙ first)) refl)
+    refuse file at (Some r) e (TwoStores at) w x
+    (subst (λ p. PacketFault w.segments s (TwoStores p)) (sym w.place)
+    (second_store _ _ _ (store-in w.segments r w.state whole) (packet_start s true h.0 (ap is_first_packet (sym h.1) ∙ first))))
 
 pass_stray : (file : List ℕ) (at : ℕ) (e : Extent) (packet : Option Held) (p : Held) (r : Collected) → Walks file at (Some r) → IsExtent file at e → PacketOf file e packet → r.total ≤ length r.store → packet ≡ Some p → is_first_packet (view p) ≡ false
     → is_further_packet r.en (view p) ≡ true → SegmentFault file (BadPacket at)
@@ -138,7 +116,8 @@ pass_stray file at e packet p r w x reads whole some first other =
     let h : PacketOf file e (Some p) = subst (PacketOf file e) some reads in
     let s : Segment = segment_of x.fill file e in
     refuse file at (Some r) e (BadPacket at) w x
-    (after_test file at e r false true w x whole (packet_start s false h.0 (ap is_first_packet (sym h.1) ∙ first)) (packet_stray r.en s true h.0 (ap (is_further_packet r.en) (sym h.1) ∙ other)))
+    (subst (λ p. PacketFault w.segments s (BadPacket p)) (sym w.place)
+    (stray_packet _ _ _ (store-in w.segments r w.state whole) (ap (λ en. is_stray en s) (sym w.state.en) ∙ packet_stray r.en s true h.0 (ap (is_further_packet r.en) (sym h.1) ∙ other))))
 
 pass_packet : (file : List ℕ) (at : ℕ) (e : Extent) (packet : Option Held) (p : Held) (r : Collected) → Walks file at (Some r) → IsExtent file at e → PacketOf file e packet → r.total ≤ length r.store → packet ≡ Some p → is_first_packet (view p) ≡ false
     → is_further_packet r.en (view p) ≡ false → Walks file e.end (Some r)
@@ -147,7 +126,7 @@ pass_packet file at e packet p r w x reads whole some first other =
     let s : Segment = segment_of x.fill file e in
     let start : is_store_start s ≡ false = packet_start s false h.0 (ap is_first_packet (sym h.1) ∙ first) in
     let stray : is_stray r.en s ≡ false = packet_stray r.en s false h.0 (ap (is_further_packet r.en) (sym h.1) ∙ other) in
-    advance file at (Some r) (Some r) e w x (after_test file at e r false false w x whole start stray) (passed w.segments s r w.state whole start stray)
+    advance file at (Some r) (Some r) e w x (passed w.segments s r w.state whole start stray)
 
 -- The cases, where a segment stands.
 pub begin-no_packet : (file : List ℕ) (at end : ℕ) (packet : Option Held) → Stands file at end packet None → packet ≡ None → Walks file end None

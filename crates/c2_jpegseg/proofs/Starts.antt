@@ -1,6 +1,6 @@
 -- How a JPEG file begins.
-use Rattle.std.proofs.Common.{◌≡◌, ◌≢◌, ℕ, ◌<◌, ◌≤◌, Bool, true, false, ◌&&◌, List, [], ◌∷◌, ◌++◌, length, get_or, take, drop, None, refl, sym, ◌∙◌, arith, eqb}
-use Rattle.c2_spec.specs.Jpeg.Segments.{Segment, start_of_image}
+use Rattle.std.proofs.Common.{◌≡◌, ◌≢◌, ℕ, ◌<◌, ◌≤◌, Bool, true, false, ◌&&◌, List, [], ◌∷◌, length, get_or, take, drop, None, refl, sym, ◌∙◌, arith, eqb}
+use Rattle.c2_spec.specs.Jpeg.Segments.{start_of_image}
 use Rattle.c2_jpegseg.specs.Answers.{IsBegun}
 use Rattle.c2_jpegseg.specs.Walks.{Walks}
 use Rattle.c2_jpegseg.proofs.Steps.{both}
@@ -12,10 +12,7 @@ media_says [] e = absurd (cc)
 media_says (x ∷ []) e = absurd (cc)
 media_says (x ∷ y ∷ rest) e = (omega arith, cc, cc)
 
-no_split : (before after : List Segment) (s : Segment) → [] ≡ before ++ s ∷ after → ⊥
-no_split [] after s e = cc
-no_split (b ∷ bs) after s e = cc
-
+-- a file of two bytes or more begins with its first two
 front_is : (file : List ℕ) → 2 ≤ length file → get_or file 0 0 ≡ 255 → get_or file 1 0 ≡ 216 → file ≡ 255 ∷ 216 ∷ drop 2 file
 front_is [] two a b = absurd (omega arith)
 front_is (x ∷ []) two a b = absurd (omega arith)
@@ -28,7 +25,6 @@ walk_starts file two a b = record {
   begins = record { bytes = front_is file two a b; each = tt };
   place = refl;
   inside = two;
-  passing = λ before after s e. absurd (no_split before after s e);
   state = tt;
 }
 

@@ -1,83 +1,29 @@
 -- How the walk goes from one segment to the next.
-use Rattle.std.proofs.Common.{◌≡◌, ℕ, zero, suc, ◌+◌, ◌-◌, ◌^◌, ◌<◌, ◌≤◌, ⊎_elim, Bool, ◌&&◌, true, false, cond, List, [], ◌∷◌, ◌++◌, length, drop, map, Option, Some, None, refl, sym, ap, ◌∙◌, subst, append_assoc, arith, ltb, length-append}
+use Rattle.std.proofs.Common.{◌≡◌, ℕ, suc, ◌+◌, ◌-◌, ◌^◌, ◌<◌, ◌≤◌, ⊎_elim, Bool, ◌&&◌, true, false, List, [], ◌∷◌, ◌++◌, length, drop, map, Option, Some, None, refl, sym, ap, ◌∙◌, subst, append_assoc, arith, length-append}
 use Rattle.std.proofs.lemmas.List.{append-nil, length-drop, map-append, flat_map_more, length_push}
-use Rattle.std.proofs.lemmas.List.Sums.{sum_by-append}
 use Rattle.std.proofs.lemmas.Bool.{cases_lt}
-use Rattle.std.specs.List.{AllByRecursion, flat_map, sum_by, range_with_len}
-use Rattle.c2_base.specs.declared.media.MediaError.{MediaError}
-use Rattle.c2_base.specs.declared.media.MediaError.TheVariants.{BadPacket, TwoStores}
-use Rattle.c2_spec.specs.Jpeg.Segments.{Segment, place_after, segment_bytes, MarkerFault, EndsSegments}
-use Rattle.c2_spec.specs.Jpeg.Packets.{packet_in, is_packet, is_store_start, is_stray, is_first_packet, stated_length}
-use Rattle.c2_spec.specs.Jpeg.Store.{fault_after, fault_from, from_start, missing_bytes, body_len, continues, goes_on, first_packet_fault, is_open_from, SegmentFault, at_marker, at_segment, at_end, HoldsStore, HasJpegStore, HasNoJpegStore}
-use Rattle.c2_jpegseg.specs.Runs.{Collected}
-use Rattle.c2_jpegseg.specs.declared.marker.Extent.{Extent}
-use Rattle.c2_jpegseg.specs.Segments.{segment_of, IsExtent}
-use Rattle.c2_jpegseg.specs.Runs.{IsStarted, IsContinued}
 use Rattle.std.proofs.lemmas.Slice.Eq.{bytes_eq-Decides}
+use Rattle.std.specs.List.{flat_map, range_with_len}
+use Rattle.c2_base.specs.declared.media.MediaError.{MediaError}
+use Rattle.c2_base.specs.declared.media.MediaError.TheVariants.{BadPacket}
+use Rattle.c2_spec.specs.Jpeg.Segments.{Segment, place_after, segment_bytes, MarkerFault, EndsSegments}
+use Rattle.c2_spec.specs.Jpeg.Packets.{packet_in, is_packet, is_store_start, is_stray, is_first_packet}
+use Rattle.c2_spec.specs.Jpeg.Store.{NoneBegins, HoldsStore, HasJpegStore, HasNoJpegStore, HoldsPart, HaveNoFault, none_begins, open_after, one_held, PacketFault, SegmentFault, at_marker, at_segment, at_end}
+use Rattle.c2_jpegseg.specs.declared.marker.Extent.{Extent}
+use Rattle.c2_jpegseg.specs.Packets.{goes_on}
+use Rattle.c2_jpegseg.specs.Runs.{Collected, IsStarted, IsContinued}
+use Rattle.c2_jpegseg.specs.Segments.{segment_of, IsExtent}
 use Rattle.c2_jpegseg.specs.Walks.{IsRunOf, IsState, Walks}
-use Rattle.c2_jpegseg.proofs.SegmentLists.{each-push, place-append, from_start-none, from_start-skip, from_start-here, run-length, begins-push, passing-push}
-use borrow.Author.Tests.{lt-ltb, le-ltb, leb-true, eqb-true}
-
--- the segments from the store start on are the run and what stands behind it
-pub from_start-run : (segments : List Segment) (r : Collected) (h : IsRunOf segments r) → from_start segments ≡ h.first ∷ (h.others ++ h.after)
-from_start-run segments r h = ap from_start h.split ∙ from_start-skip h.before (h.first ∷ h.others ++ h.after) h.none_before ∙ from_start-here h.first (h.others ++ h.after) h.starts
-
--- the bytes that are missing
-pub missing-run : (segments : List Segment) (r : Collected) (h : IsRunOf segments r) → missing_bytes h.first (h.others ++ h.after) ≡ r.total - length r.store
-missing-run segments r h =
-    let held : length r.store ≡ length (packet_in h.first).header + sum_by body_len (h.first ∷ h.others) = run-length h.first h.others r.store h.is_run in
-    let total : r.total ≡ stated_length (packet_in h.first).header = h.total in
-    let more : sum_by body_len (h.first ∷ (h.others ++ h.after)) ≡ sum_by body_len (h.first ∷ h.others) + sum_by body_len h.after = sum_by-append body_len (h.first ∷ h.others) h.after in
-    ⊎_elim (λ short.
-    let none : sum_by body_len h.after ≡ 0 = ap (sum_by body_len) (h.closed short) in
-    omega (arith, held, total, more, none))
-    (λ whole. omega (arith, held, total, more, whole))
-    (cases_lt (length r.store) r.total)
-
-pub fault-none : (segments : List Segment) (s : Segment) → AllByRecursion (λ t. is_store_start t ≡ false) segments → fault_after segments s ≡ cond (is_store_start s) (first_packet_fault (place_after segments) (packet_in s)) None
-unfolding fault_from
-fault-none segments s h = ap (λ x. fault_from x (place_after segments) s) (from_start-none segments h)
-
--- the tests on a segment behind a run that waits for more
-pub fault-open : (segments : List Segment) (s : Segment) (r : Collected) (h : IsRunOf segments r) → length r.store < r.total
-    → fault_after segments s ≡ cond (continues r.en r.header (r.count + 1) (r.total - length r.store) s) None (Some (BadPacket (place_after segments)))
-unfolding fault_from
-fault-open segments s r h short =
-    let start : from_start segments ≡ h.first ∷ (h.others ++ h.after) = from_start-run segments r h in
-    let left : missing_bytes h.first (h.others ++ h.after) ≡ r.total - length r.store = missing-run segments r h in
-    let some : ltb 0 (missing_bytes h.first (h.others ++ h.after)) ≡ true = lt-ltb 0 (missing_bytes h.first (h.others ++ h.after)) (omega (arith, left)) in
-    let number : length (h.first ∷ (h.others ++ h.after)) + 1 ≡ r.count + 1 = ap (λ (x : List Segment). length (h.first ∷ (h.others ++ x)) + 1) (h.closed short) ∙ ap (λ (x : List Segment). length (h.first ∷ x) + 1) (append-nil h.others) ∙ ap (λ n. n + 1) (sym h.count) in
-    ap (λ x. fault_from x (place_after segments) s) start
-    ∙ ap (λ b. cond b (cond (continues (packet_in h.first).en (packet_in h.first).header (length (h.first ∷ (h.others ++ h.after)) + 1) (missing_bytes h.first (h.others ++ h.after)) s) None (Some (BadPacket (place_after segments))))
-    (cond (is_store_start s) (Some (TwoStores (place_after segments))) (cond (is_stray (packet_in h.first).en s) (Some (BadPacket (place_after segments))) None))) some
-    ∙ ap (λ n. cond (continues (packet_in h.first).en (packet_in h.first).header n (missing_bytes h.first (h.others ++ h.after)) s) None (Some (BadPacket (place_after segments)))) number
-    ∙ ap (λ n. cond (continues (packet_in h.first).en (packet_in h.first).header (r.count + 1) n s) None (Some (BadPacket (place_after segments)))) left
-    ∙ ap (λ n. cond (continues n (packet_in h.first).header (r.count + 1) (r.total - length r.store) s) None (Some (BadPacket (place_after segments)))) (sym h.en)
-    ∙ ap (λ n. cond (continues r.en n (r.count + 1) (r.total - length r.store) s) None (Some (BadPacket (place_after segments)))) (sym h.header)
-
--- and behind one that is whole
-pub fault-whole : (segments : List Segment) (s : Segment) (r : Collected) (h : IsRunOf segments r) → r.total ≤ length r.store
-    → fault_after segments s ≡ cond (is_store_start s) (Some (TwoStores (place_after segments))) (cond (is_stray r.en s) (Some (BadPacket (place_after segments))) None)
-unfolding fault_from
-fault-whole segments s r h whole =
-    let start : from_start segments ≡ h.first ∷ (h.others ++ h.after) = from_start-run segments r h in
-    let left : missing_bytes h.first (h.others ++ h.after) ≡ r.total - length r.store = missing-run segments r h in
-    let none : ltb 0 (missing_bytes h.first (h.others ++ h.after)) ≡ false = le-ltb 0 (missing_bytes h.first (h.others ++ h.after)) (omega (arith, left)) in
-    ap (λ x. fault_from x (place_after segments) s) start
-    ∙ ap (λ b. cond b (cond (continues (packet_in h.first).en (packet_in h.first).header (length (h.first ∷ (h.others ++ h.after)) + 1) (missing_bytes h.first (h.others ++ h.after)) s) None (Some (BadPacket (place_after segments))))
-    (cond (is_store_start s) (Some (TwoStores (place_after segments))) (cond (is_stray (packet_in h.first).en s) (Some (BadPacket (place_after segments))) None))) none
-    ∙ ap (λ n. cond (is_store_start s) (Some (TwoStores (place_after segments))) (cond (is_stray n s) (Some (BadPacket (place_after segments))) None)) (sym h.en)
+use Rattle.c2_jpegseg.proofs.PacketRuns.{range-push}
+use Rattle.c2_jpegseg.proofs.SegmentLists.{each-push, place-append, begins-push}
+use borrow.Author.Tests.{leb-true, eqb-true}
 
 -- a test of two parts
 pub both : (a b : Bool) → (a && b) ≡ true → (a ≡ true) × (b ≡ true)
 both true b h = (refl, h)
 both false b h = absurd (cc)
 
--- one more number
-range-push : (a n : ℕ) → range_with_len a (suc n) ≡ range_with_len a n ++ (a + n) ∷ []
-range-push a zero = let e : a ≡ a + 0 = omega arith in ap (λ k. k ∷ []) e
-range-push a (suc n) = let e : a + 1 + n ≡ a + suc n = omega arith in ap (λ (x : List ℕ). a ∷ x) (range-push (a + 1) n ∙ ap (λ k. range_with_len (a + 1) n ++ k ∷ []) e)
-
+-- the numbers go on
 numbers-push : (f : Segment → ℕ) (xs : List Segment) (y : Segment) → map f xs ≡ range_with_len 1 (length xs) → f y ≡ length xs + 1 → map f (xs ++ y ∷ []) ≡ range_with_len 1 (length (xs ++ y ∷ []))
 numbers-push f xs y numbers next =
     let e : f y ≡ 1 + length xs = omega (arith, next) in
@@ -95,7 +41,7 @@ start-says s h =
     (outer.0, eqb-true _ _ first.0, leb-true _ _ sized.1)
 
 -- the first packet
-pub started : (segments : List Segment) (s : Segment) (at end : ℕ) (r : Collected) → AllByRecursion (λ t. is_store_start t ≡ false) segments → is_store_start s ≡ true → IsStarted at end (packet_in s) r
+pub started : (segments : List Segment) (s : Segment) (at end : ℕ) (r : Collected) → NoneBegins segments → is_store_start s ≡ true → IsStarted at end (packet_in s) r
     → at ≡ place_after segments → end ≡ place_after (segments ++ s ∷ []) → IsRunOf (segments ++ s ∷ []) r
 started segments s at end r none starts k from to =
     let says = start-says s starts in
@@ -208,54 +154,21 @@ end-place file at e segments place x =
     omega (arith, sum, one, sizes, place, x.later, x.inside, length-drop at file, length-drop e.end file)
 
 -- the walk goes on
-pub advance : (file : List ℕ) (at : ℕ) (run new : Option Collected) (e : Extent) (w : Walks file at run) (x : IsExtent file at e) → fault_after w.segments (segment_of x.fill file e) ≡ None
-    → IsState (w.segments ++ segment_of x.fill file e ∷ []) new → Walks file e.end new
-advance file at run new e w x passes state = record {
+pub advance : (file : List ℕ) (at : ℕ) (run new : Option Collected) (e : Extent) (w : Walks file at run) (x : IsExtent file at e) → IsState (w.segments ++ segment_of x.fill file e ∷ []) new → Walks file e.end new
+advance file at run new e w x state = record {
   segments = w.segments ++ segment_of x.fill file e ∷ [];
   begins = begins-push file w.segments (segment_of x.fill file e) (drop at file) (drop e.end file) w.begins x.legal x.bytes;
   place = end-place file at e w.segments w.place x;
   inside = x.inside;
-  passing = passing-push w.segments (segment_of x.fill file e) w.passing passes;
   state = state;
 }
-
--- the walk is refused
-pub refuse : (file : List ℕ) (at : ℕ) (run : Option Collected) (e : Extent) (fault : MediaError) (w : Walks file at run) (x : IsExtent file at e) → fault_after w.segments (segment_of x.fill file e) ≡ Some fault → SegmentFault file fault
-refuse file at run e fault w x fails = record {
-  before = w.segments;
-  rest = drop at file;
-  begins = w.begins;
-  passing = w.passing;
-  fails = at_segment (segment_of x.fill file e) (drop e.end file) x.legal x.bytes fails;
-}
-
-pub refuse-marker : (file : List ℕ) (at : ℕ) (run : Option Collected) (fault : MediaError) → Walks file at run → MarkerFault at (drop at file) fault → SegmentFault file fault
-refuse-marker file at run fault w fails = record {
-  before = w.segments;
-  rest = drop at file;
-  begins = w.begins;
-  passing = w.passing;
-  fails = at_marker (subst (λ p. MarkerFault p (drop at file) fault) w.place fails);
-}
-
-pub refuse-end : (file : List ℕ) (at : ℕ) (r : Collected) → Walks file at (Some r) → EndsSegments (drop at file) → length r.store < r.total → SegmentFault file (BadPacket at)
-unfolding is_open_from
-refuse-end file at r w ends short =
-    let h : IsRunOf w.segments r = w.state in
-    let left : missing_bytes h.first (h.others ++ h.after) ≡ r.total - length r.store = missing-run w.segments r h in
-    record {
-      before = w.segments;
-      rest = drop at file;
-      begins = w.begins;
-      passing = w.passing;
-      fails = at_end ends (ap is_open_from (from_start-run w.segments r h) ∙ lt-ltb 0 (missing_bytes h.first (h.others ++ h.after)) (omega (arith, left))) (ap BadPacket w.place);
-    }
 
 -- the walk ends
 pub no-store : (file : List ℕ) (at : ℕ) → length file < 2 ^ 62 → Walks file at None → EndsSegments (drop at file) → HasNoJpegStore file
 no-store file at fits w ends = record { fits = fits; segments = w.segments; rest = drop at file; begins = w.begins; ends = ends; none = w.state }
 
-pub store-in : (segments : List Segment) (r : Collected) → IsRunOf segments r → r.total ≤ length r.store → HoldsStore segments r.start (r.end - r.start) r.store
+-- a whole run is a store
+abbrev pub store-in : (segments : List Segment) (r : Collected) → IsRunOf segments r → r.total ≤ length r.store → HoldsStore segments r.start (r.end - r.start) r.store
 store-in segments r h whole =
     let sum : place_after (h.before ++ (h.first ∷ h.others)) ≡ place_after h.before + length (flat_map segment_bytes (h.first ∷ h.others)) = place-append h.before (h.first ∷ h.others) in
     record {
@@ -277,3 +190,54 @@ store-in segments r h whole =
 
 pub store-here : (file : List ℕ) (at : ℕ) (r : Collected) → length file < 2 ^ 62 → Walks file at (Some r) → EndsSegments (drop at file) → r.total ≤ length r.store → HasJpegStore file r.start (r.end - r.start) r.store
 store-here file at r fits w ends whole = record { fits = fits; segments = w.segments; rest = drop at file; begins = w.begins; ends = ends; holds = store-in w.segments r w.state whole }
+
+-- a run that waits for more is a part of a store
+pub part-in : (segments : List Segment) (r : Collected) (h : IsRunOf segments r) → length r.store < r.total → HoldsPart segments h.first h.others
+part-in segments r h short = record {
+  before = h.before;
+  split = h.split ∙ ap (λ (x : List Segment). h.before ++ (h.first ∷ h.others ++ x)) (h.closed short) ∙ ap (λ (x : List Segment). h.before ++ x) (append-nil (h.first ∷ h.others));
+  starts = h.starts;
+  part = r.store;
+  is_run = h.is_run;
+  missing = omega (arith, short, h.total);
+  small = omega (arith, h.total, h.small);
+  none_before = h.none_before;
+}
+
+-- segments in a state of the walk have no fault
+pub no-fault : (segments : List Segment) (run : Option Collected) → IsState segments run → HaveNoFault segments
+no-fault segments None h = none_begins h
+no-fault segments (Some r) h = ⊎_elim
+    (λ short. open_after h.first h.others (part-in segments r h short))
+    (λ whole. one_held r.start (r.end - r.start) r.store (store-in segments r h whole))
+    (cases_lt (length r.store) r.total)
+
+-- the walk is refused at a segment
+pub refuse : (file : List ℕ) (at : ℕ) (run : Option Collected) (e : Extent) (fault : MediaError) (w : Walks file at run) (x : IsExtent file at e) → PacketFault w.segments (segment_of x.fill file e) fault → SegmentFault file fault
+refuse file at run e fault w x fails = record {
+  before = w.segments;
+  rest = drop at file;
+  begins = w.begins;
+  passing = no-fault w.segments run w.state;
+  fails = at_segment (segment_of x.fill file e) (drop e.end file) x.legal x.bytes fails;
+}
+
+-- or at a marker or its length
+pub refuse-marker : (file : List ℕ) (at : ℕ) (run : Option Collected) (fault : MediaError) → Walks file at run → MarkerFault at (drop at file) fault → SegmentFault file fault
+refuse-marker file at run fault w fails = record {
+  before = w.segments;
+  rest = drop at file;
+  begins = w.begins;
+  passing = no-fault w.segments run w.state;
+  fails = at_marker (subst (λ p. MarkerFault p (drop at file) fault) w.place fails);
+}
+
+-- or where the segments end too early
+pub refuse-end : (file : List ℕ) (at : ℕ) (r : Collected) → Walks file at (Some r) → EndsSegments (drop at file) → length r.store < r.total → SegmentFault file (BadPacket at)
+refuse-end file at r w ends short = record {
+  before = w.segments;
+  rest = drop at file;
+  begins = w.begins;
+  passing = no-fault w.segments (Some r) w.state;
+  fails = at_end _ _ ends (part-in w.segments r w.state short) (ap BadPacket w.place);
+}

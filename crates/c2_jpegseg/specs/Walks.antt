@@ -3,7 +3,7 @@ use Rattle.std.specs.Prelude.{◌≡◌, ◌<◌, ◌≤◌, ℕ, true, false, L
 use Rattle.std.specs.List.{AllByRecursion}
 use Rattle.c2_spec.specs.Jpeg.Segments.{Segment, HasSegments, place_after}
 use Rattle.c2_spec.specs.Jpeg.Packets.{IsPacketRun, packet_in, is_store_start, is_stray, stated_length}
-use Rattle.c2_spec.specs.Jpeg.Store.{AllPass}
+use Rattle.c2_spec.specs.Jpeg.Store.{NoneBegins}
 use Rattle.c2_jpegseg.specs.declared.marker.Extent.{Extent}
 use Rattle.c2_jpegseg.specs.declared.packet.Packet.{Packet}
 use Rattle.c2_jpegseg.specs.Packets.{PacketOf}
@@ -22,8 +22,8 @@ pub record IsRunOf (segments : List Segment) (r : Collected) : Type 0 where
   pub fits : length r.store ≤ r.total
   pub total : r.total ≡ stated_length (packet_in first).header
   pub small : r.total ≤ 33554432
-  pub none_before : AllByRecursion (λ s. is_store_start s ≡ false) before
-  pub none_after : AllByRecursion (λ s. is_store_start s ≡ false) after
+  pub none_before : NoneBegins before
+  pub none_after : NoneBegins after
   pub no_stray : AllByRecursion (λ s. is_stray (packet_in first).en s ≡ false) after
   pub closed : length r.store < r.total → after ≡ []
   pub from : r.start ≡ place_after before
@@ -33,16 +33,15 @@ pub record IsRunOf (segments : List Segment) (r : Collected) : Type 0 where
   pub count : r.count ≡ length (first ∷ others)
 
 abbrev pub IsState : List Segment → Option Collected → Type 0
-IsState segments None = AllByRecursion (λ s. is_store_start s ≡ false) segments
+IsState segments None = NoneBegins segments
 IsState segments (Some r) = IsRunOf segments r
 
--- The walk stands at a place: the segments before it pass, and their store is the run.
+-- The walk stands at a place: the segments before it have no fault, and their store is the run.
 pub record Walks (file : List ℕ) (at : ℕ) (run : Option Collected) : Type 0 where
   pub segments : List Segment
   pub begins : HasSegments file segments (drop at file)
   pub place : at ≡ place_after segments
   pub inside : at ≤ length file
-  pub passing : AllPass segments
   pub state : IsState segments run
 
 -- A segment stands at the walk's place, ends at another one, and is this packet, if it is one.

@@ -2,7 +2,7 @@
 ghost use Rattle.std.specs.Prelude.{◌≡◌, ◌+◌, ◌-◌, ◌<◌, ◌≤◌, length, take, vec_len, true, None, Some, OnOk, IfOk, IfErr};
 ghost use Rattle.c2_spec.specs.Jpeg.Store as jpeg;
 ghost use Rattle.c2_jpegseg.specs.Causes.{OrOutside};
-ghost use Rattle.c2_jpegseg.specs.Packets.{view, IsHeader};
+ghost use Rattle.c2_jpegseg.specs.Packets.{view, IsHeader, goes_on};
 
 use crate::packet::{self, Packet};
 use c2_base::{MediaError, NoMemory};
@@ -97,9 +97,9 @@ impl Run {
     }
 
     /// Whether the packet goes on with the run.
-    #[tactic(auto, unfolding(c2_spec::specs::Jpeg::Store::goes_on))]
+    #[tactic(auto, unfolding(crate::specs::Packets::goes_on))]
     pub fn goes_on(&self, packet: &Packet<'_>) -> bool
-        ensures goes { result ≡ jpeg.goes_on self.now.en (take self.now.header_len self.now.store.items) (self.now.count + 1) (self.now.total - length self.now.store.items) (view packet.now) }
+        ensures goes { result ≡ goes_on self.now.en (take self.now.header_len self.now.store.items) (self.now.count + 1) (self.now.total - length self.now.store.items) (view packet.now) }
         ensures some { result ≡ true → 0 < length packet.now.body.now }
         ensures fits { result ≡ true → length packet.now.body.now ≤ self.now.total - length self.now.store.items }
     {
