@@ -1,5 +1,6 @@
 -- An answer names the one outcome of a file.
 use Rattle.std.proofs.Common.{◌≡◌, ℕ, ◌^◌, ◌<◌, List, length, Option, Some, None, IfSome, Result, Ok, Err, refl, sym, ap, ◌∙◌}
+use Rattle.c2_base.specs.declared.limits.TheConstants.{FILE_LEN_LIMIT}
 use Rattle.c2_base.specs.declared.media.Found.{Found}
 use Rattle.c2_base.specs.declared.media.MediaError.{MediaError}
 use Rattle.c2_base.specs.declared.media.MediaError.TheVariants.{NotMedia, FileTooLarge, Truncated, BadMarker, BadSegment, BadPacket, TwoStores, BadBox, BadProvenanceBox, StoreTooLarge, TooManyBoxes, ReadFault, NoMemory}
@@ -52,13 +53,13 @@ only_said file None h what k = tt
 only_said file (Some s) h what k = one_located file s what h k
 
 -- the walk's answer is the search's
-pub found_by_walk : (file : List ℕ) (r : Result (Option Found) MediaError) → length file < 2 ^ 62 → IsWalkedOr file r → IsFoundOr file r
+pub found_by_walk : (file : List ℕ) (r : Result (Option Found) MediaError) → length file < FILE_LEN_LIMIT → IsWalkedOr file r → IsFoundOr file r
 found_by_walk file (Ok None) fits h = h
 found_by_walk file (Ok (Some f)) fits h = h
 found_by_walk file (Err e) fits h = or_outside-map e (SegmentFault file e) (FirstJpegFault file e) (segment e fits) h
 
 -- the walk's errors are the search's
-pub cause_of : (len before now : ℕ) (e : MediaError) → len < 2 ^ 62 → IsWalkError len e → IsCaused before now e → HasReason len before now e
+pub cause_of : (len before now : ℕ) (e : MediaError) → len < FILE_LEN_LIMIT → IsWalkError len e → IsCaused before now e → HasReason len before now e
 cause_of len before now (FileTooLarge n) fits error cause = absurd error
 cause_of len before now ReadFault fits error cause = cause
 cause_of len before now NoMemory fits error cause = tt

@@ -6,6 +6,7 @@ use Rattle.std.proofs.lemmas.Bool.{cases_lt, cases_eq}
 use Rattle.std.specs.List.{All, AllByRecursion}
 use Rattle.std.specs.Int.{w16, to_be_bytes}
 use borrow.Author.Tests.{ltb-false, lt-ltb}
+use Rattle.c2_base.specs.declared.limits.TheConstants.{MAX_STORE_LEN, FILE_LEN_LIMIT}
 use Rattle.c2_base.specs.declared.media.MediaError.{MediaError}
 use Rattle.c2_base.specs.declared.media.MediaError.TheVariants.{NotMedia, FileTooLarge, BadPacket, StoreTooLarge, ReadFault, NoMemory}
 use Rattle.c2_spec.specs.Located.{Located, absent, here, refusal}
@@ -13,8 +14,7 @@ use Rattle.c2_spec.specs.Jpeg.Segments.{Segment, IsSegment, EndsSegments, HasSeg
 use Rattle.c2_spec.specs.Jpeg.Packets.{Packet, packet_in, is_packet, is_store_start, is_stray, stated_length}
 use Rattle.c2_spec.specs.Jpeg.Store.{NoneBegins, PacketFault, bad_first, not_next, second_store, stray_packet, at_marker, at_segment, at_end, FirstJpegFault, too_large, not_media, segment, IsLocated, first_packet_fault}
 use Rattle.c2_jpegseg.specs.Causes.{OrOutside}
-use Rattle.c2_jpegseg.specs.Packets.{goes_on}
-use Rattle.c2_jpegseg.specs.Runs.{Collected}
+use Rattle.c2_jpegseg.specs.Runs.{Collected, goes_on}
 use Rattle.c2_jpegseg.specs.Walks.{IsRunOf, IsState, Walks}
 use Rattle.c2_jpegseg.proofs.Answers.{refusal_is}
 use Rattle.c2_jpegseg.proofs.Markers.{spelled_alone, spelled_sized, two_bytes}
@@ -133,7 +133,7 @@ tells_three false false false p n = tt
 
 tells_first : (p : ℕ) (q : Packet) → Tells (first_packet_fault p q)
 unfolding first_packet_fault
-tells_first p q = tells_three (ltb (stated_length q.header) (length q.header)) (ltb 33554432 (stated_length q.header)) (ltb (stated_length q.header) (length q.header + length q.body)) p (stated_length q.header)
+tells_first p q = tells_three (ltb (stated_length q.header) (length q.header)) (ltb MAX_STORE_LEN (stated_length q.header)) (ltb (stated_length q.header) (length q.header + length q.body)) p (stated_length q.header)
 
 tells_packet : (before : List Segment) (s : Segment) (e : MediaError) → PacketFault before s e → Tells (Some e)
 tells_packet before s _ (bad_first e _ _ fails) = subst Tells fails (tells_first (place_after before) (packet_in s))
@@ -180,13 +180,13 @@ not_some : (e : MediaError) → Some e ≡ None → ⊥
 not_some e h = cc
 
 -- a first packet that passes
-first_fits : (p : ℕ) (q : Packet) → first_packet_fault p q ≡ None → (length q.header + length q.body ≤ stated_length q.header) × (stated_length q.header ≤ 33554432)
+first_fits : (p : ℕ) (q : Packet) → first_packet_fault p q ≡ None → (length q.header + length q.body ≤ stated_length q.header) × (stated_length q.header ≤ MAX_STORE_LEN)
 unfolding first_packet_fault
-first_fits p q = go (ltb (stated_length q.header) (length q.header)) (ltb 33554432 (stated_length q.header)) (ltb (stated_length q.header) (length q.header + length q.body)) refl refl refl
+first_fits p q = go (ltb (stated_length q.header) (length q.header)) (ltb MAX_STORE_LEN (stated_length q.header)) (ltb (stated_length q.header) (length q.header + length q.body)) refl refl refl
   where
-    go : (a b c : Bool) → ltb (stated_length q.header) (length q.header) ≡ a → ltb 33554432 (stated_length q.header) ≡ b → ltb (stated_length q.header) (length q.header + length q.body) ≡ c
+    go : (a b c : Bool) → ltb (stated_length q.header) (length q.header) ≡ a → ltb MAX_STORE_LEN (stated_length q.header) ≡ b → ltb (stated_length q.header) (length q.header + length q.body) ≡ c
         → cond a (Some (BadPacket p)) (cond b (Some (StoreTooLarge (stated_length q.header))) (cond c (Some (BadPacket p)) None)) ≡ None
-        → (length q.header + length q.body ≤ stated_length q.header) × (stated_length q.header ≤ 33554432)
+        → (length q.header + length q.body ≤ stated_length q.header) × (stated_length q.header ≤ MAX_STORE_LEN)
     go true b c x y z e = absurd (not_some _ e)
     go false true c x y z e = absurd (not_some _ e)
     go false false true x y z e = absurd (not_some _ e)
@@ -216,12 +216,12 @@ onward_none segments s none = go (is_store_start s) refl
 
 -- where a store is open
 onward_open : (segments : List Segment) (s : Segment) (r : Collected) → IsRunOf segments r → length r.store < r.total → Onward segments s
-onward_open segments s r h short = go (is_packet s) (goes_on r.en r.header (r.count + 1) (r.total - length r.store) (packet_in s)) refl refl
+onward_open segments s r h short = go (is_packet s) (goes_on r (packet_in s)) refl refl
   where
     new : Collected
     new = record { start = r.start; end = place_after (segments ++ s ∷ []); en = r.en; header = r.header; count = r.count + 1; total = r.total; store = r.store ++ (packet_in s).body }
 
-    go : (a b : Bool) → is_packet s ≡ a → goes_on r.en r.header (r.count + 1) (r.total - length r.store) (packet_in s) ≡ b → Onward segments s
+    go : (a b : Bool) → is_packet s ≡ a → goes_on r (packet_in s) ≡ b → Onward segments s
     go false b none on = fails_with _ (not_next _ _ (part-in segments r h short) (no-packet-next segments s r h none))
     go true false packet other = fails_with _ (not_next _ _ (part-in segments r h short) (other-packet-next segments s r h other))
     go true true packet on = goes_on_to (Some new) (continued segments s (place_after (segments ++ s ∷ [])) r new h short packet on
@@ -242,7 +242,7 @@ onward segments s (Some r) h = ⊎_elim (λ short. onward_open segments s r h sh
 
 -- Segments without a fault, and the bytes behind them.
 record Reached (file : List ℕ) (segments : List Segment) (rest : List ℕ) : Type 0 where
-  fits : length file < 2 ^ 62
+  fits : length file < FILE_LEN_LIMIT
   bytes : Bytes rest
   begins : HasSegments file segments rest
   run : Option Collected
@@ -292,7 +292,7 @@ walk zero file segments rest less w = absurd (omega arith)
 walk (suc n) file segments rest less w = next file segments rest w (λ further more shorter onward. walk n file further more (omega arith) onward)
 
 -- the first two bytes
-begun : (file : List ℕ) → Bytes file → length file < 2 ^ 62 → 2 ≤ length file → Outcome file
+begun : (file : List ℕ) → Bytes file → length file < FILE_LEN_LIMIT → 2 ≤ length file → Outcome file
 begun file bytes fits two = go (eqb (get_or file 0 0) 255 && eqb (get_or file 1 0) 216) refl
   where
     go : (t : Bool) → t ≡ (eqb (get_or file 0 0) 255 && eqb (get_or file 1 0) 216) → Outcome file
@@ -312,4 +312,4 @@ pub each_located : (file : List ℕ) → All (λ b. b < 2 ^ 8) file → (what : 
 each_located file h = ⊎_elim
     (λ fits. ⊎_elim (λ short. refusing file NotMedia tt (not_media fits (too_short file short))) (λ two. begun file (recursion_from_All (λ b. b < 2 ^ 8) file h) fits two) (cases_lt (length file) 2))
     (λ large. refusing file (FileTooLarge (length file)) tt (too_large large))
-    (cases_lt (length file) (2 ^ 62))
+    (cases_lt (length file) FILE_LEN_LIMIT)

@@ -12,3 +12,4 @@ pub mod Unique
 pub mod Answers
 pub mod WindowLemmas
 pub mod EachFile
+pub mod StoreBytes

@@ -4,6 +4,7 @@ use Rattle.std.proofs.Common.{◌≡◌, ℕ, ◌+◌, ◌<◌, ◌≤◌, ◌�
 use Rattle.std.proofs.lemmas.List.{append-nil, append_cancel_left}
 use Rattle.std.specs.List.{AllByRecursion}
 use borrow.Author.Tests.{le-ltb, eq-eqb, both_ways, not-true}
+use Rattle.c2_base.specs.declared.limits.TheConstants.{MAX_STORE_LEN}
 use Rattle.c2_base.specs.declared.media.MediaError.{MediaError}
 use Rattle.c2_base.specs.declared.media.MediaError.TheVariants.{BadPacket, StoreTooLarge}
 use Rattle.c2_spec.specs.Jpeg.Segments.{Segment, place_after}
@@ -14,12 +15,12 @@ use Rattle.c2_jpegseg.proofs.SegmentLists.{each-front, each-back, two_cuts}
 use Rattle.c2_jpegseg.proofs.Steps.{both, start-says}
 
 -- the first packet of a store passes
-first_passes : (p : ℕ) (q : Packet) → length q.header + length q.body ≤ stated_length q.header → stated_length q.header ≤ 33554432 → first_packet_fault p q ≡ None
+first_passes : (p : ℕ) (q : Packet) → length q.header + length q.body ≤ stated_length q.header → stated_length q.header ≤ MAX_STORE_LEN → first_packet_fault p q ≡ None
 unfolding first_packet_fault
 first_passes p q fits small =
-    ap (λ b. cond b (Some (BadPacket p)) (cond (ltb 33554432 (stated_length q.header)) (Some (StoreTooLarge (stated_length q.header))) (cond (ltb (stated_length q.header) (length q.header + length q.body)) (Some (BadPacket p)) None)))
+    ap (λ b. cond b (Some (BadPacket p)) (cond (ltb MAX_STORE_LEN (stated_length q.header)) (Some (StoreTooLarge (stated_length q.header))) (cond (ltb (stated_length q.header) (length q.header + length q.body)) (Some (BadPacket p)) None)))
     (le-ltb (stated_length q.header) (length q.header) (omega arith))
-    ∙ ap (λ b. cond b (Some (StoreTooLarge (stated_length q.header))) (cond (ltb (stated_length q.header) (length q.header + length q.body)) (Some (BadPacket p)) None)) (le-ltb 33554432 (stated_length q.header) small)
+    ∙ ap (λ b. cond b (Some (StoreTooLarge (stated_length q.header))) (cond (ltb (stated_length q.header) (length q.header + length q.body)) (Some (BadPacket p)) None)) (le-ltb MAX_STORE_LEN (stated_length q.header) small)
     ∙ ap (λ b. cond b (Some (BadPacket p)) None) (le-ltb (stated_length q.header) (length q.header + length q.body) fits)
 
 -- one store begins at one place

@@ -5,10 +5,10 @@ use Rattle.c2_base.specs.declared.media.MediaError.TheVariants.{BadPacket, TwoSt
 use Rattle.c2_spec.specs.Jpeg.Segments.{Segment, place_after}
 use Rattle.c2_spec.specs.Jpeg.Packets.{packet_in, is_packet, is_store_start, is_stray, is_further_packet, is_first_packet}
 use Rattle.c2_spec.specs.Jpeg.Store.{first_packet_fault, PacketFault, IsNextPacket, bad_first, not_next, second_store, stray_packet, SegmentFault}
-use Rattle.c2_jpegseg.specs.Runs.{Collected}
+use Rattle.c2_jpegseg.specs.Runs.{Collected, goes_on}
 use Rattle.c2_jpegseg.specs.declared.marker.Extent.{Extent}
 use Rattle.c2_jpegseg.specs.declared.packet.Packet.{Packet as Held}
-use Rattle.c2_jpegseg.specs.Packets.{view, PacketOf, goes_on}
+use Rattle.c2_jpegseg.specs.Packets.{view, PacketOf}
 use Rattle.c2_jpegseg.specs.Segments.{segment_of, IsExtent}
 use Rattle.c2_jpegseg.specs.Runs.{IsStarted, IsContinued}
 use Rattle.c2_jpegseg.specs.Walks.{Walks, Stands}
@@ -77,18 +77,18 @@ proceed_no_packet file at e packet r w x reads short none =
     refuse_next file at e r w x short (no-packet-next w.segments (segment_of x.fill file e) r w.state (subst (PacketOf file e) none reads))
 
 proceed_other : (file : List ℕ) (at : ℕ) (e : Extent) (packet : Option Held) (p : Held) (r : Collected) → Walks file at (Some r) → IsExtent file at e → PacketOf file e packet → length r.store < r.total → packet ≡ Some p
-    → goes_on r.en r.header (r.count + 1) (r.total - length r.store) (view p) ≡ false → SegmentFault file (BadPacket at)
+    → goes_on r (view p) ≡ false → SegmentFault file (BadPacket at)
 proceed_other file at e packet p r w x reads short some other =
     let h : PacketOf file e (Some p) = subst (PacketOf file e) some reads in
     refuse_next file at e r w x short
-    (other-packet-next w.segments (segment_of x.fill file e) r w.state (ap (goes_on r.en r.header (r.count + 1) (r.total - length r.store)) (sym h.1) ∙ other))
+    (other-packet-next w.segments (segment_of x.fill file e) r w.state (ap (goes_on r) (sym h.1) ∙ other))
 
 proceed_next : (file : List ℕ) (at : ℕ) (e : Extent) (packet : Option Held) (p : Held) (r new : Collected) → Walks file at (Some r) → IsExtent file at e → PacketOf file e packet → length r.store < r.total → packet ≡ Some p
-    → goes_on r.en r.header (r.count + 1) (r.total - length r.store) (view p) ≡ true → IsContinued e.end (view p) r new → Walks file e.end (Some new)
+    → goes_on r (view p) ≡ true → IsContinued e.end (view p) r new → Walks file e.end (Some new)
 proceed_next file at e packet p r new w x reads short some next k =
     let h : PacketOf file e (Some p) = subst (PacketOf file e) some reads in
     let s : Segment = segment_of x.fill file e in
-    let goes : goes_on r.en r.header (r.count + 1) (r.total - length r.store) (packet_in s) ≡ true = ap (goes_on r.en r.header (r.count + 1) (r.total - length r.store)) (sym h.1) ∙ next in
+    let goes : goes_on r (packet_in s) ≡ true = ap (goes_on r) (sym h.1) ∙ next in
     advance file at (Some r) (Some new) e w x
     (continued w.segments s e.end r new w.state short h.0 goes (subst (λ q. IsContinued e.end q r new) h.1 k) (end-place file at e w.segments w.place x))
 
@@ -147,11 +147,11 @@ pub proceed-no_packet : (file : List ℕ) (at end : ℕ) (packet : Option Held) 
 proceed-no_packet file at end packet r s short none = proceed_no_packet file at s.extent packet r s.walks s.stands s.packet_is short none
 
 pub proceed-other : (file : List ℕ) (at end : ℕ) (packet : Option Held) (p : Held) (r : Collected) → Stands file at end packet (Some r) → length r.store < r.total → packet ≡ Some p
-    → goes_on r.en r.header (r.count + 1) (r.total - length r.store) (view p) ≡ false → SegmentFault file (BadPacket at)
+    → goes_on r (view p) ≡ false → SegmentFault file (BadPacket at)
 proceed-other file at end packet p r s short some other = proceed_other file at s.extent packet p r s.walks s.stands s.packet_is short some other
 
 pub proceed-next : (file : List ℕ) (at end : ℕ) (packet : Option Held) (p : Held) (r new : Collected) → Stands file at end packet (Some r) → length r.store < r.total → packet ≡ Some p
-    → goes_on r.en r.header (r.count + 1) (r.total - length r.store) (view p) ≡ true → IsContinued end (view p) r new → Walks file end (Some new)
+    → goes_on r (view p) ≡ true → IsContinued end (view p) r new → Walks file end (Some new)
 proceed-next file at end packet p r new s short some next k =
     subst (λ n. Walks file n (Some new)) s.ends (proceed_next file at s.extent packet p r new s.walks s.stands s.packet_is short some next (subst (λ n. IsContinued n (view p) r new) (sym s.ends) k))
 

@@ -7,8 +7,7 @@ use Rattle.std.specs.List.{flat_map, range_with_len}
 use Rattle.c2_spec.specs.Jpeg.Segments.{Segment}
 use Rattle.c2_spec.specs.Jpeg.Packets.{IsPacketRun, packet_in, is_packet}
 use Rattle.c2_spec.specs.Jpeg.Store.{IsNextPacket}
-use Rattle.c2_jpegseg.specs.Packets.{goes_on}
-use Rattle.c2_jpegseg.specs.Runs.{Collected}
+use Rattle.c2_jpegseg.specs.Runs.{Collected, goes_on}
 use Rattle.c2_jpegseg.specs.Walks.{IsRunOf}
 use Rattle.c2_jpegseg.proofs.SegmentLists.{each-front, each-back}
 use borrow.Author.Tests.{le-leb, eq-eqb, both_ways}
@@ -69,7 +68,7 @@ run-parts first others store r =
 -- the segment is a packet that goes on with the run
 pub record Follows (r : Collected) (s : Segment) : Type 0 where
   pub packet : is_packet s ≡ true
-  pub goes : goes_on r.en r.header (r.count + 1) (r.total - length r.store) (packet_in s) ≡ true
+  pub goes : goes_on r (packet_in s) ≡ true
 
 -- a test of two parts that both hold
 and_true : (a b : Bool) → a ≡ true → b ≡ true → (a && b) ≡ true
@@ -101,5 +100,5 @@ pub no-packet-next : (segments : List Segment) (s : Segment) (r : Collected) (h 
 no-packet-next segments s r h none next = both_ways _ none (next-follows segments s r h next).packet
 
 pub other-packet-next : (segments : List Segment) (s : Segment) (r : Collected) (h : IsRunOf segments r)
-    → goes_on r.en r.header (r.count + 1) (r.total - length r.store) (packet_in s) ≡ false → IsNextPacket h.first h.others s → ⊥
+    → goes_on r (packet_in s) ≡ false → IsNextPacket h.first h.others s → ⊥
 other-packet-next segments s r h other next = both_ways _ other (next-follows segments s r h next).goes

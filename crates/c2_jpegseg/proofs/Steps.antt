@@ -4,14 +4,14 @@ use Rattle.std.proofs.lemmas.List.{append-nil, length-drop, map-append, flat_map
 use Rattle.std.proofs.lemmas.Bool.{cases_lt}
 use Rattle.std.proofs.lemmas.Slice.Eq.{bytes_eq-Decides}
 use Rattle.std.specs.List.{flat_map, range_with_len}
+use Rattle.c2_base.specs.declared.limits.TheConstants.{FILE_LEN_LIMIT}
 use Rattle.c2_base.specs.declared.media.MediaError.{MediaError}
 use Rattle.c2_base.specs.declared.media.MediaError.TheVariants.{BadPacket}
 use Rattle.c2_spec.specs.Jpeg.Segments.{Segment, place_after, segment_bytes, MarkerFault, EndsSegments}
 use Rattle.c2_spec.specs.Jpeg.Packets.{packet_in, is_packet, is_store_start, is_stray, is_first_packet}
 use Rattle.c2_spec.specs.Jpeg.Store.{NoneBegins, HoldsStore, HasJpegStore, HasNoJpegStore, HoldsPart, HaveNoFault, none_begins, open_after, one_held, PacketFault, SegmentFault, at_marker, at_segment, at_end}
 use Rattle.c2_jpegseg.specs.declared.marker.Extent.{Extent}
-use Rattle.c2_jpegseg.specs.Packets.{goes_on}
-use Rattle.c2_jpegseg.specs.Runs.{Collected, IsStarted, IsContinued}
+use Rattle.c2_jpegseg.specs.Runs.{Collected, goes_on, IsStarted, IsContinued}
 use Rattle.c2_jpegseg.specs.Segments.{segment_of, IsExtent}
 use Rattle.c2_jpegseg.specs.Walks.{IsRunOf, IsState, Walks}
 use Rattle.c2_jpegseg.proofs.PacketRuns.{range-push}
@@ -35,8 +35,8 @@ pub start-says : (s : Segment) → is_store_start s ≡ true → (is_packet s �
 unfolding is_store_start is_first_packet
 start-says s h =
     let outer = both _ _ h in
-    let front = both _ _ outer.1 in
-    let sized = both _ _ front.0 in
+    let named = both _ _ (both _ _ outer.1).0 in
+    let sized = both _ _ named.0 in
     let first = both _ _ sized.0 in
     (outer.0, eqb-true _ _ first.0, leb-true _ _ sized.1)
 
@@ -75,7 +75,7 @@ started segments s at end r none starts k from to =
 
 -- the next packet
 pub continued : (segments : List Segment) (s : Segment) (end : ℕ) (r new : Collected) → IsRunOf segments r → length r.store < r.total → is_packet s ≡ true
-    → goes_on r.en r.header (r.count + 1) (r.total - length r.store) (packet_in s) ≡ true → IsContinued end (packet_in s) r new
+    → goes_on r (packet_in s) ≡ true → IsContinued end (packet_in s) r new
     → end ≡ place_after (segments ++ s ∷ []) → IsRunOf (segments ++ s ∷ []) new
 unfolding goes_on
 continued segments s end r new h short packet goes k to =
@@ -164,7 +164,7 @@ advance file at run new e w x state = record {
 }
 
 -- the walk ends
-pub no-store : (file : List ℕ) (at : ℕ) → length file < 2 ^ 62 → Walks file at None → EndsSegments (drop at file) → HasNoJpegStore file
+pub no-store : (file : List ℕ) (at : ℕ) → length file < FILE_LEN_LIMIT → Walks file at None → EndsSegments (drop at file) → HasNoJpegStore file
 no-store file at fits w ends = record { fits = fits; segments = w.segments; rest = drop at file; begins = w.begins; ends = ends; none = w.state }
 
 -- a whole run is a store
@@ -188,7 +188,7 @@ store-in segments r h whole =
       for = omega (arith, sum, h.from, h.to);
     }
 
-pub store-here : (file : List ℕ) (at : ℕ) (r : Collected) → length file < 2 ^ 62 → Walks file at (Some r) → EndsSegments (drop at file) → r.total ≤ length r.store → HasJpegStore file r.start (r.end - r.start) r.store
+pub store-here : (file : List ℕ) (at : ℕ) (r : Collected) → length file < FILE_LEN_LIMIT → Walks file at (Some r) → EndsSegments (drop at file) → r.total ≤ length r.store → HasJpegStore file r.start (r.end - r.start) r.store
 store-here file at r fits w ends whole = record { fits = fits; segments = w.segments; rest = drop at file; begins = w.begins; ends = ends; holds = store-in w.segments r w.state whole }
 
 -- a run that waits for more is a part of a store

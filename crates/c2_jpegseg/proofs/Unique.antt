@@ -2,6 +2,7 @@
 use Rattle.std.proofs.Common.{◌≡◌, ◌≢◌, ℕ, ◌^◌, ◌<◌, ◌≤◌, List, [], ◌∷◌, ◌++◌, length, take, refl, sym, ap, ◌∙◌, subst, append_assoc, arith}
 use Rattle.std.proofs.lemmas.List.{append-nil, append_cancel_left}
 use Rattle.std.specs.List.{AllByRecursion, flat_map}
+use Rattle.c2_base.specs.declared.limits.TheConstants.{FILE_LEN_LIMIT}
 use Rattle.c2_base.specs.declared.media.MediaError.{MediaError}
 use Rattle.c2_base.specs.declared.media.MediaError.TheVariants.{NotMedia, FileTooLarge}
 use Rattle.c2_spec.specs.Jpeg.Segments.{Segment, IsSegment, EndsSegments, HasSegments, place_after, segment_bytes, start_of_image}
@@ -98,9 +99,9 @@ stops_not xs zs z rest more _ (found last _) legal shape passes = let h : ends �
 
 -- what a file looks like, whichever its outcome is
 data Shape (file : List ℕ) : Finding → Type 0 where
-  large : 2 ^ 62 ≤ length file → Shape file (refusing (FileTooLarge (length file)))
-  other : length file < 2 ^ 62 → take 2 file ≢ start_of_image → Shape file (refusing NotMedia)
-  walked : {o : Finding} → length file < 2 ^ 62 → (segments : List Segment) (rest : List ℕ) → HasSegments file segments rest → HaveNoFault segments → Stops segments rest o → Shape file o
+  large : FILE_LEN_LIMIT ≤ length file → Shape file (refusing (FileTooLarge (length file)))
+  other : length file < FILE_LEN_LIMIT → take 2 file ≢ start_of_image → Shape file (refusing NotMedia)
+  walked : {o : Finding} → length file < FILE_LEN_LIMIT → (segments : List Segment) (rest : List ℕ) → HasSegments file segments rest → HaveNoFault segments → Stops segments rest o → Shape file o
 
 shape_of : (file : List ℕ) (o : Finding) → IsFinding file o → Shape file o
 shape_of file (refusing _) (too_large h) = large h

@@ -1,5 +1,6 @@
--- What the search answers, by cases, for private clauses.
+-- What the search returns, by cases, for private clauses.
 use Rattle.std.specs.Prelude.{◌≡◌, ◌≢◌, ℕ, ◌<◌, ⊤, Bool, true, false, List, take, Option, Some, None, Result, Ok, Err}
+use Rattle.c2_base.specs.declared.limits.TheConstants.{MAX_STORE_LEN}
 use Rattle.c2_base.specs.declared.media.Found.{Found}
 use Rattle.c2_base.specs.declared.media.MediaError.{MediaError}
 use Rattle.c2_base.specs.declared.media.MediaError.TheVariants.{Truncated, BadMarker, BadSegment, BadPacket, TwoStores, StoreTooLarge, ReadFault, NoMemory}
@@ -14,13 +15,13 @@ abbrev pub IsBegun : List ℕ → Bool → Type 0
 IsBegun file true = Walks file 2 None
 IsBegun file false = take 2 file ≢ start_of_image
 
--- what the walk over the segments answers
+-- what the walk over the segments returns
 abbrev pub IsWalkedOr : List ℕ → Result (Option Found) MediaError → Type 0
 IsWalkedOr file (Ok None) = HasNoJpegStore file
 IsWalkedOr file (Ok (Some f)) = HasJpegStore file f.start f.length f.store
 IsWalkedOr file (Err e) = OrOutside e (SegmentFault file e)
 
--- what the whole search answers
+-- what the whole search returns
 abbrev pub IsFoundOr : List ℕ → Result (Option Found) MediaError → Type 0
 IsFoundOr file (Ok None) = HasNoJpegStore file
 IsFoundOr file (Ok (Some f)) = HasJpegStore file f.start f.length f.store
@@ -33,7 +34,7 @@ IsWalkError size (BadMarker p) = p < size
 IsWalkError size (BadSegment p) = p < size
 IsWalkError size (BadPacket p) = p < size
 IsWalkError size (TwoStores p) = p < size
-IsWalkError size (StoreTooLarge n) = 33554432 < n
+IsWalkError size (StoreTooLarge n) = MAX_STORE_LEN < n
 IsWalkError size ReadFault = ⊤
 IsWalkError size NoMemory = ⊤
 IsWalkError size _ = ⊥
@@ -44,11 +45,13 @@ pub data Finding : Type 0 where
   lacking : Finding
   holding : ℕ → ℕ → List ℕ → Finding
 
+-- what is so of a file that comes to this
 abbrev pub IsFinding : List ℕ → Finding → Type 0
 IsFinding file (refusing e) = FirstJpegFault file e
 IsFinding file lacking = HasNoJpegStore file
 IsFinding file (holding start len store) = HasJpegStore file start len store
 
+-- the same as the definition has it
 abbrev pub located_of : Finding → Option Located
 located_of (refusing e) = refusal e
 located_of lacking = Some absent

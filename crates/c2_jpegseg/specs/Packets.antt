@@ -1,6 +1,5 @@
 -- What the packets of the code stand for, for private clauses.
-use Rattle.std.specs.Prelude.{◌≡◌, ℕ, ⊤, Bool, true, false, ◌&&◌, nat_le, ◌==◌, List, Option, Some, None, length, take}
-use Rattle.std.specs.Str.{bytes_eq}
+use Rattle.std.specs.Prelude.{◌≡◌, ℕ, ⊤, true, false, List, Option, Some, None, length, take}
 use Rattle.std.specs.Int.{w32, from_be_bytes}
 use Rattle.c2_spec.specs.Jpeg.Segments.{Segment}
 use Rattle.c2_spec.specs.Jpeg.Packets as jpeg
@@ -33,8 +32,3 @@ HasHeader (Some p) = IsHeader p.header.now
 -- the packet that the segment of an extent is, if it is one
 abbrev pub PacketOf : List ℕ → Extent → Option Packet → Type 0
 PacketOf file e packet = Reads (segment_of 0 file e) packet
-
--- the packet goes on with a store of this number and header, as its packet number k, with no more bytes than are missing
-unfoldable pub goes_on : ℕ → List ℕ → ℕ → ℕ → jpeg.Packet → Bool
-goes_on en header k most p =
-    (p.en == en) && bytes_eq p.header header && (p.z == k) && nat_le 1 (length p.body) && nat_le (length p.body) most

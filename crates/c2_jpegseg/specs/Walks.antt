@@ -1,11 +1,14 @@
 -- What the walk knows of the segments before its place, for private clauses.
 use Rattle.std.specs.Prelude.{◌≡◌, ◌<◌, ◌≤◌, ℕ, true, false, List, [], ◌∷◌, ◌++◌, length, drop, Option, Some, None}
 use Rattle.std.specs.List.{AllByRecursion}
+use Rattle.c2_base.specs.declared.limits.TheConstants.{MAX_STORE_LEN}
+use Rattle.c2_base.specs.declared.media.MediaError.{MediaError}
 use Rattle.c2_spec.specs.Jpeg.Segments.{Segment, HasSegments, place_after}
 use Rattle.c2_spec.specs.Jpeg.Packets.{IsPacketRun, packet_in, is_store_start, is_stray, stated_length}
-use Rattle.c2_spec.specs.Jpeg.Store.{NoneBegins}
+use Rattle.c2_spec.specs.Jpeg.Store.{NoneBegins, SegmentFault}
 use Rattle.c2_jpegseg.specs.declared.marker.Extent.{Extent}
 use Rattle.c2_jpegseg.specs.declared.packet.Packet.{Packet}
+use Rattle.c2_jpegseg.specs.Causes.{OrOutside}
 use Rattle.c2_jpegseg.specs.Packets.{PacketOf}
 use Rattle.c2_jpegseg.specs.Runs.{Collected}
 use Rattle.c2_jpegseg.specs.Segments.{IsExtent}
@@ -21,7 +24,7 @@ pub record IsRunOf (segments : List Segment) (r : Collected) : Type 0 where
   pub is_run : IsPacketRun first others r.store
   pub fits : length r.store ≤ r.total
   pub total : r.total ≡ stated_length (packet_in first).header
-  pub small : r.total ≤ 33554432
+  pub small : r.total ≤ MAX_STORE_LEN
   pub none_before : NoneBegins before
   pub none_after : NoneBegins after
   pub no_stray : AllByRecursion (λ s. is_stray (packet_in first).en s ≡ false) after
@@ -32,6 +35,7 @@ pub record IsRunOf (segments : List Segment) (r : Collected) : Type 0 where
   pub header : r.header ≡ (packet_in first).header
   pub count : r.count ≡ length (first ∷ others)
 
+-- what the walk holds of these segments: no run where no store began
 abbrev pub IsState : List Segment → Option Collected → Type 0
 IsState segments None = NoneBegins segments
 IsState segments (Some r) = IsRunOf segments r
@@ -51,3 +55,11 @@ pub record Stands (file : List ℕ) (at end : ℕ) (packet : Option Packet) (run
   pub stands : IsExtent file at extent
   pub ends : extent.end ≡ end
   pub packet_is : PacketOf file extent packet
+
+-- In any file where the segment stands at the walk's place: the walk goes on to the segment's end, with this run.
+abbrev pub StepsTo : ℕ → ℕ → Option Packet → Option Collected → Option Collected → Type 0
+StepsTo at end packet run new = (file : List ℕ) → Stands file at end packet run → Walks file end new
+
+-- In any such file the error is the first fault of the segments.
+abbrev pub StepFails : ℕ → ℕ → Option Packet → Option Collected → MediaError → Type 0
+StepFails at end packet run e = (file : List ℕ) → Stands file at end packet run → OrOutside e (SegmentFault file e)

@@ -1,6 +1,7 @@
 //! The segments of a JPEG file, and the C2PA store in its packets.
 //!
-//! What a segment, a packet, a store and a refusal are stands in `c2_spec`, in `Jpeg`, `JpegPackets` and `JpegSegments`.
+//! What a segment, a packet, a store and a refusal are is defined in `c2_spec`, in `Jpeg.Segments`, `Jpeg.Packets` and
+//! `Jpeg.Store`.
 #![tactic(auto)]
 
 mod laws;
@@ -11,7 +12,7 @@ mod search;
 mod segment;
 mod window;
 
-pub use laws::each_file_is_located;
+pub use laws::{each_file_is_located, store_bytes_are_of_the_file};
 pub use search::locate;
 
 #[cfg(test)]

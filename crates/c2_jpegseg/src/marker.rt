@@ -4,11 +4,15 @@ ghost use Rattle.std.specs.Option.{ForSome};
 ghost use Rattle.c2_base.specs.Causes.{HasCause};
 ghost use Rattle.c2_base.specs.Source.{StaysSource};
 ghost use Rattle.c2_jpegseg.specs.Causes.{IsCaused};
-ghost use Rattle.c2_jpegseg.specs.Segments.{IsKind, IsMarkerFrom, IsSizedOr, IsNextOr, IsNextBy, IsMarkerError};
+ghost use Rattle.c2_base.specs.declared.limits.TheConstants.{FILE_LEN_LIMIT};
+ghost use Rattle.c2_spec.specs.declared.markers.TheConstants.{FILL};
+ghost use Rattle.c2_jpegseg.specs.Segments.{IsKind, IsMarkerFrom, IsSizedOr, IsExtentBy, IsNextOr, IsNextBy, IsMarkerError};
 ghost use Rattle.c2_jpegseg.specs.Windows.{Shows};
 
 use crate::window::Window;
+use c2_base::limits::FILE_LEN_LIMIT;
 use c2_base::{Failed, MediaError, Source};
+use c2_spec::markers::{EOI, FILL, RST0, RST7, SOI, SOS, TEM};
 
 /// Where a segment's marker, payload and end lie in the file.
 #[derive(Clone, Copy, Debug, PartialEq, Eq)]
@@ -18,7 +22,7 @@ pub struct Extent {
     pub end: u64,
 }
 
-/// What stands at a place of the walk.
+/// What is at a place of the walk.
 #[derive(Clone, Copy, Debug, PartialEq, Eq)]
 pub enum Next {
     /// EOI or SOS.
@@ -35,28 +39,16 @@ enum Kind {
     Sized,
 }
 
-/// The byte behind one or more bytes FF, and its place.
+/// The first byte after fill, and its place.
 #[derive(Clone, Copy, Debug, PartialEq, Eq)]
 struct Marker {
     place: u64,
     code: u8,
 }
 
-const SOI: u8 = 0xD8;
-
-const EOI: u8 = 0xD9;
-
-const SOS: u8 = 0xDA;
-
-const TEM: u8 = 0x01;
-
-const RST0: u8 = 0xD0;
-
-const RST7: u8 = 0xD7;
-
 /// What a marker byte begins.
 fn kind_of(marker: u8) -> Kind
-    requires { marker ≢ 255 }
+    requires { marker ≢ FILL }
     ensures { IsKind marker result }
 {
     if marker == 0 || marker == SOI {
@@ -84,19 +76,19 @@ fn marker_from<S: Source>(
     ensures cause { HasCause (S.faults source.old) (S.faults source.new) result }
     ensures shows { OnOk result (Shows (S.len source.old) (S.known source.old) window.new) }
     ensures inside { IfOk result (λ o. IfSome o (λ m. (at ≤ m.place) × (m.place < size))) }
-    ensures code { IfOk result (λ o. IfSome o (λ m. m.code ≢ 255)) }
+    ensures code { IfOk result (λ o. IfSome o (λ m. m.code ≢ FILL)) }
     ensures place { IfOk result (λ o. ForSome (S.known source.old) (λ file. IsMarkerFrom file at o)) }
 {
     for place in at..size {
         let code = window.byte_at(source, place)?;
-        if code != 0xFF {
+        if code != FILL {
             return Ok(Some(Marker { place, code }));
         }
     }
     Ok(None)
 }
 
-/// The extent of the segment at `at` whose marker has a length.
+/// The extent of the segment at `at`, whose marker has a length (ITU-T T.81, B.1.1.4).
 fn sized_at<S: Source>(
     source: &mut S,
     window: &mut Window,
@@ -107,13 +99,13 @@ fn sized_at<S: Source>(
     requires size { size ≡ S.len source.old }
     requires later { at < marker.place }
     requires inside { marker.place < size }
-    requires bounded { size < 4611686018427387904 }
+    requires bounded { size < FILE_LEN_LIMIT }
     requires shows { Shows (S.len source.old) (S.known source.old) window.old }
     ensures stays { StaysSource S.len S.known S.faults source.old source.new }
     ensures count { OnOk result (S.faults source.new ≡ S.faults source.old) }
     ensures cause { IfErr result (IsCaused (S.faults source.old) (S.faults source.new)) }
     ensures shows { OnOk result (Shows (S.len source.old) (S.known source.old) window.new) }
-    ensures inside { IfOk result (λ e. (at < e.end) × (e.end ≤ size) × (e.body ≤ e.end) × (e.end ≤ e.body + 65533)) }
+    ensures inside { IfOk result (IsExtentBy at size) }
     ensures error { IfErr result (IsMarkerError at size) }
     ensures sized { ForSome (S.known source.old) (λ file. IsSizedOr file at marker result) }
 {
@@ -137,7 +129,7 @@ fn sized_at<S: Source>(
     })
 }
 
-/// What stands at a place: the end of the segments, a segment, or the first fault of its marker and length.
+/// What is at a place: the end of the segments, a segment, or the first fault of its marker and length (ITU-T T.81, B.1.1).
 pub fn segment_at<S: Source>(
     source: &mut S,
     window: &mut Window,
@@ -146,7 +138,7 @@ pub fn segment_at<S: Source>(
 ) -> Result<Next, MediaError>
     requires size { size ≡ S.len source.old }
     requires inside { at ≤ size }
-    requires bounded { size < 4611686018427387904 }
+    requires bounded { size < FILE_LEN_LIMIT }
     requires shows { Shows (S.len source.old) (S.known source.old) window.old }
     ensures stays { StaysSource S.len S.known S.faults source.old source.new }
     ensures count { OnOk result (S.faults source.new ≡ S.faults source.old) }

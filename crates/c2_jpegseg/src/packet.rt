@@ -1,8 +1,12 @@
-// Box segments of APP11.
+// Box segments of APP11 (ISO/IEC 18477-3, annex B.2).
 ghost use Rattle.std.specs.Prelude.{◌≡◌, ◌==◌, ◌+◌, ◌<◌, ◌≤◌, length, take, drop, true, false, IfSome, IfNone};
 ghost use Rattle.std.specs.Int.{w16, w32, w64, from_be_bytes};
 ghost use Rattle.c2_spec.specs.Jpeg.Packets as jpeg;
+ghost use Rattle.c2_spec.specs.declared.kinds.TheConstants.{JUMB};
 ghost use Rattle.c2_jpegseg.specs.Packets.{view, bare, IsHeader, HasHeader, Reads};
+
+use c2_spec::kinds::{JUMB, JUMD, STORE_TYPE};
+use c2_spec::markers::{APP11, BOX_IDENTIFIER};
 
 /// A box segment: its number, its place in the run, the header that each packet repeats, and its body.
 #[derive(Clone, Copy)]
@@ -12,20 +16,6 @@ pub struct Packet<'a> {
     pub header: &'a [u8],
     pub body: &'a [u8],
 }
-
-pub const APP11: u8 = 0xEB;
-
-/// "JP", the common identifier of box segments.
-const COMMON_IDENTIFIER: u16 = 0x4A50;
-
-/// "jumb".
-const JUMB: u32 = 0x6A756D62;
-
-/// "jumd", and the type UUID of a C2PA manifest store.
-const DESCRIPTION: [u8; 20] = [
-    0x6A, 0x75, 0x6D, 0x64, 0x63, 0x32, 0x70, 0x61, 0x00, 0x11, 0x00, 0x10, 0x80, 0x00, 0x00, 0xAA,
-    0x00, 0x38, 0x9B, 0x71,
-];
 
 fn u16_at(bytes: &[u8], at: usize) -> u16
     requires { at + 2 ≤ length bytes.now }
@@ -66,7 +56,7 @@ pub fn packet_in(marker: u8, payload: &[u8]) -> Option<Packet<'_>>
     if marker != APP11 || payload.len() < 16 {
         return None;
     }
-    if u16_at(payload, 0) != COMMON_IDENTIFIER {
+    if u16_at(payload, 0) != BOX_IDENTIFIER {
         return None;
     }
     let header_len: usize = if u32_at(payload, 8) == 1 { 16 } else { 8 };
@@ -85,7 +75,7 @@ pub fn packet_in(marker: u8, payload: &[u8]) -> Option<Packet<'_>>
 #[tactic(auto, using(crate::proofs::PacketLemmas::at_least_8))]
 fn is_jumb(header: &[u8]) -> bool
     requires { IsHeader header.now }
-    ensures { result ≡ (jpeg.header_tbox header.now == jpeg.jumb_tbox) }
+    ensures { result ≡ (jpeg.header_tbox header.now == JUMB) }
 {
     u32_at(header, 4) == JUMB
 }
@@ -99,7 +89,8 @@ pub fn is_first(packet: &Packet<'_>) -> bool
     packet.z == 1
         && is_jumb(packet.header)
         && packet.body.len() >= 24
-        && packet.body[4..24] == DESCRIPTION[..]
+        && u32_at(packet.body, 4) == JUMD
+        && packet.body[8..24] == STORE_TYPE[..]
 }
 
 /// Whether the packet is a further one of a JUMBF box under this number.

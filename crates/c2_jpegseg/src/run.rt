@@ -1,18 +1,16 @@
 // The run of packets that holds a store.
 ghost use Rattle.std.specs.Prelude.{◌≡◌, ◌+◌, ◌-◌, ◌<◌, ◌≤◌, length, take, vec_len, true, None, Some, OnOk, IfOk, IfErr};
 ghost use Rattle.c2_spec.specs.Jpeg.Store as jpeg;
-ghost use Rattle.c2_jpegseg.specs.Causes.{OrOutside};
-ghost use Rattle.c2_jpegseg.specs.Packets.{view, IsHeader, goes_on};
+ghost use Rattle.c2_base.specs.declared.limits.TheConstants.{MAX_STORE_LEN};
+ghost use Rattle.c2_jpegseg.specs.Packets.{view, IsHeader};
 
 use crate::packet::{self, Packet};
+use c2_base::limits::MAX_STORE_LEN;
 use c2_base::{MediaError, NoMemory};
 use std::alloc::Global;
 
-/// How many bytes a store may have.
-const LARGEST_STORE: u64 = 33_554_432;
-
 /// A store whose packets are being collected: where they begin and end in the file, their number, how many there are, how
-/// long the store will be, and its bytes so far. The header that each packet repeats is at their front.
+/// long the store will be, and its bytes so far. They begin with the header that each packet repeats.
 #[derive(Drop)]
 pub struct Run {
     pub start: u64,
@@ -26,13 +24,13 @@ pub struct Run {
     ghost headed: { header_len ≤ vec_len store },
     ghost counted: { count ≤ vec_len store },
     ghost fits: { vec_len store ≤ total },
-    ghost small: { total ≤ 33554432 },
+    ghost small: { total ≤ MAX_STORE_LEN },
 }
 
 impl Run {
-    ghost use Rattle.c2_jpegseg.specs.Runs.{collected, IsStarted, IsContinued, IsSegmentError};
+    ghost use Rattle.c2_jpegseg.specs.Runs.{collected, missing, goes_on, IsStarted, FailsFirst, IsContinued, IsSegmentError};
 
-    /// A run of the first packet alone, which stands from `at` to `end` in a file of `size` bytes.
+    /// A run of the first packet alone, from `at` to `end` in a file of `size` bytes.
     ///
     /// Room for the whole store is taken at once, but no more than there are bytes left in the file: what a header states is no
     /// reason to take memory.
@@ -48,14 +46,14 @@ impl Run {
         requires ordered { at ≤ end }
         ensures passes { IfOk result (λ run. jpeg.first_packet_fault at (view first.entry) ≡ None) }
         ensures started { IfOk result (λ run. IsStarted at end (view first.entry) (collected run)) }
-        ensures fails { IfErr result (λ e. OrOutside e (jpeg.first_packet_fault at (view first.entry) ≡ Some e)) }
+        ensures fails { IfErr result (FailsFirst at (view first.entry)) }
         ensures error { IfErr result (IsSegmentError at) }
     {
         let total = packet::stated_length(first.header);
         if total < first.header.len() as u64 {
             return Err(MediaError::BadPacket(at));
         }
-        if total > LARGEST_STORE {
+        if total > MAX_STORE_LEN {
             return Err(MediaError::StoreTooLarge(total));
         }
         if total - (first.header.len() as u64) < first.body.len() as u64 {
@@ -82,12 +80,12 @@ impl Run {
         })
     }
 
-    /// Puts the body of the run's next packet, which ends at `end`, behind the store. Without memory the run stays as it was.
+    /// Adds the body of the run's next packet, which ends at `end`. The error is out of memory; the caller drops the run then.
     #[tactic(auto, using(crate::proofs::PacketLemmas::header_kept))]
     pub fn append(&mut self, end: u64, next: &Packet<'_>) -> Result<(), NoMemory>
         requires ordered { self.old.start ≤ end }
         requires some { 0 < length next.now.body.now }
-        requires fits { length next.now.body.now ≤ self.old.total - length self.old.store.items }
+        requires fits { length next.now.body.now ≤ missing (collected self.old) }
         ensures ok { OnOk result (IsContinued end (view next.now) (collected self.old) (collected self.new)) }
     {
         self.store.extend_from_slice(next.body)?;
@@ -97,11 +95,11 @@ impl Run {
     }
 
     /// Whether the packet goes on with the run.
-    #[tactic(auto, unfolding(crate::specs::Packets::goes_on))]
+    #[tactic(auto, unfolding(crate::specs::Runs::goes_on))]
     pub fn goes_on(&self, packet: &Packet<'_>) -> bool
-        ensures goes { result ≡ goes_on self.now.en (take self.now.header_len self.now.store.items) (self.now.count + 1) (self.now.total - length self.now.store.items) (view packet.now) }
+        ensures goes { result ≡ goes_on (collected self.now) (view packet.now) }
         ensures some { result ≡ true → 0 < length packet.now.body.now }
-        ensures fits { result ≡ true → length packet.now.body.now ≤ self.now.total - length self.now.store.items }
+        ensures fits { result ≡ true → length packet.now.body.now ≤ missing (collected self.now) }
     {
         packet.en == self.en
             && packet.header == &self.store[..self.header_len]

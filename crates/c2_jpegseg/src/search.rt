@@ -5,25 +5,25 @@ ghost use Rattle.c2_base.specs.Causes.{HasCause};
 ghost use Rattle.c2_base.specs.Source.{StaysSource};
 ghost use Rattle.c2_spec.specs.Located.{Located, said, HasReason};
 ghost use Rattle.c2_spec.specs.Jpeg.Segments.{EndsSegments};
-ghost use Rattle.c2_spec.specs.Jpeg.Store.{IsLocated, IsJpegRefusal};
+ghost use Rattle.c2_base.specs.declared.limits.TheConstants.{FILE_LEN_LIMIT};
+ghost use Rattle.c2_spec.specs.Jpeg.Store.{IsLocated, IsJpegRefusal, EndsWithin, HasSmallStore};
 ghost use Rattle.c2_jpegseg.specs.Answers.{IsBegun, IsWalkedOr, IsFoundOr, IsWalkError};
 ghost use Rattle.c2_jpegseg.specs.Causes.{IsCaused, OrOutside};
 ghost use Rattle.c2_jpegseg.specs.Packets.{PacketOf, HasHeader};
 ghost use Rattle.c2_jpegseg.specs.Runs.{all_collected, EndsBy};
 ghost use Rattle.c2_jpegseg.specs.Segments.{IsExtent, IsExtentBy};
 ghost use Rattle.c2_jpegseg.specs.Walks.{Walks};
-ghost use Rattle.c2_jpegseg.specs.Windows.{Shows, Covers};
+ghost use Rattle.c2_jpegseg.specs.Windows.{Shows, CoversPacket, ShowsPacket};
 
 use crate::marker::{self, Extent, Next};
-use crate::packet::{self, APP11, Packet};
+use crate::packet::{self, Packet};
 use crate::run::Run;
 use crate::segment;
 use crate::window::Window;
+use c2_base::limits::FILE_LEN_LIMIT;
 use c2_base::{Blob, Failed, Found, MediaError, Source};
+use c2_spec::markers::{APP11, FILL, SOI};
 use std::alloc::Global;
-
-/// The number of bytes from which on a file is too large: 2^62.
-const TOO_LARGE: u64 = 4_611_686_018_427_387_904;
 
 /// Whether the file begins with SOI.
 fn is_jpeg<S: Source>(source: &mut S, window: &mut Window, size: u64) -> Result<bool, Failed>
@@ -40,7 +40,7 @@ fn is_jpeg<S: Source>(source: &mut S, window: &mut Window, size: u64) -> Result<
     }
     let first = window.byte_at(source, 0)?;
     let second = window.byte_at(source, 1)?;
-    Ok(first == 0xFF && second == 0xD8)
+    Ok(first == FILL && second == SOI)
 }
 
 /// Makes the window show the segment's payload, where it may be a packet.
@@ -52,29 +52,27 @@ fn load_packet<S: Source>(source: &mut S, window: &mut Window, extent: Extent) -
     ensures stays { StaysSource S.len S.known S.faults source.old source.new }
     ensures cause { HasCause (S.faults source.old) (S.faults source.new) result }
     ensures shows { OnOk result (Shows (S.len source.old) (S.known source.old) window.new) }
-    ensures covers { OnOk result (extent.marker ≡ 0xEB → Covers window.new extent.body (extent.end - extent.body)) }
+    ensures covers { OnOk result (CoversPacket window.new extent) }
 {
     if extent.marker != APP11 {
         return Ok(());
     }
-    window.load(source, extent.body, (extent.end - extent.body) as usize)?;
-    Ok(())
+    window.load(source, extent.body, (extent.end - extent.body) as usize)
 }
 
 /// The packet that the segment is.
 fn packet_at(window: &Window, extent: Extent) -> Option<Packet<'_>>
     requires ordered { extent.body ≤ extent.end }
     requires short { extent.end ≤ extent.body + 65533 }
-    requires covers { extent.marker ≡ 0xEB → Covers window.now extent.body (extent.end - extent.body) }
+    requires covers { CoversPacket window.now extent }
     ensures headed { HasHeader result }
-    ensures packet { (file : List ℕ) → Shows (length file) (Some file) window.now → PacketOf file extent result }
+    ensures packet { ShowsPacket window.now extent result }
 {
     if extent.marker != APP11 {
         return None;
     }
     let payload = window.slice(extent.body, (extent.end - extent.body) as usize);
-    let packet = packet::packet_in(extent.marker, payload);
-    packet
+    packet::packet_in(extent.marker, payload)
 }
 
 /// The walk over the segments of a file of `size` bytes that begins with SOI.
@@ -86,14 +84,14 @@ fn walk<S: Source>(
 ) -> Result<Option<Found>, MediaError>
     requires size { size ≡ S.len source.old }
     requires inside { 2 ≤ size }
-    requires bounded { size < 4611686018427387904 }
+    requires bounded { size < FILE_LEN_LIMIT }
     requires shows { Shows (S.len source.old) (S.known source.old) window.old }
     requires begun { ForSome (S.known source.old) (λ file. Walks file 2 None) }
     ensures stays { StaysSource S.len S.known S.faults source.old source.new }
     ensures count { OnOk result (S.faults source.new ≡ S.faults source.old) }
     ensures cause { IfErr result (IsCaused (S.faults source.old) (S.faults source.new)) }
-    ensures within { IfOk result (λ found. IfSome found (λ f. f.start + f.length ≤ size)) }
-    ensures store { IfOk result (λ found. IfSome found (λ f. length f.store ≤ 33554432)) }
+    ensures within { IfOk result (λ found. IfSome found (EndsWithin size)) }
+    ensures store { IfOk result (λ found. IfSome found HasSmallStore) }
     ensures error { IfErr result (IsWalkError size) }
     ensures walked { ForSome (S.known source.old) (λ file. IsWalkedOr file result) }
 {
@@ -126,19 +124,19 @@ fn walk<S: Source>(
     }))
 }
 
-/// The search, told by cases.
+/// The search, whose result its clauses say by cases.
 fn search<S: Source>(alloc: Global, source: &mut S) -> Result<Option<Found>, MediaError>
     ensures found { ForSome (S.known source.old) (λ file. IsFoundOr file result) }
-    ensures within { IfOk result (λ found. IfSome found (λ f. f.start + f.length ≤ S.len source.old)) }
-    ensures store { IfOk result (λ found. IfSome found (λ f. length f.store ≤ 33554432)) }
+    ensures within { IfOk result (λ found. IfSome found (EndsWithin (S.len source.old))) }
+    ensures store { IfOk result (λ found. IfSome found HasSmallStore) }
     ensures refusal { IfErr result (IsJpegRefusal (S.len source.old)) }
-    ensures small { OnOk result (S.len source.old < 2 ^ 62) }
+    ensures small { OnOk result (S.len source.old < FILE_LEN_LIMIT) }
     ensures stays { StaysSource S.len S.known S.faults source.old source.new }
     ensures count { OnOk result (S.faults source.new ≡ S.faults source.old) }
     ensures reason { IfErr result (HasReason (S.len source.old) (S.faults source.old) (S.faults source.new)) }
 {
     let size = source.size()?;
-    if size >= TOO_LARGE {
+    if size >= FILE_LEN_LIMIT {
         return Err(MediaError::FileTooLarge(size));
     }
     let mut window = Window::new(alloc, size)?;
@@ -163,15 +161,16 @@ fn search<S: Source>(alloc: Global, source: &mut S) -> Result<Option<Found>, Med
 /// - `ReadFault`: the source failed; `NoMemory`: memory ran out.
 #[tactic(auto, using(crate::proofs::Answers::said_is, crate::proofs::Answers::only_said))]
 pub fn locate<S: Source>(alloc: Global, source: &mut S) -> Result<Option<Found>, MediaError>
-    // Where the source tells its bytes: what is answered holds, and what holds is answered.
+    // Where the source's bytes are known: what is returned holds, and what holds is returned.
     ensures found { ForSome (S.known source.old) (λ file. IfSome (said result) (IsLocated file)) }
-    ensures only { ForSome (S.known source.old) (λ file. (what : Located) → IsLocated file what → IfSome (said result) (λ s. s ≡ what)) }
+    ensures only { ForSome (S.known source.old) (λ file.
+        (what : Located) → IsLocated file what → IfSome (said result) (λ s. s ≡ what)) }
 
-    // These hold of every source, also of one that makes no bytes known.
-    ensures within { IfOk result (λ found. IfSome found (λ f. f.start + f.length ≤ S.len source.old)) }
-    ensures store { IfOk result (λ found. IfSome found (λ f. length f.store ≤ 33554432)) }
+    // These hold of every source, also of one whose bytes aren't known.
+    ensures within { IfOk result (λ found. IfSome found (EndsWithin (S.len source.old))) }
+    ensures store { IfOk result (λ found. IfSome found HasSmallStore) }
     ensures refusal { IfErr result (IsJpegRefusal (S.len source.old)) }
-    ensures small { OnOk result (S.len source.old < 2 ^ 62) }
+    ensures small { OnOk result (S.len source.old < FILE_LEN_LIMIT) }
     ensures stays { StaysSource S.len S.known S.faults source.old source.new }
     ensures count { OnOk result (S.faults source.new ≡ S.faults source.old) }
     ensures reason { IfErr result (HasReason (S.len source.old) (S.faults source.old) (S.faults source.new)) }

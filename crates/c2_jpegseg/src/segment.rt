@@ -1,10 +1,8 @@
 // One segment of the walk.
 ghost use Rattle.std.specs.Prelude.{◌≡◌, ◌<◌, ◌≤◌, ℕ, List, length, None, Some, OnOk, IfOk, IfErr};
-ghost use Rattle.c2_spec.specs.Jpeg.Store.{SegmentFault};
-ghost use Rattle.c2_jpegseg.specs.Causes.{OrOutside};
 ghost use Rattle.c2_jpegseg.specs.Packets.{HasHeader};
 ghost use Rattle.c2_jpegseg.specs.Runs.{collected, all_collected, EndsBy, IsSegmentError};
-ghost use Rattle.c2_jpegseg.specs.Walks.{Walks, Stands};
+ghost use Rattle.c2_jpegseg.specs.Walks.{StepsTo, StepFails};
 
 use crate::packet::{self, Packet};
 use crate::run::Run;
@@ -21,8 +19,8 @@ fn begin(
 ) -> Result<Option<Run>, MediaError>
     requires ordered { at ≤ end }
     requires headed { HasHeader packet }
-    ensures ok { (file : List ℕ) → Stands file at end packet.entry None → IfOk result (λ new. Walks file end (all_collected new)) }
-    ensures err { (file : List ℕ) → Stands file at end packet.entry None → IfErr result (λ e. OrOutside e (SegmentFault file e)) }
+    ensures ok { IfOk result (λ new. StepsTo at end packet.entry None (all_collected new)) }
+    ensures err { IfErr result (StepFails at end packet.entry None) }
     ensures ends { IfOk result (EndsBy end) }
     ensures error { IfErr result (IsSegmentError at) }
 {
@@ -44,8 +42,8 @@ fn proceed(at: u64, end: u64, packet: Option<Packet<'_>>, run: &mut Run) -> Resu
     requires before { run.old.end ≤ at }
     requires headed { HasHeader packet }
     requires short { length run.old.store.items < run.old.total }
-    ensures ok { (file : List ℕ) → Stands file at end packet.entry (Some (collected run.old)) → OnOk result (Walks file end (Some (collected run.new))) }
-    ensures err { (file : List ℕ) → Stands file at end packet.entry (Some (collected run.old)) → IfErr result (λ e. OrOutside e (SegmentFault file e)) }
+    ensures ok { OnOk result (StepsTo at end packet.entry (Some (collected run.old)) (Some (collected run.new))) }
+    ensures err { IfErr result (StepFails at end packet.entry (Some (collected run.old))) }
     ensures ends { OnOk result (run.new.end ≤ end) }
     ensures error { IfErr result (IsSegmentError at) }
 {
@@ -59,12 +57,12 @@ fn proceed(at: u64, end: u64, packet: Option<Packet<'_>>, run: &mut Run) -> Resu
     Ok(())
 }
 
-/// A segment behind a whole store.
+/// A segment after a whole store.
 fn pass(at: u64, end: u64, packet: Option<Packet<'_>>, run: &Run) -> Result<(), MediaError>
     requires headed { HasHeader packet }
     requires whole { run.now.total ≤ length run.now.store.items }
-    ensures ok { (file : List ℕ) → Stands file at end packet.entry (Some (collected run.now)) → OnOk result (Walks file end (Some (collected run.now))) }
-    ensures err { (file : List ℕ) → Stands file at end packet.entry (Some (collected run.now)) → IfErr result (λ e. OrOutside e (SegmentFault file e)) }
+    ensures ok { OnOk result (StepsTo at end packet.entry (Some (collected run.now)) (Some (collected run.now))) }
+    ensures err { IfErr result (StepFails at end packet.entry (Some (collected run.now))) }
     ensures error { IfErr result (IsSegmentError at) }
 {
     let Some(other) = packet else {
@@ -79,7 +77,8 @@ fn pass(at: u64, end: u64, packet: Option<Packet<'_>>, run: &Run) -> Result<(), 
     Ok(())
 }
 
-/// Takes the segment from `at` to `end` in a file of `size` bytes into the run, or tells the first fault.
+/// Takes the segment from `at` to `end` in a file of `size` bytes into the run. The error is the segment's fault, or out of
+/// memory.
 pub fn step(
     alloc: Global,
     at: u64,
@@ -91,8 +90,8 @@ pub fn step(
     requires ordered { at ≤ end }
     requires before { EndsBy at run.old }
     requires headed { HasHeader packet }
-    ensures ok { (file : List ℕ) → Stands file at end packet.entry (all_collected run.old) → OnOk result (Walks file end (all_collected run.new)) }
-    ensures err { (file : List ℕ) → Stands file at end packet.entry (all_collected run.old) → IfErr result (λ e. OrOutside e (SegmentFault file e)) }
+    ensures ok { OnOk result (StepsTo at end packet.entry (all_collected run.old) (all_collected run.new)) }
+    ensures err { IfErr result (StepFails at end packet.entry (all_collected run.old)) }
     ensures ends { OnOk result (EndsBy end run.new) }
     ensures error { IfErr result (IsSegmentError at) }
 {

@@ -1,17 +1,16 @@
 // The bytes of a source that were read last, so that small reads don't each ask the source.
 ghost use Rattle.std.specs.Prelude.{◌≡◌, ◌+◌, ◌-◌, ◌<◌, ◌≤◌, length, take, drop, slice_index, ℕ, List, Option, OnOk, IfOk};
-ghost use Rattle.std.specs.Option.{ForSome};
 ghost use Rattle.c2_base.specs.Causes.{HasCause};
 ghost use Rattle.c2_base.specs.Source.{StaysSource};
-ghost use Rattle.c2_jpegseg.specs.Windows.{Shows, Covers};
+ghost use Rattle.c2_base.specs.declared.limits.TheConstants.{PIECE_LEN};
+ghost use Rattle.c2_jpegseg.specs.Windows.{Shows, Covers, IsByteAt, FilledFrom};
 
+use c2_base::limits::PIECE_LEN;
 use c2_base::{Failed, NoMemory, Source, fill_at};
 use std::alloc::Global;
 
-/// How many bytes are read at once. A segment's payload fits.
-pub const WINDOW: usize = 65_536;
-
-/// Bytes of a source of `size` bytes: `used` of them from the place `from` on.
+/// Bytes of a source of `size` bytes: `used` of them from the place `from` on. It has room for as many as are read at once, so a
+/// segment's payload fits.
 #[derive(Drop)]
 pub struct Window {
     pub size: u64,
@@ -21,7 +20,7 @@ pub struct Window {
 }
 
 /// Fills the first `count` bytes of `bytes` with those from `pos` on.
-fn fill_front<S: Source>(
+fn fill_first<S: Source>(
     source: &mut S,
     pos: u64,
     bytes: &mut [u8],
@@ -31,7 +30,7 @@ fn fill_front<S: Source>(
     requires room { count ≤ length bytes.old }
     ensures stays { StaysSource S.len S.known S.faults source.old source.new }
     ensures cause { HasCause (S.faults source.old) (S.faults source.new) result }
-    ensures filled { OnOk result (ForSome (S.known source.old) (λ file. take count bytes.new ≡ take count (drop pos file))) }
+    ensures filled { OnOk result (FilledFrom (S.known source.old) pos count bytes.new) }
 {
     fill_at(source, pos, &mut bytes[..count])?;
     Ok(())
@@ -42,7 +41,7 @@ impl Window {
     pub fn new(alloc: Global, size: u64) -> Result<Window, NoMemory>
         ensures { IfOk result (λ w. (known : Option (List ℕ)) → Shows size known w) }
     {
-        let bytes = vec![in alloc; 0; WINDOW]?;
+        let bytes = vec![in alloc; 0; PIECE_LEN]?;
         Ok(Window {
             size,
             bytes,
@@ -63,7 +62,7 @@ impl Window {
     /// Makes the window show the `count` bytes from `pos` on.
     pub fn load<S: Source>(&mut self, source: &mut S, pos: u64, count: usize) -> Result<(), Failed>
         requires inside { pos + count ≤ S.len source.old }
-        requires room { count ≤ 65536 }
+        requires room { count ≤ PIECE_LEN }
         requires shows { Shows (S.len source.old) (S.known source.old) self.old }
         ensures stays { StaysSource S.len S.known S.faults source.old source.new }
         ensures cause { HasCause (S.faults source.old) (S.faults source.new) result }
@@ -73,8 +72,8 @@ impl Window {
         if self.from <= pos && pos + count as u64 <= self.from + self.used as u64 {
             return Ok(());
         }
-        let room = (self.size - pos).min(WINDOW as u64) as usize;
-        fill_front(source, pos, &mut self.bytes, room)?;
+        let room = (self.size - pos).min(PIECE_LEN as u64) as usize;
+        fill_first(source, pos, &mut self.bytes, room)?;
         self.from = pos;
         self.used = room;
         Ok(())
@@ -87,7 +86,7 @@ impl Window {
         ensures stays { StaysSource S.len S.known S.faults source.old source.new }
         ensures cause { HasCause (S.faults source.old) (S.faults source.new) result }
         ensures shows { OnOk result (Shows (S.len source.old) (S.known source.old) self.new) }
-        ensures byte { IfOk result (λ b. ForSome (S.known source.old) (λ file. b ≡ slice_index file pos)) }
+        ensures byte { IfOk result (IsByteAt (S.known source.old) pos) }
     {
         self.load(source, pos, 1)?;
         let bytes = self.bytes.as_slice();

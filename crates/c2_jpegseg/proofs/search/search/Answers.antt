@@ -6,8 +6,8 @@ use Rattle.c2_jpegseg.specs.Windows.{Shows}
 use Rattle.c2_jpegseg.proofs.Outside.{or_outside-map}
 use Rattle.c2_jpegseg.proofs.search.search.Goals as goal
 
-pub returns-then-size-ge-TOO_LARGE-clause-found : goal.returns-then-size-ge-TOO_LARGE-clause-found
-returns-then-size-ge-TOO_LARGE-clause-found g c file known =
+pub returns-then-size-ge-FILE_LEN_LIMIT-clause-found : goal.returns-then-size-ge-FILE_LEN_LIMIT-clause-found
+returns-then-size-ge-FILE_LEN_LIMIT-clause-found g c file known =
     let size : length file ≡ c.in_ok-size.size = g.met.S.Source.known_len c.args.source.now file known ∙ sym c.in_ok-size.ensures.length in
     subst (λ n. FirstJpegFault file (FileTooLarge n)) size (too_large (omega arith))
 

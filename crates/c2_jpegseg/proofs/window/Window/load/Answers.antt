@@ -9,5 +9,5 @@ returns-clause-shows g c = record {
   in_room = omega arith;
   inside = omega arith;
   bytes = λ file known.
-      ap (λ (x : List ℕ). take c.min-room.result x) (take_at c.fill_front.new.bytes _ _ (c.fill_front.auto.bytes ∙ c.deref_mut.ensures.len)) ∙ c.in_ok-fill_front.ensures.filled file known;
+      ap (λ (x : List ℕ). take c.min-room.result x) (take_at c.fill_first.new.bytes _ _ (c.fill_first.auto.bytes ∙ c.deref_mut.ensures.len)) ∙ c.in_ok-fill_first.ensures.filled file known;
 }
