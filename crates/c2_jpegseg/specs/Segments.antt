@@ -1,5 +1,6 @@
 -- What the walk over a JPEG file knows at a place, for private clauses.
 use Rattle.std.specs.Prelude.{◌≡◌, ℕ, ◌+◌, ◌-◌, ◌*◌, ◌<◌, ◌≤◌, ◌⊎◌, ⊤, true, false, List, ◌++◌, length, take, drop, replicate, slice_index, Option, Some, None, Result, Ok, Err}
+use Rattle.std.specs.Option.{ForSome}
 use Rattle.c2_base.specs.declared.media.MediaError.{MediaError}
 use Rattle.c2_base.specs.declared.media.MediaError.TheVariants.{Truncated, BadMarker, BadSegment, ReadFault}
 use Rattle.c2_spec.specs.declared.markers.TheConstants.{FILL, SOI, EOI, SOS}
@@ -41,6 +42,10 @@ pub record IsMarkerAt (file : List ℕ) (at : ℕ) (m : Marker) : Type 0 where
 abbrev pub IsMarkerFrom : List ℕ → ℕ → Option Marker → Type 0
 IsMarkerFrom file at (Some m) = IsMarkerAt file at m
 IsMarkerFrom file at None = drop at file ≡ replicate (length file - at) FILL
+
+-- the same of a file, where it is known
+abbrev pub FindsMarker : Option (List ℕ) → ℕ → Option Marker → Type 0
+FindsMarker known at found = ForSome known (λ file. IsMarkerFrom file at found)
 
 -- the length that two bytes after a marker give
 abbrev pub length_at : List ℕ → ℕ → ℕ

@@ -7,14 +7,17 @@ ghost use Rattle.c2_spec.specs.Jpeg.Store.{HasJpegStore, IsLocated};
 
 /// Whatever bytes a file has, it comes to one thing: a store in a range, no store, or a refusal.
 pub fn each_file_is_located()
-    ensures located { (file : List ℕ) → All (λ b. b < 2 ^ 8) file → (what : Located) × IsLocated file what }
-    ensures once { (file : List ℕ) (v w : Located) → IsLocated file v → IsLocated file w → v ≡ w }
+    ensures located { (file : List ℕ) → All (λ b. b < 2 ^ 8) file
+        → (what : Located) × IsLocated file what }
+    ensures once { (file : List ℕ) (v w : Located)
+        → IsLocated file v → IsLocated file w → v ≡ w }
 {}
 
 /// Each byte of a file's store is one of the file's, so it is below 2^8 where the file's are.
 pub fn store_bytes_are_of_the_file()
-    ensures of_the_file { (file : List ℕ) (start len : ℕ) (store : List ℕ) → HasJpegStore file start len store
-        → All (Contains file) store }
-    ensures are_bytes { (file : List ℕ) (start len : ℕ) (store : List ℕ) → HasJpegStore file start len store
+    ensures of_the_file { (file : List ℕ) (start len : ℕ) (store : List ℕ)
+        → HasJpegStore file start len store → All (Contains file) store }
+    ensures are_bytes { (file : List ℕ) (start len : ℕ) (store : List ℕ)
+        → HasJpegStore file start len store
         → All (λ b. b < 2 ^ 8) file → All (λ b. b < 2 ^ 8) store }
 {}

@@ -6,7 +6,7 @@ ghost use Rattle.c2_base.specs.Source.{StaysSource};
 ghost use Rattle.c2_jpegseg.specs.Causes.{IsCaused};
 ghost use Rattle.c2_base.specs.declared.limits.TheConstants.{FILE_LEN_LIMIT};
 ghost use Rattle.c2_spec.specs.declared.markers.TheConstants.{FILL};
-ghost use Rattle.c2_jpegseg.specs.Segments.{IsKind, IsMarkerFrom, IsSizedOr, IsExtentBy, IsNextOr, IsNextBy, IsMarkerError};
+ghost use Rattle.c2_jpegseg.specs.Segments.{IsKind, FindsMarker, IsSizedOr, IsExtentBy, IsNextOr, IsNextBy, IsMarkerError};
 ghost use Rattle.c2_jpegseg.specs.Windows.{Shows};
 
 use crate::window::Window;
@@ -77,7 +77,7 @@ fn marker_from<S: Source>(
     ensures shows { OnOk result (Shows (S.len source.old) (S.known source.old) window.new) }
     ensures inside { IfOk result (λ o. IfSome o (λ m. (at ≤ m.place) × (m.place < size))) }
     ensures code { IfOk result (λ o. IfSome o (λ m. m.code ≢ FILL)) }
-    ensures place { IfOk result (λ o. ForSome (S.known source.old) (λ file. IsMarkerFrom file at o)) }
+    ensures place { IfOk result (FindsMarker (S.known source.old) at) }
 {
     for place in at..size {
         let code = window.byte_at(source, place)?;

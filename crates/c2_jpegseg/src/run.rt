@@ -86,7 +86,8 @@ impl Run {
         requires ordered { self.old.start ≤ end }
         requires some { 0 < length next.now.body.now }
         requires fits { length next.now.body.now ≤ missing (collected self.old) }
-        ensures ok { OnOk result (IsContinued end (view next.now) (collected self.old) (collected self.new)) }
+        ensures ok { OnOk result
+            (IsContinued end (view next.now) (collected self.old) (collected self.new)) }
     {
         self.store.extend_from_slice(next.body)?;
         self.end = end;

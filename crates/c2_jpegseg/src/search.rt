@@ -133,7 +133,8 @@ fn search<S: Source>(alloc: Global, source: &mut S) -> Result<Option<Found>, Med
     ensures small { OnOk result (S.len source.old < FILE_LEN_LIMIT) }
     ensures stays { StaysSource S.len S.known S.faults source.old source.new }
     ensures count { OnOk result (S.faults source.new ≡ S.faults source.old) }
-    ensures reason { IfErr result (HasReason (S.len source.old) (S.faults source.old) (S.faults source.new)) }
+    ensures reason { IfErr result
+        (HasReason (S.len source.old) (S.faults source.old) (S.faults source.new)) }
 {
     let size = source.size()?;
     if size >= FILE_LEN_LIMIT {
@@ -173,7 +174,8 @@ pub fn locate<S: Source>(alloc: Global, source: &mut S) -> Result<Option<Found>,
     ensures small { OnOk result (S.len source.old < FILE_LEN_LIMIT) }
     ensures stays { StaysSource S.len S.known S.faults source.old source.new }
     ensures count { OnOk result (S.faults source.new ≡ S.faults source.old) }
-    ensures reason { IfErr result (HasReason (S.len source.old) (S.faults source.old) (S.faults source.new)) }
+    ensures reason { IfErr result
+        (HasReason (S.len source.old) (S.faults source.old) (S.faults source.new)) }
 {
     search(alloc, source)
 }

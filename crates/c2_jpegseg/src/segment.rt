@@ -42,7 +42,8 @@ fn proceed(at: u64, end: u64, packet: Option<Packet<'_>>, run: &mut Run) -> Resu
     requires before { run.old.end ≤ at }
     requires headed { HasHeader packet }
     requires short { length run.old.store.items < run.old.total }
-    ensures ok { OnOk result (StepsTo at end packet.entry (Some (collected run.old)) (Some (collected run.new))) }
+    ensures ok { OnOk result
+        (StepsTo at end packet.entry (Some (collected run.old)) (Some (collected run.new))) }
     ensures err { IfErr result (StepFails at end packet.entry (Some (collected run.old))) }
     ensures ends { OnOk result (run.new.end ≤ end) }
     ensures error { IfErr result (IsSegmentError at) }
@@ -61,7 +62,8 @@ fn proceed(at: u64, end: u64, packet: Option<Packet<'_>>, run: &mut Run) -> Resu
 fn pass(at: u64, end: u64, packet: Option<Packet<'_>>, run: &Run) -> Result<(), MediaError>
     requires headed { HasHeader packet }
     requires whole { run.now.total ≤ length run.now.store.items }
-    ensures ok { OnOk result (StepsTo at end packet.entry (Some (collected run.now)) (Some (collected run.now))) }
+    ensures ok { OnOk result
+        (StepsTo at end packet.entry (Some (collected run.now)) (Some (collected run.now))) }
     ensures err { IfErr result (StepFails at end packet.entry (Some (collected run.now))) }
     ensures error { IfErr result (IsSegmentError at) }
 {
@@ -90,7 +92,8 @@ pub fn step(
     requires ordered { at ≤ end }
     requires before { EndsBy at run.old }
     requires headed { HasHeader packet }
-    ensures ok { OnOk result (StepsTo at end packet.entry (all_collected run.old) (all_collected run.new)) }
+    ensures ok { OnOk result
+        (StepsTo at end packet.entry (all_collected run.old) (all_collected run.new)) }
     ensures err { IfErr result (StepFails at end packet.entry (all_collected run.old)) }
     ensures ends { OnOk result (EndsBy end run.new) }
     ensures error { IfErr result (IsSegmentError at) }
