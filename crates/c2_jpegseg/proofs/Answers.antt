@@ -27,6 +27,7 @@ refusal_is file TooManyBoxes h = (TooManyBoxes, h, refl)
 refusal_is file ReadFault h = tt
 refusal_is file NoMemory h = tt
 
+-- what the search returns is what the file comes to
 pub said_is : (file : List ℕ) (r : Result (Option Found) MediaError) → IsFoundOr file r → IfSome (said r) (IsLocated file)
 said_is file (Ok None) h = h
 said_is file (Ok (Some f)) h = h
@@ -38,6 +39,7 @@ finding file (refused reason n) h = (refusing h.0, h.1, h.2)
 finding file absent h = (lacking, h, refl)
 finding file (here start len store) h = (holding start len store, h, refl)
 
+-- equal values under Some
 some_same : (v w : Located) → Some v ≡ Some w → v ≡ w
 some_same v w e = cc
 
@@ -48,6 +50,7 @@ one_located file v w h k =
     let b = finding file w k in
     some_same v w (sym a.2 ∙ ap located_of (one_outcome file a.0 b.0 a.1 b.1) ∙ b.2)
 
+-- and what the file comes to is what it returns
 pub only_said : (file : List ℕ) (x : Option Located) → IfSome x (IsLocated file) → (what : Located) → IsLocated file what → IfSome x (λ s. s ≡ what)
 only_said file None h what k = tt
 only_said file (Some s) h what k = one_located file s what h k
@@ -65,6 +68,7 @@ cause_of len before now ReadFault fits error cause = cause
 cause_of len before now NoMemory fits error cause = tt
 cause_of len before now _ fits error cause = (fits, cause)
 
+-- the walk's errors can be said of a file of this length
 pub refusal_of : (len : ℕ) (e : MediaError) → IsWalkError len e → IsJpegRefusal len e
 refusal_of len (Truncated n) h = h
 refusal_of len (BadMarker p) h = h

@@ -24,14 +24,16 @@ use Rattle.c2_jpegseg.proofs.Starts.{too_short, begun_is}
 use Rattle.c2_jpegseg.proofs.PacketRuns.{no-packet-next, other-packet-next}
 use Rattle.c2_jpegseg.proofs.Steps.{no-fault, part-in, started, continued, passed, store-in}
 
+-- each is a byte
 abbrev Bytes : List ℕ → Type 0
 Bytes xs = AllByRecursion (λ b. b < 256) xs
 
--- the fill in front of a list of bytes, and what stands behind it
+-- the fill before a list of bytes, and what follows it
 data Filled (rest : List ℕ) : Type 0 where
   fill_only : (fill : ℕ) → rest ≡ replicate fill 255 → Filled rest
   fill_then : (fill m : ℕ) (more : List ℕ) → rest ≡ replicate fill 255 ++ m ∷ more → m ≢ 255 → m < 256 → Bytes more → Filled rest
 
+-- each list of bytes begins so
 filled : (rest : List ℕ) → Bytes rest → Filled rest
 filled [] h = fill_only 0 refl
 filled (x ∷ xs) h = ⊎_elim (λ same. extend same (filled xs h.1)) (λ other. fill_then 0 x xs refl other h.0 h.1) (cases_eq x 255)
@@ -40,16 +42,17 @@ filled (x ∷ xs) h = ⊎_elim (λ same. extend same (filled xs h.1)) (λ other.
     extend same (fill_only fill shape) = fill_only (suc fill) (ap (λ y. y ∷ xs) same ∙ ap (λ (ys : List ℕ). 255 ∷ ys) shape)
     extend same (fill_then fill m more shape other low bytes) = fill_then (suc fill) m more (ap (λ y. y ∷ xs) same ∙ ap (λ (ys : List ℕ). 255 ∷ ys) shape) other low bytes
 
--- what stands at the front of the rest of a file: the end of the segments, a fault, or a segment
+-- with what the rest of a file begins: the end of the segments, a fault, or a segment
 data Front (p : ℕ) (rest : List ℕ) : Type 0 where
   stops : EndsSegments rest → Front p rest
   breaks : (e : MediaError) → MarkerFault p rest e → Front p rest
   goes : (s : Segment) (more : List ℕ) → IsSegment s → rest ≡ segment_bytes s ++ more → Front p rest
 
+-- a test of which one part holds and the other does not
 and_not : (a b : Bool) → a ≡ true → b ≡ false → (a && not b) ≡ true
 and_not a b p q = ap (λ x. x && not b) p ∙ ap (λ x. true && not x) q
 
--- behind a marker with a length
+-- after a marker with a length
 sized_front : (p : ℕ) (rest : List ℕ) (fill m : ℕ) (more : List ℕ) → rest ≡ marker_bytes fill m ++ more → is_segment_marker m ≡ true → is_alone m ≡ false → Bytes more → Front p rest
 sized_front p rest fill m [] shape marker sized h = breaks _ (no_length fill m [] shape (and_not _ _ marker sized) (lit< tt))
 sized_front p rest fill m (a ∷ []) shape marker sized h = breaks _ (no_length fill m (a ∷ []) shape (and_not _ _ marker sized) (lit< tt))
@@ -77,7 +80,7 @@ sized_front p rest fill m (a ∷ b ∷ more) shape marker sized h =
         ∙ sym (append_assoc (marker_bytes fill m) (to_be_bytes w16 (length (take count more) + 2) ++ take count more) (drop count more))
         ∙ ap (λ (x : List ℕ). x ++ drop count more) (sym (spelled_sized s sized)))
 
--- behind a marker of a segment
+-- after a marker of a segment
 segment_front : (p : ℕ) (rest : List ℕ) (fill m : ℕ) (more : List ℕ) → rest ≡ marker_bytes fill m ++ more → is_segment_marker m ≡ true → Bytes more → Front p rest
 segment_front p rest fill m more shape marker h = go (is_alone m) refl
   where
@@ -96,7 +99,7 @@ own_marker m some high side =
     or_true true = refl
     or_true false = refl
 
--- behind fill and a marker
+-- after fill and a marker
 marker_front : (p : ℕ) (rest : List ℕ) (fill m : ℕ) (more : List ℕ) → rest ≡ marker_bytes fill m ++ more → m ≢ 255 → m < 256 → Bytes more → Front p rest
 marker_front p rest fill m more shape other low h =
     ⊎_elim (λ zeroed. breaks _ (bad_marker fill m more shape (inl zeroed))) (λ some.
@@ -109,6 +112,7 @@ marker_front p rest fill m more shape other low h =
     side : m ≢ 0xD8 → m ≢ 0xD9 → m ≢ 0xDA → (m < 0xD8) ⊎ (0xDA < m)
     side a b c = ⊎_elim (λ small. inl small) (λ large. inr (omega (arith, large, a, b, c))) (cases_lt m 0xD8)
 
+-- each rest of a file begins so
 front_of : (p : ℕ) (rest : List ℕ) → Bytes rest → Front p rest
 front_of p rest h = go (filled rest h)
   where
@@ -125,22 +129,26 @@ Tells (Some ReadFault) = ⊥
 Tells (Some NoMemory) = ⊥
 Tells (Some _) = Unit {0}
 
+-- so do the tests on the first packet of a store
 tells_three : (a b c : Bool) (p n : ℕ) → Tells (cond a (Some (BadPacket p)) (cond b (Some (StoreTooLarge n)) (cond c (Some (BadPacket p)) None)))
 tells_three true b c p n = tt
 tells_three false true c p n = tt
 tells_three false false true p n = tt
 tells_three false false false p n = tt
 
+-- (the same, by their name)
 tells_first : (p : ℕ) (q : Packet) → Tells (first_packet_fault p q)
 unfolding first_packet_fault
 tells_first p q = tells_three (ltb (stated_length q.header) (length q.header)) (ltb MAX_STORE_LEN (stated_length q.header)) (ltb (stated_length q.header) (length q.header + length q.body)) p (stated_length q.header)
 
+-- the fault of a segment
 tells_packet : (before : List Segment) (s : Segment) (e : MediaError) → PacketFault before s e → Tells (Some e)
 tells_packet before s _ (bad_first e _ _ fails) = subst Tells fails (tells_first (place_after before) (packet_in s))
 tells_packet before s _ (not_next _ _ _ _) = tt
 tells_packet before s _ (second_store _ _ _ _ _) = tt
 tells_packet before s _ (stray_packet _ _ _ _ _) = tt
 
+-- and the fault of a marker and its length
 tells_marker : (p : ℕ) (rest : List ℕ) (e : MediaError) → MarkerFault p rest e → Tells (Some e)
 tells_marker p rest _ (nothing_left _) = tt
 tells_marker p rest _ (no_marker _ _ _ _) = tt
@@ -154,16 +162,19 @@ tells_marker p rest _ (cut_short _ _ _ _ _ _ _ _ _) = tt
 abbrev Outcome : List ℕ → Type 0
 Outcome file = (what : Located) × IsLocated file what
 
+-- a claim holds, or the error is from outside
 inside_of : (e : MediaError) (claim : Type 0) → claim → OrOutside e claim
 inside_of ReadFault claim h = tt
 inside_of NoMemory claim h = tt
 inside_of _ claim h = h
 
+-- a fault of the file is a refusal
 no_silence : (e : MediaError) → Tells (Some e) → refusal e ≡ None → ⊥
 no_silence ReadFault t h = t
 no_silence NoMemory t h = t
 no_silence _ t h = cc (h)
 
+-- a file with a first fault is refused
 refusing : (file : List ℕ) (e : MediaError) → Tells (Some e) → FirstJpegFault file e → Outcome file
 refusing file e tells fault = go (refusal e) refl (refusal_is file e (inside_of e (FirstJpegFault file e) fault))
   where
@@ -171,11 +182,12 @@ refusing file e tells fault = go (refusal e) refl (refusal_is file e (inside_of 
     go None is h = absurd (no_silence e tells is)
     go (Some what) is h = (what, h)
 
--- the state behind one more segment, or the segment's fault
+-- the state after one more segment, or the segment's fault
 data Onward (segments : List Segment) (s : Segment) : Type 0 where
   goes_on_to : (run : Option Collected) → IsState (segments ++ s ∷ []) run → Onward segments s
   fails_with : (fault : MediaError) → PacketFault segments s fault → Onward segments s
 
+-- a value is not none
 not_some : (e : MediaError) → Some e ≡ None → ⊥
 not_some e h = cc
 
@@ -236,11 +248,12 @@ onward_whole segments s r h whole = go (is_store_start s) (is_stray r.en s) refl
     go false true starts stray = fails_with _ (stray_packet _ _ _ (store-in segments r h whole) (ap (λ en. is_stray en s) (sym h.en) ∙ stray))
     go false false starts other = goes_on_to (Some r) (passed segments s r h whole starts other)
 
+-- in whichever state the segments are
 onward : (segments : List Segment) (s : Segment) (run : Option Collected) → IsState segments run → Onward segments s
 onward segments s None h = onward_none segments s h
 onward segments s (Some r) h = ⊎_elim (λ short. onward_open segments s r h short) (λ whole. onward_whole segments s r h whole) (cases_lt (length r.store) r.total)
 
--- Segments without a fault, and the bytes behind them.
+-- Segments without a fault, and the bytes after them.
 record Reached (file : List ℕ) (segments : List Segment) (rest : List ℕ) : Type 0 where
   fits : length file < FILE_LEN_LIMIT
   bytes : Bytes rest

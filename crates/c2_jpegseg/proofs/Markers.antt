@@ -28,7 +28,7 @@ fill_all file at q le ge front =
     let same : q ≡ length file = omega arith in
     front ∙ ap (λ (x : List ℕ). replicate (q - at) 255 ++ x) (drop_all q file le) ∙ append-nil (replicate (q - at) 255) ∙ ap (λ n. replicate (n - at) 255) same
 
--- where the first byte that isn't fill stands behind the place, the rest begins with a marker
+-- where the first byte that isn't fill comes after the place, the rest begins with a marker
 pub marker_split : (file : List ℕ) (at : ℕ) (m : Marker) → at < m.place → m.place < length file → IsMarkerAt file at m → drop at file ≡ marker_bytes (m.place - at - 1) m.code ++ drop (m.place + 1) file
 marker_split file at m lt inside is =
     let count : m.place - at ≡ m.place - at - 1 + 1 = omega arith in
@@ -43,6 +43,7 @@ two_places a b ha hb zero = ha
 two_places a b ha hb (suc zero) = hb
 two_places a b ha hb (suc (suc i)) = lit< tt
 
+-- the two bytes of a length
 pub two_bytes : (a b n : ℕ) → a < 256 → b < 256 → n ≡ a * 256 + b → to_be_bytes w16 n ≡ a ∷ b ∷ []
 two_bytes a b n ha hb e = be_bytes_2 (a ∷ b ∷ []) n refl (two_places a b ha hb) e
 
@@ -50,9 +51,11 @@ two_bytes a b n ha hb e = be_bytes_2 (a ∷ b ∷ []) n refl (two_places a b ha 
 pub spelled_alone : (s : Segment) → is_alone s.marker ≡ true → segment_bytes s ≡ marker_bytes s.fill s.marker
 spelled_alone s alone = ap (λ b. marker_bytes s.fill s.marker ++ cond b [] (to_be_bytes w16 (length s.payload + 2) ++ s.payload)) alone ∙ append-nil (marker_bytes s.fill s.marker)
 
+-- and of one whose marker has a length
 pub spelled_sized : (s : Segment) → is_alone s.marker ≡ false → segment_bytes s ≡ marker_bytes s.fill s.marker ++ (to_be_bytes w16 (length s.payload + 2) ++ s.payload)
 spelled_sized s sized = ap (λ b. marker_bytes s.fill s.marker ++ cond b [] (to_be_bytes w16 (length s.payload + 2) ++ s.payload)) sized
 
+-- a marker that stands alone is a segment
 pub alone_extent : (file : List ℕ) (at : ℕ) (m : Marker) → at < m.place → m.place < length file → IsMarkerAt file at m
     → is_segment_marker m.code ≡ true → is_alone m.code ≡ true → IsExtent file at (record { marker = m.code; body = m.place + 1; end = m.place + 1 })
 alone_extent file at m lt inside is marker alone =
@@ -68,7 +71,7 @@ alone_extent file at m lt inside is marker alone =
           ∙ ap (λ (x : List ℕ). x ++ drop (m.place + 1) file) (sym (spelled_alone (record { fill = m.place - at - 1; marker = m.code; payload = take (m.place + 1 - (m.place + 1)) (drop (m.place + 1) file) }) alone));
     }
 
--- the two bytes of a length, and what stands behind them
+-- the two bytes of a length, and what follows them
 length_split : (file : List ℕ) (q : ℕ) → q + 3 ≤ length file → drop (q + 1) file ≡ get_or file (q + 1) 0 ∷ get_or file (q + 2) 0 ∷ drop (q + 3) file
 length_split file q inside =
     let one : q + 1 < length file = omega arith in
@@ -77,15 +80,17 @@ length_split file q inside =
     let after : q + 1 + 1 + 1 ≡ q + 3 = omega arith in
     drop_more file (q + 1) 0 one ∙ ap (λ (x : List ℕ). get_or file (q + 1) 0 ∷ x) (drop_more file (q + 1 + 1) 0 two ∙ ap (λ n. get_or file n 0 ∷ drop (q + 1 + 1 + 1) file) next ∙ ap (λ n. get_or file (q + 2) 0 ∷ drop n file) after)
 
--- a part of a list and what stands behind it
+-- a part of a list and what follows it
 pub part_split : (file : List ℕ) (from to : ℕ) → from ≤ to → to ≤ length file → drop from file ≡ take (to - from) (drop from file) ++ drop to file
 part_split file from to le inside =
     let there : from + (to - from) ≡ to = omega arith in
     sym (take-append-drop (to - from) (drop from file)) ∙ ap (λ (x : List ℕ). take (to - from) (drop from file) ++ x) (drop-drop (to - from) from file ∙ ap (λ n. drop n file) there)
 
+-- the length of such a part
 pub part_length : (file : List ℕ) (from to : ℕ) → from ≤ to → to ≤ length file → length (take (to - from) (drop from file)) ≡ to - from
 part_length file from to le inside = length-take-le (to - from) (drop from file) (omega (arith, length-drop from file))
 
+-- a marker with a length, and so many bytes, are a segment
 pub sized_is : (file : List ℕ) (at : ℕ) (m : Marker) (e : Extent) → at < m.place → m.place < length file → IsMarkerAt file at m
     → is_segment_marker m.code ≡ true → is_alone m.code ≡ false → IsSized file m e → IsExtent file at e
 sized_is file at m e lt inside is marker sized extent =
@@ -116,6 +121,7 @@ sized_is file at m e lt inside is marker sized extent =
         ∙ ap (λ (x : List ℕ). x ++ (payload ++ drop to file)) (sym (two_bytes (get_or file (m.place + 1) 0) (get_or file (m.place + 2) 0) (length payload + 2) extent.high extent.low size))
         ∙ sym (append_assoc (to_be_bytes w16 (length payload + 2)) payload (drop to file))
 
+-- a test of which one part holds and the other does not
 and_not : (a b : Bool) → a ≡ true → b ≡ false → (a && not b) ≡ true
 and_not a b p q = ap (λ x. x && not b) p ∙ ap (λ x. true && not x) q
 
@@ -123,6 +129,7 @@ and_not a b p q = ap (λ x. x && not b) p ∙ ap (λ x. true && not x) q
 pub size_of_rest : (file : List ℕ) (at n : ℕ) → at ≤ length file → n ≡ length file → at + length (drop at file) ≡ n
 size_of_rest file at n le e = omega (arith, length-drop at file)
 
+-- a file that ends too early is named by its length
 truncated : (file : List ℕ) (at n : ℕ) → at ≤ length file → n ≡ length file → MarkerFault at (drop at file) (Truncated (at + length (drop at file))) → MarkerFault at (drop at file) (Truncated n)
 truncated file at n le e = subst (λ k. MarkerFault at (drop at file) (Truncated k)) (size_of_rest file at n le e)
 
@@ -152,9 +159,11 @@ no_fill file at m here lt is other =
     let code : m.code ≡ get_or file at 0 = is.code ∙ ap (λ n. get_or file n 0) here in
     no_marker m.code (drop (at + 1) file) (drop_more file at 0 (omega arith) ∙ ap (λ c. c ∷ drop (at + 1) file) (sym code)) other
 
+-- a marker that begins nothing is a fault
 pub bad_kind : (file : List ℕ) (at : ℕ) (m : Marker) → at < m.place → m.place < length file → IsMarkerAt file at m → (m.code ≡ 0) ⊎ (m.code ≡ 0xD8) → MarkerFault at (drop at file) (BadMarker at)
 bad_kind file at m lt inside is bad = bad_marker (m.place - at - 1) m.code (drop (m.place + 1) file) (marker_split file at m lt inside is) bad
 
+-- EOI and SOS end the segments
 pub end_here : (file : List ℕ) (at : ℕ) (m : Marker) → at < m.place → m.place < length file → IsMarkerAt file at m → (m.code ≡ 0xD9) ⊎ (m.code ≡ 0xDA) → EndsSegments (drop at file)
 end_here file at m lt inside is ends = record { fill = m.place - at - 1; marker = m.code; more = drop (m.place + 1) file; bytes = marker_split file at m lt inside is; ends = ends }
 

@@ -48,7 +48,7 @@ others_same (x ∷ o1) (y ∷ o2) a1 a2 e h1 h2 n =
     let b : length (packet_in x).body ≡ length (packet_in y).body = ap (λ s. length (packet_in s).body) head in
     ap (λ z. z ∷ o1) head ∙ ap (λ (zs : List Segment). y ∷ zs) (others_same o1 o2 a1 a2 tail h1.1 h2.1 (omega (arith, n, l1, l2, b)))
 
--- the same segments with more behind them, cut at the store that they hold
+-- the same segments with more after them, cut at the store that they hold
 split_more : (xs ys zs before : List Segment) (first : Segment) (others after : List Segment) → xs ≡ before ++ (first ∷ others ++ after) → ys ≡ xs ++ zs
     → ys ≡ before ++ first ∷ (others ++ (after ++ zs))
 split_more xs ys zs before first others after split more =
@@ -60,6 +60,7 @@ held-none segments start len store h none =
     let all = subst NoneBegins h.split none in
     both_ways _ (each-back (λ t. is_store_start t ≡ false) h.before (h.first ∷ h.others ++ h.after) all).0 h.starts
 
+-- the same of an open store
 pub part-none : (segments : List Segment) (first : Segment) (others : List Segment) → HoldsPart segments first others → NoneBegins segments → ⊥
 part-none segments first others p none =
     let all = subst NoneBegins p.split none in
@@ -74,13 +75,14 @@ held-part xs ys zs start len store first others more h p =
     let box : stated_length (packet_in h.first).header ≡ stated_length (packet_in first).header = ap (λ f. stated_length (packet_in f).header) one.1 in
     omega (arith, longer, box, h.whole, p.missing)
 
--- Two stores that segments hold, with more segments behind the one list, are one.
+-- Two stores that segments hold, with more segments after the one list, are one.
 pub record SameHeld (before1 before2 : List Segment) (first1 first2 : Segment) (others1 others2 after1 after2 zs : List Segment) : Type 0 where
   pub before : before1 ≡ before2
   pub first : first1 ≡ first2
   pub others : others1 ≡ others2
   pub after : after2 ≡ after1 ++ zs
 
+-- they have the same packets, and the further segments come after
 pub held-same : (xs ys zs : List Segment) (s1 l1 s2 l2 : ℕ) (b1 b2 : List ℕ) → ys ≡ xs ++ zs → (h : HoldsStore xs s1 l1 b1) (k : HoldsStore ys s2 l2 b2)
     → SameHeld h.before k.before h.first k.first h.others k.others h.after k.after zs
 held-same xs ys zs s1 l1 s2 l2 b1 b2 more h k =
@@ -148,7 +150,7 @@ open_next xs zs z first others (one_held start len store k) p =
         let whole : IsPacketRun first (others ++ a.0 ∷ a.1) store = subst (λ (t : List Segment). IsPacketRun first t store) a.2 run in
         subst (IsNextPacket first others) same (next_in first others a.0 a.1 store whole (omega (arith, box, k.whole)))
 
--- behind a whole store no other begins, and no packet of its number stands
+-- after a whole store no other begins, and no packet of its number stands
 after_held : (xs zs : List Segment) (z : Segment) (start len : ℕ) (store : List ℕ) → HaveNoFault (xs ++ z ∷ zs) → (h : HoldsStore xs start len store)
     → (is_store_start z ≡ false) × (is_stray (packet_in h.first).en z ≡ false)
 after_held xs zs z start len store (none_begins all) h = absurd (held-none xs start len store h (each-front (λ t. is_store_start t ≡ false) xs (z ∷ zs) all))

@@ -12,6 +12,7 @@ use Rattle.c2_jpegseg.specs.Walks.{IsRunOf}
 use Rattle.c2_jpegseg.proofs.SegmentLists.{each-front, each-back}
 use borrow.Author.Tests.{le-leb, eq-eqb, both_ways}
 
+-- the bodies of packets, joined
 abbrev pub bodies : List Segment → List ℕ
 bodies run = flat_map (λ s. (packet_in s).body) run
 
@@ -99,6 +100,7 @@ next-follows segments s r h next =
 pub no-packet-next : (segments : List Segment) (s : Segment) (r : Collected) (h : IsRunOf segments r) → is_packet s ≡ false → IsNextPacket h.first h.others s → ⊥
 no-packet-next segments s r h none next = both_ways _ none (next-follows segments s r h next).packet
 
+-- (the same of a packet)
 pub other-packet-next : (segments : List Segment) (s : Segment) (r : Collected) (h : IsRunOf segments r)
     → goes_on r (packet_in s) ≡ false → IsNextPacket h.first h.others s → ⊥
 other-packet-next segments s r h other next = both_ways _ other (next-follows segments s r h next).goes

@@ -1,4 +1,4 @@
--- What stands at the front of a list of bytes: a function, and that each form of the definitions is read so.
+-- With what a list of bytes begins: a function, and that each form of the definitions is read so.
 use Rattle.std.proofs.Common.{◌≡◌, ◌≢◌, ℕ, zero, suc, ◌+◌, ◌-◌, ◌*◌, ◌<◌, ◌⊎◌, inl, inr, ⊎_elim, Bool, ◌||◌, true, false, cond, List, [], ◌∷◌, ◌++◌, length, get_or, take, drop, replicate, refl, sym, ap, ◌∙◌, append_assoc, arith, eqb, ltb, add-one, length-append}
 use Rattle.std.proofs.lemmas.List.{take_at, drop_at}
 use Rattle.std.proofs.lemmas.Nat.{from_be_bytes-to_be_bytes_2}
@@ -10,53 +10,64 @@ use Rattle.c2_spec.specs.Jpeg.Segments.{Segment, IsSegment, EndsSegments, Marker
 use Rattle.c2_jpegseg.proofs.Markers.{spelled_alone, spelled_sized}
 use Rattle.c2_jpegseg.proofs.Steps.{both}
 
+-- what is read at the beginning of the rest of a file
 pub data Reading : Type 0 where
   ends : Reading
   fails : MediaError → Reading
   finds : Segment → List ℕ → Reading
 
--- how many fill bytes stand in front
+-- how many fill bytes come first
 abbrev pub front : List ℕ → ℕ
 front [] = 0
 front (x ∷ xs) = cond (eqb x 255) (suc (front xs)) 0
 
+-- after a marker with a length
 abbrev pub sized : ℕ → ℕ → ℕ → ℕ → List ℕ → Reading
 sized p n fill m [] = fails (Truncated n)
 sized p n fill m (a ∷ []) = fails (Truncated n)
 sized p n fill m (a ∷ b ∷ more) = cond (ltb (a * 256 + b) 2) (fails (BadSegment p)) (cond (ltb (length more + 2) (a * 256 + b)) (fails (Truncated n))
     (finds (record { fill = fill; marker = m; payload = take (a * 256 + b - 2) more }) (drop (a * 256 + b - 2) more)))
 
+-- at a marker
 abbrev pub at_a_marker : ℕ → ℕ → ℕ → ℕ → List ℕ → Reading
 at_a_marker p n fill m more = cond (eqb m 0 || eqb m 0xD8) (fails (BadMarker p)) (cond (eqb m 0xD9 || eqb m 0xDA) ends
     (cond (is_alone m) (finds (record { fill = fill; marker = m; payload = [] }) more) (sized p n fill m more)))
 
+-- after so many bytes FF
 abbrev pub after_fill : ℕ → ℕ → ℕ → List ℕ → Reading
 after_fill p n k [] = fails (Truncated n)
 after_fill p n zero (m ∷ more) = fails (BadMarker p)
 after_fill p n (suc fill) (m ∷ more) = at_a_marker p n fill m more
 
+-- at a place
 unfoldable pub read : ℕ → List ℕ → Reading
 read p rest = after_fill p (p + length rest) (front rest) (drop (front rest) rest)
 
+-- so many bytes FF are counted
 front-fill : (k m : ℕ) (more : List ℕ) → m ≢ 255 → front (replicate k 255 ++ m ∷ more) ≡ k
 front-fill zero m more other = ap (λ b. cond b (suc (front more)) 0) (ne_eqb m 255 other)
 front-fill (suc k) m more other = ap suc (front-fill k m more other)
 
+-- and passed
 drop-fill : (k m : ℕ) (more : List ℕ) → drop k (replicate k 255 ++ m ∷ more) ≡ m ∷ more
 drop-fill zero m more = refl
 drop-fill (suc k) m more = drop-fill k m more
 
+-- also where nothing follows
 front-all : (k : ℕ) → front (replicate k 255) ≡ k
 front-all zero = refl
 front-all (suc k) = ap suc (front-all k)
 
+-- (the same)
 drop-fill_all : (k : ℕ) → drop {A = ℕ} k (replicate k 255) ≡ []
 drop-fill_all zero = refl
 drop-fill_all (suc k) = drop-fill_all k
 
+-- fill and a marker, as bytes FF and a byte
 pub marker_shape : (fill m : ℕ) (more : List ℕ) → marker_bytes fill m ++ more ≡ replicate (suc fill) 255 ++ m ∷ more
 marker_shape fill m more = append_assoc (replicate (fill + 1) 255) (m ∷ []) more ∙ ap (λ n. replicate n 255 ++ m ∷ more) (add-one fill)
 
+-- fill and a marker are read
 pub read-marker : (p fill m : ℕ) (more : List ℕ) → m ≢ 255 → read p (marker_bytes fill m ++ more) ≡ at_a_marker p (p + length (marker_bytes fill m ++ more)) fill m more
 unfolding read
 read-marker p fill m more other =
@@ -72,13 +83,16 @@ record IsOwn (m : ℕ) : Type 0 where
   pub bad : (eqb m 0 || eqb m 0xD8) ≡ false
   pub last : (eqb m 0xD9 || eqb m 0xDA) ≡ false
 
+-- one of two tests holds
 either : (a b : Bool) → (a || b) ≡ true → (a ≡ true) ⊎ (b ≡ true)
 either true b h = inl refl
 either false b h = inr h
 
+-- none of two tests holds
 neither : (a b : Bool) → a ≡ false → b ≡ false → (a || b) ≡ false
 neither a b p q = ap (λ t. t || b) p ∙ q
 
+-- (the same, as a fact)
 own : (m : ℕ) → is_segment_marker m ≡ true → IsOwn m
 own m h =
     let outer = both _ _ h in
@@ -90,18 +104,22 @@ own m h =
     (λ large. let s : 0xDA < m = ltb-true 0xDA m large in record { fill = omega arith; bad = neither _ _ (ne_eqb m 0 (omega arith)) (ne_eqb m 0xD8 (omega arith)); last = neither _ _ (ne_eqb m 0xD9 (omega arith)) (ne_eqb m 0xDA (omega arith)) })
     (either _ _ outer.1)
 
+-- so the tests of the others are passed
 at_own : (p n fill m : ℕ) (more : List ℕ) → is_segment_marker m ≡ true → at_a_marker p n fill m more ≡ cond (is_alone m) (finds (record { fill = fill; marker = m; payload = [] }) more) (sized p n fill m more)
 at_own p n fill m more h =
     let o : IsOwn m = own m h in
     ap (λ b. cond b (fails (BadMarker p)) (cond (eqb m 0xD9 || eqb m 0xDA) ends (cond (is_alone m) (finds (record { fill = fill; marker = m; payload = [] }) more) (sized p n fill m more)))) o.bad
     ∙ ap (λ b. cond b ends (cond (is_alone m) (finds (record { fill = fill; marker = m; payload = [] }) more) (sized p n fill m more))) o.last
 
+-- a marker that stands alone
 at_alone : (p n fill m : ℕ) (more : List ℕ) → is_segment_marker m ≡ true → is_alone m ≡ true → at_a_marker p n fill m more ≡ finds (record { fill = fill; marker = m; payload = [] }) more
 at_alone p n fill m more h alone = at_own p n fill m more h ∙ ap (λ b. cond b (finds (record { fill = fill; marker = m; payload = [] }) more) (sized p n fill m more)) alone
 
+-- a marker with a length
 at_sized : (p n fill m : ℕ) (more : List ℕ) → is_segment_marker m ≡ true → is_alone m ≡ false → at_a_marker p n fill m more ≡ sized p n fill m more
 at_sized p n fill m more h other = at_own p n fill m more h ∙ ap (λ b. cond b (finds (record { fill = fill; marker = m; payload = [] }) more) (sized p n fill m more)) other
 
+-- a length and so many bytes are read
 sized_ok : (p n fill m a b : ℕ) (payload more : List ℕ) → a * 256 + b ≡ length payload + 2 → sized p n fill m (a ∷ b ∷ (payload ++ more)) ≡ finds (record { fill = fill; marker = m; payload = payload }) more
 sized_ok p n fill m a b payload more e =
     let long : length (payload ++ more) ≡ length payload + length more = length-append payload more in

@@ -19,11 +19,12 @@ pub each-front : {X : Type 0} (P : X → Type 0) (xs ys : List X) → AllByRecur
 each-front P [] ys h = tt
 each-front P (x ∷ xs) ys h = (h.0, each-front P xs ys h.1)
 
+-- (the same of the second)
 pub each-back : {X : Type 0} (P : X → Type 0) (xs ys : List X) → AllByRecursion P (xs ++ ys) → AllByRecursion P ys
 each-back P [] ys h = h
 each-back P (x ∷ xs) ys h = each-back P xs ys h.1
 
--- where the rest begins behind two lists of segments
+-- where the rest begins after two lists of segments
 pub place-append : (xs ys : List Segment) → place_after (xs ++ ys) ≡ place_after xs + length (flat_map segment_bytes ys)
 place-append xs ys = let e : length (flat_map segment_bytes (xs ++ ys)) ≡ length (flat_map segment_bytes xs) + length (flat_map segment_bytes ys) = ap length (flat_map-append segment_bytes xs ys) ∙ length-append (flat_map segment_bytes xs) (flat_map segment_bytes ys) in omega arith
 

@@ -120,7 +120,7 @@ continued segments s end r new h short packet goes k to =
       count = omega (arith, k.count, h.count, counted);
     }
 
--- a segment behind a whole run
+-- a segment after a whole run
 pub passed : (segments : List Segment) (s : Segment) (r : Collected) → IsRunOf segments r → r.total ≤ length r.store → is_store_start s ≡ false → is_stray r.en s ≡ false → IsRunOf (segments ++ s ∷ []) r
 passed segments s r h whole start stray = record {
   before = h.before;
@@ -188,6 +188,7 @@ store-in segments r h whole =
       for = omega (arith, sum, h.from, h.to);
     }
 
+-- with a whole run, the file has this store
 pub store-here : (file : List ℕ) (at : ℕ) (r : Collected) → length file < FILE_LEN_LIMIT → Walks file at (Some r) → EndsSegments (drop at file) → r.total ≤ length r.store → HasJpegStore file r.start (r.end - r.start) r.store
 store-here file at r fits w ends whole = record { fits = fits; segments = w.segments; rest = drop at file; begins = w.begins; ends = ends; holds = store-in w.segments r w.state whole }
 

@@ -31,6 +31,7 @@ each-both P Q R (x ∷ xs) f h k = (f x h.0 k.0, each-both P Q R xs f h.1 k.1)
 each-take : (P : ℕ → Type 0) (n : ℕ) (xs : List ℕ) → AllByRecursion P xs → AllByRecursion P (take n xs)
 each-take P n xs h = each-front P (take n xs) (drop n xs) (subst (AllByRecursion P) (sym (take-append-drop n xs)) h)
 
+-- (the same of the rest)
 each-drop : (P : ℕ → Type 0) (n : ℕ) (xs : List ℕ) → AllByRecursion P xs → AllByRecursion P (drop n xs)
 each-drop P n xs h = each-back P (take n xs) (drop n xs) (subst (AllByRecursion P) (sym (take-append-drop n xs)) h)
 
@@ -50,6 +51,7 @@ packet_payload P s h packet =
 packet_header : (P : ℕ → Type 0) (s : Segment) → AllByRecursion P (segment_bytes s) → is_packet s ≡ true → AllByRecursion P (packet_in s).header
 packet_header P s h packet = each-take P (packet_header_len (payload_lbox s.payload)) (drop 8 s.payload) (each-drop P 8 s.payload (packet_payload P s h packet))
 
+-- (the same of its body's)
 packet_body : (P : ℕ → Type 0) (s : Segment) → AllByRecursion P (segment_bytes s) → is_packet s ≡ true → AllByRecursion P (packet_in s).body
 packet_body P s h packet = each-drop P (8 + packet_header_len (payload_lbox s.payload)) s.payload (packet_payload P s h packet)
 
@@ -75,5 +77,6 @@ store-all P file start len store has h = All-from_recursion P store (store_each 
 pub store-of_the_file : (file : List ℕ) (start len : ℕ) (store : List ℕ) → HasJpegStore file start len store → All (Contains file) store
 store-of_the_file file start len store has = store-all (Contains file) file start len store has (All-contains_itself file)
 
+-- So they are below 2^8 where the file's are.
 pub store-bytes : (file : List ℕ) (start len : ℕ) (store : List ℕ) → HasJpegStore file start len store → All (λ b. b < 2 ^ 8) file → All (λ b. b < 2 ^ 8) store
 store-bytes file start len store has h = store-all (λ b. b < 2 ^ 8) file start len store has h

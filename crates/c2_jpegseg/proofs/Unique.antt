@@ -18,11 +18,13 @@ pub data Compared (xs ys : List Segment) (r s : List ℕ) : Type 0 where
   first_on : (zs : List Segment) → ys ≡ xs ++ zs → r ≡ flat_map segment_bytes zs ++ s → AllByRecursion IsSegment zs → Compared xs ys r s
   second_on : (z : Segment) (zs : List Segment) → xs ≡ ys ++ z ∷ zs → s ≡ flat_map segment_bytes (z ∷ zs) ++ r → AllByRecursion IsSegment (z ∷ zs) → Compared xs ys r s
 
+-- one list of bytes begins with one segment
 same_front : (x y : Segment) (a b : List ℕ) → IsSegment x → IsSegment y → segment_bytes x ++ a ≡ segment_bytes y ++ b → (x ≡ y) × (a ≡ b)
 same_front x y a b hx hy e =
     let h : finds x a ≡ finds y b = sym (read-segment 0 x a hx) ∙ ap (read 0) e ∙ read-segment 0 y b hy in
     (cc, cc)
 
+-- each two are of one of these kinds
 compare : (xs ys : List Segment) (r s : List ℕ) → AllByRecursion IsSegment xs → AllByRecursion IsSegment ys → flat_map segment_bytes xs ++ r ≡ flat_map segment_bytes ys ++ s → Compared xs ys r s
 compare [] ys r s hx hy e = first_on ys refl e hy
 compare (x ∷ xs) [] r s hx hy e = second_on x xs refl (sym e) hx
@@ -49,7 +51,7 @@ store_same segments s1 l1 s2 l2 b1 b2 g h =
     let store : b1 ≡ b2 = g.is_run.bytes ∙ ap (λ f. (packet_in f).header ++ bodies (f ∷ g.others)) same.first ∙ ap (λ (o : List Segment). (packet_in h.first).header ++ bodies (h.first ∷ o)) same.others ∙ sym h.is_run.bytes in
     ap (λ n. holding n l1 b1) start ∙ ap (λ n. holding s2 n b1) len ∙ ap (holding s2 l2) store
 
--- behind the same segments the same test fails
+-- after the same segments the same test fails
 fails_same : (segments : List Segment) (rest : List ℕ) (e f : MediaError) → FailsAfter segments rest e → FailsAfter segments rest f → e ≡ f
 fails_same segments rest e f (at_marker a) (at_marker b) = let h : fails e ≡ fails f = sym (read-fault (place_after segments) rest e a) ∙ read-fault (place_after segments) rest f b in cc (h)
 fails_same segments rest e f (at_marker a) (at_segment s more legal shape test) = let h : fails e ≡ finds s more = sym (read-fault (place_after segments) rest e a) ∙ ap (read (place_after segments)) shape ∙ read-segment (place_after segments) s more legal in cc (h)
@@ -69,9 +71,11 @@ fails_not segments rest e (at_marker a) last closed = let h : fails e ≡ ends =
 fails_not segments rest e (at_segment s more legal shape test) last closed = let h : finds s more ≡ ends = sym (read-segment (place_after segments) s more legal) ∙ ap (read (place_after segments)) (sym shape) ∙ read-end (place_after segments) rest last in cc (h)
 fails_not segments rest e (at_end first others _ part _) last closed = closed first others part
 
+-- no store is open where none began
 none_closed : (segments : List Segment) → NoneBegins segments → (first : Segment) (others : List Segment) → HoldsPart segments first others → ⊥
 none_closed segments clear first others part = part-none segments first others part clear
 
+-- nor where one is held
 held_closed : (segments : List Segment) (start len : ℕ) (store : List ℕ) → HoldsStore segments start len store → (first : Segment) (others : List Segment) → HoldsPart segments first others → ⊥
 held_closed segments start len store held first others part = held-part segments segments [] start len store first others (sym (append-nil segments)) held part
 
@@ -103,6 +107,7 @@ data Shape (file : List ℕ) : Finding → Type 0 where
   other : length file < FILE_LEN_LIMIT → take 2 file ≢ start_of_image → Shape file (refusing NotMedia)
   walked : {o : Finding} → length file < FILE_LEN_LIMIT → (segments : List Segment) (rest : List ℕ) → HasSegments file segments rest → HaveNoFault segments → Stops segments rest o → Shape file o
 
+-- each outcome of a file has such a look
 shape_of : (file : List ℕ) (o : Finding) → IsFinding file o → Shape file o
 shape_of file (refusing _) (too_large h) = large h
 shape_of file (refusing _) (not_media fits h) = other fits h
@@ -110,9 +115,11 @@ shape_of file (refusing e) (segment _ fits h) = walked fits h.before h.rest h.be
 shape_of file lacking h = walked h.fits h.segments h.rest h.begins (none_begins h.none) (none h.ends h.none)
 shape_of file (holding start len store) h = walked h.fits h.segments h.rest h.begins (one_held start len store h.holds) (found h.ends h.holds)
 
+-- with segments, a file begins with SOI
 begins_media : (file : List ℕ) (segments : List Segment) (rest : List ℕ) → HasSegments file segments rest → take 2 file ≡ start_of_image
 begins_media file segments rest b = ap (take 2) b.bytes
 
+-- segments that end with two outcomes end with one
 walks_same : (file : List ℕ) (xs ys : List Segment) (r s : List ℕ) (o p : Finding) → HasSegments file xs r → HasSegments file ys s → HaveNoFault xs → HaveNoFault ys → Stops xs r o → Stops ys s p → o ≡ p
 walks_same file xs ys r s o p bx by px py sx sy = go (compare xs ys r s bx.each by.each inner)
   where
@@ -127,6 +134,7 @@ walks_same file xs ys r s o p bx by px py sx sy = go (compare xs ys r s bx.each 
     go (first_on (z ∷ zs) same shape legal) = absurd (stops_not xs zs z r (flat_map segment_bytes zs ++ s) o sx legal.0 (shape ∙ append_assoc (segment_bytes z) (flat_map segment_bytes zs) s) (subst HaveNoFault same py))
     go (second_on z zs same shape legal) = absurd (stops_not ys zs z s (flat_map segment_bytes zs ++ r) p sy legal.0 (shape ∙ append_assoc (segment_bytes z) (flat_map segment_bytes zs) r) (subst HaveNoFault same px))
 
+-- a file with two looks has one outcome
 shape_same : (file : List ℕ) (o p : Finding) → Shape file o → Shape file p → o ≡ p
 shape_same file _ _ (large a) (large b) = refl
 shape_same file _ _ (large a) (other b _) = absurd (omega arith)

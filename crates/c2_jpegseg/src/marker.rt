@@ -162,9 +162,6 @@ pub fn segment_at<S: Source>(
             body: marker.place + 1,
             end: marker.place + 1,
         })),
-        Kind::Sized => match sized_at(source, window, at, marker, size) {
-            Ok(extent) => Ok(Next::Segment(extent)),
-            Err(error) => Err(error),
-        },
+        Kind::Sized => Ok(Next::Segment(sized_at(source, window, at, marker, size)?)),
     }
 }

@@ -98,17 +98,12 @@ fn walk<S: Source>(
     let mut at: u64 = 2;
     let mut run = None;
     'segments: loop {
-        let extent = match marker::segment_at(source, window, at, size) {
-            Ok(Next::Segment(extent)) => extent,
-            Ok(Next::End) => break,
-            Err(error) => return Err(error),
+        let Next::Segment(extent) = marker::segment_at(source, window, at, size)? else {
+            break;
         };
         load_packet(source, window, extent)?;
         let packet = packet_at(window, extent);
-        match segment::step(alloc, at, extent.end, size, packet, &mut run) {
-            Ok(()) => {}
-            Err(error) => return Err(error),
-        }
+        segment::step(alloc, at, extent.end, size, packet, &mut run)?;
         at = extent.end;
     }
     let Some(run) = run else {
@@ -144,10 +139,7 @@ fn search<S: Source>(alloc: Global, source: &mut S) -> Result<Option<Found>, Med
     if !is_jpeg(source, &mut window, size)? {
         return Err(MediaError::NotMedia);
     }
-    match walk(alloc, source, &mut window, size) {
-        Ok(found) => Ok(found),
-        Err(error) => Err(error),
-    }
+    walk(alloc, source, &mut window, size)
 }
 
 /// The C2PA store of a JPEG file and the range of the file that its packets fill; nothing where no segment begins a store.

@@ -30,10 +30,7 @@ fn begin(
     if !packet::is_first(&first) {
         return Ok(None);
     }
-    match Run::start(alloc, at, end, size, first) {
-        Ok(run) => Ok(Some(run)),
-        Err(error) => Err(error),
-    }
+    Ok(Some(Run::start(alloc, at, end, size, first)?))
 }
 
 /// A segment where a store waits for its next packet.

@@ -58,7 +58,7 @@ struct Numbers {
     kind: u8,
 }
 
-/// Puts a packet behind a file.
+/// Puts a packet after a file.
 fn push_packet(file: &mut Vec<u8>, numbers: Numbers, body: &[u8]) -> Result<(), Fail> {
     let length = body.len().min(65_000) as u16 + 18;
     file.extend_from_slice(&[0xFF, 0xEB])?;
@@ -248,7 +248,7 @@ fn the_second_packet_goes_on(rt: HostRuntime) -> Result<(), Fail> {
 }
 
 #[test]
-fn packets_behind_a_whole_store(rt: HostRuntime) -> Result<(), Fail> {
+fn packets_after_a_whole_store(rt: HostRuntime) -> Result<(), Fail> {
     let alloc = rt.alloc();
     let stray = of_store(2, 48);
     let refused = Seen::Refused(MediaError::BadPacket(52));
@@ -266,9 +266,9 @@ fn packets_behind_a_whole_store(rt: HostRuntime) -> Result<(), Fail> {
             passed,
         ),
     ] {
-        let mut behind = Vec::new(alloc);
-        push_packet(&mut behind, numbers, &[0x78])?;
-        let file = framed(alloc, &SEGMENT, &behind)?;
+        let mut after = Vec::new(alloc);
+        push_packet(&mut after, numbers, &[0x78])?;
+        let file = framed(alloc, &SEGMENT, &after)?;
         assert!(rt; is_seen(alloc, &file, expected)?);
     }
     Ok(())
@@ -302,9 +302,9 @@ fn faults_and_vast_files(rt: HostRuntime) -> Result<(), Fail> {
     let mut vast = VastSource::new(Blob::copied(alloc, &[])?, 1 << 62);
     let too_large = Seen::Refused(MediaError::FileTooLarge(1 << 62));
     assert_eq!(rt; summary(&locate(alloc, &mut vast)), too_large);
-    let front = Blob::copied(alloc, &file)?;
-    assert!(rt; front.as_slice().len() == 54);
-    let mut vast = VastSource::new(front, 1 << 61);
+    let prefix = Blob::copied(alloc, &file)?;
+    assert!(rt; prefix.as_slice().len() == 54);
+    let mut vast = VastSource::new(prefix, 1 << 61);
     assert_eq!(rt; summary(&locate(alloc, &mut vast)), Seen::Store(2, 50, 38));
     Ok(())
 }

@@ -1,9 +1,9 @@
 use Rattle.std.proofs.Common.{length, ◌≡◌, ◌∙◌, sym, subst, arith}
 use Rattle.c2_base.specs.declared.media.MediaError.TheVariants.{FileTooLarge}
-use Rattle.c2_spec.specs.Jpeg.Store.{SegmentFault, FirstJpegFault, too_large, not_media, segment}
+use Rattle.c2_spec.specs.Jpeg.Store.{FirstJpegFault, too_large, not_media}
 use Rattle.c2_jpegseg.specs.Answers.{IsBegun}
 use Rattle.c2_jpegseg.specs.Windows.{Shows}
-use Rattle.c2_jpegseg.proofs.Outside.{or_outside-map}
+use Rattle.c2_jpegseg.proofs.Answers.{found_by_walk}
 use Rattle.c2_jpegseg.proofs.search.search.Goals as goal
 
 pub returns-then-size-ge-FILE_LEN_LIMIT-clause-found : goal.returns-then-size-ge-FILE_LEN_LIMIT-clause-found
@@ -23,5 +23,4 @@ returns-then-not-branch-clause-found g c file known =
 pub returns-clause-found : goal.returns-clause-found
 returns-clause-found g c file known =
     let size : length file ≡ c.in_ok-size.size = g.met.S.Source.known_len c.args.source.now file known ∙ sym c.in_ok-size.ensures.length in
-    or_outside-map c.in-Err.error (SegmentFault file c.in-Err.error) (FirstJpegFault file c.in-Err.error) (segment c.in-Err.error (omega arith))
-    (c.in-Err.ensures.walked file (c.in_ok-is_jpeg.ensures.stays.same_bytes ∙ c.in_ok-size.ensures.stays.same_bytes ∙ known))
+    found_by_walk file c.walk.result (omega arith) (c.walk.ensures.walked file (c.in_ok-is_jpeg.ensures.stays.same_bytes ∙ c.in_ok-size.ensures.stays.same_bytes ∙ known))

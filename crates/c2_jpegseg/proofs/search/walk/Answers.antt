@@ -1,3 +1,4 @@
+use Rattle.std.proofs.lemmas.Result.{err_from_is_err_and}
 use Rattle.std.proofs.Common.{length, ◌≡◌, ◌∙◌, ◌-◌, sym, subst, refl, arith, Some}
 use Rattle.c2_spec.specs.Jpeg.Store.{SegmentFault, HasJpegStore}
 use Rattle.c2_jpegseg.specs.Runs.{collected, all_collected}
@@ -7,27 +8,29 @@ use Rattle.c2_jpegseg.proofs.Steps.{refuse-marker, refuse-end, store-here, no-st
 use Rattle.c2_jpegseg.proofs.WindowLemmas.{shows_same}
 use Rattle.c2_jpegseg.proofs.search.walk.Goals as goal
 
-pub returns-in-Err-clause-walked : goal.returns-in-Err-clause-walked
-returns-in-Err-clause-walked g c file known =
+pub returns-in_err-extent-clause-walked : goal.returns-in_err-extent-clause-walked
+returns-in_err-extent-clause-walked g c file known =
     let before = c.segments.invariant in
-    or_outside-map c.in-Err.error _ (SegmentFault file c.in-Err.error) (refuse-marker file c.segments.at (all_collected c.segments.run) c.in-Err.error (before.walks file known))
-    (c.in-Err.ensures.next file (before.stays.same_bytes ∙ known))
+    let p = err_from_is_err_and c.from_residual.result c.from_residual.ensures.1 in
+    rw (p.1, p.2) (or_outside-map c.in_err-extent.field-0.0 _ (SegmentFault file c.in_err-extent.field-0.0) (refuse-marker file c.segments.at (all_collected c.segments.run) c.in_err-extent.field-0.0 (before.walks file known))
+    (c.in_err-extent.ensures.next file (before.stays.same_bytes ∙ known)))
 
-pub returns-in-Err-step-clause-walked : goal.returns-in-Err-step-clause-walked
-returns-in-Err-step-clause-walked g c file known =
+pub returns-in_err-step-clause-walked : goal.returns-in_err-step-clause-walked
+returns-in_err-step-clause-walked g c file known =
     let before = c.segments.invariant in
     let known' = before.stays.same_bytes ∙ known in
-    let next = rw c.in-Ok-Segment.field-0-is at c.in-Ok-Segment.ensures.next in
+    let next = rw c.in-Segment.is at c.in_ok-extent.ensures.next in
     let size : length file ≡ g.S.Source.len c.args.source.now = g.met.S.Source.known_len c.args.source.now file known in
-    let shows = shows_same _ (length file) _ (Some file) _ (c.in-Ok-Segment.ensures.stays.same_len ∙ before.stays.same_len ∙ sym size) (c.in-Ok-Segment.ensures.stays.same_bytes ∙ known') c.in_ok-load_packet.ensures.shows in
-    c.in-Err-step.ensures.err file (record { extent = c.in-Ok-Segment.extent; walks = before.walks file known; stands = next file known'; ends = refl; packet_is = c.packet_at-packet.ensures.packet file shows })
+    let shows = shows_same _ (length file) _ (Some file) _ (c.in_ok-extent.ensures.stays.same_len ∙ before.stays.same_len ∙ sym size) (c.in_ok-extent.ensures.stays.same_bytes ∙ known') c.in_ok-load_packet.ensures.shows in
+    let p = err_from_is_err_and c.from_residual-in_err-step.result c.from_residual-in_err-step.ensures.1 in
+    rw (p.1, p.2) (c.in_err-step.ensures.err file (record { extent = c.in-Segment.extent; walks = before.walks file known; stands = next file known'; ends = refl; packet_is = c.packet_at-packet.ensures.packet file shows }))
 
 pub segments-preserved : goal.segments-preserved
 segments-preserved g c =
     let before = c.segments.invariant in
-    let next = rw c.in-Ok-Segment.field-0-is at c.in-Ok-Segment.ensures.next in
-    let by = rw c.in-Ok-Segment.field-0-is at c.in-Ok-Segment.ensures.inside in
-    let found = c.in-Ok-Segment.ensures in
+    let next = rw c.in-Segment.is at c.in_ok-extent.ensures.next in
+    let by = rw c.in-Segment.is at c.in_ok-extent.ensures.inside in
+    let found = c.in_ok-extent.ensures in
     let load = c.in_ok-load_packet.ensures in
     record {
       inside = by.inside;
@@ -38,31 +41,31 @@ segments-preserved g c =
       };
       count = load.cause.ok ∙ found.count ∙ before.count;
       shows = shows_same _ _ _ _ _ (found.stays.same_len ∙ before.stays.same_len) (found.stays.same_bytes ∙ before.stays.same_bytes) load.shows;
-      before = c.in-Ok.ensures.ends;
+      before = c.in_ok-step.ensures.ends;
       walks = λ file known.
           let known' = before.stays.same_bytes ∙ known in
           let size : length file ≡ g.S.Source.len c.args.source.now = g.met.S.Source.known_len c.args.source.now file known in
           let shows = shows_same _ (length file) _ (Some file) _ (found.stays.same_len ∙ before.stays.same_len ∙ sym size) (found.stays.same_bytes ∙ known') load.shows in
-          c.in-Ok.ensures.ok file (record { extent = c.in-Ok-Segment.extent; walks = before.walks file known; stands = next file known'; ends = refl; packet_is = c.packet_at-packet.ensures.packet file shows });
+          c.in_ok-step.ensures.ok file (record { extent = c.in-Segment.extent; walks = before.walks file known; stands = next file known'; ends = refl; packet_is = c.packet_at-packet.ensures.packet file shows });
     }
 
-pub returns-in_default-clause-walked : goal.returns-in_default-clause-walked
-returns-in_default-clause-walked g c file known =
+pub returns-in_default-run-clause-walked : goal.returns-in_default-run-clause-walked
+returns-in_default-run-clause-walked g c file known =
     let before = c.segments.invariant in
-    let next = rw c.in-Ok-End.field-0-is at c.in-Ok-End.ensures.next in
+    let next = rw c.in_default.is at c.in_ok-extent.ensures.next in
     let size : length file ≡ g.S.Source.len c.args.source.now = g.met.S.Source.known_len c.args.source.now file known in
-    no-store file c.segments.at (omega arith) (subst (λ r. Walks file c.segments.at (all_collected r)) c.in_default.is (before.walks file known)) (next file (before.stays.same_bytes ∙ known))
+    no-store file c.segments.at (omega arith) (subst (λ r. Walks file c.segments.at (all_collected r)) c.in_default-run.is (before.walks file known)) (next file (before.stays.same_bytes ∙ known))
 
 pub returns-then-len-run-clause-walked : goal.returns-then-len-run-clause-walked
 returns-then-len-run-clause-walked g c file known =
     let before = c.segments.invariant in
-    let next = rw c.in-Ok-End.field-0-is at c.in-Ok-End.ensures.next in
+    let next = rw c.in_default.is at c.in_ok-extent.ensures.next in
     refuse-end file c.segments.at (collected c.in-Some.run') (subst (λ r. Walks file c.segments.at (all_collected r)) c.in-Some.is (before.walks file known)) (next file (before.stays.same_bytes ∙ known)) (omega arith)
 
 pub returns-clause-walked : goal.returns-clause-walked
 returns-clause-walked g c file known =
     let before = c.segments.invariant in
-    let next = rw c.in-Ok-End.field-0-is at c.in-Ok-End.ensures.next in
+    let next = rw c.in_default.is at c.in_ok-extent.ensures.next in
     let size : length file ≡ g.S.Source.len c.args.source.now = g.met.S.Source.known_len c.args.source.now file known in
     subst (HasJpegStore file c.in-Some.run'.start (c.in-Some.run'.end - c.in-Some.run'.start)) (sym c.from_vec.ensures)
     (store-here file c.segments.at (collected c.in-Some.run') (omega arith) (subst (λ r. Walks file c.segments.at (all_collected r)) c.in-Some.is (before.walks file known)) (next file (before.stays.same_bytes ∙ known)) (omega arith))

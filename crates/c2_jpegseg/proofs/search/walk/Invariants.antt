@@ -17,5 +17,6 @@ invariant-segments g l = record {
   walks : ForSome (g.S.Source.known l.initial.source) (λ file. Walks file l.at (all_collected l.run));
 }
 
+-- what is left of the file
 abbrev pub decreases-segments : goal.decreases-segments
 decreases-segments g l = l.size - l.at

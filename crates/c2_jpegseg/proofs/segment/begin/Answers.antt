@@ -1,3 +1,4 @@
+use Rattle.std.proofs.lemmas.Result.{err_from_is_err_and}
 use Rattle.std.proofs.Common.{sym}
 use Rattle.c2_spec.specs.Jpeg.Store.{SegmentFault}
 use Rattle.c2_jpegseg.proofs.Outside.{or_outside-map}
@@ -10,9 +11,11 @@ returns-in_default-clause-ok c = λ file s. begin-no_packet file c.args.at c.arg
 pub returns-then-not-is_first-clause-ok : goal.returns-then-not-is_first-clause-ok
 returns-then-not-is_first-clause-ok c = λ file s. begin-other file c.args.at c.args.end c.args.packet c.in-Some.first s c.in-Some.is (sym c.if-not-is_first.ensures)
 
-pub returns-in-Ok-clause-ok : goal.returns-in-Ok-clause-ok
-returns-in-Ok-clause-ok c = λ file s. begin-start file c.args.at c.args.end c.args.packet c.in-Some.first _ s c.in-Some.is (sym c.if-not-is_first.ensures) c.in-Ok.ensures.passes c.in-Ok.ensures.started
+pub returns-clause-ok : goal.returns-clause-ok
+returns-clause-ok c = λ file s. begin-start file c.args.at c.args.end c.args.packet c.in-Some.first _ s c.in-Some.is (sym c.if-not-is_first.ensures) c.in_ok-start.ensures.passes c.in_ok-start.ensures.started
 
-pub returns-in-Err-clause-err : goal.returns-in-Err-clause-err
-returns-in-Err-clause-err c = λ file s. or_outside-map c.in-Err.error _ (SegmentFault file c.in-Err.error)
-    (begin-refused file c.args.at c.args.end c.args.packet c.in-Some.first c.in-Err.error s c.in-Some.is (sym c.if-not-is_first.ensures)) c.in-Err.ensures.fails
+pub returns-in_err-start-clause-err : goal.returns-in_err-start-clause-err
+returns-in_err-start-clause-err c =
+    let p = err_from_is_err_and c.from_residual.result c.from_residual.ensures.1 in
+    rw (p.1, p.2) (λ file s. or_outside-map c.in_err-start.field-0.0 _ (SegmentFault file c.in_err-start.field-0.0)
+    (begin-refused file c.args.at c.args.end c.args.packet c.in-Some.first c.in_err-start.field-0.0 s c.in-Some.is (sym c.if-not-is_first.ensures)) c.in_err-start.ensures.fails)
