@@ -1,4 +1,4 @@
--- A piece that goes behind the front of a buffer or of a written text.
+-- A piece after what a buffer or a written text holds already.
 use Rattle.std.proofs.Common.{◌≡◌, refl, ap, ◌∙◌, ℕ, ◌+◌, ◌-◌, ◌≤◌, List, ◌++◌, length, take, drop, arith}
 use Rattle.std.proofs.Math.Seq.{take-add, take-append-add}
 use Rattle.std.proofs.lemmas.List.{length-take-le, length-drop, take_all, take_at, drop-drop, append_assoc}
@@ -6,7 +6,7 @@ use Rattle.std.specs.declared.option.Option.{Option}
 use Rattle.std.specs.declared.option.Option.TheVariants.{Some, None}
 use Rattle.c2_base.specs.Sink.{then_written, spare_less}
 
--- what a read puts behind the `d` bytes that were read before
+-- what a read puts after the `d` bytes that were read before
 pub take_more-read : (bytes buf old piece post : List ℕ) (pos d n : ℕ) → d ≤ length buf → take d buf ≡ take d (drop pos bytes) → n ≤ length bytes - (pos + d) → piece ≡ take n (drop (pos + d) bytes) ++ old → take (d + n) (take d buf ++ (piece ++ post)) ≡ take (d + n) (drop pos bytes)
 take_more-read bytes buf old piece post pos d n in_buf front in_bytes is =
     let size : length (take d buf) ≡ d = length-take-le d buf in_buf in
@@ -18,7 +18,7 @@ take_more-read bytes buf old piece post pos d n in_buf front in_bytes is =
     let twice : drop d (drop pos bytes) ≡ drop (pos + d) bytes = drop-drop d pos bytes in
     cc
 
--- what an append puts behind the `d` bytes that were written before
+-- what an append puts after the `d` bytes that were written before
 pub then_written-more : (written : Option (List ℕ)) (bytes : List ℕ) (d n : ℕ) → then_written (then_written written (take d bytes)) (take n (drop d bytes)) ≡ then_written written (take (d + n) bytes)
 then_written-more None bytes d n = refl
 then_written-more (Some w) bytes d n =
@@ -26,11 +26,12 @@ then_written-more (Some w) bytes d n =
     let joined : (w ++ take d bytes) ++ take n (drop d bytes) ≡ w ++ (take d bytes ++ take n (drop d bytes)) = append_assoc w (take d bytes) (take n (drop d bytes)) in
     cc
 
+-- the same of the stated spare, which falls twice
 pub spare_less-more : (spare : Option ℕ) (d n : ℕ) → spare_less (spare_less spare d) n ≡ spare_less spare (d + n)
 spare_less-more None d n = refl
 spare_less-more (Some s) d n = let e : s - d - n ≡ s - (d + n) = omega arith in cc
 
--- a step of a loop that appends `bytes` from the front: w0 was written before the loop, w1 before the turn, w2 after it
+-- a step of a loop that appends `bytes` piece by piece: w0 was written before the loop, w1 before the turn, w2 after it
 pub written_step : (bytes : List ℕ) (d n : ℕ) (w0 w1 w2 : Option (List ℕ)) → w1 ≡ then_written w0 (take d bytes) → w2 ≡ then_written w1 (take n (take (length bytes - d) (drop d bytes))) → w2 ≡ then_written w0 (take (d + n) bytes)
 written_step bytes d n w0 w1 w2 before call =
     let piece : take (length bytes - d) (drop d bytes) ≡ drop d bytes = take_all _ _ (omega (arith, length-drop d bytes)) in

@@ -1,7 +1,7 @@
 pub mod Causes
 pub mod Source
 pub mod Sink
-pub mod Scripts
+pub mod InMemory
 pub mod Host
 pub mod ReadAll
 pub mod Media

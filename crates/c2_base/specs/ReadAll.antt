@@ -4,8 +4,8 @@ use Rattle.c2_base.specs.Causes.{Rose}
 use Rattle.c2_base.specs.declared.calls.ReadAllError.{ReadAllError}
 use Rattle.c2_base.specs.declared.calls.ReadAllError.TheVariants.{TooLong, ReadFault, NoMemory}
 
--- the cause of this error, where the source has `len` bytes and its count of faults went from `before` to `now`
-abbrev pub HasReason : ℕ → ℕ → ℕ → ℕ → ReadAllError → Type 0
-HasReason len most before now (TooLong n) = (n ≡ len) × (most < len) × (now ≡ before)
-HasReason len most before now ReadFault = Rose before now
-HasReason len most before now NoMemory = ⊤
+-- the cause of this error, where at most `most` bytes of a source were asked for: it has more, or its count of faults rose
+abbrev pub HasReason : {S : Type 0} → (S → ℕ) → (S → ℕ) → ℕ → S → S → ReadAllError → Type 0
+HasReason len faults most old new (TooLong n) = (n ≡ len old) × (most < len old) × (faults new ≡ faults old)
+HasReason len faults most old new ReadFault = Rose (faults old) (faults new)
+HasReason len faults most old new NoMemory = ⊤

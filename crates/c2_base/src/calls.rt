@@ -5,13 +5,14 @@ ghost use Rattle.c2_base.specs.Causes.{HasCause, Rose};
 ghost use Rattle.c2_base.specs.Source.{StaysSource, FilledAt};
 ghost use Rattle.c2_base.specs.declared.calls.ReadAllError.TheVariants.{ReadFault, NoMemory};
 ghost use Rattle.c2_base.specs.ReadAll.{HasReason};
-ghost use Rattle.c2_base.specs.Sink.{then_written, spare_less, OkWithinSpare, Takes};
+ghost use Rattle.c2_base.specs.Sink.{Appends, Spends, OkWithinSpare, TakesPrefix};
 
 use crate::{Blob, Failed, Sink, Source};
 use std::alloc::{AllocError, Global};
 use thiserror::Error;
 
-/// Fills `buf` with the bytes from `pos` on. Takes no memory. After `Failed` the buffer may hold some of them.
+/// Fills `buf` with the bytes from `pos` on, all of which the source must have. Takes no memory. After `Failed` the buffer
+/// may hold some of them.
 pub fn fill_at<S: Source>(source: &mut S, pos: u64, buf: &mut [u8]) -> Result<(), Failed>
     requires { pos + length buf.old ≤ S.len source.old }
     ensures stays { StaysSource S.len S.known S.faults source.old source.new }
@@ -26,11 +27,12 @@ pub fn fill_at<S: Source>(source: &mut S, pos: u64, buf: &mut [u8]) -> Result<()
     Ok(())
 }
 
-/// Appends all of `bytes`. Takes no memory. After `Failed` a front of them was appended.
+/// Appends all of `bytes`. Takes no memory. After `Failed` a prefix of them was appended. `Failed` doesn't come within the
+/// stated spare, and the sink isn't finished by it.
 pub fn write_all<K: Sink>(sink: &mut K, bytes: &[u8]) -> Result<(), Failed>
-    ensures written { OnOk result (K.written sink.new ≡ then_written (K.written sink.old) bytes.now) }
-    ensures spare { OnOk result (K.spare sink.new ≡ spare_less (K.spare sink.old) (length bytes.now)) }
-    ensures front { Takes bytes.now (K.written sink.old) (K.written sink.new) (K.spare sink.old) (K.spare sink.new) }
+    ensures written { OnOk result (Appends (K.written sink.old) (K.written sink.new) bytes.now) }
+    ensures spare { OnOk result (Spends (K.spare sink.old) (K.spare sink.new) (length bytes.now)) }
+    ensures prefix { TakesPrefix K.written K.spare bytes.now sink.old sink.new }
     ensures unfinished { K.finished sink.new ≡ K.finished sink.old }
     ensures cause { HasCause (K.faults sink.old) (K.faults sink.new) result }
     ensures within { OkWithinSpare (K.spare sink.old) (length bytes.now) result }
@@ -54,7 +56,7 @@ pub enum ReadAllError {
     #[error("the source failed")]
     ReadFault,
 
-    /// Memory ran out.
+    /// Out of memory.
     #[error("memory ran out")]
     NoMemory,
 }
@@ -75,14 +77,14 @@ impl From<AllocError> for ReadAllError {
     }
 }
 
-/// All bytes of the source, where these are at most `most`; `TooLong` exactly where they are more.
+/// All bytes of the source, where these are at most `most`; `TooLong` where they are more, before any is read.
 pub fn read_all<S: Source>(alloc: Global, source: &mut S, most: u64) -> Result<Blob, ReadAllError>
     ensures bytes { IfOk result (λ blob. ForSome (S.known source.old) (λ bytes. blob ≡ bytes)) }
     ensures len { IfOk result (λ blob. length blob ≡ S.len source.old) }
     ensures fits { OnOk result (S.len source.old ≤ most) }
     ensures stays { StaysSource S.len S.known S.faults source.old source.new }
     ensures count { OnOk result (S.faults source.new ≡ S.faults source.old) }
-    ensures reason { IfErr result (HasReason (S.len source.old) most (S.faults source.old) (S.faults source.new)) }
+    ensures reason { IfErr result (HasReason S.len S.faults most source.old source.new) }
 {
     let size = source.size()?;
     if size > most {

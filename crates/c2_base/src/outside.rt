@@ -4,7 +4,7 @@ ghost use Rattle.std.specs.declared.option.Option.{Option};
 ghost use Rattle.std.specs.Option.{ForSome};
 ghost use Rattle.c2_base.specs.Causes.{HasCause};
 ghost use Rattle.c2_base.specs.Source.{StaysSource, IsReadCount, ReadsAt};
-ghost use Rattle.c2_base.specs.Sink.{taken, then_written, spare_less, OkWithinSpare, IsAppendCount};
+ghost use Rattle.c2_base.specs.Sink.{taken, taken_len, Appends, Spends, OkWithinSpare, IsAppendCount};
 
 use std::alloc::{AllocError, AllocFailed};
 
@@ -12,7 +12,7 @@ use std::alloc::{AllocError, AllocFailed};
 #[derive(Clone, Copy, Debug, PartialEq, Eq)]
 pub struct Failed;
 
-/// Memory ran out.
+/// Out of memory.
 #[derive(Clone, Copy, Debug, PartialEq, Eq)]
 pub struct NoMemory;
 
@@ -47,26 +47,29 @@ pub trait Source {
         ensures cause { HasCause (faults self.old) (faults self.new) result }
         ensures length { IfOk result (λ n. n ≡ len self.old) };
 
-    /// Puts bytes from `pos` on at the front of `buf`, and says how many: 0 only where `pos` isn't below the length, or
-    /// `buf` is empty. Where the bytes are known, the rest of `buf` stays as it was.
+    /// Puts bytes from `pos` on into the first places of `buf`, and says how many: 0 only where `pos` isn't below the
+    /// length, or `buf` is empty. Where the bytes are known, the rest of `buf` stays as it was.
     fn read_at(&mut self, pos: u64, buf: &mut [u8]) -> Result<usize, Failed>
         ensures stays { StaysSource len known faults self.old self.new }
         ensures cause { HasCause (faults self.old) (faults self.new) result }
         ensures count { IfOk result (IsReadCount (len self.old) pos (length buf.old)) }
         ensures bytes { IfOk result (λ n. ReadsAt (known self.old) pos n buf.old buf.new) };
 
+    // known bytes are as many as the length says, and they are bytes
     ghost known_len: { (s : Self) → ForSome (known s) (λ bytes. length bytes ≡ len s) };
 
     ghost known_bytes: { (s : Self) → ForSome (known s) (All (λ b. b < 2 ^ 8)) };
 
+    // the length fits into 64 bits
     ghost fits: { (s : Self) → len s < 2 ^ 64 };
 }
 
 /// Takes bytes in order, and may fail to. Its count of faults never falls.
 pub trait Sink {
-    // what was written, where the sink tells it
+    // the bytes that were written, where they are known
     ghost written: { Self → Option (List ℕ) };
 
+    // whether nothing follows
     ghost finished: { Self → Bool };
 
     // how often it has failed
@@ -75,14 +78,14 @@ pub trait Sink {
     // how many bytes it surely takes, where it states that
     ghost spare: { Self → Option ℕ };
 
-    /// Takes bytes from the front of `bytes`, and says how many: 0 only of an empty piece. `Failed` has taken none.
+    /// Appends a prefix of `bytes`, and says how long it is: 0 only of an empty piece. `Failed` has taken none.
     fn append(&mut self, bytes: &[u8]) -> Result<usize, Failed>
         ensures count { IfOk result (IsAppendCount (length bytes.now)) }
-        ensures written { written self.new ≡ then_written (written self.old) (taken result bytes.now) }
+        ensures written { Appends (written self.old) (written self.new) (taken result bytes.now) }
         ensures unfinished { finished self.new ≡ finished self.old }
         ensures cause { HasCause (faults self.old) (faults self.new) result }
         ensures within { OkWithinSpare (spare self.old) (length bytes.now) result }
-        ensures spare { spare self.new ≡ spare_less (spare self.old) (length (taken result bytes.now)) };
+        ensures spare { Spends (spare self.old) (spare self.new) (taken_len result bytes.now) };
 
     /// Says that nothing follows.
     fn finish(&mut self) -> Result<(), Failed>

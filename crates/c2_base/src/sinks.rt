@@ -1,7 +1,6 @@
 // A sink in memory.
-ghost use Rattle.std.specs.Prelude.{◌≡◌, ◌≤◌, true, false, length, vec_len, [], is_err, IfOk, OnOk, OnErr};
+ghost use Rattle.std.specs.Prelude.{◌≡◌, ◌≤◌, vec_len, is_err, IfOk};
 ghost use Rattle.c2_base.specs.Causes.{HasCause};
-ghost use Rattle.c2_base.specs.Sink.{taken, then_written, spare_less, OkWithinSpare, IsAppendCount};
 
 use crate::{Failed, NoMemory, Sink};
 use std::alloc::Global;
@@ -23,14 +22,13 @@ pub struct MemSink {
 }
 
 impl MemSink {
-    ghost use Rattle.std.specs.Prelude.{if◌then◌else◌};
-    ghost use Rattle.c2_base.specs.Causes.{one_more};
-    ghost use Rattle.c2_base.specs.Scripts.{sink_script, is_due};
+    ghost use Rattle.c2_base.specs.Causes.{one_more, one_more_if};
+    ghost use Rattle.c2_base.specs.InMemory.{sink_state, fresh_sink, finish_fails};
 
     /// An empty sink, which takes `room` bytes in all. Its calls are counted from 1; where `fail_at` is 0, none fails by
     /// its number.
     pub fn with_room(alloc: Global, room: usize, fail_at: u64) -> Result<MemSink, NoMemory>
-        ensures { IfOk result (λ sink. sink_script sink ≡ record { bytes = []; room = room; fail_at = fail_at; calls = 0; faults = 0; finished = false }) }
+        ensures { IfOk result (λ sink. sink_state sink ≡ fresh_sink room fail_at) }
     {
         let bytes = vec![in alloc; 0; room]?;
         Ok(MemSink {
@@ -45,14 +43,14 @@ impl MemSink {
 
     /// What was written.
     pub fn bytes(&self) -> &[u8]
-        ensures { result.now ≡ (sink_script self.now).bytes }
+        ensures { result.now ≡ (sink_state self.now).bytes }
     {
         &self.bytes[..self.used]
     }
 
-    /// Whether the sink was told that nothing follows.
+    /// Whether `finish` was called, and succeeded.
     pub fn finished(&self) -> bool
-        ensures { result ≡ (sink_script self.now).finished }
+        ensures { result ≡ (sink_state self.now).finished }
     {
         self.finished
     }
@@ -60,7 +58,10 @@ impl MemSink {
     // Counts a call, and a fault where it failed.
     fn count(&mut self, failed: bool)
         ensures later { self.old.faults ≤ self.new.faults }
-        ensures same { self.new ≡ record self.old { calls = one_more self.old.calls; faults = if failed then one_more self.old.faults else self.old.faults } }
+        ensures same { self.new ≡ record self.old {
+          calls = one_more self.old.calls;
+          faults = one_more_if failed self.old.faults;
+        } }
     {
         self.calls = self.calls.saturating_add(1);
         if failed {
@@ -70,7 +71,7 @@ impl MemSink {
 
     // The next call is the one that fails.
     fn is_due(&self) -> bool
-        ensures { result ≡ is_due (sink_script self.now).calls (sink_script self.now).fail_at }
+        ensures { result ≡ finish_fails (sink_state self.now) }
     {
         self.calls.saturating_add(1) == self.fail_at
     }
@@ -78,9 +79,9 @@ impl MemSink {
 
 impl Sink for MemSink {
     ghost use Rattle.std.specs.Prelude.{◌==◌, ◌-◌, Some, None, if◌then◌else◌};
-    ghost use Rattle.c2_base.specs.Scripts.{sink_script, append_fails, after_append, after_finish, is_due, room_for};
+    ghost use Rattle.c2_base.specs.InMemory.{sink_state, append_fails, finish_fails, after_append, after_finish, room_for};
 
-    ghost written = { λ s. Some (sink_script s).bytes };
+    ghost written = { λ s. Some (sink_state s).bytes };
 
     ghost finished = { λ s. s.finished };
 
@@ -89,15 +90,10 @@ impl Sink for MemSink {
     ghost spare = { λ s. if s.fail_at == 0 then Some (vec_len s.bytes - s.used) else None };
 
     fn append(&mut self, bytes: &[u8]) -> Result<usize, Failed>
-        ensures count { IfOk result (IsAppendCount (length bytes.now)) }
-        ensures written { ⟦<MemSink as Sink>⟧.written self.new ≡ then_written (⟦<MemSink as Sink>⟧.written self.old) (taken result bytes.now) }
-        ensures unfinished { ⟦<MemSink as Sink>⟧.finished self.new ≡ ⟦<MemSink as Sink>⟧.finished self.old }
-        ensures cause { HasCause (⟦<MemSink as Sink>⟧.faults self.old) (⟦<MemSink as Sink>⟧.faults self.new) result }
-        ensures within { OkWithinSpare (⟦<MemSink as Sink>⟧.spare self.old) (length bytes.now) result }
-        ensures spare { ⟦<MemSink as Sink>⟧.spare self.new ≡ spare_less (⟦<MemSink as Sink>⟧.spare self.old) (length (taken result bytes.now)) }
-        ensures fails { is_err result ≡ append_fails (sink_script self.old) bytes.now }
-        ensures takes { IfOk result (λ n. n ≡ room_for (sink_script self.old) bytes.now) }
-        ensures script { sink_script self.new ≡ after_append (sink_script self.old) bytes.now }
+        ensures fails { is_err result ≡ append_fails (sink_state self.old) bytes.now }
+        ensures takes { IfOk result (λ n. n ≡ room_for (sink_state self.old) bytes.now) }
+        ensures cause { HasCause (sink_state self.old).faults (sink_state self.new).faults result }
+        ensures state { sink_state self.new ≡ after_append (sink_state self.old) bytes.now }
     {
         let room = self.bytes.len() - self.used;
         let failed = self.is_due() || (room == 0 && !bytes.is_empty());
@@ -113,14 +109,9 @@ impl Sink for MemSink {
     }
 
     fn finish(&mut self) -> Result<(), Failed>
-        ensures written { ⟦<MemSink as Sink>⟧.written self.new ≡ ⟦<MemSink as Sink>⟧.written self.old }
-        ensures finished { OnOk result (⟦<MemSink as Sink>⟧.finished self.new ≡ true) }
-        ensures unfinished { OnErr result (⟦<MemSink as Sink>⟧.finished self.new ≡ ⟦<MemSink as Sink>⟧.finished self.old) }
-        ensures cause { HasCause (⟦<MemSink as Sink>⟧.faults self.old) (⟦<MemSink as Sink>⟧.faults self.new) result }
-        ensures within { OkWithinSpare (⟦<MemSink as Sink>⟧.spare self.old) 0 result }
-        ensures spare { ⟦<MemSink as Sink>⟧.spare self.new ≡ ⟦<MemSink as Sink>⟧.spare self.old }
-        ensures fails { is_err result ≡ is_due (sink_script self.old).calls (sink_script self.old).fail_at }
-        ensures script { sink_script self.new ≡ after_finish (sink_script self.old) }
+        ensures fails { is_err result ≡ finish_fails (sink_state self.old) }
+        ensures cause { HasCause (sink_state self.old).faults (sink_state self.new).faults result }
+        ensures state { sink_state self.new ≡ after_finish (sink_state self.old) }
     {
         let failed = self.is_due();
         self.count(failed);

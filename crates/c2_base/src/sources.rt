@@ -1,7 +1,7 @@
 // Sources in memory.
-ghost use Rattle.std.specs.Prelude.{◌≡◌, ◌++◌, ◌^◌, ◌<◌, ◌≤◌, All, Some, None, length, take, drop, min, replicate, is_err, IfOk};
+ghost use Rattle.std.specs.Prelude.{◌≡◌, ◌^◌, ◌<◌, ◌≤◌, All, Ok, Some, None, length, is_err, IfOk};
 ghost use Rattle.c2_base.specs.Causes.{HasCause};
-ghost use Rattle.c2_base.specs.Source.{StaysSource, IsReadCount, ReadsAt, front_piece};
+ghost use Rattle.c2_base.specs.Source.{ReadsBytes, piece_then_zeros};
 
 use crate::{Blob, Failed, Source};
 
@@ -14,13 +14,13 @@ pub struct SureSource {
 }
 
 impl SureSource {
-    ghost use Rattle.c2_base.specs.Scripts.{sure_bytes};
+    ghost use Rattle.c2_base.specs.InMemory.{sure_bytes};
 
     /// A source of these bytes.
     pub fn new(bytes: Blob) -> SureSource
         ensures { sure_bytes result ≡ bytes }
     {
-        // Looking at the bytes shows that they are bytes, and no more than 2^64.
+        // Only the prover needs this line: looking at the bytes shows that they are bytes, fewer than 2^64.
         let _len = bytes.as_slice().len();
         SureSource { bytes }
     }
@@ -28,7 +28,7 @@ impl SureSource {
 
 impl Source for SureSource {
     ghost use Rattle.std.proofs.lemmas.Option.{same_Some};
-    ghost use Rattle.c2_base.specs.Scripts.{sure_bytes, readable};
+    ghost use Rattle.c2_base.specs.InMemory.{sure_bytes, readable};
 
     ghost len = { λ s. length s.bytes };
 
@@ -43,21 +43,16 @@ impl Source for SureSource {
     ghost fits = { λ s. s.fits };
 
     fn size(&mut self) -> Result<u64, Failed>
-        ensures stays { StaysSource ⟦<SureSource as Source>⟧.len ⟦<SureSource as Source>⟧.known ⟦<SureSource as Source>⟧.faults self.old self.new }
-        ensures cause { HasCause (⟦<SureSource as Source>⟧.faults self.old) (⟦<SureSource as Source>⟧.faults self.new) result }
-        ensures length { IfOk result (λ n. n ≡ ⟦<SureSource as Source>⟧.len self.old) }
+        ensures length { result ≡ Ok (length (sure_bytes self.old)) }
         ensures same { self.new ≡ self.old }
     {
         Ok(self.bytes.as_slice().len() as u64)
     }
 
     fn read_at(&mut self, pos: u64, buf: &mut [u8]) -> Result<usize, Failed>
-        ensures stays { StaysSource ⟦<SureSource as Source>⟧.len ⟦<SureSource as Source>⟧.known ⟦<SureSource as Source>⟧.faults self.old self.new }
-        ensures cause { HasCause (⟦<SureSource as Source>⟧.faults self.old) (⟦<SureSource as Source>⟧.faults self.new) result }
-        ensures count { IfOk result (IsReadCount (⟦<SureSource as Source>⟧.len self.old) pos (length buf.old)) }
-        ensures bytes { IfOk result (λ n. ReadsAt (⟦<SureSource as Source>⟧.known self.old) pos n buf.old buf.new) }
+        ensures gives { result ≡ Ok (readable (length (sure_bytes self.old)) pos (length buf.old)) }
+        ensures bytes { IfOk result (λ n. ReadsBytes (sure_bytes self.old) pos n buf.old buf.new) }
         ensures same { self.new ≡ self.old }
-        ensures gives { IfOk result (λ n. n ≡ readable (length (sure_bytes self.old)) pos (length buf.old)) }
     {
         let bytes = self.bytes.as_slice();
         if pos >= bytes.len() as u64 {
@@ -87,14 +82,14 @@ pub struct MemSource {
 }
 
 impl MemSource {
-    ghost use Rattle.c2_base.specs.Scripts.{source_script, after_call, is_due};
+    ghost use Rattle.c2_base.specs.InMemory.{source_state, fresh_source, IsCalled};
 
     /// A source of these bytes. Its calls are counted from 1 over both methods; where `fail_at` is 0, none fails.
     pub fn new(bytes: Blob, most: usize, fail_at: u64) -> MemSource
         requires { 0 < most }
-        ensures { source_script result ≡ record { bytes = bytes; most = most; fail_at = fail_at; calls = 0; faults = 0 } }
+        ensures { source_state result ≡ fresh_source bytes most fail_at }
     {
-        // Looking at the bytes shows that they are bytes, and no more than 2^64.
+        // Only the prover needs this line: looking at the bytes shows that they are bytes, fewer than 2^64.
         let _len = bytes.as_slice().len();
         MemSource {
             bytes,
@@ -107,9 +102,7 @@ impl MemSource {
 
     // Counts a call, and a fault where it is the one that fails.
     fn call(&mut self) -> Result<(), Failed>
-        ensures script { source_script self.new ≡ after_call (source_script self.old) }
-        ensures cause { HasCause self.old.faults self.new.faults result }
-        ensures fails { is_err result ≡ is_due self.old.calls self.old.fail_at }
+        ensures called { IsCalled (source_state self.old) (source_state self.new) result }
     {
         self.calls = self.calls.saturating_add(1);
         if self.calls == self.fail_at {
@@ -122,7 +115,7 @@ impl MemSource {
 
 impl Source for MemSource {
     ghost use Rattle.std.proofs.lemmas.Option.{same_Some};
-    ghost use Rattle.c2_base.specs.Scripts.{source_script, after_call, is_due, readable};
+    ghost use Rattle.c2_base.specs.InMemory.{source_state, IsCalled, IsReadOf};
 
     ghost len = { λ s. length s.bytes };
 
@@ -137,24 +130,16 @@ impl Source for MemSource {
     ghost fits = { λ s. s.fits };
 
     fn size(&mut self) -> Result<u64, Failed>
-        ensures stays { StaysSource ⟦<MemSource as Source>⟧.len ⟦<MemSource as Source>⟧.known ⟦<MemSource as Source>⟧.faults self.old self.new }
-        ensures cause { HasCause (⟦<MemSource as Source>⟧.faults self.old) (⟦<MemSource as Source>⟧.faults self.new) result }
-        ensures length { IfOk result (λ n. n ≡ ⟦<MemSource as Source>⟧.len self.old) }
-        ensures script { source_script self.new ≡ after_call (source_script self.old) }
-        ensures fails { is_err result ≡ is_due (source_script self.old).calls (source_script self.old).fail_at }
+        ensures called { IsCalled (source_state self.old) (source_state self.new) result }
+        ensures length { IfOk result (λ n. n ≡ length (source_state self.old).bytes) }
     {
         self.call()?;
         Ok(self.bytes.as_slice().len() as u64)
     }
 
     fn read_at(&mut self, pos: u64, buf: &mut [u8]) -> Result<usize, Failed>
-        ensures stays { StaysSource ⟦<MemSource as Source>⟧.len ⟦<MemSource as Source>⟧.known ⟦<MemSource as Source>⟧.faults self.old self.new }
-        ensures cause { HasCause (⟦<MemSource as Source>⟧.faults self.old) (⟦<MemSource as Source>⟧.faults self.new) result }
-        ensures count { IfOk result (IsReadCount (⟦<MemSource as Source>⟧.len self.old) pos (length buf.old)) }
-        ensures bytes { IfOk result (λ n. ReadsAt (⟦<MemSource as Source>⟧.known self.old) pos n buf.old buf.new) }
-        ensures script { source_script self.new ≡ after_call (source_script self.old) }
-        ensures fails { is_err result ≡ is_due (source_script self.old).calls (source_script self.old).fail_at }
-        ensures gives { IfOk result (λ n. n ≡ min (source_script self.old).most (readable (⟦<MemSource as Source>⟧.len self.old) pos (length buf.old))) }
+        ensures called { IsCalled (source_state self.old) (source_state self.new) result }
+        ensures gives { IfOk result (IsReadOf (source_state self.old) pos buf.old buf.new) }
     {
         self.call()?;
         let bytes = self.bytes.as_slice();
@@ -168,30 +153,30 @@ impl Source for MemSource {
     }
 }
 
-/// A source for tests of a given length, which makes no bytes known: those of `front`, and then zeros.
+/// A source for tests of a given length, which makes no bytes known: those of `prefix`, and then zeros.
 #[derive(Debug, Drop)]
 pub struct VastSource {
-    front: Blob,
+    prefix: Blob,
     size: u64,
     ghost fits: { size < 2 ^ 64 },
-    ghost in_size: { length front ≤ size },
+    ghost in_size: { length prefix ≤ size },
 }
 
 impl VastSource {
-    ghost use Rattle.c2_base.specs.Scripts.{vast_front, vast_size};
+    ghost use Rattle.c2_base.specs.InMemory.{vast_prefix, vast_size};
 
     /// A source of `size` bytes.
-    pub fn new(front: Blob, size: u64) -> VastSource
-        requires { length front ≤ size }
-        ensures front { vast_front result ≡ front }
+    pub fn new(prefix: Blob, size: u64) -> VastSource
+        requires { length prefix ≤ size }
+        ensures prefix { vast_prefix result ≡ prefix }
         ensures size { vast_size result ≡ size }
     {
-        VastSource { front, size }
+        VastSource { prefix, size }
     }
 }
 
 impl Source for VastSource {
-    ghost use Rattle.c2_base.specs.Scripts.{vast_front, vast_size, readable};
+    ghost use Rattle.c2_base.specs.InMemory.{vast_size, readable, ReadsVast};
 
     ghost len = { λ s. s.size };
 
@@ -206,40 +191,34 @@ impl Source for VastSource {
     ghost fits = { λ s. s.fits };
 
     fn size(&mut self) -> Result<u64, Failed>
-        ensures stays { StaysSource ⟦<VastSource as Source>⟧.len ⟦<VastSource as Source>⟧.known ⟦<VastSource as Source>⟧.faults self.old self.new }
-        ensures cause { HasCause (⟦<VastSource as Source>⟧.faults self.old) (⟦<VastSource as Source>⟧.faults self.new) result }
-        ensures length { IfOk result (λ n. n ≡ ⟦<VastSource as Source>⟧.len self.old) }
+        ensures length { result ≡ Ok (vast_size self.old) }
         ensures same { self.new ≡ self.old }
     {
         Ok(self.size)
     }
 
     fn read_at(&mut self, pos: u64, buf: &mut [u8]) -> Result<usize, Failed>
-        ensures stays { StaysSource ⟦<VastSource as Source>⟧.len ⟦<VastSource as Source>⟧.known ⟦<VastSource as Source>⟧.faults self.old self.new }
-        ensures cause { HasCause (⟦<VastSource as Source>⟧.faults self.old) (⟦<VastSource as Source>⟧.faults self.new) result }
-        ensures count { IfOk result (IsReadCount (⟦<VastSource as Source>⟧.len self.old) pos (length buf.old)) }
-        ensures bytes { IfOk result (λ n. ReadsAt (⟦<VastSource as Source>⟧.known self.old) pos n buf.old buf.new) }
+        ensures gives { result ≡ Ok (readable (vast_size self.old) pos (length buf.old)) }
+        ensures bytes { IfOk result (λ n. ReadsVast self.old pos n buf.old buf.new) }
         ensures same { self.new ≡ self.old }
-        ensures gives { IfOk result (λ n. n ≡ readable (vast_size self.old) pos (length buf.old)) }
-        ensures piece { IfOk result (λ n. buf.new ≡ front_piece (vast_front self.old) pos n ++ drop n buf.old) }
     {
         if pos >= self.size {
             return Ok(0);
         }
         let count = (self.size - pos).min(buf.len() as u64) as usize;
-        fill_front(self.front.as_slice(), pos, &mut buf[..count]);
+        fill_then_zeros(self.prefix.as_slice(), pos, &mut buf[..count]);
         Ok(count)
     }
 }
 
-// Fills a piece with the bytes from `pos` on of a front that zeros follow.
-fn fill_front(front: &[u8], pos: u64, piece: &mut [u8])
-    ensures { piece.new ≡ front_piece front.now pos (length piece.old) }
+// Fills a piece with what is at `pos` and after it, of these bytes and zeros after them.
+fn fill_then_zeros(bytes: &[u8], pos: u64, piece: &mut [u8])
+    ensures { piece.new ≡ piece_then_zeros bytes.now pos (length piece.old) }
 {
     piece.fill(0);
-    if pos < front.len() as u64 {
-        let rest = &front[pos as usize..];
-        let known = rest.len().min(piece.len());
-        piece[..known].copy_from_slice(&rest[..known]);
+    if pos < bytes.len() as u64 {
+        let rest = &bytes[pos as usize..];
+        let count = rest.len().min(piece.len());
+        piece[..count].copy_from_slice(&rest[..count]);
     }
 }

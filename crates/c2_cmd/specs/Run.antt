@@ -2,7 +2,7 @@
 use Rattle.std.specs.Prelude.{◌≡◌, ℕ, Bool, true, List, IsSome, ⊤}
 use Rattle.std.specs.declared.option.Option.{Option}
 use Rattle.c2_base.specs.Causes.{Rose}
-use Rattle.c2_base.specs.Sink.{then_written, HasWrittenFront}
+use Rattle.c2_base.specs.Sink.{then_written, HasWrittenPrefix}
 use Rattle.c2_base.specs.declared.values.Question.{Question}
 use Rattle.c2_spec.specs.declared.panel.Verdict.{Verdict}
 use Rattle.c2_spec.specs.Judges.Panel.{SomeRose}
@@ -32,7 +32,7 @@ pub record Delivers (text : List ℕ) (old new : Option (List ℕ)) (finished : 
 
 -- a sink took a front of a text and wasn't finished
 pub record Leaves (text : List ℕ) (old new : Option (List ℕ)) (was finished : Bool) : Type 0 where
-  pub front : HasWrittenFront old new text
+  pub front : HasWrittenPrefix old new text
   pub same : finished ≡ was
 
 -- the report after a run with this outcome and this status: all of the outcome's report, or after a fault or want of

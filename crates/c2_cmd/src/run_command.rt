@@ -2,7 +2,7 @@
 ghost use Rattle.std.specs.Prelude.{◌≡◌, ◌<◌, ◌≤◌, map, string_bytes, None, Some, true, false, OnOk, OnErr, IfOk, IfErr, List, [], vec_len};
 ghost use Rattle.c2_base.specs.Causes.{HasCause};
 ghost use Rattle.c2_base.specs.Source.{StaysSource};
-ghost use Rattle.c2_base.specs.Sink.{HasWrittenFront};
+ghost use Rattle.c2_base.specs.Sink.{HasWrittenPrefix};
 ghost use Rattle.c2_base.specs.declared.values.Question.{Question};
 ghost use Rattle.c2_spec.specs.Judges.Panel.{panel_says, NoneFell};
 ghost use Rattle.c2_cmd.specs.Words.{roles_of};
@@ -151,7 +151,7 @@ fn reply_to<H: Hashing, A: Source>(
 // Writes a reply's report and finishes it.
 fn deliver<W: Sink>(reply: &Reply, report: &mut W) -> Result<(), Failed>
     ensures delivered { OnOk result (Delivers (string_bytes reply.now.text) (W.written report.old) (W.written report.new) (W.finished report.new)) }
-    ensures front { HasWrittenFront (W.written report.old) (W.written report.new) (string_bytes reply.now.text) }
+    ensures front { HasWrittenPrefix (W.written report.old) (W.written report.new) (string_bytes reply.now.text) }
     ensures unfinished { OnErr result (W.finished report.new ≡ W.finished report.old) }
     ensures cause { HasCause (W.faults report.old) (W.faults report.new) result }
 {

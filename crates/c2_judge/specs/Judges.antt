@@ -1,7 +1,7 @@
 -- What the judges for tests hold, and what an ask changes.
 use Rattle.std.specs.Prelude.{ℕ, if◌then◌else◌}
 use Rattle.c2_base.specs.Causes.{one_more}
-use Rattle.c2_base.specs.Scripts.{is_due}
+use Rattle.c2_base.specs.InMemory.{is_due}
 use Rattle.c2_spec.specs.declared.panel.Verdict.{Verdict}
 use Rattle.c2_judge.specs.declared.fixed.FixedJudge.{FixedJudge}
 

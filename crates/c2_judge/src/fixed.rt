@@ -1,7 +1,7 @@
 // Judges for tests.
 ghost use Rattle.std.specs.Prelude.{◌≡◌, IfOk, IsErr, is_err};
 ghost use Rattle.c2_base.specs.Causes.{HasCause};
-ghost use Rattle.c2_base.specs.Scripts.{is_due};
+ghost use Rattle.c2_base.specs.InMemory.{is_due};
 ghost use Rattle.c2_spec.specs.Judges.Panel.{Counted};
 ghost use Rattle.c2_judge.specs.Judges.{judge_script, after_ask};
 
