@@ -1,7 +1,7 @@
 // A digest.
 use std::marker::Model;
 
-/// A digest, seen as its bytes.
+/// A digest: 32 bytes.
 #[derive(Clone, Copy, Debug, PartialEq, Eq)]
 pub struct Digest {
     bytes: [u8; 32],

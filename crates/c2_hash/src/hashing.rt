@@ -1,5 +1,5 @@
 // Hash functions.
-ghost use Rattle.std.specs.Prelude.{◌≡◌, ℕ, List, [], ◌++◌};
+ghost use Rattle.std.specs.Prelude.{◌≡◌, ℕ, List, []};
 
 use crate::{Alg, Digest};
 use sha2::{Digest as _, Sha256};
@@ -8,7 +8,9 @@ use sha2::{Digest as _, Sha256};
 pub trait Hashing {
     ghost use Rattle.c2_spec.specs.declared.digest.Alg.{Alg};
     ghost use Rattle.c2_spec.specs.Digest.{IsDigest};
+    ghost use Rattle.c2_hash.specs.Hashing.{Extends};
 
+    /// A running hash.
     type State: Drop;
 
     // the digest of a list
@@ -23,12 +25,14 @@ pub trait Hashing {
 
     /// Takes in further bytes.
     fn update(&self, state: &mut Self::State, bytes: &[u8])
-        ensures { (alg : Alg) (list : List ℕ) → holds state.old alg list → holds state.new alg (list ++ bytes.now) };
+        ensures { Extends holds state.old state.new bytes.now };
 
-    /// The digest of all that was taken in.
+    /// The digest of all bytes that were taken in.
     fn finish(&self, state: Self::State) -> Digest
-        ensures { (alg : Alg) (list : List ℕ) → holds state alg list → result ≡ digest_of alg list };
+        ensures { (alg : Alg) (list : List ℕ) → holds state alg list
+            → result ≡ digest_of alg list };
 
+    // each digest has its algorithm's length, and is made of bytes
     ghost is_digest: { (alg : Alg) (list : List ℕ) → IsDigest alg (digest_of alg list) };
 }
 
@@ -62,7 +66,7 @@ impl Hashing for Sha {
     }
 }
 
-/// The digest of a list.
+/// The digest of these bytes.
 pub fn digest_of<H: Hashing>(hashing: &H, alg: Alg, bytes: &[u8]) -> Digest
     ensures { result ≡ H.digest_of alg bytes.now }
 {
@@ -76,7 +80,7 @@ mod tests {
     use super::*;
     use hex::decode_to_slice;
 
-    // The vectors of FIPS 180-4 that everybody tests with: no bytes, and "abc".
+    // Two vectors of FIPS 180-4: no bytes, and "abc".
     const VECTORS: [(&str, &str); 2] = [
         (
             "",

@@ -1,6 +1,6 @@
 //! Digests behind a trait, so that all code above is proved for any hash.
 //!
-//! The names of the algorithms stand in `c2_spec`, module `Digest`. The crate takes no memory.
+//! The names of the algorithms stand in `c2_spec`, module `Digest`. Nothing here allocates.
 #![tactic(auto)]
 
 mod digest;

@@ -1,6 +1,6 @@
 -- Counts of a list of judges, before and after one of them is put back changed.
-use Rattle.std.proofs.Common.{◌≡◌, ℕ, ◌+◌, ◌<◌, ◌≤◌, Result, Ok, Err, OnOk, OnErr, IfOk, List, [], ◌∷◌, length, take, drop, map, get_or, set, refl, sym, ap, subst, ◌∙◌, arith}
-use Rattle.std.proofs.lemmas.List.{map-set, take-set, drop-set-lt, length-map, length-set, get_or-set_same, get_or-map, drop_more, drop-map}
+use Rattle.std.proofs.Common.{◌≡◌, ℕ, ◌+◌, ◌<◌, Result, Ok, Err, OnOk, OnErr, IfOk, List, ◌∷◌, length, drop, map, get_or, set, refl, sym, ap, ◌∙◌, arith}
+use Rattle.std.proofs.lemmas.List.{map-set, take-set, drop-set-lt, length-map, length-set, get_or-set_same, get_or-map, drop_more}
 use Rattle.std.proofs.Math.Seq.{map-set_same}
 use Rattle.c2_spec.specs.Judges.Panel.{Failing, MovedAt}
 

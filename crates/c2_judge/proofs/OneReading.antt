@@ -1,5 +1,5 @@
 -- A file has one list of rows or one first bad line, and never both.
-use Rattle.std.proofs.Common.{◌≡◌, ◌≢◌, ℕ, ◌+◌, ◌<◌, ◌≤◌, Bool, true, false, cond, eqb, ◌⊎◌, inl, inr, List, [], ◌∷◌, ◌++◌, length, map, take, drop, Option, Some, None, Ok, Err, refl, sym, ap, ◌∙◌, arith}
+use Rattle.std.proofs.Common.{◌≡◌, ◌≢◌, ℕ, ◌+◌, ◌<◌, ◌≤◌, false, eqb, ◌⊎◌, inl, inr, List, [], ◌∷◌, ◌++◌, length, map, take, drop, Some, Ok, Err, refl, sym, ap, ◌∙◌, arith}
 use Rattle.std.specs.Prelude.{All, unwrap_or}
 use Rattle.std.specs.BTreeMap.{BTreeMap}
 use Rattle.std.proofs.lemmas.Bool.{cases_Bool, eqb-true}
@@ -7,6 +7,7 @@ use Rattle.std.proofs.lemmas.List.{length-append, append_assoc, append-nil, map-
 use Rattle.std.proofs.lemmas.List.Elements.{All-head, All-tail, All-same}
 use Rattle.hex.specs.Hex.{encode_lower}
 use Rattle.hex.proofs.HexLemmas.{decode_of-encode_lower, decode_of-same}
+use Rattle.c2_base.specs.declared.limits.TheConstants.{MAX_INPUT_LEN}
 use Rattle.c2_base.specs.declared.values.Question.{Question}
 use Rattle.c2_spec.specs.declared.panel.Verdict.{Verdict}
 use Rattle.c2_spec.specs.declared.panel.Verdict.TheVariants.{Silent}
@@ -15,7 +16,7 @@ use Rattle.c2_spec.specs.declared.panel.ListError.{ListError}
 use Rattle.c2_spec.specs.declared.panel.ListError.TheVariants.{TooLarge, BadRow, NoMemory}
 use Rattle.c2_spec.specs.Judges.Panel.{verdict_name}
 use Rattle.c2_spec.specs.Judges.Question.{question_digest}
-use Rattle.c2_spec.specs.Judges.VerdictFile.{most_bytes, IsRow, line_of, lines_of, EndsOpen, HasRows, HasBadLine, BeginsWithRow, SaysFile, HasListReason, rows_say}
+use Rattle.c2_spec.specs.Judges.VerdictFile.{IsRow, line_of, lines_of, HasRows, HasBadLine, SaysFile, HasListReason, rows_say}
 use Rattle.c2_judge.specs.Reading.{has_feed, word_said, said_at, HasReadRows}
 use Rattle.c2_judge.proofs.Lines.{id_bytes, line_clean, front_of_line, word_of_line, word_read, cons_first, lines, lines-feed, lines-open, first_of}
 
@@ -64,11 +65,11 @@ lines-has rows file has =
     elim has.spelled [
       | inl e ↦ ap lines (e ∙ sym (append-nil (lines_of rows))) ∙ lines-rows rows [] has.are_rows ∙ append-nil (map line_of rows)
       | inr o ↦
-          let are : All IsRow (o.front ++ o.last ∷ []) = All-same IsRow (o.front ++ o.last ∷ []) rows (sym o.are) has.are_rows in
+          let are : All IsRow (o.before ++ o.last ∷ []) = All-same IsRow (o.before ++ o.last ∷ []) rows (sym o.are) has.are_rows in
           ap lines o.spelled
-          ∙ front_rows o.front o.last are (line_of o.last)
-          ∙ ap (λ ls. map line_of o.front ++ ls) (whole_line (line_of o.last) (line_some o.last) (line_clean o.last (last_row o.front o.last are)))
-          ∙ sym (map-append line_of o.front (o.last ∷ []))
+          ∙ front_rows o.before o.last are (line_of o.last)
+          ∙ ap (λ ls. map line_of o.before ++ ls) (whole_line (line_of o.last) (line_some o.last) (line_clean o.last (last_row o.before o.last are)))
+          ∙ sym (map-append line_of o.before (o.last ∷ []))
           ∙ ap (map line_of) (sym o.are)
     ]
 
@@ -182,14 +183,14 @@ apart n file rows has h =
 pub none_said : (file : List ℕ) (said : Question → Verdict) → SaysFile file said → (n : ℕ) → HasBadLine n file → ⊥
 none_said file said says n h = apart n file says.0 says.1 h
 
--- a file with rows is refused for want of memory alone
-pub only_memory : (file : List ℕ) (e : ListError) → HasListReason file e → (rows : List VerdictRow) → HasRows rows file → length file ≤ most_bytes → e ≡ NoMemory
+-- a file with rows is refused where memory runs out alone
+pub only_memory : (file : List ℕ) (e : ListError) → HasListReason file e → (rows : List VerdictRow) → HasRows rows file → length file ≤ MAX_INPUT_LEN → e ≡ NoMemory
 only_memory file (TooLarge n) reason rows has fits = let above = reason.1 in absurd (omega arith)
 only_memory file (BadRow n) reason rows has fits = absurd (apart n file rows has reason.0)
 only_memory file NoMemory reason rows has fits = refl
 
--- a file with a bad line is refused with its place, or for want of memory
-pub only_place : (file : List ℕ) (e : ListError) → HasListReason file e → (n : ℕ) → HasBadLine n file → length file ≤ most_bytes → (e ≡ BadRow n) ⊎ (e ≡ NoMemory)
+-- a file with a bad line is refused with its place, or where memory runs out
+pub only_place : (file : List ℕ) (e : ListError) → HasListReason file e → (n : ℕ) → HasBadLine n file → length file ≤ MAX_INPUT_LEN → (e ≡ BadRow n) ⊎ (e ≡ NoMemory)
 only_place file (TooLarge m) reason n h fits = let above = reason.1 in absurd (omega arith)
 only_place file (BadRow m) reason n h fits =
     let one = bad_front m file reason.0 in
@@ -200,10 +201,10 @@ only_place file (BadRow m) reason n h fits =
 only_place file NoMemory reason n h fits = inr refl
 
 -- the answers of the reading, as the public clauses say them
-pub says_file : (file : List ℕ) (verdicts : BTreeMap (List ℕ) Verdict) → HasReadRows file (Ok verdicts) → length file ≤ most_bytes → SaysFile file (λ q. said_at verdicts (question_digest q))
+pub says_file : (file : List ℕ) (verdicts : BTreeMap (List ℕ) Verdict) → HasReadRows file (Ok verdicts) → length file ≤ MAX_INPUT_LEN → SaysFile file (λ q. said_at verdicts (question_digest q))
 says_file file verdicts read fits = (read.0, read.1, fits, λ q. ap (λ o. unwrap_or o Silent) (read.2 (question_digest q)))
 
-pub reason_of : (file : List ℕ) (e : ListError) → HasReadRows file (Err e) → length file ≤ most_bytes → HasListReason file e
+pub reason_of : (file : List ℕ) (e : ListError) → HasReadRows file (Err e) → length file ≤ MAX_INPUT_LEN → HasListReason file e
 reason_of file (TooLarge n) read fits = absurd read
 reason_of file (BadRow n) read fits = (read, fits)
 reason_of file NoMemory read fits = tt

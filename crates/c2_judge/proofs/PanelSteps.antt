@@ -1,15 +1,17 @@
 -- One step of the panel, over plain lists of verdicts and counts.
-use Rattle.std.proofs.Common.{◌≡◌, ◌≢◌, ℕ, ◌+◌, ◌<◌, ◌≤◌, Result, Ok, Err, OnOk, OnErr, IfOk, List, [], ◌∷◌, length, take, drop, get_or, refl, sym, ap, subst, ◌∙◌, arith, below_more, add-zero, inl, inr, ◌-◌}
+use Rattle.std.proofs.Common.{◌≡◌, ◌≢◌, ℕ, ◌+◌, ◌<◌, ◌≤◌, Result, Ok, Err, OnErr, List, [], ◌∷◌, length, drop, get_or, refl, sym, ap, ◌∙◌, arith, below_more, add-zero, inl, inr, ◌-◌}
 use Rattle.std.proofs.lemmas.Bool.{cases_lt}
 use Rattle.std.proofs.lemmas.List.{get_or-take, get_or-drop, drop-drop, drop_more, drop_all}
 use Rattle.c2_spec.specs.declared.panel.Verdict.{Verdict}
 use Rattle.c2_spec.specs.declared.panel.Verdict.TheVariants.{Approved, Mismatch, Untrusted, Invalid, Silent}
 use Rattle.c2_spec.specs.Judges.Panel.{first_said, panel_size, Counted, Failing, MovedAt, MovedBelow, FailedAt, SomeRose, NoneFell}
 
+-- a fact of a failure, where it is one
 pub on_err : {T E P : Type 0} (r : Result T E) → P → OnErr r P
 on_err (Ok x) p = tt
 on_err (Err e) p = p
 
+-- a verdict other than Silent is the first said
 said_first : (v : Verdict) (vs : List Verdict) → v ≢ Silent → first_said (v ∷ vs) ≡ v
 said_first Approved vs loud = refl
 said_first Mismatch vs loud = refl
@@ -17,6 +19,7 @@ said_first Untrusted vs loud = refl
 said_first Invalid vs loud = refl
 said_first Silent vs loud = absurd (loud refl)
 
+-- after it nobody is asked
 size_first : (v : Verdict) (vs : List Verdict) → v ≢ Silent → panel_size (v ∷ vs) ≡ 1
 size_first Approved vs loud = refl
 size_first Mismatch vs loud = refl
@@ -24,6 +27,7 @@ size_first Untrusted vs loud = refl
 size_first Invalid vs loud = refl
 size_first Silent vs loud = absurd (loud refl)
 
+-- the first judge of a list is always asked
 size_some : (v : Verdict) (vs : List Verdict) → 1 ≤ panel_size (v ∷ vs)
 size_some Approved vs = omega arith
 size_some Mismatch vs = omega arith
@@ -37,22 +41,26 @@ answer_found said now i v same at so_far loud =
     let at' : drop i said ≡ v ∷ drop (i + 1) said = rw same at at in
     sym (so_far ∙ ap first_said at' ∙ said_first v (drop (i + 1) said) loud)
 
+-- the panel's size, found at its place
 pub size_found : (said now : List Verdict) (i : ℕ) (v : Verdict) → now ≡ said → drop i now ≡ v ∷ drop (i + 1) now → panel_size said ≡ i + panel_size (drop i said) → v ≢ Silent → panel_size said ≡ i + 1
 size_found said now i v same at so_far loud =
     let at' : drop i said ≡ v ∷ drop (i + 1) said = rw same at at in
     so_far ∙ ap (λ vs. i + panel_size vs) at' ∙ ap (λ n. i + n) (size_first v (drop (i + 1) said) loud)
 
+-- the panel's answer after one more judge that says Silent
 pub answer_more : (said now : List Verdict) (i : ℕ) (v : Verdict) → now ≡ said → drop i now ≡ v ∷ drop (i + 1) now → first_said said ≡ first_said (drop i said) → v ≡ Silent → first_said said ≡ first_said (drop (i + 1) said)
 answer_more said now i v same at so_far silent =
     let at' : drop i said ≡ v ∷ drop (i + 1) said = rw same at at in
     so_far ∙ ap first_said at' ∙ ap (λ w. first_said (w ∷ drop (i + 1) said)) silent
 
+-- the panel's size after one more judge that says Silent
 pub size_more : (said now : List Verdict) (i : ℕ) (v : Verdict) → now ≡ said → drop i now ≡ v ∷ drop (i + 1) now → panel_size said ≡ i + panel_size (drop i said) → v ≡ Silent → panel_size said ≡ (i + 1) + panel_size (drop (i + 1) said)
 size_more said now i v same at so_far silent =
     let at' : drop i said ≡ v ∷ drop (i + 1) said = rw same at at in
     let step : panel_size said ≡ i + (panel_size (drop (i + 1) said) + 1) = so_far ∙ ap (λ vs. i + panel_size vs) at' ∙ ap (λ w. i + panel_size (w ∷ drop (i + 1) said)) silent in
     omega arith
 
+-- counts below a place moved, and then that at the place
 pub MovedBelow-more : (Step : ℕ → ℕ → Type 0) (i : ℕ) (before middle now : List ℕ) → MovedBelow Step i before middle → MovedAt Step i middle now → MovedBelow Step (i + 1) before now
 MovedBelow-more Step i before middle now below at = record {
   same_length = at.same_length ∙ below.same_length;
@@ -65,6 +73,7 @@ MovedBelow-more Step i before middle now below at = record {
   later = at.later ∙ sym (drop-drop 1 i middle) ∙ ap (λ l. drop 1 l) below.later ∙ drop-drop 1 i before;
 }
 
+-- the judge at a place that was reached was due
 due : (said : List Verdict) (i : ℕ) → i < length said → panel_size said ≡ i + panel_size (drop i said) → i < panel_size said
 due said i lt size =
     let here : 1 ≤ panel_size (drop i said) = rw (drop_more said i Silent lt) (size_some (get_or said i Silent) (drop (i + 1) said)) in
@@ -78,10 +87,15 @@ failed_at i said now a b c d e f same lt size below at kept failed = record {
   failed = rw kept at failed;
 }
 
--- all were asked
+-- where all said Silent, the panel says so
+pub answer_all : (said : List Verdict) (i : ℕ) → length said ≤ i → first_said said ≡ first_said (drop i said) → Silent ≡ first_said said
+answer_all said i past so_far = sym (so_far ∙ ap first_said (drop_all i said past))
+
+-- where all said Silent, all were asked
 pub size_all : (said : List Verdict) (i : ℕ) → length said ≤ i → panel_size said ≡ i + panel_size (drop i said) → panel_size said ≡ i
 size_all said i past size = size ∙ ap (λ vs. i + panel_size vs) (drop_all i said past) ∙ add-zero i
 
+-- no more judges are asked than there are
 size_bound : (said : List Verdict) → panel_size said ≤ length said
 size_bound [] = omega arith
 size_bound (Silent ∷ vs) = let h : panel_size vs ≤ length vs = size_bound vs in omega arith
@@ -110,12 +124,15 @@ below_none_fell Step up n before now moved i lt =
           omega arith
     ]
 
+-- counts that rose by one each
 pub counted_none_fell : (n : ℕ) (before now : List ℕ) → MovedBelow Counted n before now → NoneFell before now
 counted_none_fell n before now moved = below_none_fell Counted (λ a b step. step.later) n before now moved
 
+-- counts that stand
 pub same_none_fell : (before now : List ℕ) → now ≡ before → NoneFell before now
 same_none_fell before now same i lt = rw same (omega arith)
 
+-- counts of which one rose
 pub failing_none_fell : (i : ℕ) (before middle now : List ℕ) → middle ≡ before → MovedAt Failing i middle now → NoneFell before now
 failing_none_fell i before middle now kept failed = below_none_fell (λ a b. a ≤ b) (λ a b le. le) (i + 1) before now (rw kept at (MovedBelow-more (λ a b. a ≤ b) i middle middle now (standing i middle) (weaker i middle now failed)))
   where

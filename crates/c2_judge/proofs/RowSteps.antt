@@ -1,5 +1,5 @@
 -- Reading rows one after another.
-use Rattle.std.proofs.Common.{◌≡◌, ◌≢◌, ℕ, ◌+◌, ◌<◌, Bool, true, false, cond, ◌⊎◌, inl, inr, List, [], ◌∷◌, ◌++◌, length, Option, Some, None, Result, Ok, Err, OnOk, refl, sym, ap, ◌∙◌, arith}
+use Rattle.std.proofs.Common.{◌≡◌, ◌≢◌, ℕ, ◌+◌, ◌<◌, false, cond, ◌⊎◌, inl, inr, List, [], ◌∷◌, ◌++◌, length, Option, Some, None, Result, Ok, Err, OnOk, refl, sym, ap, ◌∙◌, arith}
 use Rattle.std.specs.Option.{option_or, is_some}
 use Rattle.std.specs.Result.{is_err}
 use Rattle.std.specs.Ordering.{is_eq, nat_cmp}
@@ -13,14 +13,16 @@ use Rattle.std.proofs.lemmas.List.{length-append, append_assoc}
 use Rattle.std.proofs.lemmas.List.Elements.{All-push}
 use Rattle.c2_spec.specs.declared.panel.Verdict.{Verdict}
 use Rattle.c2_spec.specs.declared.panel.VerdictRow.{VerdictRow}
-use Rattle.c2_spec.specs.Judges.VerdictFile.{IsRow, line_of, lines_of, EndsOpen, HasRows, HasBadLine, BeginsWithRow, listed}
-use Rattle.c2_judge.specs.Reading.{FirstLine, at_id, AddsRow, Lists, Progress}
+use Rattle.c2_spec.specs.Judges.VerdictFile.{IsRow, line_of, lines_of, EndsOpen, HasBadLine, listed}
+use Rattle.c2_judge.specs.Reading.{FirstLine, at_id, AddsRow, Progress}
 use Rattle.c2_judge.proofs.Lines.{line_clean, same_line}
 
+-- nothing in place of nothing
 or_none : (o : Option Verdict) → option_or o None ≡ o
 or_none None = refl
 or_none (Some v) = refl
 
+-- what isn't some is none
 none_there : (o : Option Verdict) → is_some o ≡ false → o ≡ None
 none_there None h = refl
 none_there (Some v) h = cc h
@@ -40,18 +42,20 @@ adds_new old new row absent puts id =
           rw other (kept ∙ sym (or_none (at_id old id)))
     ]
 
+-- the lines of rows and one more row
 lines_of-push : (rows : List VerdictRow) (row : VerdictRow) → lines_of (rows ++ row ∷ []) ≡ lines_of rows ++ (line_of row ++ 0x0A ∷ [])
 lines_of-push [] row = refl
 lines_of-push (first ∷ rows) row =
     ap (λ t. line_of first ++ 0x0A ∷ t) (lines_of-push rows row) ∙ sym (append_assoc (line_of first) (0x0A ∷ lines_of rows) (line_of row ++ 0x0A ∷ []))
 
--- a further line in front of what is behind it
+-- a further line before what comes after it
 lines_of-more : (rows : List VerdictRow) (row : VerdictRow) (behind : List ℕ) → lines_of (rows ++ row ∷ []) ++ behind ≡ lines_of rows ++ (line_of row ++ 0x0A ∷ behind)
 lines_of-more rows row behind =
     ap (λ t. t ++ behind) (lines_of-push rows row)
     ∙ append_assoc (lines_of rows) (line_of row ++ 0x0A ∷ []) behind
     ∙ ap (λ t. lines_of rows ++ t) (append_assoc (line_of row) (0x0A ∷ []) behind)
 
+-- the verdict of an id in rows and one more row
 listed-push : (rows : List VerdictRow) (row : VerdictRow) (id : List ℕ) → listed (rows ++ row ∷ []) id ≡ option_or (listed rows id) (listed (row ∷ []) id)
 listed-push [] row id = refl
 listed-push (first ∷ rows) row id =
@@ -77,7 +81,7 @@ progress_more rows row file rest line behind number old new so_far some first is
   where
     spells : ((rest ≡ line ++ 0x0A ∷ behind) ⊎ ((rest ≡ line) × (behind ≡ []))) → file ≡ lines_of rows ++ rest → (file ≡ lines_of (rows ++ row ∷ []) ++ behind) ⊎ ((behind ≡ []) × EndsOpen (rows ++ row ∷ []) file)
     spells (inl e) all = inl (all ∙ ap (λ t. lines_of rows ++ t) (e ∙ ap (λ t. t ++ 0x0A ∷ behind) is) ∙ sym (lines_of-more rows row behind))
-    spells (inr h) all = inr (h.1, record { front = rows; last = row; are = refl; spelled = all ∙ ap (λ t. lines_of rows ++ t) (h.0 ∙ is) })
+    spells (inr h) all = inr (h.1, record { before = rows; last = row; are = refl; spelled = all ∙ ap (λ t. lines_of rows ++ t) (h.0 ∙ is) })
 
 -- the next line is no row's
 pub bad_line : (rows : List VerdictRow) (file rest line behind : List ℕ) (number : ℕ) (verdicts : BTreeMap (List ℕ) Verdict) → Progress rows file rest number verdicts → 0 < length rest → FirstLine rest line behind → ((row : VerdictRow) → IsRow row → line ≢ line_of row) → HasBadLine (number + 1) file
@@ -91,6 +95,7 @@ bad_line rows file rest line behind number verdicts so_far some first none = rec
   bad = λ begins. none begins.0 begins.1 (same_line rest line behind (line_of begins.0) first some (line_clean begins.0 begins.1) begins.2);
 }
 
+-- a fact of a success, where it is one
 pub on_success : {T E P : Type 0} (r : Result T E) → is_err r ≡ false → OnOk r P → P
 on_success (Ok v) h p = p
 on_success (Err e) h p = absurd (cc h)

@@ -29,7 +29,7 @@ pub fn read_rows(alloc: Global, bytes: &[u8]) -> Result<Verdicts, ListError>
     let mut rest = bytes;
     let mut number = 0;
     'lines: while !rest.is_empty() {
-        let (line, behind) = split_line(rest);
+        let (line, after) = split_line(rest);
         number += 1;
         let Some(row) = read_row(line) else {
             return Err(ListError::BadRow(number));
@@ -37,7 +37,7 @@ pub fn read_rows(alloc: Global, bytes: &[u8]) -> Result<Verdicts, ListError>
         if add_row(&mut verdicts, row).is_err() {
             return Err(ListError::NoMemory);
         }
-        rest = behind;
+        rest = after;
     }
     Ok(verdicts)
 }

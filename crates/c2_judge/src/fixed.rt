@@ -1,9 +1,7 @@
 // Judges for tests.
-ghost use Rattle.std.specs.Prelude.{◌≡◌, IfOk, IsErr, is_err};
-ghost use Rattle.c2_base.specs.Causes.{HasCause};
-ghost use Rattle.c2_base.specs.InMemory.{is_due};
+ghost use Rattle.std.specs.Prelude.{◌≡◌, IsErr};
 ghost use Rattle.c2_spec.specs.Judges.Panel.{Counted};
-ghost use Rattle.c2_judge.specs.Judges.{judge_script, after_ask};
+ghost use Rattle.c2_judge.specs.Judges.{judge_state, fresh_judge, IsAsked, broken_asked};
 
 use crate::{Judge, JudgeFailed, Verdict};
 use c2_base::Question;
@@ -23,7 +21,7 @@ pub struct FixedJudge {
 impl FixedJudge {
     /// A judge that says this verdict. Its asks are counted from 1; where `fail_at` is 0, none fails.
     pub fn new(verdict: Verdict, fail_at: u64) -> FixedJudge
-        ensures { judge_script result ≡ record { verdict = verdict; fail_at = fail_at; asked = 0; faults = 0 } }
+        ensures { judge_state result ≡ fresh_judge verdict fail_at }
     {
         FixedJudge {
             verdict,
@@ -42,12 +40,7 @@ impl Judge for FixedJudge {
     ghost judge_faults = { λ j. j.faults };
 
     fn ask(&mut self, _q: &Question) -> Result<Verdict, JudgeFailed>
-        ensures answer { IfOk result (λ verdict. verdict ≡ ⟦<FixedJudge as Judge>⟧.says self.old _q.now) }
-        ensures same { ⟦<FixedJudge as Judge>⟧.says self.new ≡ ⟦<FixedJudge as Judge>⟧.says self.old }
-        ensures counted { Counted (⟦<FixedJudge as Judge>⟧.asked_times self.old) (⟦<FixedJudge as Judge>⟧.asked_times self.new) }
-        ensures cause { HasCause (⟦<FixedJudge as Judge>⟧.judge_faults self.old) (⟦<FixedJudge as Judge>⟧.judge_faults self.new) result }
-        ensures script { judge_script self.new ≡ after_ask (judge_script self.old) }
-        ensures fails { is_err result ≡ is_due (judge_script self.old).asked (judge_script self.old).fail_at }
+        ensures { IsAsked (judge_state self.old) (judge_state self.new) result }
     {
         self.asked = self.asked.saturating_add(1);
         if self.asked == self.fail_at {
@@ -62,7 +55,7 @@ impl Judge for FixedJudge {
     }
 }
 
-/// A judge that fails at each ask, as one whose verdict file can't be read.
+/// A judge that fails at each ask, and says `Silent` of each question: one whose verdict file can't be read.
 #[derive(Debug, Drop)]
 pub struct BrokenJudge {
     asked: u64,
@@ -71,8 +64,7 @@ pub struct BrokenJudge {
 impl BrokenJudge {
     /// A judge that was never asked.
     pub fn new() -> BrokenJudge
-        ensures asked { ⟦<BrokenJudge as Judge>⟧.asked_times result ≡ 0 }
-        ensures faults { ⟦<BrokenJudge as Judge>⟧.judge_faults result ≡ 0 }
+        ensures { broken_asked result ≡ 0 }
     {
         BrokenJudge { asked: 0 }
     }
@@ -88,11 +80,8 @@ impl Judge for BrokenJudge {
     ghost judge_faults = { λ j. j.asked };
 
     fn ask(&mut self, _q: &Question) -> Result<Verdict, JudgeFailed>
-        ensures answer { IfOk result (λ verdict. verdict ≡ ⟦<BrokenJudge as Judge>⟧.says self.old _q.now) }
-        ensures same { ⟦<BrokenJudge as Judge>⟧.says self.new ≡ ⟦<BrokenJudge as Judge>⟧.says self.old }
-        ensures counted { Counted (⟦<BrokenJudge as Judge>⟧.asked_times self.old) (⟦<BrokenJudge as Judge>⟧.asked_times self.new) }
-        ensures cause { HasCause (⟦<BrokenJudge as Judge>⟧.judge_faults self.old) (⟦<BrokenJudge as Judge>⟧.judge_faults self.new) result }
         ensures fails { IsErr result }
+        ensures counted { Counted (broken_asked self.old) (broken_asked self.new) }
     {
         self.asked = self.asked.saturating_add(1);
         Err(JudgeFailed)

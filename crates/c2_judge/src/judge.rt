@@ -8,7 +8,7 @@ ghost use Rattle.c2_spec.specs.Judges.Panel.{Counted};
 use crate::Verdict;
 use c2_base::Question;
 
-/// A judge gave no answer. Its count of faults rose then, or stands at its counter's last value.
+/// A judge failed to answer. Its count of faults rose then, or stands at its counter's last value.
 #[derive(Clone, Copy, Debug, PartialEq, Eq)]
 pub struct JudgeFailed;
 

@@ -1,7 +1,7 @@
 //! Judges of signatures: what a judge means, a panel of them, and judges by a verdict file.
 //!
-//! A question, its bytes, what a panel says and how a verdict file is spelled stand in `c2_spec`, modules `Question`,
-//! `Panel` and `VerdictFile`. The library takes boxed judges from its caller; it makes none.
+//! A question's bytes, what a panel says and how a verdict file is spelled stand in `c2_spec`, modules `Judges.Question`,
+//! `Judges.Panel` and `Judges.VerdictFile`. The library takes boxed judges from its caller; it makes none.
 #![tactic(auto)]
 
 mod file;

@@ -1,22 +1,20 @@
 // A judge by a verdict file.
-ghost use Rattle.std.specs.Prelude.{◌≡◌, ℕ, ◌≤◌, ◌<◌, ◌⊎◌, List, length, Err, IfOk, IfErr, IsOk, MatchResult};
-ghost use Rattle.c2_base.specs.Causes.{HasCause};
+ghost use Rattle.std.specs.Prelude.{◌≡◌, ℕ, ◌≤◌, ◌<◌, ◌⊎◌, List, length, Err, Ok, IfOk, IfErr, IsErrAnd, MatchResult};
+ghost use Rattle.c2_base.specs.declared.limits.TheConstants.{MAX_INPUT_LEN};
 ghost use Rattle.c2_spec.specs.Judges.Panel.{Counted};
 ghost use Rattle.c2_spec.specs.Judges.Question.{question_digest};
-ghost use Rattle.c2_base.specs.declared.values.Question.{Question};
 ghost use Rattle.c2_spec.specs.declared.panel.VerdictRow as row_type;
 ghost use Rattle.c2_spec.specs.declared.panel.ListError.TheVariants as error;
-ghost use Rattle.c2_spec.specs.Judges.VerdictFile.{most_bytes, HasRows, HasBadLine, SaysFile, HasListReason, rows_say};
+ghost use Rattle.c2_spec.specs.Judges.VerdictFile.{HasRows, HasBadLine, SaysFile, SaysRows, HasListReason};
+ghost use Rattle.c2_judge.specs.Judges.{list_says, list_asked};
 ghost use Rattle.c2_judge.specs.Reading.{said_at};
 
 use crate::file::{Verdicts, read_rows};
 use crate::question::question_id;
 use crate::{Judge, JudgeFailed, ListError, Verdict};
 use c2_base::Question;
+use c2_base::limits::MAX_INPUT_LEN;
 use std::alloc::Global;
-
-/// The most bytes that a verdict file may have.
-const MOST_BYTES: usize = 1_048_576;
 
 /// A judge that says what a verdict file lists, and `Silent` of all other questions. It never fails.
 #[derive(Drop)]
@@ -33,22 +31,22 @@ impl ListJudge {
     /// first holds. `TooLarge` comes above 1,048,576 bytes, and then no line is read; `BadRow` has the first line, from 1,
     /// that hasn't this form.
     pub fn read(alloc: Global, bytes: &[u8]) -> Result<ListJudge, ListError>
-        ensures ok { IfOk result (λ judge. SaysFile bytes.now (⟦<ListJudge as Judge>⟧.says judge)) }
+        ensures ok { IfOk result (λ judge. SaysFile bytes.now (list_says judge)) }
         ensures err { IfErr result (HasListReason bytes.now) }
         // What the file holds is answered.
-        ensures only_rows { (rows : List row_type.VerdictRow) → HasRows rows bytes.now → length bytes.now ≤ most_bytes → MatchResult result (λ judge. (q : Question) → ⟦<ListJudge as Judge>⟧.says judge q ≡ rows_say rows q) (λ e. e ≡ error.NoMemory) }
-        ensures only_bad { (n : ℕ) → HasBadLine n bytes.now → length bytes.now ≤ most_bytes → MatchResult result (λ _. ⊥) (λ e. (e ≡ error.BadRow n) ⊎ (e ≡ error.NoMemory)) }
-        ensures only_large { most_bytes < length bytes.now → result ≡ Err (error.TooLarge (length bytes.now)) }
-        ensures asked { IfOk result (λ judge. ⟦<ListJudge as Judge>⟧.asked_times judge ≡ 0) }
-        ensures faults { IfOk result (λ judge. ⟦<ListJudge as Judge>⟧.judge_faults judge ≡ 0) }
+        ensures only_rows { (rows : List row_type.VerdictRow) → HasRows rows bytes.now
+            → length bytes.now ≤ MAX_INPUT_LEN
+            → MatchResult result (λ judge. SaysRows rows (list_says judge)) (λ e. e ≡ error.NoMemory) }
+        ensures only_bad { (n : ℕ) → HasBadLine n bytes.now → length bytes.now ≤ MAX_INPUT_LEN
+            → IsErrAnd result (λ e. (e ≡ error.BadRow n) ⊎ (e ≡ error.NoMemory)) }
+        ensures only_large { MAX_INPUT_LEN < length bytes.now
+            → result ≡ Err (error.TooLarge (length bytes.now)) }
+        ensures asked { IfOk result (λ judge. list_asked judge ≡ 0) }
     {
-        if bytes.len() > MOST_BYTES {
+        if bytes.len() as u64 > MAX_INPUT_LEN {
             return Err(ListError::TooLarge(bytes.len() as u64));
         }
-        let verdicts = match read_rows(alloc, bytes) {
-            Ok(verdicts) => verdicts,
-            Err(error) => return Err(error),
-        };
+        let verdicts = read_rows(alloc, bytes)?;
         Ok(ListJudge { verdicts, asked: 0 })
     }
 }
@@ -73,11 +71,9 @@ impl Judge for ListJudge {
     ghost judge_faults = { λ _. 0 };
 
     fn ask(&mut self, q: &Question) -> Result<Verdict, JudgeFailed>
-        ensures answer { IfOk result (λ verdict. verdict ≡ ⟦<ListJudge as Judge>⟧.says self.old q.now) }
-        ensures same { ⟦<ListJudge as Judge>⟧.says self.new ≡ ⟦<ListJudge as Judge>⟧.says self.old }
-        ensures counted { Counted (⟦<ListJudge as Judge>⟧.asked_times self.old) (⟦<ListJudge as Judge>⟧.asked_times self.new) }
-        ensures cause { HasCause (⟦<ListJudge as Judge>⟧.judge_faults self.old) (⟦<ListJudge as Judge>⟧.judge_faults self.new) result }
-        ensures never_fails { IsOk result }
+        ensures answer { result ≡ Ok (list_says self.old q.now) }
+        ensures same { list_says self.new ≡ list_says self.old }
+        ensures counted { Counted (list_asked self.old) (list_asked self.new) }
     {
         self.asked = self.asked.saturating_add(1);
         Ok(look_up(&self.verdicts, q))

@@ -1,6 +1,7 @@
 // A panel of judges.
-ghost use Rattle.std.specs.Prelude.{◌≡◌, ◌∷◌, ℕ, ◌+◌, ◌<◌, map, drop, IfOk, OnOk, OnErr, vec_len};
-ghost use Rattle.c2_spec.specs.Judges.Panel.{verdicts, panel_says, panel_size, Counted, Failing, MovedAt, MovedBelow, FailedAt, SomeRose, NoneFell};
+ghost use Rattle.std.specs.Prelude.{◌≡◌, ◌<◌, IfOk, OnOk, OnErr, vec_len};
+ghost use Rattle.c2_spec.specs.Judges.Panel.{Counted, Failing, judges_of, LeavesJudges, AsksPanel};
+ghost use Rattle.c2_judge.specs.Judges.{AsksAt};
 
 use crate::{Judge, JudgeFailed, Verdict};
 use c2_base::Question;
@@ -20,11 +21,11 @@ fn ask_one(judge: &mut Box<dyn Judge>, q: &Question) -> Result<Verdict, JudgeFai
 fn ask_at(judges: &mut Vec<Box<dyn Judge>>, i: usize, q: &Question) -> Result<Verdict, JudgeFailed>
     requires { i < vec_len judges.old }
     ensures len { vec_len judges.new ≡ vec_len judges.old }
-    ensures answer { IfOk result (λ verdict. drop i (verdicts (map (λ j. says j) judges.old.items) q.now) ≡ verdict ∷ drop (i + 1) (verdicts (map (λ j. says j) judges.old.items) q.now)) }
-    ensures same { map (λ j. says j) judges.new.items ≡ map (λ j. says j) judges.old.items }
-    ensures counted { MovedAt Counted i (map (λ j. asked_times j) judges.old.items) (map (λ j. asked_times j) judges.new.items) }
-    ensures ok { OnOk result (map (λ j. judge_faults j) judges.new.items ≡ map (λ j. judge_faults j) judges.old.items) }
-    ensures cause { OnErr result (MovedAt Failing i (map (λ j. judge_faults j) judges.old.items) (map (λ j. judge_faults j) judges.new.items)) }
+    ensures asks { let old = judges_of (λ j. says j) (λ j. asked_times j) (λ j. judge_faults j)
+        judges.old.items in
+        let new = judges_of (λ j. says j) (λ j. asked_times j) (λ j. judge_faults j)
+        judges.new.items in
+        AsksAt i q.now old new result }
 {
     ask_one(&mut judges[i], q)
 }
@@ -38,23 +39,21 @@ fn ask_at(judges: &mut Vec<Box<dyn Judge>>, i: usize, q: &Question) -> Result<Ve
 pub fn ask_panel(judges: &mut Vec<Box<dyn Judge>>, q: &Question) -> Result<Verdict, JudgeFailed>
     requires { Unit {0} }
     ensures len { vec_len judges.new ≡ vec_len judges.old }
-    ensures answer { IfOk result (λ verdict. verdict ≡ panel_says (map (λ j. says j) judges.old.items) q.now) }
-    ensures same { map (λ j. says j) judges.new.items ≡ map (λ j. says j) judges.old.items }
-    ensures asked { OnOk result (MovedBelow Counted (panel_size (verdicts (map (λ j. says j) judges.old.items) q.now)) (map (λ j. asked_times j) judges.old.items) (map (λ j. asked_times j) judges.new.items)) }
-    ensures ok { OnOk result (map (λ j. judge_faults j) judges.new.items ≡ map (λ j. judge_faults j) judges.old.items) }
-    ensures failed { OnErr result ((i : ℕ) × FailedAt i (verdicts (map (λ j. says j) judges.old.items) q.now) (map (λ j. asked_times j) judges.old.items) (map (λ j. asked_times j) judges.new.items) (map (λ j. judge_faults j) judges.old.items) (map (λ j. judge_faults j) judges.new.items)) }
-    ensures cause { OnErr result (SomeRose (map (λ j. judge_faults j) judges.old.items) (map (λ j. judge_faults j) judges.new.items)) }
-    ensures asked_later { NoneFell (map (λ j. asked_times j) judges.old.items) (map (λ j. asked_times j) judges.new.items) }
-    ensures faults_later { NoneFell (map (λ j. judge_faults j) judges.old.items) (map (λ j. judge_faults j) judges.new.items) }
+    ensures asks { let old = judges_of (λ j. says j) (λ j. asked_times j) (λ j. judge_faults j)
+        judges.old.items in
+        let new = judges_of (λ j. says j) (λ j. asked_times j) (λ j. judge_faults j)
+        judges.new.items in
+        AsksPanel q.now old new result }
+    ensures leaves { let old = judges_of (λ j. says j) (λ j. asked_times j) (λ j. judge_faults j)
+        judges.old.items in
+        let new = judges_of (λ j. says j) (λ j. asked_times j) (λ j. judge_faults j)
+        judges.new.items in
+        LeavesJudges old new result }
 {
     for i in 0..judges.len() {
-        let verdict = match ask_at(judges, i, q) {
-            Ok(verdict) => verdict,
-            Err(failed) => return Err(failed),
-        };
-        match verdict {
+        match ask_at(judges, i, q)? {
             Verdict::Silent => {}
-            _ => return Ok(verdict),
+            verdict => return Ok(verdict),
         }
     }
     Ok(Verdict::Silent)

@@ -1,14 +1,14 @@
 // The bytes of a question, and its id.
-ghost use Rattle.std.specs.Prelude.{◌≡◌, ℕ, List, ◌++◌};
-ghost use Rattle.c2_spec.specs.declared.digest.Alg.{Alg};
+ghost use Rattle.std.specs.Prelude.{◌≡◌};
+ghost use Rattle.c2_hash.specs.Hashing.{Extends};
 ghost use Rattle.c2_spec.specs.Judges.Question.{with_length, question_bytes, question_digest};
 
 use c2_base::Question;
 use c2_hash::{Alg, Digest, Hashing, Sha};
 
-// Takes in bytes behind their length.
+// Takes in the length of some bytes, and then these.
 fn update_with_length<H: Hashing>(hashing: &H, state: &mut H::State, bytes: &[u8])
-    ensures { (alg : Alg) (list : List ℕ) → H.holds state.old alg list → H.holds state.new alg (list ++ with_length bytes.now) }
+    ensures { Extends H.holds state.old state.new (with_length bytes.now) }
 {
     let length = bytes.len() as u64;
     hashing.update(state, &length.to_be_bytes());
@@ -17,7 +17,7 @@ fn update_with_length<H: Hashing>(hashing: &H, state: &mut H::State, bytes: &[u8
 
 /// Takes the question's bytes into a running hash. Takes no memory.
 pub fn update_question<H: Hashing>(hashing: &H, state: &mut H::State, q: &Question)
-    ensures { (alg : Alg) (list : List ℕ) → H.holds state.old alg list → H.holds state.new alg (list ++ question_bytes q.now) }
+    ensures { Extends H.holds state.old state.new (question_bytes q.now) }
 {
     update_with_length(hashing, state, q.tbs.as_slice());
     update_with_length(hashing, state, q.signature.as_slice());

@@ -1,16 +1,16 @@
 // The rows of a verdict file.
-ghost use Rattle.std.specs.Prelude.{◌≡◌, ◌≢◌, ℕ, List, MatchOption};
+ghost use Rattle.std.specs.Prelude.{◌≡◌, MatchOption};
 ghost use Rattle.hex.specs.Hex.{encode_lower};
-ghost use Rattle.c2_spec.specs.declared.panel.VerdictRow as row_type;
-ghost use Rattle.c2_spec.specs.Judges.VerdictFile.{IsId, IsRow, line_of};
-ghost use Rattle.c2_judge.specs.Reading.{FirstLine, word_said};
+ghost use Rattle.c2_spec.specs.Judges.VerdictFile.{IsId};
+ghost use Rattle.c2_judge.specs.Reading.{FirstLine, NoIdDigits, IsIdDigits, OnlyIdDigits, NoRowLine, IsRowLine, word_said};
 
 use c2_spec::{Verdict, VerdictRow};
 use hex::{decode_to_slice, encode_to_slice};
 
+// How many hex digits an id has.
 const ID_DIGITS: usize = 64;
 
-// The first line, without its line feed, and what is behind that.
+// The first line, without its line feed, and what comes after that.
 pub fn split_line(bytes: &[u8]) -> (&[u8], &[u8])
     ensures { FirstLine bytes.now result.0.now result.1.now }
 {
@@ -24,7 +24,7 @@ pub fn split_line(bytes: &[u8]) -> (&[u8], &[u8])
 
 // The one id that these digits can stand for. `hex` reads both cases.
 fn decoded(digits: &[u8]) -> Option<[u8; 32]>
-    ensures { MatchOption result ((id : List ℕ) → IsId id → digits.now ≢ encode_lower id) (λ id. (other : List ℕ) → IsId other → digits.now ≡ encode_lower other → other ≡ id) }
+    ensures { MatchOption result (NoIdDigits digits.now) (OnlyIdDigits digits.now) }
 {
     let mut id = [0; 32];
     let Ok(()) = decode_to_slice(digits, &mut id) else {
@@ -39,17 +39,16 @@ fn encoded(id: &[u8; 32]) -> [u8; ID_DIGITS]
     ensures is_id { IsId id.now }
 {
     let mut digits = [0; ID_DIGITS];
+    // The answer is always Ok: there is room for 64 digits.
     let _fits = encode_to_slice(id.as_slice(), &mut digits);
     digits
 }
 
 // The id that these digits are the lower case hex of: what was read is written again.
 fn read_id(digits: &[u8]) -> Option<[u8; 32]>
-    ensures { MatchOption result ((id : List ℕ) → IsId id → digits.now ≢ encode_lower id) (λ id. IsId id × (digits.now ≡ encode_lower id)) }
+    ensures { MatchOption result (NoIdDigits digits.now) (IsIdDigits digits.now) }
 {
-    let Some(id) = decoded(digits) else {
-        return None;
-    };
+    let id = decoded(digits)?;
     let again = encoded(&id);
     if digits != again.as_slice() {
         return None;
@@ -57,7 +56,7 @@ fn read_id(digits: &[u8]) -> Option<[u8; 32]>
     Some(id)
 }
 
-// The verdict that these bytes name behind a space.
+// The verdict that these bytes name after a space.
 fn read_word(word: &[u8]) -> Option<Verdict>
     ensures { result ≡ word_said word.now }
 {
@@ -76,17 +75,13 @@ fn read_word(word: &[u8]) -> Option<Verdict>
 
 // The row that has this line.
 pub fn read_row(line: &[u8]) -> Option<VerdictRow>
-    ensures { MatchOption result ((row : row_type.VerdictRow) → IsRow row → line.now ≢ line_of row) (λ row. IsRow row × (line.now ≡ line_of row)) }
+    ensures { MatchOption result (NoRowLine line.now) (IsRowLine line.now) }
 {
     if line.len() < ID_DIGITS {
         return None;
     }
     let (digits, word) = line.split_at(ID_DIGITS);
-    let Some(id) = read_id(digits) else {
-        return None;
-    };
-    let Some(verdict) = read_word(word) else {
-        return None;
-    };
+    let id = read_id(digits)?;
+    let verdict = read_word(word)?;
     Some(VerdictRow { id, verdict })
 }

@@ -1,5 +1,4 @@
-use Rattle.std.proofs.Common.{◌≡◌, false, arith, ◌<◌, ◌+◌, ◌≤◌, length, [], ◌∷◌, ◌++◌, sym, ◌∙◌}
-use Rattle.std.specs.Result.{is_err}
+use Rattle.std.proofs.Common.{arith, ◌<◌, length, [], ◌∷◌, ◌++◌, sym, ◌∙◌}
 use Rattle.c2_judge.proofs.Lines.{behind_shorter}
 use Rattle.c2_judge.proofs.RowSteps.{bad_line, progress_more, on_success}
 use Rattle.c2_judge.proofs.file.read_rows.Goals as goal
