@@ -1,8 +1,11 @@
 -- Laws of the bytes that a test on positions leaves.
-use Rattle.std.proofs.Common.{◌≡◌, ℕ, suc, ◌+◌, ◌<◌, ◌≤◌, Bool, not, true, false, cond, List, [], ◌∷◌, ◌++◌, length, map, refl, sym, ap, ◌∙◌, arith}
+use Rattle.std.proofs.Common.{◌≡◌, ℕ, suc, ◌+◌, ◌<◌, ◌≤◌, ◌⊎◌, inl, inr, Bool, not, ◌||◌, true, false, cond, List, [], ◌∷◌, ◌++◌, length, map, take, drop, leb, ltb, refl, sym, ap, ap₂, ◌∙◌, arith}
+use Rattle.std.proofs.lemmas.Bool.{le-leb, lt-leb, lt-ltb, le-ltb, and_from, and_left, and_right}
+use Rattle.std.proofs.lemmas.List.{take-append-drop, length-take-le, length-drop, drop-drop}
 use Rattle.std.specs.Prelude.{filter}
 use Rattle.std.specs.List.{enumerate_from}
-use Rattle.c2_spec.specs.Cover.{kept_from}
+use Rattle.c2_base.specs.declared.values.Range.{Range}
+use Rattle.c2_spec.specs.Cover.{data_text, holds, is_excluded, kept_from}
 
 -- the first byte, where it is kept, and then the others
 pub kept_cons : (ex : ℕ → Bool) (at x : ℕ) (xs : List ℕ) → kept_from ex at (x ∷ xs) ≡ cond (not (ex at)) (x ∷ kept_from ex (at + 1) xs) (kept_from ex (at + 1) xs)
@@ -50,3 +53,30 @@ kept_append ex at (x ∷ xs) ys =
     go : (b : Bool) (x : ℕ) (us vs : List ℕ) → cond b (x ∷ (us ++ vs)) (us ++ vs) ≡ cond b (x ∷ us) us ++ vs
     go true x us vs = refl
     go false x us vs = refl
+
+-- what one range leaves are the bytes before it and those after it
+pub kept_around : (r : Range) (file : List ℕ) → r.start + r.length ≤ length file → data_text (r ∷ []) file ≡ take r.start file ++ drop (r.start + r.length) file
+kept_around r file fits =
+    let ex : ℕ → Bool = is_excluded (r ∷ []) in
+    let rest : List ℕ = drop r.start file in
+    let first : length (take r.start file) ≡ r.start = length-take-le r.start file (omega (arith, fits)) in
+    let inner : length (take r.length rest) ≡ r.length = length-take-le r.length rest (omega (arith, fits, length-drop r.start file)) in
+    let before : kept_from ex 0 (take r.start file) ≡ take r.start file = kept_whole ex 0 (take r.start file) (λ i l m. one_range_not r i (inl (omega (arith, m, first)))) in
+    let inside : kept_from ex (0 + length (take r.start file)) (take r.length rest) ≡ [] = kept_none ex (0 + length (take r.start file)) (take r.length rest) (λ i l m. one_range_in r i (omega (arith, l, first)) (omega (arith, m, first, inner))) in
+    let after : kept_from ex (0 + length (take r.start file) + length (take r.length rest)) (drop r.length rest) ≡ drop r.length rest = kept_whole ex (0 + length (take r.start file) + length (take r.length rest)) (drop r.length rest) (λ i l m. one_range_not r i (inr (omega (arith, l, first, inner)))) in
+    ap (kept_from ex 0) (sym (take-append-drop r.start file)) ∙ kept_append ex 0 (take r.start file) rest
+    ∙ ap₂ (λ (xs ys : List ℕ). xs ++ ys) before
+    (ap (kept_from ex (0 + length (take r.start file))) (sym (take-append-drop r.length rest)) ∙ kept_append ex (0 + length (take r.start file)) (take r.length rest) (drop r.length rest)
+    ∙ ap₂ (λ (xs ys : List ℕ). xs ++ ys) inside after)
+    ∙ ap (λ (ys : List ℕ). take r.start file ++ ys) (drop-drop r.length r.start file)
+  where
+    none_more : (b : Bool) → (b || false) ≡ b
+    none_more true = refl
+    none_more false = refl
+
+    one_range_in : (r : Range) (i : ℕ) → r.start ≤ i → i < r.start + r.length → is_excluded (r ∷ []) i ≡ true
+    one_range_in r i l m = none_more (holds i r) ∙ and_from (leb r.start i) (ltb i (r.start + r.length)) (le-leb r.start i l) (lt-ltb i (r.start + r.length) m)
+
+    one_range_not : (r : Range) (i : ℕ) → (i < r.start) ⊎ (r.start + r.length ≤ i) → is_excluded (r ∷ []) i ≡ false
+    one_range_not r i (inl l) = none_more (holds i r) ∙ and_left (leb r.start i) (ltb i (r.start + r.length)) (lt-leb r.start i l)
+    one_range_not r i (inr l) = none_more (holds i r) ∙ and_right (leb r.start i) (ltb i (r.start + r.length)) (le-ltb i (r.start + r.length) l)
