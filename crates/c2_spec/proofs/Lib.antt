@@ -1,4 +1,5 @@
 mod AssertionRows
+pub mod CborEach
 mod CborRows
 mod ClaimRows
 mod CoverRows
