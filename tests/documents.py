@@ -5,7 +5,7 @@
 
 The tables of docs/PROMISES.md and README.md have columns for the function and clause, the edit and the test. Each name between
 backticks in these must be one in the crates, and each edit must be named. Each line of Rust that a document shows must be one of
-the sources, and each file that it links to must be there.
+the sources, and each file that it links to must be there. The table of docs/ARCHITECTURE.md must be crates.txt's.
 """
 
 import glob
@@ -60,6 +60,22 @@ def links(path):
         yield link, os.path.join(os.path.dirname(path), link)
 
 
+def crates_of_repository():
+    """What each crate uses, by crates.txt."""
+    lines = (line.split("#")[0] for line in text_of(f"{TOP}/crates.txt").splitlines())
+    pairs = (line.split(":") for line in lines if ":" in line)
+    return {name.split()[0]: set(uses.split()) for name, uses in pairs}
+
+
+def crates_of_table():
+    """What each crate uses, by the table of docs/ARCHITECTURE.md; "the same" is what the line before has."""
+    found, before = {}, set()
+    for name, uses in re.findall(r"(?m)^\| `(c2_\w+)` \| .* \| (.*) \|$", text_of(f"{TOP}/docs/ARCHITECTURE.md")):
+        before = set(re.findall(r"`(\w+)`", uses)) | (before if "the same" in uses else set())
+        found[name] = before
+    return found
+
+
 def main():
     sources = {path: text_of(path) for path in glob.glob(f"{TOP}/crates/*/src/**/*.rt", recursive=True)}
     edits = {os.path.basename(path)[: -len(".edit")] for path in glob.glob(f"{TOP}/crates/*/must-fail/*.edit")}
@@ -77,6 +93,8 @@ def main():
         wrong |= {f"{short}: no source has the line {line}" for line in shown_rust(path) if line not in lines}
         wrong |= {f"{short}: no file {link}" for link, target in links(path) if not os.path.exists(target)}
     wrong |= {f"no promise names the edit {name}" for name in edits - named}
+    listed, shown = crates_of_repository(), crates_of_table()
+    wrong |= {f"docs/ARCHITECTURE.md: other crates than crates.txt for {name}" for name in listed | shown if listed.get(name) != shown.get(name)}
     print("\n".join(sorted(wrong)) or "the documents and the crates say the same")
     sys.exit(bool(wrong))
 
