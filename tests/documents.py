@@ -4,7 +4,7 @@
     documents.py      prints what differs; the status is 1 then
 
 The tables of docs/PROMISES.md and README.md have columns for the function and clause, the edit and the test. Each name between
-backticks in these must be one in the crates, and each edit must be named. Each line of Rust that a document shows must be one of
+backticks in these must be declared in the crates, and each edit must be named. Each line of Rust that a document shows must be one of
 the sources, and each file that it links to must be there. The table of docs/ARCHITECTURE.md must be crates.txt's.
 """
 
@@ -15,6 +15,8 @@ import sys
 
 TOP = os.path.join(os.path.dirname(os.path.abspath(__file__)), "..")
 COLUMNS = {"edit": ("edit",), "test": ("test",), "clause": ("clause", "function", "by")}
+# Functions, types, traits, modules, and the names of clauses and of ghost members.
+DECLARED = r"\b(?:fn|struct|enum|trait|mod|const|ensures|requires|ghost|law) (\w+)"
 DOCUMENTS = [f"{TOP}/README.md", f"{TOP}/examples/README.md", f"{TOP}/tests/README.md", *sorted(glob.glob(f"{TOP}/docs/*.md"))]
 
 
@@ -79,7 +81,7 @@ def crates_of_table():
 def main():
     sources = {path: text_of(path) for path in glob.glob(f"{TOP}/crates/*/src/**/*.rt", recursive=True)}
     edits = {os.path.basename(path)[: -len(".edit")] for path in glob.glob(f"{TOP}/crates/*/must-fail/*.edit")}
-    words = {word for text in sources.values() for word in re.findall(r"\w+", text)}
+    words = {name for text in sources.values() for name in re.findall(DECLARED, text)}
     words |= {part for path in sources for part in re.findall(r"\w+", os.path.relpath(path, f"{TOP}/crates"))}
     lines = {line.strip() for text in sources.values() for line in text.splitlines()}
     named, wrong = set(), set()
