@@ -84,12 +84,16 @@ abbrev pub IsNextOr : List ℕ → ℕ → Result Next MediaError → Type 0
 IsNextOr file at (Ok n) = IsNext file at n
 IsNextOr file at (Err e) = OrOutside e (MarkerFault at (drop at file) e)
 
+-- the most bytes after a length, which counts its own two (ITU-T T.81, B.1.1.4)
+abbrev pub longest_payload : ℕ
+longest_payload = 65533
+
 -- what is known of a segment at a place in a file of this size whose bytes aren't known
 pub record IsExtentBy (at size : ℕ) (e : Extent) : Type 0 where
   pub later : at < e.end
   pub inside : e.end ≤ size
   pub ordered : e.body ≤ e.end
-  pub short : e.end ≤ e.body + 65533
+  pub short : e.end ≤ e.body + longest_payload
 
 -- the same of what stands at a place
 abbrev pub IsNextBy : ℕ → ℕ → Next → Type 0

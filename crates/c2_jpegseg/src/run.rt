@@ -1,5 +1,5 @@
 // The run of packets that holds a store.
-ghost use Rattle.std.specs.Prelude.{◌≡◌, ◌+◌, ◌-◌, ◌<◌, ◌≤◌, length, take, vec_len, true, None, Some, OnOk, IfOk, IfErr};
+ghost use Rattle.std.specs.Prelude.{◌≡◌, ◌+◌, ◌++◌, ◌-◌, ◌<◌, ◌≤◌, length, take, vec_len, true, None, Some, OnOk, IfOk, IfErr};
 ghost use Rattle.c2_spec.specs.Jpeg.Store as jpeg;
 ghost use Rattle.c2_base.specs.declared.limits.TheConstants.{MAX_STORE_LEN};
 ghost use Rattle.c2_jpegseg.specs.Packets.{view, IsHeader};
@@ -25,6 +25,16 @@ pub struct Run {
     ghost counted: { count ≤ vec_len store },
     ghost fits: { vec_len store ≤ total },
     ghost small: { total ≤ MAX_STORE_LEN },
+}
+
+/// The header and then the body, with room for `room` bytes.
+fn joined(alloc: Global, room: usize, header: &[u8], body: &[u8]) -> Result<Vec<u8>, NoMemory>
+    ensures { IfOk result (λ store. store.items ≡ header.now ++ body.now) }
+{
+    let mut store = Vec::with_capacity(alloc, room)?;
+    store.extend_from_slice(header)?;
+    store.extend_from_slice(body)?;
+    Ok(store)
 }
 
 impl Run {
@@ -60,15 +70,7 @@ impl Run {
             return Err(MediaError::BadPacket(at));
         }
         let room = total.min(size.saturating_sub(at));
-        let Ok(mut store) = Vec::with_capacity(alloc, room as usize) else {
-            return Err(MediaError::NoMemory);
-        };
-        let Ok(()) = store.extend_from_slice(first.header) else {
-            return Err(MediaError::NoMemory);
-        };
-        let Ok(()) = store.extend_from_slice(first.body) else {
-            return Err(MediaError::NoMemory);
-        };
+        let store = joined(alloc, room as usize, first.header, first.body)?;
         Ok(Run {
             start: at,
             end,

@@ -11,7 +11,7 @@ ghost use Rattle.c2_jpegseg.specs.Answers.{IsBegun, IsWalkedOr, IsFoundOr, IsWal
 ghost use Rattle.c2_jpegseg.specs.Causes.{IsCaused, OrOutside};
 ghost use Rattle.c2_jpegseg.specs.Packets.{PacketOf, HasHeader};
 ghost use Rattle.c2_jpegseg.specs.Runs.{all_collected, EndsBy};
-ghost use Rattle.c2_jpegseg.specs.Segments.{IsExtent, IsExtentBy};
+ghost use Rattle.c2_jpegseg.specs.Segments.{IsExtent, IsExtentBy, longest_payload};
 ghost use Rattle.c2_jpegseg.specs.Walks.{Walks};
 ghost use Rattle.c2_jpegseg.specs.Windows.{Shows, CoversPacket, ShowsPacket};
 
@@ -47,7 +47,7 @@ fn is_jpeg<S: Source>(source: &mut S, window: &mut Window, size: u64) -> Result<
 fn load_packet<S: Source>(source: &mut S, window: &mut Window, extent: Extent) -> Result<(), Failed>
     requires inside { extent.end ≤ S.len source.old }
     requires ordered { extent.body ≤ extent.end }
-    requires short { extent.end ≤ extent.body + 65533 }
+    requires short { extent.end ≤ extent.body + longest_payload }
     requires shows { Shows (S.len source.old) (S.known source.old) window.old }
     ensures stays { StaysSource S.len S.known S.faults source.old source.new }
     ensures cause { HasCause (S.faults source.old) (S.faults source.new) result }
@@ -63,7 +63,7 @@ fn load_packet<S: Source>(source: &mut S, window: &mut Window, extent: Extent) -
 /// The packet that the segment is.
 fn packet_at(window: &Window, extent: Extent) -> Option<Packet<'_>>
     requires ordered { extent.body ≤ extent.end }
-    requires short { extent.end ≤ extent.body + 65533 }
+    requires short { extent.end ≤ extent.body + longest_payload }
     requires covers { CoversPacket window.now extent }
     ensures headed { HasHeader result }
     ensures packet { ShowsPacket window.now extent result }

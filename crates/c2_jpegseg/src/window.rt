@@ -32,6 +32,7 @@ fn fill_first<S: Source>(
     ensures cause { HasCause (S.faults source.old) (S.faults source.new) result }
     ensures filled { OnOk result (FilledFrom (S.known source.old) pos count bytes.new) }
 {
+    // A tail call isn't proved: what it wrote into the part is not carried over to the whole.
     fill_at(source, pos, &mut bytes[..count])?;
     Ok(())
 }
