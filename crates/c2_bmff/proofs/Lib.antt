@@ -1,1 +1,3 @@
+mod BoxThere
 mod HeaderLemmas
+mod WalkLemmas

@@ -1,3 +1,4 @@
 pub mod Causes
 pub mod Headers
 pub mod Heads
+pub mod Roots

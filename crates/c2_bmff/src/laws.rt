@@ -14,5 +14,6 @@ pub fn a_file_has_one_list_of_roots()
 
 /// A BMFF file comes to one thing at most: one refusal, no store, or one store in one range.
 pub fn a_bmff_file_comes_to_one_thing()
-    ensures { (file : List ℕ) (v w : Located) → IsBmffLocated file v → IsBmffLocated file w → v ≡ w }
+    ensures { (file : List ℕ) (v w : Located)
+        → IsBmffLocated file v → IsBmffLocated file w → v ≡ w }
 {}

@@ -6,6 +6,9 @@
 mod header;
 mod laws;
 mod roots;
+#[cfg(test)]
+mod tests;
 
 pub use header::{BoxHead, HeadError, head};
 pub use laws::{a_bmff_file_comes_to_one_thing, a_file_has_one_list_of_roots};
+pub use roots::{RootBox, Roots, read_roots};

@@ -1,13 +1,61 @@
 // The root boxes of a file.
-ghost use Rattle.std.specs.Prelude.{◌≡◌, ◌+◌, ◌-◌, ◌<◌, ◌≤◌, length, take, drop, ℕ, List, OnOk, IfOk, IfErr};
+ghost use Rattle.std.specs.Prelude.{◌≡◌, ◌++◌, [], ◌∷◌, ◌+◌, ◌-◌, ◌^◌, ◌<◌, ◌≤◌, true, length, take, drop, ℕ, List, OnOk, IfOk, IfErr};
 ghost use Rattle.std.specs.Option.{ForSome};
 ghost use Rattle.c2_base.specs.Causes.{HasCause};
 ghost use Rattle.c2_base.specs.Source.{StaysSource};
-ghost use Rattle.c2_bmff.specs.Causes.{IsCaused};
+ghost use Rattle.c2_bmff.specs.Causes.{IsCaused, OrOutside};
 ghost use Rattle.c2_bmff.specs.Heads.{IsHeadOr};
+ghost use Rattle.c2_bmff.specs.Roots.{AreRootsOf, FillSource, row_at};
+ghost use Rattle.c2_spec.specs.Bmff.Boxes.{RootFault, begins_bmff};
+ghost use Rattle.c2_spec.specs.Bmff.Store.{FirstBmffFault};
 
 use crate::header::{self, BoxHead, HeadError};
-use c2_base::{Failed, MediaError, Source, fill_at};
+use c2_base::limits::{FILE_LEN_LIMIT, MAX_ROOT_BOXES};
+use c2_base::{Failed, MediaError, NoMemory, Source, fill_at};
+use std::alloc::Global;
+use std::marker::Model;
+
+// The type of the first box.
+const FTYP: [u8; 4] = *b"ftyp";
+
+/// A root box of a BMFF file.
+#[derive(Clone, Copy, Debug, PartialEq, Eq)]
+pub struct RootBox {
+    /// The place in the file where the box begins, in bytes.
+    pub start: u64,
+    /// The box's length in bytes, with its header.
+    pub length: u64,
+    /// The header's length in bytes.
+    pub header: u64,
+    /// The box's type.
+    pub kind: [u8; 4],
+    /// The box states no size and runs to the end of the file.
+    pub to_end: bool,
+}
+
+/// The root boxes of a BMFF file, in order.
+#[derive(Debug, Drop)]
+pub struct Roots {
+    rows: Vec<RootBox>,
+}
+
+impl Model for Roots {
+    ghost use Rattle.std.specs.Prelude.{List};
+    ghost use Rattle.c2_bmff.specs.declared.roots.RootBox.{RootBox};
+
+    ghost Value = { List RootBox };
+
+    ghost view = { λ r. r.rows.items };
+}
+
+impl Roots {
+    /// The boxes. Takes no memory.
+    pub fn as_slice(&self) -> &[RootBox]
+        ensures { result.now ≡ self.now }
+    {
+        self.rows.as_slice()
+    }
+}
 
 // Fills the first `count` bytes of `bytes` with those from `pos` on.
 fn fill_first<S: Source>(
@@ -34,7 +82,8 @@ fn head_at<S: Source>(source: &mut S, at: u64, size: u64) -> Result<BoxHead, Med
     ensures stays { StaysSource S.len S.known S.faults source.old source.new }
     ensures count { OnOk result (S.faults source.new ≡ S.faults source.old) }
     ensures cause { IfErr result (IsCaused (S.faults source.old) (S.faults source.new)) }
-    ensures within { IfOk result (λ h. (8 ≤ h.length) × (at + h.length ≤ size) × (h.header ≤ h.length)) }
+    ensures within { IfOk result
+        (λ h. (8 ≤ h.length) × (at + h.length ≤ size) × (h.header ≤ h.length)) }
     ensures read { ForSome (S.known source.old) (λ file. IsHeadOr at (drop at file) result) }
 {
     let mut bytes = [0; 16];
@@ -45,5 +94,96 @@ fn head_at<S: Source>(source: &mut S, at: u64, size: u64) -> Result<BoxHead, Med
         Ok(head) => Ok(head),
         Err(HeadError::Short) => Err(MediaError::Truncated(size)),
         Err(HeadError::Bad) => Err(MediaError::BadBox(at)),
+    }
+}
+
+// Whether the file has the type `ftyp` in its bytes 4 to 7.
+fn is_bmff<S: Source>(source: &mut S, size: u64) -> Result<bool, Failed>
+    requires size { size ≡ S.len source.old }
+    ensures stays { StaysSource S.len S.known S.faults source.old source.new }
+    ensures cause { HasCause (S.faults source.old) (S.faults source.new) result }
+    ensures begins { IfOk result
+        (λ b. ForSome (S.known source.old) (λ file. begins_bmff file ≡ b)) }
+{
+    if size < 8 {
+        return Ok(false);
+    }
+    let mut kind = [0; 4];
+    fill_at(source, 4, &mut kind)?;
+    Ok(kind == FTYP)
+}
+
+// Keeps the box of this header, which begins at `start`.
+fn keep(rows: &mut Vec<RootBox>, start: u64, head: BoxHead) -> Result<(), NoMemory>
+    ensures { OnOk result (rows.new.items ≡ rows.old.items ++ row_at start head ∷ []) }
+{
+    let kind = head.kind;
+    rows.push(RootBox {
+        start,
+        length: head.length,
+        header: head.header,
+        kind,
+        to_end: head.to_end,
+    })?;
+    Ok(())
+}
+
+// The walk over the root boxes of a file of `size` bytes.
+fn walk<S: Source>(alloc: Global, source: &mut S, size: u64) -> Result<Vec<RootBox>, MediaError>
+    requires size { size ≡ S.len source.old }
+    requires bounded { size < 2 ^ 62 }
+    requires begins { ForSome (S.known source.old) (λ file. begins_bmff file ≡ true) }
+    ensures walked { IfOk result
+        (λ rows. ForSome (S.known source.old) (λ file. AreRootsOf file rows.items)) }
+    ensures fault { IfErr result
+        (λ e. ForSome (S.known source.old) (λ file. OrOutside e (RootFault file e))) }
+    ensures fill { IfOk result (λ rows. FillSource size 0 rows.items) }
+    ensures stays { StaysSource S.len S.known S.faults source.old source.new }
+    ensures count { OnOk result (S.faults source.new ≡ S.faults source.old) }
+    ensures cause { IfErr result (IsCaused (S.faults source.old) (S.faults source.new)) }
+{
+    let mut rows = Vec::new(alloc);
+    let mut at = 0;
+    'boxes: while at < size {
+        if rows.len() as u64 >= MAX_ROOT_BOXES {
+            return Err(MediaError::TooManyBoxes);
+        }
+        let head = match head_at(source, at, size) {
+            Ok(head) => head,
+            Err(error) => return Err(error),
+        };
+        keep(&mut rows, at, head)?;
+        at += head.length;
+    }
+    Ok(rows)
+}
+
+/// The root boxes of a BMFF file (ISO/IEC 14496-12, 4.2), from its first byte to its last.
+///
+/// The errors are the first test that fails: [`MediaError::FileTooLarge`], [`MediaError::NotMedia`], then by boxes in order
+/// [`MediaError::TooManyBoxes`], [`MediaError::Truncated`] and [`MediaError::BadBox`]. [`MediaError::ReadFault`] comes only where the
+/// source failed, [`MediaError::NoMemory`] where memory ran out.
+pub fn read_roots<S: Source>(alloc: Global, source: &mut S) -> Result<Roots, MediaError>
+    ensures found { IfOk result
+        (λ roots. ForSome (S.known source.old) (λ file. AreRootsOf file roots)) }
+    ensures refused { IfErr result
+        (λ e. ForSome (S.known source.old) (λ file. OrOutside e (FirstBmffFault file e))) }
+    ensures fill { IfOk result (FillSource (S.len source.old) 0) }
+    ensures small { OnOk result (S.len source.old < 2 ^ 62) }
+    ensures stays { StaysSource S.len S.known S.faults source.old source.new }
+    ensures count { OnOk result (S.faults source.new ≡ S.faults source.old) }
+    ensures cause { IfErr result (IsCaused (S.faults source.old) (S.faults source.new)) }
+{
+    let size = source.size()?;
+    if size >= FILE_LEN_LIMIT {
+        return Err(MediaError::FileTooLarge(size));
+    }
+    if !is_bmff(source, size)? {
+        return Err(MediaError::NotMedia);
+    }
+    // A `match`: the proof follows the error itself.
+    match walk(alloc, source, size) {
+        Ok(rows) => Ok(Roots { rows }),
+        Err(error) => Err(error),
     }
 }

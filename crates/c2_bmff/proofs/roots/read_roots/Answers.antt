@@ -1,0 +1,23 @@
+use Rattle.std.proofs.Common.{◌≡◌, ◌∙◌, length, subst, sym, arith}
+use Rattle.c2_base.specs.declared.media.MediaError.TheVariants.{FileTooLarge}
+use Rattle.c2_spec.specs.Bmff.Store.{FirstBmffFault, too_large, not_media, root}
+use Rattle.c2_bmff.proofs.WalkLemmas.{outside_map}
+use Rattle.c2_bmff.proofs.roots.read_roots.Goals as goal
+
+pub returns-then-size-ge-FILE_LEN_LIMIT-clause-refused : goal.returns-then-size-ge-FILE_LEN_LIMIT-clause-refused
+returns-then-size-ge-FILE_LEN_LIMIT-clause-refused g c file known =
+    let len : length file ≡ c.in_ok-size.size = g.met.S.Source.known_len c.args.source.now file known ∙ sym c.in_ok-size.ensures.length in
+    subst (λ n. FirstBmffFault file (FileTooLarge n)) len (too_large (omega (arith, len, c.if-size-ge-FILE_LEN_LIMIT.true)))
+
+pub returns-then-not-branch-clause-refused : goal.returns-then-not-branch-clause-refused
+returns-then-not-branch-clause-refused g c file known =
+    let len : length file ≡ c.in_ok-size.size = g.met.S.Source.known_len c.args.source.now file known ∙ sym c.in_ok-size.ensures.length in
+    not_media (omega (arith, len, c.if-size-ge-FILE_LEN_LIMIT.false)) (c.in_ok-is_bmff.ensures.begins file (c.in_ok-size.ensures.stays.same_bytes ∙ known) ∙ c.if-not-branch.true)
+
+pub returns-in-Err-clause-refused : goal.returns-in-Err-clause-refused
+returns-in-Err-clause-refused g c file known =
+    let len : length file ≡ c.in_ok-size.size = g.met.S.Source.known_len c.args.source.now file known ∙ sym c.in_ok-size.ensures.length in
+    let first = c.in_ok-size.ensures.stays.same_bytes ∙ known in
+    outside_map c.in-Err.error
+    (root c.in-Err.error (omega (arith, len, c.if-size-ge-FILE_LEN_LIMIT.false)) (c.in_ok-is_bmff.ensures.begins file first ∙ c.if-not-branch.false))
+    (c.in-Err.ensures.fault file (c.in_ok-is_bmff.ensures.stays.same_bytes ∙ first))
