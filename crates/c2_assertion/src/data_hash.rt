@@ -5,28 +5,23 @@ ghost use Rattle.c2_spec.specs.Cbor.Lookup.{field_of};
 ghost use Rattle.c2_spec.specs.Cbor.Fields.{IsAnswer, each_of, list_of, optional_list};
 ghost use Rattle.c2_spec.specs.C2pa.Assertion.{range_of, data_hash_of};
 
+use c2_base::limits::MAX_EXCLUSIONS;
 use c2_base::{NoMemory, Range, Ranges};
 use c2_cbor::{Cbor, field};
 use c2_spec::{DataHash, FieldError};
 use std::alloc::Global;
 
-/// The most exclusions of a binding.
-const MOST_EXCLUSIONS: usize = 1024;
-
+// The range that an item is.
 fn range_in(item: &Cbor) -> Option<Range>
     ensures { result ≡ range_of (view item.now) }
 {
-    let Some(start) = c2_cbor_fields::number(item, "start") else {
-        return None;
-    };
-    let Some(length) = c2_cbor_fields::number(item, "length") else {
-        return None;
-    };
+    let start = c2_cbor_fields::number(item, "start")?;
+    let length = c2_cbor_fields::number(item, "length")?;
     Some(Range { start, length })
 }
 
 /// The ranges that the items are, where all of them are.
-#[tactic(auto, using(c2_cbor_fields::proofs::Each::each_next, c2_cbor_fields::proofs::Each::each_none, c2_cbor_fields::proofs::Each::each_all))]
+#[tactic(auto, using(c2_spec::proofs::CborEach::each_next, c2_spec::proofs::CborEach::each_none, c2_spec::proofs::CborEach::each_all))]
 fn ranges_in(alloc: Global, items: &[Cbor]) -> Result<Option<Ranges>, NoMemory>
     ensures { IfOk result (λ found. found ≡ each_of range_of (items_view items.now)) }
 {
@@ -45,28 +40,23 @@ fn range_list(alloc: Global, item: &Cbor) -> Result<Option<Ranges>, NoMemory>
     ensures { IfOk result (λ found. found ≡ list_of range_of (Some (view item.now))) }
 {
     match item {
-        Cbor::List(items) => {
-            let found = ranges_in(alloc, items)?;
-            Ok(found)
-        }
+        Cbor::List(items) => ranges_in(alloc, items),
         _ => Ok(None),
     }
 }
 
-/// The exclusions, none where they are absent; None where something else stands there.
+/// The exclusions, none where they are absent; None where the field is no list of ranges.
 fn exclusions_of(alloc: Global, item: &Cbor) -> Result<Option<Ranges>, NoMemory>
-    ensures { IfOk result (λ found. found ≡ optional_list range_of (field_of (codes "exclusions") (view item.now))) }
+    ensures { IfOk result (λ found.
+        found ≡ optional_list range_of (field_of (codes "exclusions") (view item.now))) }
 {
     match field(item, "exclusions") {
-        Some(value) => {
-            let found = range_list(alloc, value)?;
-            Ok(found)
-        }
+        Some(value) => range_list(alloc, value),
         None => Ok(Some(Ranges::from_list(Vec::new(alloc)))),
     }
 }
 
-/// The data hash that an item is.
+/// The data hash that an item is (C2PA Technical Specification 2.x, "Data hash").
 ///
 /// Form: the item is no map, or `exclusions` is there and no list of maps with `start` and `length` numbers from 0 on, or
 /// `alg` is there and no text, or `hash` is no byte string. TooMany: it has that form and more than 1,024 exclusions. A
@@ -87,7 +77,7 @@ pub fn read_data_hash(alloc: Global, item: &Cbor) -> Result<DataHash, FieldError
         return Err(FieldError::Form);
     };
     let count = exclusions.as_slice().len();
-    if count > MOST_EXCLUSIONS {
+    if count > MAX_EXCLUSIONS {
         return Err(FieldError::TooMany(count));
     }
     Ok(DataHash {

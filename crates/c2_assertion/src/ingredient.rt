@@ -11,6 +11,7 @@ use c2_spec::{FieldError, Ingredient, Relationship};
 use c2_uri::{Target, parse};
 use std::alloc::Global;
 
+// The relationship of this name.
 fn relationship_in(word: &str) -> Option<Relationship>
     ensures { result ≡ relationship_named word.now }
 {
@@ -26,8 +27,10 @@ fn relationship_in(word: &str) -> Option<Relationship>
     None
 }
 
+// The relationship that an item states.
 fn relationship_of(alloc: Global, item: &Cbor) -> Result<Option<Relationship>, NoMemory>
-    ensures { IfOk result (λ found. found ≡ option_and_then relationship_named (text_of (field_of (codes "relationship") (view item.now)))) }
+    ensures { IfOk result (λ found. found ≡ option_and_then relationship_named
+        (text_of (field_of (codes "relationship") (view item.now)))) }
 {
     match c2_cbor_fields::text(alloc, item, "relationship")? {
         Some(word) => Ok(relationship_in(word.as_str())),
@@ -39,12 +42,10 @@ fn relationship_of(alloc: Global, item: &Cbor) -> Result<Option<Relationship>, N
 fn named(url: &str) -> Option<&str>
     ensures { option_map (λ m. m.now) result ≡ manifest_named url.now }
 {
-    match parse(url) {
-        Some(uri) => match uri.target {
-            Target::Whole => uri.manifest,
-            _ => None,
-        },
-        None => None,
+    let uri = parse(url)?;
+    match uri.target {
+        Target::Whole => uri.manifest,
+        _ => None,
     }
 }
 
@@ -52,15 +53,14 @@ fn named(url: &str) -> Option<&str>
 fn signed(url: &str) -> Option<&str>
     ensures { option_map (λ m. m.now) result ≡ manifest_signed url.now }
 {
-    match parse(url) {
-        Some(uri) => match uri.target {
-            Target::Signature => uri.manifest,
-            _ => None,
-        },
-        None => None,
+    let uri = parse(url)?;
+    match uri.target {
+        Target::Signature => uri.manifest,
+        _ => None,
     }
 }
 
+// Whether the manifest is named itself, and the signature, where there is one, is that manifest's.
 fn agree(manifest: &Option<Ref>, signature: &Option<Ref>) -> bool
     ensures { result ≡ references_agree manifest.now signature.now }
 {
@@ -79,11 +79,11 @@ fn agree(manifest: &Option<Ref>, signature: &Option<Ref>) -> bool
     }
 }
 
-/// The ingredient that an item is.
+/// The ingredient that an item is (C2PA Technical Specification 2.x, "Ingredient").
 ///
 /// Form: the item is no map; `relationship` isn't `parentOf`, `componentOf` or `inputTo`; `activeManifest` is there and no
 /// hashed URI of a manifest itself; `claimSignature` is there and no hashed URI of the signature of that manifest, or
-/// stands without `activeManifest`. A null field counts as absent, and other fields pass unread.
+/// comes without `activeManifest`. A null field counts as absent, and other fields pass unread.
 pub fn read_ingredient(alloc: Global, item: &Cbor) -> Result<Ingredient, FieldError>
     ensures { IsAnswer FieldError.NoMemory (ingredient_of (view item.now)) result }
 {

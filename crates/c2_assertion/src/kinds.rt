@@ -6,12 +6,14 @@ ghost use Rattle.c2_spec.specs.C2pa.Assertion.{kind_of_base, kind_of};
 use c2_spec::Kind;
 use c2_uri::base_label;
 
+// Whether a text begins with this piece.
 fn begins(text: &str, piece: &str) -> bool
     ensures { result ≡ starts_with eqb text.now piece.now }
 {
     text.starts_with(piece)
 }
 
+// What an assertion is by a label without a number.
 fn base_kind(base: &str) -> Kind
     ensures { result ≡ kind_of_base base.now }
 {
@@ -30,10 +32,7 @@ fn base_kind(base: &str) -> Kind
     if begins(base, "c2pa.ingredient") {
         return Kind::IngredientOther;
     }
-    if base == "c2pa.actions" {
-        return Kind::Actions;
-    }
-    if base == "c2pa.actions.v2" {
+    if base == "c2pa.actions" || base == "c2pa.actions.v2" {
         return Kind::Actions;
     }
     if base == "c2pa.cloud-data" {

@@ -1,7 +1,7 @@
 //! Assertions that the rules look at: kinds by label, data hashes and ingredients, read from CBOR items (C2PA Technical
 //! Specification 2.x).
 //!
-//! Their forms stand in `Assertion` and `Fields` of c2_spec.
+//! Their forms stand in `C2pa.Assertion` and `Cbor.Fields` of c2_spec.
 #![tactic(auto)]
 
 mod data_hash;

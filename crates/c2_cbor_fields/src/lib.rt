@@ -1,6 +1,7 @@
-//! Fields of a CBOR map, each read in the form that it must have. A null field counts as absent.
+//! Fields of a CBOR map, each read in the form that it must have.
 //!
-//! The forms stand in `Fields` of c2_spec.
+//! The forms stand in `Cbor.Fields` of c2_spec. A null field counts as absent, which is this project's own choice; what isn't a
+//! map has no fields. Calls that copy fail where memory runs out, and for no other reason.
 #![tactic(auto)]
 
 mod lists;

@@ -9,7 +9,7 @@ use c2_base::{NoMemory, Text, Texts};
 use c2_cbor::{Cbor, Refs, field, read_ref};
 use std::alloc::Global;
 
-#[tactic(auto, using(crate::proofs::Each::each_next, crate::proofs::Each::each_none, crate::proofs::Each::each_all))]
+#[tactic(auto, using(c2_spec::proofs::CborEach::each_next, c2_spec::proofs::CborEach::each_none, c2_spec::proofs::CborEach::each_all))]
 /// The references that the items are, where all of them are.
 fn references_in(alloc: Global, items: &[Cbor]) -> Result<Option<Refs>, NoMemory>
     ensures { IfOk result (λ found. found ≡ form.each_of ref_of (items_view items.now)) }
@@ -24,7 +24,7 @@ fn references_in(alloc: Global, items: &[Cbor]) -> Result<Option<Refs>, NoMemory
     Ok(Some(Refs::from_list(found)))
 }
 
-#[tactic(auto, using(crate::proofs::Each::each_next, crate::proofs::Each::each_none, crate::proofs::Each::each_all))]
+#[tactic(auto, using(c2_spec::proofs::CborEach::each_next, c2_spec::proofs::CborEach::each_none, c2_spec::proofs::CborEach::each_all))]
 /// The texts that the items are, where all of them are.
 fn texts_in(alloc: Global, items: &[Cbor]) -> Result<Option<Texts>, NoMemory>
     ensures { IfOk result (λ found. found ≡ form.each_of form.text_item (items_view items.now)) }
@@ -44,10 +44,7 @@ fn reference_list(alloc: Global, item: &Cbor) -> Result<Option<Refs>, NoMemory>
     ensures { IfOk result (λ found. found ≡ form.list_of ref_of (Some (view item.now))) }
 {
     match item {
-        Cbor::List(items) => {
-            let found = references_in(alloc, items)?;
-            Ok(found)
-        }
+        Cbor::List(items) => references_in(alloc, items),
         _ => Ok(None),
     }
 }
@@ -57,49 +54,40 @@ fn text_list(alloc: Global, item: &Cbor) -> Result<Option<Texts>, NoMemory>
     ensures { IfOk result (λ found. found ≡ form.list_of form.text_item (Some (view item.now))) }
 {
     match item {
-        Cbor::List(items) => {
-            let found = texts_in(alloc, items)?;
-            Ok(found)
-        }
+        Cbor::List(items) => texts_in(alloc, items),
         _ => Ok(None),
     }
 }
 
-/// The references under this key; None where it is absent or no list of references.
+/// The references under this key, in order; None where it is absent or no list of references.
 pub fn references(alloc: Global, item: &Cbor, key: &str) -> Result<Option<Refs>, NoMemory>
-    ensures { IfOk result (λ found. found ≡ form.list_of ref_of (field_of key.now (view item.now))) }
+    ensures { IfOk result (λ found.
+        found ≡ form.list_of ref_of (field_of key.now (view item.now))) }
 {
     match field(item, key) {
-        Some(value) => {
-            let found = reference_list(alloc, value)?;
-            Ok(found)
-        }
+        Some(value) => reference_list(alloc, value),
         None => Ok(None),
     }
 }
 
-/// The references under this key, none where it is absent; None where something else stands there.
+/// The references under this key, in order, and none where it is absent; None where it is no list of references.
 pub fn optional_references(alloc: Global, item: &Cbor, key: &str) -> Result<Option<Refs>, NoMemory>
-    ensures { IfOk result (λ found. found ≡ form.optional_list ref_of (field_of key.now (view item.now))) }
+    ensures { IfOk result (λ found.
+        found ≡ form.optional_list ref_of (field_of key.now (view item.now))) }
 {
     match field(item, key) {
-        Some(value) => {
-            let found = reference_list(alloc, value)?;
-            Ok(found)
-        }
+        Some(value) => reference_list(alloc, value),
         None => Ok(Some(Refs::from_list(Vec::new(alloc)))),
     }
 }
 
-/// The texts under this key, none where it is absent; None where something else stands there.
+/// Copies of the texts under this key, in order, and none where it is absent; None where it is no list of texts.
 pub fn optional_texts(alloc: Global, item: &Cbor, key: &str) -> Result<Option<Texts>, NoMemory>
-    ensures { IfOk result (λ found. found ≡ form.optional_list form.text_item (field_of key.now (view item.now))) }
+    ensures { IfOk result (λ found.
+        found ≡ form.optional_list form.text_item (field_of key.now (view item.now))) }
 {
     match field(item, key) {
-        Some(value) => {
-            let found = text_list(alloc, value)?;
-            Ok(found)
-        }
+        Some(value) => text_list(alloc, value),
         None => Ok(Some(Texts::from_list(Vec::new(alloc)))),
     }
 }

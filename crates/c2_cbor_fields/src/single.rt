@@ -54,28 +54,22 @@ fn number_in(item: &Cbor) -> Option<u64>
     }
 }
 
-/// The text under this key; None where it is absent or no text.
+/// A copy of the text under this key; None where it is absent or no text.
 pub fn text(alloc: Global, item: &Cbor, key: &str) -> Result<Option<Text>, NoMemory>
     ensures { IfOk result (λ found. found ≡ form.text_of (field_of key.now (view item.now))) }
 {
     match field(item, key) {
-        Some(value) => {
-            let found = text_in(alloc, value)?;
-            Ok(found)
-        }
+        Some(value) => text_in(alloc, value),
         None => Ok(None),
     }
 }
 
-/// The byte string under this key; None where it is absent or no byte string.
+/// A copy of the byte string under this key; None where it is absent or no byte string.
 pub fn byte_string(alloc: Global, item: &Cbor, key: &str) -> Result<Option<Blob>, NoMemory>
     ensures { IfOk result (λ found. found ≡ form.bytes_of (field_of key.now (view item.now))) }
 {
     match field(item, key) {
-        Some(value) => {
-            let found = bytes_in(alloc, value)?;
-            Ok(found)
-        }
+        Some(value) => bytes_in(alloc, value),
         None => Ok(None),
     }
 }
@@ -85,15 +79,12 @@ pub fn number(item: &Cbor, key: &str) -> Option<u64>
     ensures { result ≡ form.number_of (field_of key.now (view item.now)) }
 {
     match field(item, key) {
-        Some(value) => {
-            let found = number_in(value)?;
-            Some(found)
-        }
+        Some(value) => number_in(value),
         None => None,
     }
 }
 
-/// The text under this key, or that it is absent; None where something else stands there.
+/// A copy of the text under this key, or that it is absent; None where it is no text.
 pub fn optional_text(
     alloc: Global,
     item: &Cbor,
@@ -110,7 +101,7 @@ pub fn optional_text(
     }
 }
 
-/// The reference under this key, or that it is absent; None where something else stands there.
+/// The reference under this key, or that it is absent; None where it is no reference.
 pub fn optional_reference(
     alloc: Global,
     item: &Cbor,

@@ -4,12 +4,14 @@ ghost use Rattle.std.specs.Char.{is_ascii_digit};
 ghost use Rattle.std.specs.List.{list_all};
 ghost use Rattle.c2_spec.specs.C2pa.Uri.{is_number_suffix, base_of};
 
+// Whether all bytes are ASCII digits.
 fn are_digits(bytes: &[u8]) -> bool
     ensures { result ≡ list_all is_ascii_digit bytes.now }
 {
     bytes.iter().all(|b| b.is_ascii_digit())
 }
 
+// Whether the bytes are two low lines and one or more digits.
 fn is_number(bytes: &[u8]) -> bool
     ensures { result ≡ is_number_suffix bytes.now }
 {

@@ -1,6 +1,6 @@
 //! URIs of boxes, and base labels (C2PA Technical Specification 2.x).
 //!
-//! What a text spells stands in `Uri` of c2_spec.
+//! What a text spells stands in `C2pa.Uri` of c2_spec. Reading and the text of a URI are inverse, as laws.
 #![tactic(auto)]
 
 mod labels;
@@ -11,5 +11,5 @@ mod tests;
 
 pub use c2_spec::{Target, Uri};
 pub use labels::base_label;
-pub use laws::read_uris_are_spelled;
+pub use laws::{read_uris_are_spelled, written_uris_are_read};
 pub use parsing::parse;

@@ -5,16 +5,16 @@ ghost use Rattle.c2_spec.specs.C2pa.Uri.{is_slash, has_empty_label, after_piece,
 
 use c2_spec::{Target, Uri};
 
-/// With what each URI of a box begins.
+/// Each URI of a box begins so.
 const SCHEME: &str = "self#jumbf=";
 
-/// With what a path begins whose first label is a manifest.
+/// A path whose first label is a manifest begins so.
 const STORE: &str = "/c2pa/";
 
 /// The path of a signature.
 const SIGNATURE: &str = "c2pa.signature";
 
-/// With what the path of an assertion begins.
+/// The path of an assertion begins so.
 const ASSERTIONS: &str = "c2pa.assertions/";
 
 // What follows this piece, where the text begins with it.
@@ -24,18 +24,21 @@ fn strip<'a>(piece: &str, text: &'a str) -> Option<&'a str>
     text.strip_prefix(piece)
 }
 
+// Whether a slash is among these bytes.
 fn has_slash(bytes: &[u8]) -> bool
     ensures { result ≡ list_any is_slash bytes.now }
 {
     bytes.iter().any(|b| *b == b'/')
 }
 
+// Whether a label of a path is empty.
 fn has_empty(path: &str) -> bool
     ensures { result ≡ has_empty_label path.now }
 {
     path.split('/').any(|label| label.is_empty())
 }
 
+// What a path names that has no empty label.
 fn target_at<'a>(path: &'a str) -> Target<'a>
     ensures { target_view result ≡ target_of path.now }
 {
@@ -53,6 +56,7 @@ fn target_at<'a>(path: &'a str) -> Target<'a>
     }
 }
 
+// The URI of a path whose first label is its manifest.
 fn absolute<'a>(path: &'a str) -> Uri<'a>
     ensures { uri_view result ≡ absolute_uri path.now }
 {
@@ -68,6 +72,7 @@ fn absolute<'a>(path: &'a str) -> Uri<'a>
     }
 }
 
+// The URI of a path in the manifest that the URI is in.
 fn relative<'a>(path: &'a str) -> Uri<'a>
     ensures { uri_view result ≡ relative_uri path.now }
 {
@@ -77,11 +82,11 @@ fn relative<'a>(path: &'a str) -> Uri<'a>
     }
 }
 
-/// The URI of a box that a text spells.
+/// The URI of a box that a text spells (C2PA Technical Specification 2.x, "JUMBF URI references").
 ///
 /// None exactly where the text doesn't begin `self#jumbf=`, or its rest begins with `/` but not with `/c2pa/`, or a label
-/// between slashes, behind `/c2pa/` where that is there, is empty. Behind `/c2pa/` the first label is the manifest's, and
-/// with no further one the manifest itself is named. Takes no memory.
+/// between slashes, after `/c2pa/` where that is there, is empty. After `/c2pa/` the first label is the manifest's, and with
+/// no further one the manifest itself is named. Takes no memory.
 pub fn parse(text: &str) -> Option<Uri<'_>>
     ensures { option_map uri_view result ≡ uri_of text.now }
 {
