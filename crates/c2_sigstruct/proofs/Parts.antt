@@ -4,6 +4,7 @@ use Rattle.c2_spec.specs.declared.cbor.Cbor.{Cbor}
 use Rattle.c2_spec.specs.Cbor.View.{items_view}
 use Rattle.c2_sigstruct.specs.Parts.{parts_in_items}
 
+-- what isn't four members has no parts
 pub not_four : (items : List Cbor) → length items ≢ 4 → parts_in_items (items_view items) ≡ None
 not_four [] other = refl
 not_four (a ∷ []) other = refl

@@ -31,7 +31,7 @@ fn to_be_signed(alloc: Global, protected: &[u8], claim: &[u8]) -> Result<Cbor, N
     Ok(Cbor::List(items))
 }
 
-// The bytes of an item for which writing is refused for want of memory alone.
+// The bytes of an item that can be written: the only refusal is out of memory.
 fn written(alloc: Global, item: &Cbor) -> Result<Blob, NoMemory>
     requires { IsLegal (view item.now) }
     ensures { IfOk result (λ bytes. bytes ≡ deterministic (view item.now)) }

@@ -1,6 +1,6 @@
 //! COSE_Sign1 messages: reading one, and the question that a judge is asked of it (RFC 9052, sections 4.2 and 4.4).
 //!
-//! What a message and its question are stands in `c2_spec`, module `Sign1`.
+//! What a message and its question are stands in `c2_spec`, module `C2pa.Sign1`.
 #![tactic(auto)]
 
 mod asking;

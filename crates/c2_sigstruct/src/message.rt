@@ -7,8 +7,10 @@ ghost use Rattle.c2_sigstruct.specs.Parts.{bytes_in, is_null_item, is_dict, unta
 use c2_base::Blob;
 use c2_spec::{Cbor, Sign1};
 
+// The tag of a message with one signature (RFC 9052, section 2).
 const SIGN1_TAG: u64 = 18;
 
+// The byte string that an item is.
 fn into_bytes(item: Cbor) -> Option<Blob>
     ensures { option_map (λ b. b) result ≡ bytes_in (view item) }
 {
@@ -18,6 +20,7 @@ fn into_bytes(item: Cbor) -> Option<Blob>
     }
 }
 
+// Whether an item is null (RFC 8949, section 3.3).
 fn is_null(item: &Cbor) -> bool
     ensures { result ≡ is_null_item (view item.now) }
 {
@@ -27,6 +30,7 @@ fn is_null(item: &Cbor) -> bool
     }
 }
 
+// Whether an item is a map.
 fn is_map(item: &Cbor) -> bool
     ensures { result ≡ is_dict (view item.now) }
 {
@@ -36,7 +40,7 @@ fn is_map(item: &Cbor) -> bool
     }
 }
 
-// The item in the tag 18, where that is there.
+// What the tag of a message encloses, where an item has it, and else the item.
 pub fn untag(item: Cbor) -> Cbor
     ensures { view result ≡ untagged (view item) }
 {
@@ -54,17 +58,14 @@ pub fn untag(item: Cbor) -> Cbor
 
 // The message of these four members.
 fn of_four(protected: Cbor, unprotected: Cbor, payload: Cbor, signature: Cbor) -> Option<Sign1>
-    ensures { option_map parts_of result ≡ parts_in_four (view protected) (view unprotected) (view payload) (view signature) }
+    ensures { option_map parts_of result
+        ≡ parts_in_four (view protected) (view unprotected) (view payload) (view signature) }
 {
     if !is_map(&unprotected) || !is_null(&payload) {
         return None;
     }
-    let Some(protected) = into_bytes(protected) else {
-        return None;
-    };
-    let Some(signature) = into_bytes(signature) else {
-        return None;
-    };
+    let protected = into_bytes(protected)?;
+    let signature = into_bytes(signature)?;
     Some(Sign1 {
         protected,
         unprotected,
@@ -72,6 +73,7 @@ fn of_four(protected: Cbor, unprotected: Cbor, payload: Cbor, signature: Cbor) -
     })
 }
 
+// The message of these members, where there are four.
 fn of_items(items: Vec<Cbor>) -> Option<Sign1>
     ensures { option_map parts_of result ≡ parts_in_items (items_view items.items) }
 {
@@ -79,18 +81,10 @@ fn of_items(items: Vec<Cbor>) -> Option<Sign1>
         return None;
     }
     let mut items = items;
-    let Some(signature) = items.pop() else {
-        return None;
-    };
-    let Some(payload) = items.pop() else {
-        return None;
-    };
-    let Some(unprotected) = items.pop() else {
-        return None;
-    };
-    let Some(protected) = items.pop() else {
-        return None;
-    };
+    let signature = items.pop()?;
+    let payload = items.pop()?;
+    let unprotected = items.pop()?;
+    let protected = items.pop()?;
     of_four(protected, unprotected, payload, signature)
 }
 
