@@ -1,4 +1,5 @@
 pub mod Digits
+pub mod EachFile
 pub mod Lines
 pub mod Lists
 pub mod OneReading

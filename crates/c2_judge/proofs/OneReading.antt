@@ -20,14 +20,17 @@ use Rattle.c2_spec.specs.Judges.VerdictFile.{IsRow, line_of, lines_of, HasRows, 
 use Rattle.c2_judge.specs.Reading.{has_feed, word_said, said_at, HasReadRows}
 use Rattle.c2_judge.proofs.Lines.{id_bytes, line_clean, front_of_line, word_of_line, word_read, cons_first, lines, lines-feed, lines-open, first_of}
 
+-- a list of lines without its first
 rest_of : List (List ℕ) → List (List ℕ)
 rest_of [] = []
 rest_of (line ∷ rest) = rest
 
-heads : (x y : List ℕ) (xs ys : List (List ℕ)) → x ∷ xs ≡ y ∷ ys → x ≡ y
+-- equal lists have equal first elements
+pub heads : (x y : List ℕ) (xs ys : List (List ℕ)) → x ∷ xs ≡ y ∷ ys → x ≡ y
 unfolding first_of
 heads x y xs ys e = ap first_of e
 
+-- and equal rests
 tails : (x y : List ℕ) (xs ys : List (List ℕ)) → x ∷ xs ≡ y ∷ ys → xs ≡ ys
 unfolding rest_of
 tails x y xs ys e = ap rest_of e
@@ -40,17 +43,21 @@ lines-rows (row ∷ rows) rest are =
     ∙ lines-feed (line_of row) (lines_of rows ++ rest) (line_clean row (All-head IsRow row rows are))
     ∙ ap (λ ls. line_of row ∷ ls) (lines-rows rows rest (All-tail IsRow row rows are))
 
+-- bytes without a line feed are one line
 whole_line : (line : List ℕ) → 0 < length line → has_feed line ≡ false → lines line ≡ line ∷ []
 whole_line [] some clean = absurd (omega arith)
 whole_line (b ∷ line) some clean = lines-open b line clean
 
+-- a row's line isn't empty
 line_some : (row : VerdictRow) → 0 < length (line_of row)
 line_some row = let parts = length-append (encode_lower row.id) (0x20 ∷ verdict_name row.verdict) in omega arith
 
+-- the last of some rows is one
 last_row : (front : List VerdictRow) (last : VerdictRow) → All IsRow (front ++ last ∷ []) → IsRow last
 last_row [] last are = All-head IsRow last [] are
 last_row (row ∷ front) last are = last_row front last (All-tail IsRow row (front ++ last ∷ []) are)
 
+-- the lines of all rows but the last, and of what follows
 front_rows : (front : List VerdictRow) (last : VerdictRow) → All IsRow (front ++ last ∷ []) → (rest : List ℕ) → lines (lines_of front ++ rest) ≡ map line_of front ++ lines rest
 front_rows [] last are rest = refl
 front_rows (row ∷ front) last are rest =
@@ -59,7 +66,7 @@ front_rows (row ∷ front) last are rest =
     ∙ ap (λ ls. line_of row ∷ ls) (front_rows front last (All-tail IsRow row (front ++ last ∷ []) are) rest)
 
 -- the lines of a file with these rows
-lines-has : (rows : List VerdictRow) (file : List ℕ) → HasRows rows file → lines file ≡ map line_of rows
+pub lines-has : (rows : List VerdictRow) (file : List ℕ) → HasRows rows file → lines file ≡ map line_of rows
 unfolding lines
 lines-has rows file has =
     elim has.spelled [
@@ -84,7 +91,8 @@ same_row r s hr hs e =
     let one : VerdictRow = record { id = s.id; verdict = r.verdict } in
     ap {B = VerdictRow} (λ i. record { id = i; verdict = r.verdict }) id ∙ ap {B = VerdictRow} (λ v. record { id = s.id; verdict = v }) verdict
 
-same_rows : (rows others : List VerdictRow) → All IsRow rows → All IsRow others → map line_of rows ≡ map line_of others → rows ≡ others
+-- lines tell their rows
+pub same_rows : (rows others : List VerdictRow) → All IsRow rows → All IsRow others → map line_of rows ≡ map line_of others → rows ≡ others
 same_rows [] [] a b e = refl
 same_rows [] (s ∷ others) a b e = absurd (cc e)
 same_rows (r ∷ rows) [] a b e = absurd (cc e)
@@ -110,7 +118,8 @@ longer b bytes other front = record {
   stands = elim front.stands [ inl e ↦ inl (ap (λ l. b ∷ l) e) | inr h ↦ inr (h.0, ap (λ l. b ∷ l) h.1) ];
 }
 
-front_of : (b : ℕ) (bytes : List ℕ) → Front (b ∷ bytes)
+-- the first line of bytes, byte by byte
+pub front_of : (b : ℕ) (bytes : List ℕ) → Front (b ∷ bytes)
 unfolding lines cons_first
 front_of b [] =
     elim (cases_Bool (eqb b 0x0A)) [
@@ -150,6 +159,7 @@ pub record BadFront (n : ℕ) (file : List ℕ) : Type 0 where
   pub is : lines file ≡ map line_of rows ++ line ∷ more
   pub bad : (row : VerdictRow) → IsRow row → line ≢ line_of row
 
+-- the bad line of a file, found
 bad_front : (n : ℕ) (file : List ℕ) → HasBadLine n file → BadFront n file
 bad_front n file h =
     let front = first_line h.rest h.some in
@@ -173,7 +183,8 @@ only_these file said says rows has q =
     let same = same_rows says.0 rows says.1.are_rows has.are_rows (sym (lines-has says.0 file says.1) ∙ lines-has rows file has) in
     says.3 q ∙ ap (λ rs. rows_say rs q) same
 
-apart : (n : ℕ) (file : List ℕ) (rows : List VerdictRow) → HasRows rows file → HasBadLine n file → ⊥
+-- a file with rows has no bad line
+pub apart : (n : ℕ) (file : List ℕ) (rows : List VerdictRow) → HasRows rows file → HasBadLine n file → ⊥
 apart n file rows has h =
     let front = bad_front n file h in
     let found = finds rows front.rows front.line front.more has.are_rows (sym (lines-has rows file has) ∙ front.is) in
@@ -189,15 +200,19 @@ only_memory file (TooLarge n) reason rows has fits = let above = reason.1 in abs
 only_memory file (BadRow n) reason rows has fits = absurd (apart n file rows has reason.0)
 only_memory file NoMemory reason rows has fits = refl
 
+-- a file has one first bad line
+pub one_place : (file : List ℕ) (m n : ℕ) → HasBadLine m file → HasBadLine n file → m ≡ n
+one_place file m n a b =
+    let one = bad_front m file a in
+    let two = bad_front n file b in
+    let same = same_place one.rows two.rows one.line two.line one.more two.more one.are_rows two.are_rows one.bad two.bad (sym one.is ∙ two.is) in
+    omega (arith, one.place, two.place)
+
 -- a file with a bad line is refused with its place, or where memory runs out
 pub only_place : (file : List ℕ) (e : ListError) → HasListReason file e → (n : ℕ) → HasBadLine n file → length file ≤ MAX_INPUT_LEN → (e ≡ BadRow n) ⊎ (e ≡ NoMemory)
 only_place file (TooLarge m) reason n h fits = let above = reason.1 in absurd (omega arith)
 only_place file (BadRow m) reason n h fits =
-    let one = bad_front m file reason.0 in
-    let two = bad_front n file h in
-    let same = same_place one.rows two.rows one.line two.line one.more two.more one.are_rows two.are_rows one.bad two.bad (sym one.is ∙ two.is) in
-    let place : m ≡ n = omega (arith, one.place, two.place) in
-    inl (ap BadRow place)
+    inl (ap BadRow (one_place file m n reason.0 h))
 only_place file NoMemory reason n h fits = inr refl
 
 -- the answers of the reading, as the public clauses say them

@@ -49,7 +49,7 @@ lines_of-push (first ∷ rows) row =
     ap (λ t. line_of first ++ 0x0A ∷ t) (lines_of-push rows row) ∙ sym (append_assoc (line_of first) (0x0A ∷ lines_of rows) (line_of row ++ 0x0A ∷ []))
 
 -- a further line before what comes after it
-lines_of-more : (rows : List VerdictRow) (row : VerdictRow) (behind : List ℕ) → lines_of (rows ++ row ∷ []) ++ behind ≡ lines_of rows ++ (line_of row ++ 0x0A ∷ behind)
+pub lines_of-more : (rows : List VerdictRow) (row : VerdictRow) (behind : List ℕ) → lines_of (rows ++ row ∷ []) ++ behind ≡ lines_of rows ++ (line_of row ++ 0x0A ∷ behind)
 lines_of-more rows row behind =
     ap (λ t. t ++ behind) (lines_of-push rows row)
     ∙ append_assoc (lines_of rows) (line_of row ++ 0x0A ∷ []) behind

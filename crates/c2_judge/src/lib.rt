@@ -7,6 +7,7 @@
 mod file;
 mod fixed;
 mod judge;
+mod laws;
 mod listed;
 mod panel;
 mod question;
@@ -17,6 +18,7 @@ mod tests;
 pub use c2_spec::{ListError, Verdict};
 pub use fixed::{BrokenJudge, FixedJudge};
 pub use judge::{Judge, JudgeFailed};
+pub use laws::each_file_is_read_one_way;
 pub use listed::ListJudge;
 pub use panel::ask_panel;
 pub use question::{question_id, update_question};

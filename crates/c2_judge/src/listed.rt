@@ -36,7 +36,8 @@ impl ListJudge {
         // What the file holds is answered.
         ensures only_rows { (rows : List row_type.VerdictRow) → HasRows rows bytes.now
             → length bytes.now ≤ MAX_INPUT_LEN
-            → MatchResult result (λ judge. SaysRows rows (list_says judge)) (λ e. e ≡ error.NoMemory) }
+            → MatchResult result (λ judge. SaysRows rows (list_says judge))
+            (λ e. e ≡ error.NoMemory) }
         ensures only_bad { (n : ℕ) → HasBadLine n bytes.now → length bytes.now ≤ MAX_INPUT_LEN
             → IsErrAnd result (λ e. (e ≡ error.BadRow n) ⊎ (e ≡ error.NoMemory)) }
         ensures only_large { MAX_INPUT_LEN < length bytes.now
