@@ -4,6 +4,7 @@
 #![tactic(auto)]
 
 mod reading;
+mod redactions;
 #[cfg(test)]
 mod tests;
 

@@ -7,33 +7,37 @@ ghost use Rattle.c2_spec.specs.C2pa.Claim.{claim_of, IsRead, Agrees, RefusesItem
 ghost use Rattle.c2_spec.specs.declared.cbor.CborError.{CborError as AnyError};
 ghost use Rattle.c2_claim.specs.Unread.{claim_error};
 
+use crate::redactions::redactions;
 use c2_cbor::{Cbor, CborError, decode_whole};
 use c2_spec::{Claim, ClaimError, ClaimField};
 use std::alloc::Global;
 
 /// The claim that an item is, or the first field that is refused.
-fn claim_in(alloc: Global, item: &Cbor) -> Result<Claim, ClaimError>
-    ensures { Agrees (claim_of (view item.now)) result }
+fn claim_in(alloc: Global, item: Cbor) -> Result<Claim, ClaimError>
+    ensures { Agrees (claim_of (view item)) result }
 {
-    if !c2_cbor_fields::is_map(item) {
+    if !c2_cbor_fields::is_map(&item) {
         return Err(ClaimError::Fields(ClaimField::Whole));
     }
-    let Some(instance) = c2_cbor_fields::text(alloc, item, "instanceID")? else {
+    let Some(instance) = c2_cbor_fields::text(alloc, &item, "instanceID")? else {
         return Err(ClaimError::Fields(ClaimField::InstanceId));
     };
-    let Some(signature) = c2_cbor_fields::text(alloc, item, "signature")? else {
+    let Some(signature) = c2_cbor_fields::text(alloc, &item, "signature")? else {
         return Err(ClaimError::Fields(ClaimField::Signature));
     };
-    let Some(created) = c2_cbor_fields::references(alloc, item, "created_assertions")? else {
+    let Some(created) = c2_cbor_fields::references(alloc, &item, "created_assertions")? else {
         return Err(ClaimError::Fields(ClaimField::Created));
     };
-    let Some(gathered) = c2_cbor_fields::optional_references(alloc, item, "gathered_assertions")? else {
+    let Some(gathered) = c2_cbor_fields::optional_references(alloc, &item, "gathered_assertions")?
+    else {
         return Err(ClaimError::Fields(ClaimField::Gathered));
     };
-    let Some(redacted) = c2_cbor_fields::optional_texts(alloc, item, "redacted_assertions")? else {
+    // Read before the redactions, which are taken out of the item, and tested after them.
+    let any_alg = c2_cbor_fields::optional_text(alloc, &item, "alg")?;
+    let Some(redacted) = redactions(alloc, item)? else {
         return Err(ClaimError::Fields(ClaimField::Redacted));
     };
-    let Some(alg) = c2_cbor_fields::optional_text(alloc, item, "alg")? else {
+    let Some(alg) = any_alg else {
         return Err(ClaimError::Fields(ClaimField::Alg));
     };
     Ok(Claim {
@@ -73,12 +77,12 @@ pub fn read(alloc: Global, bytes: &[u8]) -> Result<Claim, ClaimError>
     ensures only { (v : Item) → HasItem bytes.now v → Agrees (claim_of v) result }
 
     // A fault of theirs is answered, unless memory runs out.
-    ensures told { (e : AnyError) → IsUnread bytes.now e → RefusesItem e result }
+    ensures refused { (e : AnyError) → IsUnread bytes.now e → RefusesItem e result }
 {
     let item = match decode_whole(alloc, bytes) {
         Ok(item) => item,
         Err(fault) => return Err(unread(fault)),
     };
-    let claim = claim_in(alloc, &item)?;
+    let claim = claim_in(alloc, item)?;
     Ok(claim)
 }

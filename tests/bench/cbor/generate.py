@@ -34,6 +34,23 @@ def number_keys(count, shuffled):
     return head(5, count) + b"".join(head(0, k) + b"\xf6" for k in keys)
 
 
+def ended(count, end):
+    """The same keys, shuffled, with an end in place of the last pair."""
+    keys = list(range(count))
+    random.Random(1).shuffle(keys)
+    last = head(0, keys[0]) + b"\xf6" if end == "equal" else head(0, keys[-1]) + b"\x1c"
+    return head(5, count) + b"".join(head(0, k) + b"\xf6" for k in keys[:-1]) + last
+
+
+def texts_alike(count, length, shuffled):
+    """Keys that are texts which differ in their last nine bytes alone."""
+    keys = list(range(count))
+    if shuffled:
+        random.Random(3).shuffle(keys)
+    front = (b"c2pa.assertion." * 10)[: length - 9]
+    return head(5, count) + b"".join(text(front + b"%09d" % k) + b"\xf6" for k in keys)
+
+
 def map_keys(count):
     """A map whose keys are maps that hold a number and a text."""
     keys = list(range(count))
@@ -51,7 +68,14 @@ def nested_keys(levels, per_level):
 
 def shapes(scale):
     yield "small_maps", small_maps(10_000 * scale)
+    yield "small_maps_100000", small_maps(1_000 * scale)
     yield "number_keys_rising", number_keys(40_000 * scale, False)
+    yield "number_keys_equal_at_end", ended(40_000 * scale, "equal")
+    yield "number_keys_fault_at_end", ended(40_000 * scale, "fault")
+    yield "texts_24_rising", texts_alike(3_000 * scale, 24, False)
+    yield "texts_24_shuffled", texts_alike(3_000 * scale, 24, True)
+    yield "texts_80_rising", texts_alike(3_000 * scale, 80, False)
+    yield "texts_80_shuffled", texts_alike(3_000 * scale, 80, True)
     yield "number_keys_shuffled", number_keys(40_000 * scale, True)
     yield "map_keys", map_keys(3_000 * scale)
     yield "nested_keys", nested_keys(63, 1_000 * scale)

@@ -1,0 +1,6 @@
+use Rattle.std.proofs.Common.{◌≡◌, reverse}
+use Rattle.c2_claim.proofs.Taking.{texts, before}
+use Rattle.c2_claim.proofs.redactions.taken_texts.Given as goal
+
+abbrev pub invariant-loop-item : goal.invariant-loop-item
+invariant-loop-item l = texts l.items.items ≡ before (reverse l.found.items) (texts l.left.items)
