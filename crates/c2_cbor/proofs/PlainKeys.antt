@@ -66,6 +66,7 @@ module _ (all : List (Cbor × Cbor)) (ms : List Mark) (o : IsKeyOrder (det_keys 
         plain_from (suc n) qs (rest_is q all n q qs e) h.1 v,
       )
 
+  -- the whole map is plain
   pub plain_map : KeysPlain all → ValuesPlain all ms → PairsHavePlainKeys (pairs_view all)
   plain_map h v = plain_from 0 all refl h v
 
@@ -77,12 +78,15 @@ plain_pairs ps ks s t o same least there values keys =
 
 -- ---- values that are one level
 
+-- a list
 pub plain-List : (v : Vec Cbor Global) (vs : List Cbor) → vs ≡ v.items → ItemsHavePlainKeys (items_view vs) → HasPlainKeys (view (List' v))
 plain-List v vs e h = subst HasPlainKeys (sym (view-List v)) (subst (λ ws. ItemsHavePlainKeys (items_view ws)) e h)
 
+-- a map
 pub plain-Map : (v : Vec (Cbor × Cbor) Global) (ps : List (Cbor × Cbor)) → ps ≡ v.items → PairsHavePlainKeys (pairs_view ps) → HasPlainKeys (view (Map v))
 plain-Map v ps e h = subst HasPlainKeys (sym (view-Map v)) (subst (λ qs. PairsHavePlainKeys (pairs_view qs)) e h)
 
+-- a tag
 pub plain-Tag : (n : ℕ) (v : Box Cbor Global) (w : Cbor) → w ≡ v.value → HasPlainKeys (view w) → HasPlainKeys (view (Tag n v))
 plain-Tag n v w e h = subst HasPlainKeys (sym (view-Tag n v)) (subst (λ x. HasPlainKeys (view x)) e h)
 
@@ -94,6 +98,7 @@ new_from_bytes k no_pairs h = tt
 new_from_bytes k (pair l v ps) h = (λ e. h.0 (ap deterministic e), new_from_bytes k ps h.1)
 
 mutual
+  -- an item
   pub plain_distinct : (v : Item) → HasPlainKeys v → HasDistinctKeys v
   plain_distinct (uint n) h = tt
   plain_distinct (nint n) h = tt
@@ -107,10 +112,12 @@ mutual
   plain_distinct (single n) h = tt
   plain_distinct (double n) h = tt
 
+  -- items
   plain_distinct_items : (vs : Items) → ItemsHavePlainKeys vs → ItemsHaveDistinctKeys vs
   plain_distinct_items no_items h = tt
   plain_distinct_items (item v vs) h = (plain_distinct v h.0, plain_distinct_items vs h.1)
 
+  -- pairs
   plain_distinct_pairs : (ps : Pairs) → PairsHavePlainKeys ps → PairsHaveDistinctKeys ps
   plain_distinct_pairs no_pairs h = tt
   plain_distinct_pairs (pair k v ps) h = (plain_distinct k h.0, plain_distinct v h.1, new_from_bytes k ps h.2, plain_distinct_pairs ps h.3)

@@ -32,6 +32,7 @@ none_insert b (pair l w ps) k v h n = elim (cmp (preferred k) (preferred l)) as 
   | Greater ↦ (h.0, none_insert b ps k v h.1 n)
 ]
 
+-- one more pair keeps the rise
 insert_rises : (ps : Pairs) (k v : Item) → KeysRise ps → KeysRise (insert_pair ps k v)
 insert_rises no_pairs k v h = (tt, tt)
 insert_rises (pair l w ps) k v h = elim (cmp (preferred k) (preferred l)) as (λ o. cmp (preferred k) (preferred l) ≡ o → KeysRise (match_ordering o (pair k v (pair l w ps)) (pair l w (insert_pair ps k v)) (pair l w (insert_pair ps k v)))) [
@@ -40,6 +41,7 @@ insert_rises (pair l w ps) k v h = elim (cmp (preferred k) (preferred l)) as (λ
   | Greater ↦ λ e. (none_insert (preferred l) ps k v h.0 (λ f. let clash : Greater ≡ Less = sym e ∙ f in cc), insert_rises ps k v h.1)
 ] refl
 
+-- so do all
 pub sorted_rise : (ps before : Pairs) → KeysRise before → KeysRise (sorted_pairs ps before)
 sorted_rise no_pairs before h = h
 sorted_rise (pair k v ps) before h = sorted_rise ps (insert_pair before (sorted k) (sorted v)) (insert_rises before (sorted k) (sorted v) h)
@@ -55,10 +57,12 @@ then_pairs (pair k v ps) qs = pair k v (then_pairs ps qs)
 abbrev push : Pairs → Item → Item → Pairs
 push ps k v = then_pairs ps (pair k v no_pairs)
 
+-- one more and then others
 push_then : (ps : Pairs) (k v : Item) (qs : Pairs) → then_pairs (push ps k v) qs ≡ then_pairs ps (pair k v qs)
 push_then no_pairs k v qs = refl
 push_then (pair l w ps) k v qs = ap (pair l w) (push_then ps k v qs)
 
+-- nothing more
 then_nothing : (ps : Pairs) → then_pairs ps no_pairs ≡ ps
 then_nothing no_pairs = refl
 then_nothing (pair k v ps) = ap (pair k v) (then_nothing ps)
@@ -103,6 +107,7 @@ insert_with b (pair l w ps) k v h = elim (cmp (preferred k) (preferred l)) as (�
   | Greater ↦ λ e. ap (λ qs. cond (bytes_eq (preferred l) b) (pair l w qs) qs) (insert_with b ps k v h.1)
 ] refl
 
+-- pairs with the same bytes stay
 pub sorted_stay : (b : List ℕ) (ps before : Pairs) → KeysRise before → pairs_with b (sorted_pairs ps before) ≡ pairs_with b (then_pairs before (each_sorted ps))
 sorted_stay b no_pairs before h = ap (pairs_with b) (sym (then_nothing before))
 sorted_stay b (pair k v ps) before h =

@@ -9,6 +9,7 @@ pub none_shared : (a : List ℕ) (ks : List (List ℕ)) → AllAgree 0 a ks
 none_shared a [] = tt
 none_shared a (k ∷ ks) = (λ i l. let never : ⊥ = omega (arith, l) in absurd never, none_shared a ks)
 
+-- so no byte is always shared
 pub shares_none : (ks : List (List ℕ)) → SharesFront 0 ks
 shares_none ks = ([], none_shared [] ks)
 

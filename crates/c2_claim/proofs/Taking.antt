@@ -1,5 +1,6 @@
 -- The texts of a list, taken from its end.
 use Rattle.std.proofs.Common.{◌≡◌, ℕ, List, [], ◌∷◌, ◌++◌, reverse, Option, Some, None, refl, sym, ap, ◌∙◌, append_assoc, append-nil}
+use mathlib.Core.List.{reverse_aux}
 use Rattle.std.specs.Option.{option_map}
 use Rattle.c2_spec.specs.Cbor.Item.{Item}
 use Rattle.c2_spec.specs.Cbor.View.{view, items_view}
@@ -37,9 +38,14 @@ regroup : (front : Option (List (List ℕ))) (t : List ℕ) (back : List (List �
 regroup None t back = refl
 regroup (Some xs) t back = ap Some (append_assoc xs (t ∷ []) back)
 
+-- reversed onto others
+reversed_last : (xs : List (List ℕ)) (t : List ℕ) (more : List (List ℕ)) → reverse_aux (xs ++ t ∷ []) more ≡ t ∷ reverse_aux xs more
+reversed_last [] t more = refl
+reversed_last (x ∷ xs) t more = reversed_last xs t (x ∷ more)
+
+-- the last becomes the first
 reverse_last : (xs : List (List ℕ)) (t : List ℕ) → reverse (xs ++ t ∷ []) ≡ t ∷ reverse xs
-reverse_last [] t = refl
-reverse_last (x ∷ xs) t = ap (λ ys. ys ++ x ∷ []) (reverse_last xs t)
+reverse_last xs t = reversed_last xs t []
 
 -- one more is taken
 pub take_on : (all : Option (List (List ℕ))) (old left later : List Cbor) (v : Cbor) (t : List ℕ) (found more : List (List ℕ)) → old ≡ left ++ v ∷ [] → Some t ≡ text_item (view v) → more ≡ found ++ t ∷ [] → later ≡ left

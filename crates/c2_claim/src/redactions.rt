@@ -28,6 +28,7 @@ fn taken_text(item: Cbor) -> Option<Text>
     }
 }
 
+#[tactic(auto, using(crate::proofs::Taking::take_on, crate::proofs::Taking::take_none, crate::proofs::Taking::take_all))]
 /// The texts that the items are, where all of them are. The last is taken first, and its memory given back, so that no more
 /// is held than the items took.
 fn taken_texts(alloc: Global, items: Vec<Cbor>) -> Result<Option<Texts>, NoMemory>
