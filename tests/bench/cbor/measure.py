@@ -1,13 +1,16 @@
-"""Runs programs on each input in a folder, one after the other in each turn, to copy it, to read it, and to read and write it:
-measure.py PROGRAM FOLDER [OLD_PROGRAM [TURNS]]. Prints the least milliseconds of reading and of writing, the peak memory of both,
-and how many bytes of memory reading takes for a byte of input. With an old program each figure stands beside its ratio to
-the old one's, and the two must say the same of each input."""
+"""Runs a program on each input in a folder, to copy it, to read it, and to read and write it: measure.py PROGRAM FOLDER
+[OLD_PROGRAM [TURNS]]. Prints the least processor time of reading (less that of copying) and of writing (less that of reading),
+in milliseconds, the peak memory of both, and how many bytes of memory reading takes for a byte of input. With an old program,
+which runs by turns with the other, each figure stands beside its ratio to the old one's, and both must say the same."""
 import os
 import sys
 import tempfile
 
+MODES = "copy", "decode", "encode"
+
 
 def run(program, mode, path):
+    """What the program said, its processor time in milliseconds, and its peak memory in MB."""
     with tempfile.TemporaryFile() as out:
         child = os.posix_spawn(program, [program, mode, path], os.environ, file_actions=[(os.POSIX_SPAWN_DUP2, out.fileno(), 1)])
         _, status, usage = os.wait4(child, 0)
@@ -15,22 +18,21 @@ def run(program, mode, path):
         lines = out.read().decode().splitlines()
     if os.waitstatus_to_exitcode(status) != 0:
         sys.exit(f"{program} {mode} {path}: status {status}")
-    said, times = (lines[0], lines[1].split()) if lines else ("", (0, 0))
-    return said, int(times[0]), int(times[1]), usage.ru_maxrss * 1024 / 1e6
+    return lines[0] if lines else "", (usage.ru_utime + usage.ru_stime) * 1000, usage.ru_maxrss * 1024 / 1e6
 
 
-def measured(program, path, turns):
+def measured(programs, path, turns):
+    """For each program what it said, and its times and memory."""
+    runs = {(program, mode): [] for program in programs for mode in MODES}
+    for _ in range(turns):
+        for program, mode in runs:
+            runs[program, mode].append(run(program, mode, path))
     size = os.path.getsize(path) / 1e6
-    copied = [run(program, "copy", path) for _ in range(turns)]
-    read = [run(program, "decode", path) for _ in range(turns)]
-    written = [run(program, "encode", path) for _ in range(turns)]
-    # the copying program holds the input once more than the reading one
-    tree = (max(m for *_, m in read) - max(m for *_, m in copied) + size) / size
-    return written[0][0], min(r for _, r, _, _ in read), min(w for _, _, w, _ in written), max(m for *_, m in read), max(m for *_, m in written), tree
-
-
-def ratio(new, old):
-    return f"{new / old:6.2f}" if old else "     -"
+    for program in programs:
+        copy, read, both = (min(time for _, time, _ in runs[program, mode]) for mode in MODES)
+        copied, tree, written = (max(memory for *_, memory in runs[program, mode]) for mode in MODES)
+        # the copying program holds the input once more than the reading one
+        yield runs[program, "encode"][0][0], max(read - copy, 1), max(both - read, 1), tree, written, (tree - copied + size) / size
 
 
 def main():
@@ -39,14 +41,14 @@ def main():
     print(f"{'input':26} {'MB':>5} {'read ms':>8} {'write ms':>8} {'read MB':>8} {'write MB':>8} {'B/B':>5}", "  ratios to the old program" if len(programs) > 1 else "")
     for name in sorted(os.listdir(folder)):
         path = os.path.join(folder, name)
-        said, *new = measured(programs[0], path, turns)
+        (said, *new), *others = measured(programs, path, turns)
         more = ""
-        if len(programs) > 1:
-            old_said, *old = measured(programs[1], path, turns)
+        for old_said, *old in others:
             if said != old_said:
                 sys.exit(f"{name}: {said} and {old_said}")
-            more = " ".join(ratio(a, b) for a, b in zip(new[:4], old))
-        print(f"{name[:-5]:26} {os.path.getsize(path) / 1e6:5.1f} {new[0]:8} {new[1]:8} {new[2]:8.0f} {new[3]:8.0f} {new[4]:5.1f}  {more}", flush=True)
+            more = " ".join(f"{a / b:6.2f}" for a, b in zip(new[:4], old))
+        size = os.path.getsize(path) / 1e6
+        print(f"{name[:-5]:26} {size:5.1f} {new[0]:8.0f} {new[1]:8.0f} {new[2]:8.0f} {new[3]:8.0f} {new[4]:5.1f}  {more}", flush=True)
 
 
 if __name__ == "__main__":
