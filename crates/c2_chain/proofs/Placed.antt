@@ -8,8 +8,8 @@ use Rattle.c2_spec.specs.Jumbf.Tree.{Tree}
 use Rattle.c2_spec.specs.Jumbf.Boxes.{tree_count}
 use Rattle.c2_spec.specs.C2pa.Manifest.{Superbox, Manifest, IsStoreOf, superboxes, claim_bytes, signature_in, superbox_at, item_at, manifest_boxes, manifest_at, manifests_of, store_of}
 use Rattle.c2_spec.specs.declared.store.ManifestBoxes.{ManifestBoxes}
-use Rattle.c2_jumbf.proofs.BoxLemmas.{some_box}
-use Rattle.c2_store.proofs.Labelled.{IsInside, superboxes_inside}
+use Rattle.c2_spec.proofs.JumbfBoxes.{some_box}
+use Rattle.c2_spec.proofs.BoxesOfManifests.{IsInside, superboxes_inside}
 
 -- ---- a manifest of a store, by the index of its own box
 

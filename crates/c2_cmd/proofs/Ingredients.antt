@@ -9,8 +9,8 @@ use Rattle.c2_spec.specs.Jumbf.Boxes.{box_at, any_label}
 use Rattle.c2_spec.specs.C2pa.Manifest.{Manifest, manifest_at, manifest_boxes, manifests_of, IsStoreOf, StoreTest, store_test, first_refusal, manifest_tests, count_tests, superboxes, is_store}
 use Rattle.c2_spec.specs.declared.store.ManifestBoxes.{ManifestBoxes}
 use Rattle.c2_spec.specs.declared.store.StoreError.TheVariants.{NotStore}
-use Rattle.c2_store.proofs.Picking.{first_refusal_append}
-use Rattle.c2_store.proofs.Inside.{assertions_inside}
+use Rattle.c2_spec.proofs.StoreRefusals.{first_refusal_append}
+use Rattle.c2_spec.proofs.BoxesOfManifests.{assertions_inside}
 use Rattle.c2_rules.specs.Ingredients.{is_ingredient_label}
 use Rattle.c2_chain.proofs.Placed.{IsAt, at_of, stored_count}
 use Rattle.c2_cmd.specs.Active.{first_label, IsActiveManifest}

@@ -3,14 +3,13 @@ use Rattle.std.proofs.Common.{◌≡◌, ◌≢◌, ℕ, suc, ◌+◌, ◌-◌, 
 use Rattle.std.proofs.lemmas.List.{get_or-drop, length-drop}
 use Rattle.c2_spec.specs.Jumbf.Tree.{Description, IsDescription, label_bytes, fixed_bytes, private_bytes, Tree, leaf, super, IsLegalTree}
 use Rattle.c2_spec.specs.Jumbf.Faults.{is_set, IsLabelPart, LabelFault, DescriptionFault}
-use Rattle.c2_spec.specs.Jumbf.Boxes.{AnyBox, node, described, IndexedBox, tree_count, boxes_of, box_at, any_uuid, any_label, any_contents}
+use Rattle.c2_spec.specs.Jumbf.Boxes.{AnyBox, node, described, IndexedBox, tree_count, any_count, index_after, boxes_of, box_at, any_uuid, any_label, any_contents, IsLegalBox}
 use Rattle.c2_spec.proofs.JumbfParts.{label_once, no_fields, own_label, front_same, desc_split}
 use Rattle.c2_jumbf.specs.Described.{any_description, IsPayload}
-use Rattle.c2_jumbf.specs.Flat.{any_count, row_of}
-use Rattle.c2_jumbf.proofs.BoxLemmas.{IsLegalBox, own_boxes, inner_boxes, box_stands, box_index, box_inside, count_is}
+use Rattle.c2_spec.proofs.JumbfBoxes.{own_boxes, inner_boxes, box_stands, box_inside, count_is}
 
 -- a box with one index has no description, and another has
-pub lone_box : (t : Tree) (i : ℕ) → i < tree_count t → (row_of (box_at t i)).after ≡ i + 1 → any_description (box_at t i).box ≡ None
+pub lone_box : (t : Tree) (i : ℕ) → i < tree_count t → index_after t i ≡ i + 1 → any_description (box_at t i).box ≡ None
 lone_box t i l e = go (box_at t i).box refl
   where
     go : (b : AnyBox) → (box_at t i).box ≡ b → any_description b ≡ None
@@ -18,7 +17,7 @@ lone_box t i l e = go (box_at t i).box refl
     go (described d) is = refl
     go (node (super wide d us)) is =
         let n : any_count (box_at t i).box ≡ any_count (node (super wide d us)) = ap any_count is in
-        absurd (omega (arith, e, box_index t i l, n))
+        absurd (omega (arith, e, n))
 
 pub record IsSuper (t : Tree) (i : ℕ) : Type 0 where
   pub description : Description
@@ -27,14 +26,14 @@ pub record IsSuper (t : Tree) (i : ℕ) : Type 0 where
   pub inside : i + 1 < tree_count t
   pub legal : IsDescription description
 
-pub super_box : (t : Tree) (i : ℕ) → i < tree_count t → IsLegalTree 1 t → (row_of (box_at t i)).after ≢ i + 1 → IsSuper t i
+pub super_box : (t : Tree) (i : ℕ) → i < tree_count t → IsLegalTree 1 t → index_after t i ≢ i + 1 → IsSuper t i
 super_box t i l h other = go (box_at t i).box refl
   where
     s : (rest : List IndexedBox) × (drop i (boxes_of t) ≡ own_boxes (box_at t i) ++ rest)
     s = box_inside t i l
 
-    alone : (b : AnyBox) → (box_at t i).box ≡ b → any_count b ≡ 1 → (row_of (box_at t i)).after ≡ i + 1
-    alone b is one = ap (λ n. n + any_count (box_at t i).box) (box_index t i l) ∙ ap (λ n. i + n) (ap any_count is ∙ one)
+    alone : (b : AnyBox) → (box_at t i).box ≡ b → any_count b ≡ 1 → index_after t i ≡ i + 1
+    alone b is one = ap (λ n. i + n) (ap any_count is ∙ one)
 
     go : (b : AnyBox) → (box_at t i).box ≡ b → IsSuper t i
     go (node (leaf b)) is = absurd (other (alone (node (leaf b)) is refl))

@@ -3,10 +3,9 @@ use Rattle.std.proofs.Common.{◌≡◌, ◌≢◌, ℕ, zero, suc, ◌+◌, ◌
 use Rattle.std.proofs.lemmas.List.{drop-drop, drop_at, drop_more, drop_all, get_or-map, length-map}
 use Rattle.std.specs.List.{AllByRecursion, Contains}
 use Rattle.c2_spec.specs.Jumbf.Tree.{description_bytes, head_len, Tree, Trees, leaf, super, none, more, tree_bytes, tree_label, tree_labels, IsNewLabel, AreDistinctLabels, IsLegalTree}
-use Rattle.c2_spec.specs.Jumbf.Boxes.{AnyBox, node, described, IndexedBox, tree_count, boxes_from, boxes_from_all, boxes_of, box_at, any_label, indices_from, children_of, child_indices, LabelsLead}
-use Rattle.c2_jumbf.proofs.Trees.{length-boxes}
-use Rattle.c2_jumbf.proofs.BoxLemmas.{IsLegalBox, own_boxes, inner_boxes, box_stands, box_index, box_inside}
-use Rattle.c2_jumbf.proofs.Chains.{Chain, chain_of, after_of, front_box_is, head_of}
+use Rattle.c2_spec.specs.Jumbf.Boxes.{AnyBox, node, described, IndexedBox, tree_count, boxes_from, boxes_from_all, boxes_of, box_at, any_label, indices_from, children_of, child_indices, LabelsLead, IsLegalBox, index_after}
+use Rattle.c2_spec.proofs.JumbfBoxes.{length-boxes, own_boxes, inner_boxes, box_stands, box_index, box_inside}
+use Rattle.c2_spec.proofs.JumbfChildren.{Chain, chain_of, front_box_is, head_of}
 
 -- the labels of boxes by their indices
 abbrev label_at : Tree → ℕ → Option (List ℕ)
@@ -95,10 +94,10 @@ child_once t i label j k l h a b p q =
 chain_within : (t : Tree) (end i : ℕ) (cs : List ℕ) (n k : ℕ) → Chain t end i cs → n < length cs → get_or cs n k ≡ k → k < tree_count t
 chain_within t end i [] n k h l e = absurd (omega (arith, l))
 chain_within t end i (c ∷ cs) zero k h l e = omega (arith, sym h.0 ∙ e, h.1.1.0)
-chain_within t end i (c ∷ cs) (suc n) k h l e = chain_within t end (after_of t i) cs n k h.1.1.1.1.1 (omega arith) e
+chain_within t end i (c ∷ cs) (suc n) k h l e = chain_within t end (index_after t i) cs n k h.1.1.1.1.1 (omega arith) e
 
 pub child_within : (t : Tree) (i k : ℕ) → i < tree_count t → Contains (child_indices t i) k → k < tree_count t
-child_within t i k l a = chain_within t (after_of t i) (i + 1) (child_indices t i) a.0 k (chain_of t i l) a.1 a.2
+child_within t i k l a = chain_within t (index_after t i) (i + 1) (child_indices t i) a.0 k (chain_of t i l) a.1 a.2
 
 -- Labels lead to one box.
 pub lead_once : (labels : List (List ℕ)) (t : Tree) (i j k : ℕ) → i < tree_count t → IsLegalTree 1 t → LabelsLead t i labels j → LabelsLead t i labels k → j ≡ k

@@ -5,9 +5,9 @@ pub mod Trees
 pub mod Whole
 pub mod Opening
 pub mod Roots
-pub mod BoxLemmas
+pub mod Records
 pub mod DescriptionLemmas
-pub mod Chains
+pub mod ChildSteps
 pub mod Leading
 pub mod WritingLemmas
 pub mod EachDescription

@@ -3,9 +3,10 @@ use Rattle.std.proofs.Common.{◌≡◌, ◌≢◌, ℕ, ◌+◌, ◌-◌, ◌<�
 use Rattle.std.proofs.lemmas.List.{length-drop, append-nil, drop-drop, drop_all, length-map, map-append}
 use Rattle.std.specs.List.{AllByRecursion}
 use Rattle.c2_spec.specs.declared.jumbf.JumbfError.{JumbfError}
-use Rattle.c2_spec.specs.Jumbf.Tree.{Tree, Trees, leaf, super, none, more, tree_bytes, trees_bytes, description_bytes, tree_label, tree_labels, IsLegalTree, AreLegalTrees, AreDistinctLabels, IsNewLabel, head_len}
+use Rattle.c2_spec.specs.Jumbf.Tree.{Tree, Trees, none, more, tree_bytes, trees_bytes, tree_label, tree_labels, IsLegalTree, AreLegalTrees, AreDistinctLabels, IsNewLabel}
 use Rattle.c2_spec.specs.Jumbf.Faults.{TreeFault}
 use Rattle.c2_spec.specs.Jumbf.Boxes.{IndexedBox, tree_count, trees_count, boxes_from, boxes_from_all}
+use Rattle.c2_spec.proofs.JumbfBoxes.{length-boxes_all}
 use Rattle.c2_jumbf.specs.declared.rows.Row.{Row}
 use Rattle.c2_jumbf.specs.declared.labels.Siblings.{Siblings}
 use Rattle.c2_jumbf.specs.Labels.{Holds}
@@ -58,16 +59,6 @@ distinct-push [] u h k = (lonely u, tt)
     lonely None = tt
     lonely (Some t) = tt
 distinct-push (o ∷ os) u h k = (apart o u os h.0 k, distinct-push os u h.1 (new-tail u o os k))
-
--- as many boxes as are counted
-mutual
-  pub length-boxes : (t : Tree) (at depth i : ℕ) → length (boxes_from at depth i t) ≡ tree_count t
-  length-boxes (leaf b) at depth i = refl
-  length-boxes (super wide d boxes) at depth i = let e : length (boxes_from_all (at + head_len wide + length (description_bytes d)) (depth + 1) (i + 2) boxes) ≡ trees_count boxes = length-boxes_all boxes _ (depth + 1) (i + 2) in omega (arith, e)
-
-  pub length-boxes_all : (ts : Trees) (at depth i : ℕ) → length (boxes_from_all at depth i ts) ≡ trees_count ts
-  length-boxes_all none at depth i = refl
-  length-boxes_all (more t ts) at depth i = length-append (boxes_from at depth i t) (boxes_from_all (at + length (tree_bytes t)) depth (i + tree_count t) ts) ∙ ap (λ n. n + length (boxes_from_all (at + length (tree_bytes t)) depth (i + tree_count t) ts)) (length-boxes t at depth i) ∙ ap (λ n. tree_count t + n) (length-boxes_all ts (at + length (tree_bytes t)) depth (i + tree_count t))
 
 pub length-rows_all : (ts : Trees) (at depth i : ℕ) → length (rows_all at depth i ts) ≡ trees_count ts
 length-rows_all ts at depth i = length-map (boxes_from_all at depth i ts) row_of ∙ length-boxes_all ts at depth i

@@ -7,11 +7,7 @@ use Rattle.c2_jumbf.specs.Labels.{Holds}
 use Rattle.c2_spec.specs.declared.jumbf.JumbfError.{JumbfError}
 use Rattle.c2_spec.specs.Jumbf.Tree.{Tree, Trees, Description, IsDescription, description_bytes, head_len, tree_bytes, trees_bytes, tree_label, tree_labels, IsLegalTree, AreLegalTrees, AreDistinctLabels, IsNewLabel}
 use Rattle.c2_spec.specs.Jumbf.Faults.{TreeFault, told_payload}
-use Rattle.c2_spec.specs.Jumbf.Boxes.{AnyBox, node, described, IndexedBox, tree_count, boxes_from, boxes_from_all, any_bytes, any_wide}
-
-abbrev pub any_count : AnyBox → ℕ
-any_count (node t) = tree_count t
-any_count (described d) = 1
+use Rattle.c2_spec.specs.Jumbf.Boxes.{IndexedBox, any_count, boxes_from, boxes_from_all, any_bytes, any_wide}
 
 -- the record of a box
 abbrev pub row_of : IndexedBox → Row

@@ -3,7 +3,7 @@ ghost use Rattle.std.specs.Prelude.{◌≡◌, ◌+◌, ◌^◌, ◌<◌, ◌≤
 ghost use Rattle.std.specs.Int.{w32, to_be_bytes};
 ghost use Rattle.std.specs.Option.{option_map};
 ghost use Rattle.c2_spec.specs.Jumbf.Tree.{IsLegalTree, head_len};
-ghost use Rattle.c2_spec.specs.Jumbf.Boxes.{tree_count, box_at, any_kind, any_wide, any_bytes, any_contents, any_uuid, any_label};
+ghost use Rattle.c2_spec.specs.Jumbf.Boxes.{tree_count, box_at, index_after, any_kind, any_wide, any_bytes, any_contents, any_uuid, any_label};
 ghost use Rattle.c2_jumbf.specs.Flat.{row_of};
 ghost use Rattle.c2_jumbf.specs.Described.{any_description, IsPayload};
 
@@ -45,6 +45,17 @@ pub fn total(tree: &Tree<'_>, i: usize) -> usize
     ensures { result ≡ length (any_bytes (box_at tree.now i).box) }
 {
     row_at(tree, i).total
+}
+
+/// The index after a box's last descendant; one more than the box's own where nothing is inside it.
+pub fn after(tree: &Tree<'_>, i: usize) -> usize
+    requires { i < tree_count tree.now }
+    ensures after { result ≡ index_after tree.now i }
+    ensures past { i < result }
+    ensures within { result ≤ tree_count tree.now }
+    ensures legal { IsLegalTree 1 tree.now }
+{
+    row_at(tree, i).after
 }
 
 /// The bytes of a box.
@@ -90,10 +101,12 @@ fn payload_of<'t>(tree: &'t Tree<'_>, i: usize) -> Option<&'t [u8]>
     ensures found { IfSome result (λ payload. IsPayload (box_at tree.now i).box payload.now) }
     ensures none { IfNone result (any_description (box_at tree.now i).box ≡ None) }
 {
-    if row_at(tree, i).after == i + 1 {
+    let end = after(tree, i);
+    let next = i + 1;
+    if next == end {
         return None;
     }
-    Some(contents(tree, i + 1))
+    Some(contents(tree, next))
 }
 
 /// The type UUID of a superbox (ISO/IEC 19566-5, A.3); none for any other box.

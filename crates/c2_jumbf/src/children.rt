@@ -6,7 +6,7 @@ ghost use Rattle.c2_spec.specs.Jumbf.Boxes.{tree_count, box_at, any_label, child
 ghost use Rattle.c2_jumbf.specs.Labels.{is_label};
 
 use crate::borrowed::Tree;
-use crate::boxes::{label_of, row_at};
+use crate::boxes::{after, label_of};
 
 /// The index of a box's child `k`, counted from 0, and none where it has not so many; a superbox's description box is its
 /// child 0.
@@ -14,13 +14,13 @@ pub fn child(tree: &Tree<'_>, i: usize, k: usize) -> Option<usize>
     requires { i < tree_count tree.now }
     ensures { result ≡ slice_get (child_indices tree.now i) k }
 {
-    let end = row_at(tree, i).after;
+    let end = after(tree, i);
     let mut at = i + 1;
     for _turn in 0..k {
         if at >= end {
             return None;
         }
-        at = row_at(tree, at).after;
+        at = after(tree, at);
     }
     if at < end { Some(at) } else { None }
 }
@@ -43,13 +43,13 @@ fn labelled_child(tree: &Tree<'_>, i: usize, label: &str) -> Option<usize>
     ensures found { IfSome result (λ k. Contains (child_indices tree.now i) k × (any_label (box_at tree.now k).box ≡ Some label.now)) }
     ensures none { IfNone result ((k : ℕ) → Contains (child_indices tree.now i) k → any_label (box_at tree.now k).box ≡ Some label.now → ⊥) }
 {
-    let end = row_at(tree, i).after;
+    let end = after(tree, i);
     let mut at = i + 1;
     while at < end {
         if is_labelled(tree, at, label) {
             return Some(at);
         }
-        at = row_at(tree, at).after;
+        at = after(tree, at);
     }
     None
 }

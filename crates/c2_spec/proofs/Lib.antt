@@ -23,3 +23,8 @@ pub mod BmffPassing
 pub mod BmffNoFault
 pub mod BmffOneStore
 pub mod BmffOneOutcome
+pub mod JumbfBoxes
+pub mod JumbfChildren
+pub mod StoreRefusals
+pub mod BoxesOfManifests
+pub mod BoxParts

@@ -1,6 +1,4 @@
-pub mod Levels
 pub mod Gathering
 pub mod Picking
 pub mod Labelled
 pub mod Refusing
-pub mod Inside

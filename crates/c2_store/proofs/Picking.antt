@@ -1,10 +1,11 @@
 -- The first of a list that passes a test, those that do, and the first refusal, from one member to the next.
-use Rattle.std.proofs.Common.{◌≡◌, ℕ, ◌+◌, ◌<◌, Bool, true, false, cond, List, [], ◌∷◌, ◌++◌, length, drop, get_or, Option, Some, None, refl, sym, ap, ◌∙◌, append_assoc, append-nil}
+use Rattle.std.proofs.Common.{◌≡◌, ℕ, ◌+◌, ◌<◌, Bool, true, false, cond, List, [], ◌∷◌, ◌++◌, length, drop, get_or, Option, Some, None, sym, ap, ◌∙◌, append_assoc, append-nil}
 use Rattle.std.specs.List.{filter, find, flat_map}
-use Rattle.std.specs.Option.{option_map, option_or}
+use Rattle.std.specs.Option.{option_or}
 use Rattle.std.proofs.lemmas.List.{drop_more}
 use Rattle.std.proofs.Math.Seq.{drop-length}
 use Rattle.c2_spec.specs.C2pa.Manifest.{StoreTest, first_refusal}
+use Rattle.c2_spec.proofs.StoreRefusals.{first_refusal_append}
 use Rattle.c2_spec.specs.declared.store.StoreError.{StoreError}
 
 -- a function of what is left of a list, one member on
@@ -42,16 +43,6 @@ pub filter_all : {X : Type 0} (p : X → Bool) (xs found : List X) → found ++ 
 filter_all p xs found so_far = sym (append-nil found) ∙ ap (λ ys. found ++ filter p ys) (sym (drop-length xs)) ∙ so_far
 
 -- ---- refusals
-
-by_case : (t : StoreTest) (ts ys : List StoreTest) (b : Bool) → first_refusal (ts ++ ys) ≡ option_or (first_refusal ts) (first_refusal ys)
-    → option_map (λ (u : StoreTest). u.refusal) (cond b (Some t) (find (λ (u : StoreTest). u.fails) (ts ++ ys)))
-    ≡ option_or (option_map (λ (u : StoreTest). u.refusal) (cond b (Some t) (find (λ (u : StoreTest). u.fails) ts))) (first_refusal ys)
-by_case t ts ys true h = refl
-by_case t ts ys false h = h
-
-pub first_refusal_append : (xs ys : List StoreTest) → first_refusal (xs ++ ys) ≡ option_or (first_refusal xs) (first_refusal ys)
-first_refusal_append [] ys = refl
-first_refusal_append (t ∷ ts) ys = by_case t ts ys t.fails (first_refusal_append ts ys)
 
 refusal_at : {X : Type 0} (tests : X → List StoreTest) (xs : List X) (i : ℕ) (d : X) → i < length xs
     → first_refusal (flat_map tests (drop i xs)) ≡ option_or (first_refusal (tests (get_or xs i d))) (first_refusal (flat_map tests (drop (i + 1) xs)))

@@ -6,7 +6,7 @@ use Rattle.c2_spec.specs.Jumbf.Tree.{Tree}
 use Rattle.c2_spec.specs.C2pa.Manifest.{StoreTest, store_test, first_refusal, is_store, superboxes, manifest_tests, count_tests, store_refusal}
 use Rattle.c2_spec.specs.declared.store.StoreError.{StoreError}
 use Rattle.c2_spec.specs.declared.store.StoreError.TheVariants.{NotStore}
-use Rattle.c2_store.proofs.Picking.{first_refusal_append}
+use Rattle.c2_spec.proofs.StoreRefusals.{first_refusal_append}
 
 first_test : (b : Bool) (e : StoreError) (ts : List StoreTest) → first_refusal (store_test (not b) e ∷ ts) ≡ cond b (first_refusal ts) (Some e)
 first_test true e ts = refl

@@ -5,7 +5,7 @@ ghost use Rattle.c2_spec.specs.C2pa.Manifest.{item_at};
 
 use c2_jumbf::{Tree, child, contents, kind};
 
-#[tactic(auto, using(crate::proofs::Labelled::child_inside))]
+#[tactic(auto, using(c2_spec::proofs::JumbfChildren::child_inside))]
 /// The item of a claim, signature or assertion box: the payload of its first content box, which stands behind its
 /// description, where that is a leaf of kind `cbor`. Takes no memory.
 pub fn item<'t>(tree: &'t Tree<'_>, i: usize) -> Option<&'t [u8]>

@@ -5,6 +5,7 @@
 
 mod boxes;
 mod items;
+mod laws;
 mod manifests;
 mod reading;
 mod store;
@@ -13,5 +14,6 @@ mod tests;
 
 pub use c2_spec::StoreError;
 pub use items::item;
+pub use laws::items_are_parts;
 pub use reading::of_tree;
 pub use store::{Store, assertions, claims, is_update, label, manifest_count, signature, whole};

@@ -6,8 +6,8 @@ use Rattle.std.proofs.lemmas.Grind.{flat_map-append}
 use Rattle.std.proofs.lemmas.List.{take_more, take_all, append-nil}
 use Rattle.std.specs.List.{flat_map, AllByRecursion}
 use Rattle.c2_spec.specs.Jumbf.Tree.{Tree, IsLegalTree, IsLabel, IsLabelByte, leaf, super}
-use Rattle.c2_spec.specs.Jumbf.Boxes.{AnyBox, node, described, any_label, any_bytes, any_kind, box_at, boxes_of, tree_count}
-use Rattle.c2_jumbf.proofs.BoxLemmas.{IsLegalBox, box_stands, count_is}
+use Rattle.c2_spec.specs.Jumbf.Boxes.{AnyBox, node, described, any_label, any_bytes, any_kind, box_at, boxes_of, tree_count, IsLegalBox}
+use Rattle.c2_spec.proofs.JumbfBoxes.{box_stands, count_is}
 use Rattle.c2_texts.specs.Listing.{plain_column, plain_box_line}
 use Rattle.c2_texts.specs.Texts.{printable, printable_byte, label_column, box_numbers, box_row, box_line, listing}
 

@@ -1,7 +1,6 @@
 // The lines of `list`.
-ghost use Rattle.std.specs.Prelude.{◌≡◌, ◌<◌, IfOk, string_bytes};
+ghost use Rattle.std.specs.Prelude.{◌≡◌, ◌<◌, IfOk, option_map, string_bytes};
 ghost use Rattle.c2_spec.specs.Jumbf.Boxes.{box_at, tree_count};
-ghost use Rattle.c2_jumbf.specs.Fields.{text_of};
 ghost use Rattle.c2_texts.specs.Listing.{plain_box_line, plain_column};
 ghost use Rattle.c2_texts.specs.Texts as form;
 
@@ -51,7 +50,7 @@ fn row_of(alloc: Global, numbers: &str, kind: &[u8], label: &str) -> Result<Stri
 
 // A label as it is, and a dash where it is missing or empty. No label of a tree has a control byte.
 fn column_of<'t>(label: Option<&'t str>) -> &'t str
-    ensures { result.now ≡ plain_column (text_of label.entry) }
+    ensures { result.now ≡ plain_column (option_map (λ text. text.now) label.entry) }
 {
     match label {
         Some(label) if !label.is_empty() => label,

@@ -1,4 +1,4 @@
-use Rattle.c2_store.proofs.Inside.{claims_inside}
+use Rattle.c2_spec.proofs.BoxesOfManifests.{claims_inside}
 use Rattle.c2_chain.proofs.Placed.{claim_bytes_at}
 use Rattle.c2_chain.proofs.boxes.claim_bytes.Goals as goal
 

@@ -1,4 +1,4 @@
-use Rattle.c2_store.proofs.Inside.{signature_inside}
+use Rattle.c2_spec.proofs.BoxesOfManifests.{signature_inside}
 use Rattle.c2_chain.proofs.Placed.{signature_item_some, signature_item_none}
 use Rattle.c2_chain.proofs.boxes.signature_item.Goals as goal
 

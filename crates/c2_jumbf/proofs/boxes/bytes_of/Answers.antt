@@ -1,9 +1,9 @@
 use Rattle.std.proofs.Common.{◌≡◌, ◌≤◌, ◌+◌, arith, ◌∙◌, sym, subst, length, ℕ, List}
-use Rattle.c2_spec.specs.Jumbf.Boxes.{box_at}
+use Rattle.c2_spec.specs.Jumbf.Boxes.{box_at, any_wide}
 use Rattle.c2_jumbf.specs.Flat.{row_of}
-use Rattle.c2_jumbf.proofs.BoxLemmas.{rows_count, row_here, row_ends, row_bytes, any_long, any_least}
+use Rattle.c2_jumbf.proofs.Records.{rows_count, row_here, row_ends, row_bytes}
+use Rattle.c2_spec.proofs.JumbfBoxes.{any_long, any_least}
 use Rattle.c2_spec.specs.Jumbf.Tree.{head_len}
-use Rattle.c2_spec.specs.Jumbf.Boxes.{any_wide}
 use Rattle.c2_jumbf.proofs.boxes.bytes_of.Goals as goal
 
 pub index-row-requires : goal.index-row-requires

@@ -3,7 +3,7 @@ use Rattle.std.proofs.lemmas.List.{take_rest}
 use Rattle.c2_spec.specs.Jumbf.Tree.{head_len}
 use Rattle.c2_spec.specs.Jumbf.Boxes.{box_at, any_wide}
 use Rattle.c2_jumbf.specs.declared.rows.Row.{Row}
-use Rattle.c2_jumbf.proofs.BoxLemmas.{any_behind}
+use Rattle.c2_spec.proofs.JumbfBoxes.{any_behind}
 use Rattle.c2_jumbf.proofs.boxes.contents.Goals as goal
 
 pub returns : goal.returns

@@ -1,5 +1,6 @@
 use Rattle.std.proofs.Common.{arith}
-use Rattle.c2_jumbf.proofs.BoxLemmas.{rows_count, some_box, legal_here}
+use Rattle.c2_jumbf.proofs.Records.{rows_count, legal_here}
+use Rattle.c2_spec.proofs.JumbfBoxes.{some_box}
 use Rattle.c2_jumbf.proofs.boxes.count.Goals as goal
 
 pub returns-clause-count : goal.returns-clause-count

@@ -1,6 +1,6 @@
 use Rattle.std.proofs.Common.{ap, ◌∙◌, List, ℕ, ◌∷◌, [], get_or}
 use Rattle.c2_spec.specs.Jumbf.Boxes.{box_at}
-use Rattle.c2_jumbf.proofs.BoxLemmas.{any_kind_bytes}
+use Rattle.c2_spec.proofs.JumbfBoxes.{any_kind_bytes}
 use Rattle.c2_jumbf.proofs.boxes.kind.Goals as goal
 
 pub returns : goal.returns

@@ -1,5 +1,5 @@
 use Rattle.std.proofs.Common.{arith, ◌∙◌}
-use Rattle.c2_jumbf.proofs.BoxLemmas.{rows_count, row_here, legal_here}
+use Rattle.c2_jumbf.proofs.Records.{rows_count, row_here, legal_here}
 use Rattle.c2_jumbf.proofs.boxes.row_at.Goals as goal
 
 pub index-requires : goal.index-requires

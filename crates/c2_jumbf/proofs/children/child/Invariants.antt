@@ -1,4 +1,4 @@
-use Rattle.c2_jumbf.proofs.Chains.{AtChild}
+use Rattle.c2_jumbf.proofs.ChildSteps.{AtChild}
 use Rattle.c2_jumbf.proofs.children.child.Given as goal
 
 abbrev pub invariant-loop-turn : goal.invariant-loop-turn

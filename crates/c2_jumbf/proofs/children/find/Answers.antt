@@ -3,7 +3,7 @@ use Rattle.std.proofs.lemmas.List.{length_push}
 use Rattle.std.proofs.lemmas.Iterator.Splits.{YieldsList-from_str_split}
 use Rattle.std.proofs.lemmas.Iterator.Consumers.{YieldsList-turn, YieldsList-end}
 use Rattle.c2_spec.specs.Jumbf.Boxes.{path_labels}
-use Rattle.c2_jumbf.proofs.BoxLemmas.{legal_here}
+use Rattle.c2_jumbf.proofs.Records.{legal_here}
 use Rattle.c2_jumbf.proofs.Leading.{Walked, walked_next, walked_none, walked_end, only_lead}
 use Rattle.c2_jumbf.proofs.children.find.Goals as goal
 

@@ -1,5 +1,5 @@
 use Rattle.std.proofs.Common.{◌-◌}
-use Rattle.c2_jumbf.proofs.Chains.{Sought}
+use Rattle.c2_jumbf.proofs.ChildSteps.{Sought}
 use Rattle.c2_jumbf.proofs.children.labelled_child.Given as goal
 
 abbrev pub invariant-loop-at : goal.invariant-loop-at

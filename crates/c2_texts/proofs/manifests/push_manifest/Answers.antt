@@ -1,6 +1,6 @@
 use Rattle.std.proofs.Common.{rules, slice_get, string_bytes}
 use Rattle.c2_texts.proofs.Pieces.{manifest_written}
-use Rattle.c2_store.proofs.Inside.{assertions_inside}
+use Rattle.c2_spec.proofs.BoxesOfManifests.{assertions_inside}
 use Rattle.c2_texts.proofs.manifests.push_manifest.Goals as goal
 
 pub push_labelled-requires : goal.push_labelled-requires

@@ -1,29 +1,27 @@
--- The boxes of a tree by their indices: their bytes, and those inside them.
+-- The boxes of a tree (JUMBF, ISO/IEC 19566-5) by their indices: how many there are, where each is, and what is inside it.
 use Rattle.std.proofs.Common.{◌≡◌, ℕ, zero, suc, ◌+◌, ◌-◌, ◌<◌, ◌≤◌, Bool, true, false, List, [], ◌∷◌, ◌++◌, length, get_or, take, drop, refl, sym, ap, ◌∙◌, subst, append_assoc, arith, lit<, lit≤, length-append}
 use Rattle.std.specs.Int.{w32, to_be_bytes}
-use Rattle.std.proofs.lemmas.List.{drop-drop, drop_at, get_or-map, length-drop, length-map, append-nil, take_at}
+use Rattle.std.proofs.lemmas.List.{drop-drop, drop_at, length-drop, append-nil, take_at}
 use Rattle.std.specs.List.{AllByRecursion}
-use Rattle.c2_spec.specs.Jumbf.Tree.{IsDescription, description_bytes, Tree, Trees, leaf, super, none, more, tree_bytes, trees_bytes, head_len, boxed, jumb_kind, jumd_kind, description_payload, IsLegalTree, AreLegalTrees}
-use Rattle.c2_spec.specs.Jumbf.Boxes.{AnyBox, node, described, IndexedBox, tree_count, boxes_from, boxes_from_all, boxes_of, box_at, any_bytes, any_wide, any_kind, any_contents}
-use Rattle.c2_jumbf.specs.declared.rows.Row.{Row}
-use Rattle.c2_jumbf.specs.Flat.{row_of}
-use Rattle.c2_jumbf.specs.Parsed.{IsParsed}
-use Rattle.c2_jumbf.proofs.Trees.{length-boxes}
+use Rattle.std.proofs.lemmas.List.Elements.{All-get_or, All-from_recursion}
+use Rattle.c2_spec.specs.Jumbf.Tree.{description_bytes, Tree, Trees, leaf, super, none, more, tree_bytes, trees_bytes, head_len, head_bytes, boxed, jumb_kind, jumd_kind, description_payload, IsLegalTree, AreLegalTrees}
+use Rattle.c2_spec.specs.Jumbf.Boxes.{AnyBox, node, described, IndexedBox, tree_count, trees_count, boxes_from, boxes_from_all, boxes_of, box_at, any_count, index_after, IsLegalBox, any_bytes, any_wide, any_kind, any_contents}
+
+-- as many boxes as are counted
+mutual
+  pub length-boxes : (t : Tree) (at depth i : ℕ) → length (boxes_from at depth i t) ≡ tree_count t
+  length-boxes (leaf b) at depth i = refl
+  length-boxes (super wide d boxes) at depth i = let e : length (boxes_from_all (at + head_len wide + length (description_bytes d)) (depth + 1) (i + 2) boxes) ≡ trees_count boxes = length-boxes_all boxes _ (depth + 1) (i + 2) in omega (arith, e)
+
+  pub length-boxes_all : (ts : Trees) (at depth i : ℕ) → length (boxes_from_all at depth i ts) ≡ trees_count ts
+  length-boxes_all none at depth i = refl
+  length-boxes_all (more t ts) at depth i = length-append (boxes_from at depth i t) (boxes_from_all (at + length (tree_bytes t)) depth (i + tree_count t) ts) ∙ ap (λ n. n + length (boxes_from_all (at + length (tree_bytes t)) depth (i + tree_count t) ts)) (length-boxes t at depth i) ∙ ap (λ n. tree_count t + n) (length-boxes_all ts (at + length (tree_bytes t)) depth (i + tree_count t))
 
 all-append : {X : Type 0} (P : X → Type 0) (xs ys : List X) → AllByRecursion P xs → AllByRecursion P ys → AllByRecursion P (xs ++ ys)
 all-append P [] ys h k = k
 all-append P (x ∷ xs) ys h k = (h.0, all-append P xs ys h.1 k)
 
-all_at : {X : Type 0} (P : X → Type 0) (xs : List X) (i : ℕ) (d : X) → i < length xs → AllByRecursion P xs → P (get_or xs i d)
-all_at P [] i d l h = absurd (omega arith)
-all_at P (x ∷ xs) zero d l h = h.0
-all_at P (x ∷ xs) (suc i) d l h = all_at P xs i d (omega arith) h.1
-
--- A box stands at its place, and is legal.
-abbrev pub IsLegalBox : ℕ → AnyBox → Type 0
-IsLegalBox depth (node t) = IsLegalTree depth t
-IsLegalBox depth (described d) = IsDescription d
-
+-- A box is at its place in the bytes, and is legal.
 pub record Stands (bytes : List ℕ) (b : IndexedBox) : Type 0 where
   pub rest : List ℕ
   pub there : drop b.place bytes ≡ any_bytes b.box ++ rest
@@ -106,38 +104,48 @@ nested_at (x ∷ xs) (suc k) d l h = nested_at xs k d (omega arith) h.1
 pub count_is : (t : Tree) → length (boxes_of t) ≡ tree_count t
 count_is t = length-boxes t 0 1 0
 
-within : (t : Tree) (i : ℕ) → i < tree_count t → i < length (boxes_of t)
+-- an index of a tree is one of its list of boxes
+pub within : (t : Tree) (i : ℕ) → i < tree_count t → i < length (boxes_of t)
 within t i l = omega (arith, l, count_is t)
 
 pub box_stands : (t : Tree) (i : ℕ) → i < tree_count t → IsLegalTree 1 t → Stands (tree_bytes t) (box_at t i)
-box_stands t i l h = all_at (Stands (tree_bytes t)) (boxes_of t) i _ (within t i l) (stand t (tree_bytes t) [] 0 1 0 (sym (append-nil (tree_bytes t))) h)
+box_stands t i l h =
+    let all = stand t (tree_bytes t) [] 0 1 0 (sym (append-nil (tree_bytes t))) h in
+    All-get_or (Stands (tree_bytes t)) (boxes_of t) i _ (within t i l) (All-from_recursion (Stands (tree_bytes t)) (boxes_of t) all)
 
 pub box_index : (t : Tree) (i : ℕ) → i < tree_count t → (box_at t i).index ≡ i
 box_index t i l = numbered_at 0 i (boxes_of t) _ (within t i l) (numbered t 0 1 0 0 refl) ∙ (let e : 0 + i ≡ i = omega arith in e)
 
+-- the boxes from an index on begin with its box and those inside it
 pub box_inside : (t : Tree) (i : ℕ) → i < tree_count t → (rest : List IndexedBox) × (drop i (boxes_of t) ≡ own_boxes (box_at t i) ++ rest)
 box_inside t i l = nested_at (boxes_of t) i _ (within t i l) (subst Nested (append-nil (boxes_of t)) (nested t 0 1 0 [] tt))
-
--- The record of an index, as the tree's type keeps it.
-row_is : (bytes : List ℕ) (all : List Row) (p : IsParsed bytes all) (i : ℕ) (d : Row) → i < tree_count p.tree → get_or all i d ≡ row_of (box_at p.tree i)
-row_is bytes all p i d l = ap (λ (x : List Row). get_or x i d) p.rows_are ∙ get_or-map row_of (boxes_of p.tree) i _ d (within p.tree i l)
-
-pub row_here : (bytes : List ℕ) (all : List Row) (p : IsParsed bytes all) (t : Tree) (i : ℕ) (d : Row) → p.tree ≡ t → i < tree_count t → get_or all i d ≡ row_of (box_at t i)
-row_here bytes all p t i d same l = row_is bytes all p i d (subst (λ u. i < tree_count u) (sym same) l) ∙ ap (λ u. row_of (box_at u i)) same
-
-pub rows_count : (bytes : List ℕ) (all : List Row) (p : IsParsed bytes all) (t : Tree) → p.tree ≡ t → length all ≡ tree_count t
-rows_count bytes all p t same = ap length p.rows_are ∙ length-map (boxes_of p.tree) row_of ∙ count_is p.tree ∙ ap tree_count same
-
-pub legal_here : (bytes : List ℕ) (all : List Row) (p : IsParsed bytes all) (t : Tree) → p.tree ≡ t → IsLegalTree 1 t
-legal_here bytes all p t same = subst (IsLegalTree 1) same p.spells.legal
-
-pub bytes_here : (bytes : List ℕ) (all : List Row) (p : IsParsed bytes all) (t : Tree) → p.tree ≡ t → bytes ≡ tree_bytes t
-bytes_here bytes all p t same = p.spells.whole ∙ ap tree_bytes same
 
 -- a tree has a box
 pub some_box : (t : Tree) → 0 < tree_count t
 some_box (leaf b) = lit< tt
 some_box (super wide d us) = omega arith
+
+-- a box takes an index, and those inside it the next ones, within the tree's
+own_count : (b : IndexedBox) → length (own_boxes b) ≡ any_count b.box
+own_count b = go b.box
+  where
+    go : (x : AnyBox) → length (inner_boxes b.index b.place b.depth x) ≡ any_count x
+    go (node t) = length-boxes t b.place b.depth b.index
+    go (described d) = refl
+
+pub after_past : (t : Tree) (i : ℕ) → i < index_after t i
+after_past t i = go (box_at t i).box
+  where
+    go : (b : AnyBox) → i < i + any_count b
+    go (node u) = omega (arith, some_box u)
+    go (described d) = omega arith
+
+pub after_within : (t : Tree) (i : ℕ) → i < tree_count t → index_after t i ≤ tree_count t
+after_within t i l =
+    let s = box_inside t i l in
+    let own = own_boxes (box_at t i) in
+    let left : length (boxes_of t) - i ≡ length own + length s.0 = sym (length-drop i (boxes_of t)) ∙ ap length s.1 ∙ length-append own s.0 in
+    omega (arith, left, own_count (box_at t i), count_is t, l)
 
 boxed_long : (kind : ℕ) (wide : Bool) (payload : List ℕ) → length (boxed kind wide payload) ≡ head_len wide + length payload
 boxed_long kind true payload = omega arith
@@ -153,14 +161,17 @@ pub head_size : (w : Bool) → 8 ≤ head_len w
 head_size true = lit≤ tt
 head_size false = lit≤ tt
 
-cut_own : (kind : ℕ) (wide : Bool) (payload : List ℕ) → drop (head_len wide) (boxed kind wide payload) ≡ payload
-cut_own kind true payload = refl
-cut_own kind false payload = refl
+-- a box is its head and its contents
+pub any_split : (b : AnyBox) → (head : List ℕ) × (any_bytes b ≡ head ++ any_contents b)
+any_split (node (leaf b)) = (head_bytes b.kind b.wide (length b.payload), refl)
+any_split (node (super wide d us)) = (head_bytes jumb_kind wide (length (description_bytes d ++ trees_bytes us)), refl)
+any_split (described d) = (head_bytes jumd_kind d.wide (length (description_payload d)), refl)
 
 pub any_behind : (b : AnyBox) → drop (head_len (any_wide b)) (any_bytes b) ≡ any_contents b
-any_behind (node (leaf b)) = cut_own b.kind b.wide b.payload
-any_behind (node (super wide d us)) = cut_own jumb_kind wide (description_bytes d ++ trees_bytes us)
-any_behind (described d) = cut_own jumd_kind d.wide (description_payload d)
+any_behind b =
+    let s = any_split b in
+    let n : length s.0 ≡ head_len (any_wide b) = omega (arith, ap length s.1, length-append s.0 (any_contents b), any_size b) in
+    subst (λ k. drop k (any_bytes b) ≡ any_contents b) n (ap (drop (length s.0)) s.1 ∙ drop_at s.0 (any_contents b) (length s.0) refl)
 
 boxed_kind : (kind : ℕ) (wide : Bool) (payload : List ℕ) → get_or (boxed kind wide payload) 4 0 ∷ get_or (boxed kind wide payload) 5 0 ∷ get_or (boxed kind wide payload) 6 0 ∷ get_or (boxed kind wide payload) 7 0 ∷ [] ≡ to_be_bytes w32 kind
 boxed_kind kind true payload = refl
@@ -182,15 +193,6 @@ pub box_bytes_are : (bytes : List ℕ) (t : Tree) (i : ℕ) → bytes ≡ tree_b
 box_bytes_are bytes t i same l h =
     let s : Stands (tree_bytes t) (box_at t i) = box_stands t i l h in
     ap (λ (x : List ℕ). take (length (any_bytes (box_at t i).box)) (drop (box_at t i).place x)) same ∙ ap (take (length (any_bytes (box_at t i).box))) s.there ∙ take_at (any_bytes (box_at t i).box) s.rest (length (any_bytes (box_at t i).box)) refl
-
--- the row of an index ends within the bytes
-pub row_ends : (bytes : List ℕ) (all : List Row) (p : IsParsed bytes all) (t : Tree) (i : ℕ) (r : Row) → p.tree ≡ t → i < tree_count t → r ≡ row_of (box_at t i) → r.place + r.total ≤ length bytes
-row_ends bytes all p t i r same l is = subst (λ x. x.place + x.total ≤ length bytes) (sym is) (box_ends bytes t i (bytes_here bytes all p t same) l (legal_here bytes all p t same))
-
-pub row_bytes : (bytes : List ℕ) (all : List Row) (p : IsParsed bytes all) (t : Tree) (i : ℕ) (r : Row) → p.tree ≡ t → i < tree_count t → r ≡ row_of (box_at t i) → take (r.place + r.total - r.place) (drop r.place bytes) ≡ any_bytes (box_at t i).box
-row_bytes bytes all p t i r same l is =
-    let n : r.place + r.total - r.place ≡ r.total = omega arith in
-    ap (λ k. take k (drop r.place bytes)) n ∙ ap (λ (x : Row). take x.total (drop x.place bytes)) is ∙ box_bytes_are bytes t i (bytes_here bytes all p t same) l (legal_here bytes all p t same)
 
 pub any_long : (b : AnyBox) → head_len (any_wide b) ≤ length (any_bytes b)
 any_long b = omega (arith, any_size b)

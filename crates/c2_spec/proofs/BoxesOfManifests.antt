@@ -1,24 +1,40 @@
--- The boxes that a store keeps of its manifests have indices of its tree; for callers of `claims`, `signature` and `assertions`.
+-- The boxes that a store keeps of its manifests are boxes of its tree.
 use Rattle.std.proofs.Common.{◌≡◌, ℕ, zero, suc, ◌<◌, Bool, true, false, cond, List, [], ◌∷◌, map, Option, Some, None, All, slice_get, refl, ap, ◌∙◌, subst, codes}
-use Rattle.std.specs.List.{find, AllByRecursion}
+use Rattle.std.specs.List.{filter, find, AllByRecursion}
 use Rattle.std.specs.Option.{option_map}
 use Rattle.std.proofs.lemmas.List.Elements.{All-from_recursion}
 use Rattle.c2_spec.specs.Jumbf.Tree.{Tree}
-use Rattle.c2_spec.specs.Jumbf.Boxes.{tree_count, box_at}
-use Rattle.c2_spec.specs.C2pa.Manifest.{has_type, is_named, inside, superboxes, assertion_store_in, manifest_boxes, IsStoreOf}
+use Rattle.c2_spec.specs.Jumbf.Boxes.{tree_count, box_at, child_indices}
+use Rattle.c2_spec.specs.C2pa.Manifest.{has_type, is_named, inside, is_superbox, superboxes, assertion_store_in, manifest_boxes, IsStoreOf}
 use Rattle.c2_spec.specs.declared.store.ManifestBoxes.{ManifestBoxes}
-use Rattle.c2_jumbf.proofs.BoxLemmas.{some_box}
-use Rattle.c2_store.proofs.Labelled.{IsInside, filter_inside, superboxes_inside}
+use Rattle.c2_spec.proofs.JumbfBoxes.{some_box}
+use Rattle.c2_spec.proofs.JumbfChildren.{children_inside}
+
+-- an index of the tree
+abbrev pub IsInside : Tree → ℕ → Type 0
+IsInside t j = j < tree_count t
+
+chosen : (P : ℕ → Type 0) (p : ℕ → Bool) (x : ℕ) (xs : List ℕ) (b : Bool) → P x → AllByRecursion P xs → AllByRecursion P (cond b (x ∷ xs) xs)
+chosen P p x xs true h k = (h, k)
+chosen P p x xs false h k = k
+
+pub filter_inside : (P : ℕ → Type 0) (p : ℕ → Bool) (xs : List ℕ) → AllByRecursion P xs → AllByRecursion P (filter p xs)
+filter_inside P p [] h = tt
+filter_inside P p (x ∷ xs) h = chosen P p x (filter p xs) (p x) h.0 (filter_inside P p xs h.1)
+
+pub superboxes_inside : (t : Tree) (i : ℕ) → i < tree_count t → AllByRecursion (IsInside t) (superboxes t i)
+superboxes_inside t i l = filter_inside (IsInside t) (is_superbox t) (child_indices t i) (children_inside t i l)
 
 found_here : (P : ℕ → Type 0) (x j : ℕ) (o : Option ℕ) (b : Bool) → P x → (o ≡ Some j → P j) → cond b (Some x) o ≡ Some j → P j
 found_here P x j o true h k e = let same : x ≡ j = cc (e) in subst P same h
 found_here P x j o false h k e = k e
 
-find_inside : (P : ℕ → Type 0) (p : ℕ → Bool) (xs : List ℕ) (j : ℕ) → AllByRecursion P xs → find p xs ≡ Some j → P j
+pub find_inside : (P : ℕ → Type 0) (p : ℕ → Bool) (xs : List ℕ) (j : ℕ) → AllByRecursion P xs → find p xs ≡ Some j → P j
 find_inside P p [] j h e = absurd (cc (e))
 find_inside P p (x ∷ xs) j h e = found_here P x j (find p xs) (p x) h.0 (find_inside P p xs j h.1) e
 
-in_store : (t : Tree) (o : Option ℕ) → ((j : ℕ) → o ≡ Some j → j < tree_count t) → AllByRecursion (IsInside t) (inside t o)
+-- the superboxes in an assertion store that is a box of the tree
+pub in_store : (t : Tree) (o : Option ℕ) → ((j : ℕ) → o ≡ Some j → j < tree_count t) → AllByRecursion (IsInside t) (inside t o)
 in_store t None h = tt
 in_store t (Some j) h = superboxes_inside t j (h j refl)
 
@@ -31,6 +47,10 @@ kept_of f t (x ∷ xs) (suc i) a h e = kept_of f t xs i a h.1 e
 
 kept : {A : Type 0} (f : ManifestBoxes → A) (t : Tree) (s : List ManifestBoxes) (i : ℕ) (a : A) → IsStoreOf t s → Some a ≡ option_map f (slice_get s i) → (w : ℕ) × (w < tree_count t) × (f (manifest_boxes t w) ≡ a)
 kept f t s i a h e = kept_of f t (superboxes t 0) i a (superboxes_inside t 0 (some_box t)) (e ∙ ap (λ (x : List ManifestBoxes). option_map f (slice_get x i)) h.same)
+
+-- the box of a manifest is a box of the tree
+pub whole_inside : (t : Tree) (s : List ManifestBoxes) (i w : ℕ) → IsStoreOf t s → Some w ≡ option_map (λ (m : ManifestBoxes). m.whole) (slice_get s i) → w < tree_count t
+whole_inside t s i w h e = let m = kept (λ (m : ManifestBoxes). m.whole) t s i w h e in subst (IsInside t) m.2 m.1
 
 pub claims_inside : (t : Tree) (s : List ManifestBoxes) (i : ℕ) (boxes : List ℕ) → IsStoreOf t s → Some boxes ≡ option_map (λ (m : ManifestBoxes). m.claims) (slice_get s i) → All (λ j. j < tree_count t) boxes
 claims_inside t s i boxes h e =
