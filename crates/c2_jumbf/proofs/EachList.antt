@@ -16,7 +16,8 @@ use Rattle.c2_spec.proofs.JumbfHeads.{good_at}
 use Rattle.c2_jumbf.specs.Flat.{ChildFault}
 use Rattle.c2_jumbf.specs.Heads.{IsHead}
 use Rattle.c2_jumbf.proofs.HeadLaws.{AreBytes, bytes-take, bytes-drop, payload_size, front_whole}
-use Rattle.c2_jumbf.proofs.Trees.{push_tree, spelled-push, labels-push, legal-push, distinct-push}
+use Rattle.c2_jumbf.proofs.Trees.{push_tree, spelled-push, labels-push, legal-push}
+use Rattle.c2_jumbf.proofs.DistinctLabels.{distinct-push}
 use Rattle.c2_spec.proofs.JumbfBoxes.{any_least, head_size}
 use Rattle.c2_jumbf.proofs.EachDescription.{good_or, told, told_head, told_fits, FieldsOr, described, undescribed, bytes_back, fields_or}
 

@@ -1,6 +1,8 @@
 pub mod HeadLaws
 pub mod FieldLemmas
-pub mod LabelSets
+pub mod DistinctLabels
+pub mod Marks
+pub mod LabelMarks
 pub mod Trees
 pub mod Whole
 pub mod Opening

@@ -1,6 +1,6 @@
 -- A superbox up to its label.
-use Rattle.std.proofs.Common.{◌≡◌, ◌≢◌, ℕ, ◌+◌, ◌-◌, ◌^◌, ◌<◌, ◌≤◌, List, [], ◌∷◌, ◌++◌, length, take, drop, Option, Some, refl, sym, ap, ◌∙◌, subst, append_assoc, arith}
-use Rattle.std.proofs.lemmas.List.{length-drop, drop-take, drop-drop, length-take-le}
+use Rattle.std.proofs.Common.{◌≡◌, ◌≢◌, ℕ, ◌+◌, ◌-◌, ◌^◌, ◌<◌, ◌≤◌, List, [], ◌∷◌, ◌++◌, length, take, drop, Option, Some, None, refl, sym, ap, ◌∙◌, subst, append_assoc, arith}
+use Rattle.std.proofs.lemmas.List.{length-drop, drop-take, drop-drop, length-take-le, append-nil}
 use Rattle.c2_spec.specs.declared.jumbf.JumbfError.{JumbfError}
 use Rattle.c2_spec.specs.declared.jumbf.JumbfError.TheVariants.{TooDeep, NoDescription, BadDescription, DuplicateLabel}
 use Rattle.c2_spec.specs.Jumbf.Tree.{Description, IsDescription, description_payload, description_bytes, FitsHead, head_len, boxed, jumb_kind, jumd_kind, IsNewLabel}
@@ -9,11 +9,10 @@ use Rattle.c2_spec.proofs.JumbfHeads.{good_at}
 use Rattle.c2_jumbf.specs.declared.rows.Row.{Row}
 use Rattle.c2_jumbf.specs.declared.front.Front.{Front}
 use Rattle.c2_jumbf.specs.declared.fields.Fields.{Fields}
-use Rattle.c2_jumbf.specs.declared.labels.Siblings.{Siblings}
 use Rattle.c2_jumbf.specs.Heads.{IsHead}
 use Rattle.c2_jumbf.specs.Fields.{HasFields, read_label}
-use Rattle.c2_jumbf.specs.Labels.{Holds}
-use Rattle.c2_jumbf.specs.Flat.{Opened}
+use Rattle.c2_jumbf.specs.Labels.{Mark, own_marks}
+use Rattle.c2_jumbf.specs.Flat.{Opened, FaultAt}
 use Rattle.c2_jumbf.proofs.HeadLaws.{AreBytes, bytes-take, bytes-drop, front_fits, front_whole, front_box}
 
 -- the payload of a superbox, as the code takes it
@@ -122,13 +121,13 @@ open_twice region h own f depth at earlier bytes small k kind deep first named f
     (subst (λ o. IsNewLabel o earlier → ⊥) (sym r.label) old_label)
 
 -- the superbox is open
-pub opened : (region : List ℕ) (h own : Front) (f : Fields) (next : Siblings) (depth at place index : ℕ) (earlier : List (Option (List ℕ))) (old mid new : List Row) → AreBytes region → length region < 2 ^ 64 → IsHead region h → depth ≤ 16
+pub opened : (region : List ℕ) (h own : Front) (f : Fields) (before after : List Mark) (depth at place index : ℕ) (old mid new : List Row) → AreBytes region → length region < 2 ^ 64 → IsHead region h → depth ≤ 16
     → IsHead (take (h.total - h.header) (drop h.header region)) own → own.kind ≡ jumd_kind → HasFields (take (own.total - own.header) (drop own.header (take (h.total - h.header) (drop h.header region)))) f
-    → IsNewLabel (read_label f) earlier → Holds next (earlier ++ read_label f ∷ [])
+    → h.kind ≡ jumb_kind → after ≡ before ++ own_marks at (read_label f)
     → mid ≡ old ++ record { place = at; total = h.total; after = index; header = h.header; depth = depth } ∷ []
     → new ≡ mid ++ record { place = place; total = own.total; after = index + 2; header = own.header; depth = depth + 1 } ∷ []
-    → place ≡ at + h.header → index ≡ length old → Opened earlier next depth at region h old new own.total
-opened region h own f next depth at place index earlier old mid new bytes small k deep first named fields new_label held one two where_is index_is =
+    → place ≡ at + h.header → index ≡ length old → Opened depth at region h before after old new own.total
+opened region h own f before after depth at place index old mid new bytes small k deep first named fields kind marked one two where_is index_is =
     let r : IsRead region h own f = is_read region h own f bytes small k first named fields in
     let two_more : length old + 2 ≡ length old + 1 + 1 = omega arith in
     record {
@@ -138,8 +137,8 @@ opened region h own f next depth at place index earlier old mid new bytes small 
       size = r.size;
       inside = r.inside;
       bytes = r.bytes;
-      new_label = subst (λ o. IsNewLabel o earlier) (sym r.label) new_label;
-      held = subst (λ o. Holds next (earlier ++ o ∷ [])) (sym r.label) held;
+      marked = subst (λ o. after ≡ before ++ own_marks at o) (sym r.label) marked;
+      duplicate = λ earlier old_label. open_twice region h own f depth at earlier bytes small k kind deep first named fields (subst (λ o. IsNewLabel o earlier → ⊥) r.label old_label);
       added = two ∙ ap (λ (x : List Row). x ++ record { place = place; total = own.total; after = index + 2; header = own.header; depth = depth + 1 } ∷ []) one
           ∙ append_assoc old (record { place = at; total = h.total; after = index; header = h.header; depth = depth } ∷ []) (record { place = place; total = own.total; after = index + 2; header = own.header; depth = depth + 1 } ∷ [])
           ∙ ap (λ n. old ++ record { place = at; total = h.total; after = index; header = h.header; depth = depth } ∷ record { place = n; total = own.total; after = index + 2; header = own.header; depth = depth + 1 } ∷ []) where_is
@@ -147,3 +146,7 @@ opened region h own f next depth at place index earlier old mid new bytes small 
           ∙ ap (λ n. old ++ record { place = at; total = h.total; after = length old; header = h.header; depth = depth } ∷ record { place = at + h.header; total = own.total; after = length old + 2; header = n; depth = depth + 1 } ∷ []) (sym r.wide)
           ∙ ap (λ n. old ++ record { place = at; total = h.total; after = length old; header = h.header; depth = depth } ∷ record { place = at + h.header; total = own.total; after = n; header = head_len r.description.wide; depth = depth + 1 } ∷ []) two_more;
     }
+
+-- a fault before the label is read, whatever the labels of earlier siblings
+pub unlabelled_fault : (region : List ℕ) (depth at : ℕ) (ms : List Mark) (e : JumbfError) → ((earlier : List (Option (List ℕ))) → TreeFault earlier depth at region e) → FaultAt depth at region ms ms e
+unlabelled_fault region depth at ms e fails = record { label = None; marked = sym (append-nil ms); inside = λ earlier _. fails earlier; duplicate = λ earlier never. absurd (never tt) }

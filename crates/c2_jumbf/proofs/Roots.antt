@@ -9,19 +9,23 @@ use Rattle.c2_spec.proofs.JumbfOneTree.{spells_once}
 use Rattle.c2_spec.proofs.JumbfNoFault.{no_fault}
 use Rattle.c2_spec.proofs.JumbfOneFault.{first_once}
 use Rattle.c2_jumbf.specs.declared.rows.Row.{Row}
-use Rattle.c2_jumbf.specs.declared.labels.Siblings.{Siblings}
-use Rattle.c2_jumbf.specs.Flat.{IsTreeAt, rows}
+use Rattle.c2_jumbf.specs.Labels.{Mark}
+use Rattle.c2_jumbf.specs.Flat.{IsTreeAt, FaultAt, rows}
+use Rattle.c2_jumbf.proofs.LabelMarks.{first_new}
 use Rattle.c2_jumbf.specs.Parsed.{IsParsed}
 
-pub root_trailing : (bytes : List ℕ) (has : Siblings) (total : ℕ) (old new : List Row) → IsTreeAt [] has 1 0 bytes total old new → total < length bytes → JumbfFault bytes (Trailing total)
-root_trailing bytes has total old new t short = subst (λ n. JumbfFault bytes (Trailing n)) (sym t.size) (JumbfFault.trailing t.tree (drop total bytes) t.legal t.bytes (omega (arith, length-drop total bytes)))
+pub root_trailing : (bytes : List ℕ) (before after : List Mark) (total : ℕ) (old new : List Row) → IsTreeAt 1 0 bytes total before after old new → total < length bytes → JumbfFault bytes (Trailing total)
+root_trailing bytes before after total old new t short = subst (λ n. JumbfFault bytes (Trailing n)) (sym t.size) (JumbfFault.trailing t.tree (drop total bytes) t.legal t.bytes (omega (arith, length-drop total bytes)))
 
-pub root_whole : (bytes : List ℕ) (has : Siblings) (total : ℕ) (old new : List Row) → old ≡ [] → IsTreeAt [] has 1 0 bytes total old new → length bytes ≤ total → IsParsed bytes new
-root_whole bytes has total old new none t all = record {
+pub root_whole : (bytes : List ℕ) (before after : List Mark) (total : ℕ) (old new : List Row) → old ≡ [] → IsTreeAt 1 0 bytes total before after old new → length bytes ≤ total → IsParsed bytes new
+root_whole bytes before after total old new none t all = record {
   tree = t.tree;
   spells = record { whole = t.bytes ∙ ap (λ (x : List ℕ). tree_bytes t.tree ++ x) (drop_all total bytes all) ∙ append-nil (tree_bytes t.tree); legal = t.legal };
   rows_are = t.added ∙ ap (λ (x : List Row). x ++ rows 0 1 (length x) t.tree) none;
 }
+
+pub root_fault : (bytes : List ℕ) (before after : List Mark) (e : JumbfError) → FaultAt 1 0 bytes before after e → JumbfFault bytes e
+root_fault bytes before after e f = JumbfFault.inside (f.inside [] (first_new f.label))
 
 -- a tree that is answered is the one that is spelled, and no fault is answered beside it
 pub tree_only : (bytes : List ℕ) (r : Result Tree JumbfError) → IfOk r (λ h. SpellsTree bytes h) → IfErr r (λ e. (e ≡ NoMemory) ⊎ JumbfFault bytes e)

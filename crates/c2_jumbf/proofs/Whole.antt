@@ -1,17 +1,15 @@
 -- Boxes by their heads, once they are read whole.
 use Rattle.std.proofs.Common.{◌≡◌, ◌≢◌, ℕ, ◌+◌, ◌-◌, ◌^◌, ◌<◌, ◌≤◌, List, [], ◌∷◌, ◌++◌, length, get_or, take, drop, set, Option, refl, sym, ap, ◌∙◌, subst, append_assoc, arith, length-append}
-use Rattle.std.proofs.lemmas.List.{length-drop, drop-take, set_at, length-take-le, get_or_at}
+use Rattle.std.proofs.lemmas.List.{length-drop, drop-take, set_at, length-take-le, get_or_at, append-nil}
 use Rattle.c2_spec.specs.declared.jumbf.JumbfError.{JumbfError}
 use Rattle.c2_spec.specs.Jumbf.Tree.{Description, Tree, leaf, super, tree_bytes, trees_bytes, description_bytes, tree_labels, FitsHead, head_len, boxed, jumb_kind}
-use Rattle.c2_spec.specs.Jumbf.Faults.{tells_wide, told_kind, told_total, told_payload, TreeFault}
+use Rattle.c2_spec.specs.Jumbf.Faults.{tells_wide, told_kind, told_total, told_payload, TreeFault, OpensSuperbox}
 use Rattle.c2_spec.specs.Jumbf.Boxes.{trees_count}
 use Rattle.c2_jumbf.specs.declared.rows.Row.{Row}
 use Rattle.c2_jumbf.specs.declared.front.Front.{Front}
-use Rattle.c2_jumbf.specs.declared.labels.Siblings.{Siblings}
 use Rattle.c2_jumbf.specs.Heads.{IsHead}
-use Rattle.c2_jumbf.specs.Labels.{Holds}
-use Rattle.c2_jumbf.specs.Flat.{rows, rows_all, IsTreeAt, AreTreesIn, ChildFault, Opened}
-use Rattle.c2_jumbf.proofs.LabelSets.{added_none}
+use Rattle.c2_jumbf.specs.Labels.{Mark}
+use Rattle.c2_jumbf.specs.Flat.{rows, rows_all, IsTreeAt, AreTreesIn, ChildFault, FaultAt, Opened}
 use Rattle.c2_jumbf.proofs.HeadLaws.{AreBytes, front_fits, front_whole}
 use Rattle.c2_jumbf.proofs.Trees.{length-rows_all}
 
@@ -21,9 +19,9 @@ total_size region h t k e =
     omega (arith, sizes, length-drop h.total region, k.inside)
 
 -- A box that is no superbox.
-pub leaf_tree : (region : List ℕ) (h : Front) (earlier : List (Option (List ℕ))) (has : Siblings) (depth at : ℕ) (old : List Row) → AreBytes region → length region < 2 ^ 64 → IsHead region h → h.kind ≢ jumb_kind → Holds has earlier
-    → IsTreeAt earlier has depth at region h.total old (old ++ record { place = at; total = h.total; after = length old + 1; header = h.header; depth = depth } ∷ [])
-leaf_tree region h earlier has depth at old bytes small k other held =
+pub leaf_tree : (region : List ℕ) (h : Front) (ms : List Mark) (depth at : ℕ) (old : List Row) → AreBytes region → length region < 2 ^ 64 → IsHead region h → h.kind ≢ jumb_kind
+    → IsTreeAt depth at region h.total ms ms old (old ++ record { place = at; total = h.total; after = length old + 1; header = h.header; depth = depth } ∷ [])
+leaf_tree region h ms depth at old bytes small k other =
     let t : Tree = leaf (record { kind = told_kind region; wide = tells_wide region; payload = told_payload region }) in
     let whole : region ≡ tree_bytes t ++ drop h.total region = front_whole region h bytes k in
     let size : h.total ≡ length (tree_bytes t) = total_size region h t k whole in
@@ -32,8 +30,8 @@ leaf_tree region h earlier has depth at old bytes small k other held =
       legal = (front_fits region h bytes small k, λ e. other (k.kind ∙ e));
       bytes = whole;
       size = size;
-      new_label = tt;
-      held = added_none has earlier held;
+      marked = sym (append-nil ms);
+      duplicate = λ earlier never. absurd (never tt);
       added = ap (λ n. old ++ record { place = at; total = h.total; after = length old + 1; header = n; depth = depth } ∷ []) k.header
           ∙ ap (λ n. old ++ record { place = at; total = n; after = length old + 1; header = head_len (tells_wide region); depth = depth } ∷ []) size;
     }
@@ -45,17 +43,17 @@ children_are region h from le =
     ap (λ n. drop (h.header + from) (take n region)) e ∙ drop-take (h.header + from) (h.total - (h.header + from)) region
 
 -- A superbox, once its children are read.
-pub super_tree : (region : List ℕ) (h : Front) (earlier : List (Option (List ℕ))) (has : Siblings) (depth at from : ℕ) (old mid new : List Row) → AreBytes region → length region < 2 ^ 64 → IsHead region h → h.kind ≡ jumb_kind
-    → Opened earlier has depth at region h old mid from → AreTreesIn (depth + 1) (at + h.header + from) (take (h.total - (h.header + from)) (drop (h.header + from) region)) mid new
-    → IsTreeAt earlier has depth at region h.total old (set new (length old) (record { place = at; total = h.total; after = length new; header = h.header; depth = depth }))
-super_tree region h earlier has depth at from old mid new bytes small k kind o t =
+pub super_tree : (region : List ℕ) (h : Front) (before after : List Mark) (depth at from : ℕ) (old mid new : List Row) → AreBytes region → length region < 2 ^ 64 → IsHead region h → h.kind ≡ jumb_kind
+    → Opened depth at region h before after old mid from → AreTreesIn (depth + 1) (at + h.header + from) (take (h.total - (h.header + from)) (drop (h.header + from) region)) mid new
+    → IsTreeAt depth at region h.total before after old (set new (length old) (record { place = at; total = h.total; after = length new; header = h.header; depth = depth }))
+super_tree region h before after depth at from old mid new bytes small k kind o t =
     record {
       tree = tree;
       legal = (o.deep, o.legal, fits, t.legal, t.distinct);
       bytes = whole;
       size = size;
-      new_label = o.new_label;
-      held = o.held;
+      marked = o.marked;
+      duplicate = o.duplicate;
       added = written;
     }
   where
@@ -105,23 +103,23 @@ super_tree region h earlier has depth at from old mid new bytes small k kind o t
         ∙ ap (λ n. old ++ own (head_len (tells_wide region)) (length (tree_bytes tree)) (length old + (2 + trees_count t.trees)) ∷ second (head_len (tells_wide region)) (length (description_bytes d)) ∷ rows_all (at + head_len (tells_wide region) + length (description_bytes d)) (depth + 1) n t.trees) mid_length
 
 -- A fault among the children is a fault of the superbox.
-pub super_fault : (region : List ℕ) (h : Front) (earlier : List (Option (List ℕ))) (has : Siblings) (depth at from : ℕ) (old mid : List Row) (e : JumbfError) → IsHead region h → h.kind ≡ jumb_kind
-    → Opened earlier has depth at region h old mid from → ChildFault (depth + 1) (at + h.header + from) (take (h.total - (h.header + from)) (drop (h.header + from) region)) e → TreeFault earlier depth at region e
-super_fault region h earlier has depth at from old mid e k kind o f =
+pub super_fault : (region : List ℕ) (h : Front) (before after : List Mark) (depth at from : ℕ) (old mid : List Row) (e : JumbfError) → IsHead region h → h.kind ≡ jumb_kind
+    → Opened depth at region h before after old mid from → ChildFault (depth + 1) (at + h.header + from) (take (h.total - (h.header + from)) (drop (h.header + from) region)) e → FaultAt depth at region before after e
+super_fault region h before after depth at from old mid e k kind o f =
     let n : length (take (h.total - (h.header + from)) (drop (h.header + from) region)) ≡ h.total - (h.header + from) = length-take-le _ _ (omega (arith, length-drop (h.header + from) region, k.inside)) in
     let split : length (take (h.total - (h.header + from)) (drop (h.header + from) region)) ≡ length (trees_bytes f.trees) + length f.rest = ap length f.bytes ∙ length-append (trees_bytes f.trees) f.rest in
     let place : at + h.header + from + length (take (h.total - (h.header + from)) (drop (h.header + from) region)) - length f.rest ≡ at + told_total region - length f.rest = omega (arith, n, split, o.inside, k.total) in
-    TreeFault.inside o.description f.trees f.rest
-    (record { superbox = record { head = k.good; kind = sym k.kind ∙ kind; deep = o.deep }; description = o.legal; payload = o.bytes ∙ ap (λ (x : List ℕ). description_bytes o.description ++ x) (children_are region h from o.inside ∙ f.bytes) })
-    o.new_label f.legal f.distinct f.some (subst (λ p. TreeFault (tree_labels f.trees) (depth + 1) p f.rest e) place f.fails)
+    let fails : TreeFault (tree_labels f.trees) (depth + 1) (at + told_total region - length f.rest) f.rest e = subst (λ p. TreeFault (tree_labels f.trees) (depth + 1) p f.rest e) place f.fails in
+    let opens : OpensSuperbox depth region o.description (trees_bytes f.trees ++ f.rest) = record { superbox = record { head = k.good; kind = sym k.kind ∙ kind; deep = o.deep }; description = o.legal; payload = o.bytes ∙ ap (λ (x : List ℕ). description_bytes o.description ++ x) (children_are region h from o.inside ∙ f.bytes) } in
+    record { label = o.description.label; marked = o.marked; inside = λ earlier new. TreeFault.inside o.description f.trees f.rest opens new f.legal f.distinct f.some fails; duplicate = o.duplicate }
 
 -- The same with the record as the code writes it.
-pub super_written : (region : List ℕ) (h : Front) (earlier : List (Option (List ℕ))) (has : Siblings) (depth at from : ℕ) (old mid new : List Row) (x : Row) (i n : ℕ) → AreBytes region → length region < 2 ^ 64 → IsHead region h → h.kind ≡ jumb_kind
-    → Opened earlier has depth at region h old mid from → AreTreesIn (depth + 1) (at + h.header + from) (take (h.total - (h.header + from)) (drop (h.header + from) region)) mid new
+pub super_written : (region : List ℕ) (h : Front) (before after : List Mark) (depth at from : ℕ) (old mid new : List Row) (x : Row) (i n : ℕ) → AreBytes region → length region < 2 ^ 64 → IsHead region h → h.kind ≡ jumb_kind
+    → Opened depth at region h before after old mid from → AreTreesIn (depth + 1) (at + h.header + from) (take (h.total - (h.header + from)) (drop (h.header + from) region)) mid new
     → x ≡ get_or new i x → i ≡ length old → n ≡ length new
-    → IsTreeAt earlier has depth at region h.total old (set new i (record { place = x.place; total = x.total; after = n; header = x.header; depth = x.depth }))
-super_written region h earlier has depth at from old mid new x i n bytes small k kind o t read index size =
-    subst (λ r. IsTreeAt earlier has depth at region h.total old r) (sym same) (super_tree region h earlier has depth at from old mid new bytes small k kind o t)
+    → IsTreeAt depth at region h.total before after old (set new i (record { place = x.place; total = x.total; after = n; header = x.header; depth = x.depth }))
+super_written region h before after depth at from old mid new x i n bytes small k kind o t read index size =
+    subst (λ r. IsTreeAt depth at region h.total before after old r) (sym same) (super_tree region h before after depth at from old mid new bytes small k kind o t)
   where
     own : Row
     own = record { place = at; total = h.total; after = length old; header = h.header; depth = depth }
@@ -141,8 +139,8 @@ super_written region h earlier has depth at from old mid new x i n bytes small k
         ∙ ap (λ j. set new (length old) (record { place = at; total = h.total; after = j; header = h.header; depth = depth })) size
 
 -- A leaf with the record as the code pushes it.
-pub leaf_pushed : (region : List ℕ) (h : Front) (earlier : List (Option (List ℕ))) (has : Siblings) (depth at i : ℕ) (old new : List Row) → AreBytes region → length region < 2 ^ 64 → IsHead region h → h.kind ≢ jumb_kind → Holds has earlier
-    → new ≡ old ++ record { place = at; total = h.total; after = i + 1; header = h.header; depth = depth } ∷ [] → i ≡ length old → IsTreeAt earlier has depth at region h.total old new
-leaf_pushed region h earlier has depth at i old new bytes small k other held pushed index =
-    subst (λ r. IsTreeAt earlier has depth at region h.total old r) (sym (pushed ∙ ap (λ j. old ++ record { place = at; total = h.total; after = j + 1; header = h.header; depth = depth } ∷ []) index))
-    (leaf_tree region h earlier has depth at old bytes small k other held)
+pub leaf_pushed : (region : List ℕ) (h : Front) (ms : List Mark) (depth at i : ℕ) (old new : List Row) → AreBytes region → length region < 2 ^ 64 → IsHead region h → h.kind ≢ jumb_kind
+    → new ≡ old ++ record { place = at; total = h.total; after = i + 1; header = h.header; depth = depth } ∷ [] → i ≡ length old → IsTreeAt depth at region h.total ms ms old new
+leaf_pushed region h ms depth at i old new bytes small k other pushed index =
+    subst (λ r. IsTreeAt depth at region h.total ms ms old r) (sym (pushed ∙ ap (λ j. old ++ record { place = at; total = h.total; after = j + 1; header = h.header; depth = depth } ∷ []) index))
+    (leaf_tree region h ms depth at old bytes small k other)

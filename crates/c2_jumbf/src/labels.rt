@@ -1,125 +1,122 @@
-// The labels of siblings.
-ghost use Rattle.std.specs.Prelude.{◌≡◌, ◌++◌, ◌∷◌, [], true, false, ℕ, List, Option, Some, IfOk, IfErr, OnOk};
-ghost use Rattle.std.specs.List.{list_any};
-ghost use Rattle.std.specs.Bool.{OnTrue};
-ghost use Rattle.std.specs.Str.{bytes_eq};
-ghost use Rattle.std.specs.Ordering.{nat_cmp};
-ghost use Rattle.std.specs.declared.cmp.Ordering.TheVariants.{Less};
-ghost use Rattle.std.specs.Cmp.Lexicographic.{slice_cmp};
+// The labels of siblings: kept as they are read, and compared once all are there or a fault ends the reading.
+ghost use Rattle.std.specs.Prelude.{◌≡◌, ◌↔◌, ◌++◌, [], Some, IsTrue, IfErr, OnOk, ℕ, length, slice_index};
+ghost use Rattle.c2_spec.specs.declared.jumbf.JumbfError.TheVariants.{NoMemory, DuplicateLabel};
 ghost use Rattle.c2_jumbf.specs.Fields.{text_of};
-ghost use Rattle.c2_jumbf.specs.Labels.{Holds, IsAdded, set_has, texts};
+ghost use Rattle.c2_jumbf.specs.Labels.{front_of, marks, marked, own_marks, Repeats, LeastRepeated, lesser_of, NoneRepeats, IsFirstRepeated, IsFirstFault};
 
 use c2_spec::JumbfError;
 use std::alloc::Global;
-use std::collections::BTreeSet;
 
-/// The labels of the siblings so far. As long as each is above the one before they stand in order, and one comparison
-/// with the last tells that the next is new; at the first that isn't above the last, all go into a set.
+/// The labels of the siblings so far, in their order: of each its first eight bytes as a number, which is what most
+/// comparisons look at, its bytes, and the place of its box.
 #[derive(Drop)]
 pub struct Siblings<'t> {
-    pub labels: Vec<&'t str>,
-    pub set: BTreeSet<&'t str>,
-    pub mixed: bool,
+    pub marks: Vec<(u64, &'t [u8], usize)>,
 }
 
 /// No siblings.
 pub fn no_siblings<'t>(alloc: Global) -> Siblings<'t>
-    ensures { Holds result [] }
+    ensures { marked result ≡ [] }
 {
     Siblings {
-        labels: Vec::new(alloc),
-        set: BTreeSet::new(alloc),
-        mixed: false,
+        marks: Vec::new(alloc),
     }
 }
 
-/// Whether a label is above the last of those that have risen.
-fn is_above(labels: &[&str], label: &str) -> bool
-    ensures { OnTrue result ((xs : List (List ℕ)) (top : List ℕ) → texts labels.now ≡ xs ++ top ∷ [] → slice_cmp nat_cmp top label.now ≡ Less) }
+fn byte_at(label: &[u8], i: usize) -> u8
+    ensures { result ≡ slice_index label.now i }
 {
-    match labels.last() {
-        Some(last) => *last < label,
-        None => true,
+    match label.get(i) {
+        Some(byte) => *byte,
+        None => 0,
     }
 }
 
-/// The set of some labels.
-fn set_of<'t>(alloc: Global, labels: &[&'t str]) -> Result<BTreeSet<&'t str>, JumbfError>
-    ensures ok { IfOk result (λ set. (q : List ℕ) → set_has set q ≡ list_any (bytes_eq q) (texts labels.now)) }
-    ensures err { IfErr result (λ e. e ≡ JumbfError.NoMemory) }
+/// The first eight bytes as a number, with zeros where there are fewer.
+fn front(label: &[u8]) -> u64
+    ensures { result ≡ front_of label.now }
 {
-    let mut set = BTreeSet::new(alloc);
-    for label in labels {
-        let Ok(_) = set.insert(*label) else {
-            return Err(JumbfError::NoMemory);
-        };
-    }
-    Ok(set)
+    u64::from_be_bytes([
+        byte_at(label, 0),
+        byte_at(label, 1),
+        byte_at(label, 2),
+        byte_at(label, 3),
+        byte_at(label, 4),
+        byte_at(label, 5),
+        byte_at(label, 6),
+        byte_at(label, 7),
+    ])
 }
 
-/// Puts the labels that have risen into the set.
-fn mix<'t>(alloc: Global, siblings: &mut Siblings<'t>) -> Result<(), JumbfError>
-    requires { siblings.old.mixed ≡ false }
-    ensures ok { (earlier : List (Option (List ℕ))) → Holds siblings.old earlier → OnOk result ((siblings.new.mixed ≡ true) × Holds siblings.new earlier) }
-    ensures mixed { OnOk result (siblings.new.mixed ≡ true) }
-    ensures err { IfErr result (λ e. e ≡ JumbfError.NoMemory) }
-{
-    match set_of(alloc, &siblings.labels) {
-        Ok(set) => {
-            siblings.set = set;
-            siblings.mixed = true;
-            Ok(())
-        }
-        Err(fault) => Err(fault),
-    }
-}
-
-/// Adds a label to the set, and answers whether it was new.
-fn add_mixed<'t>(siblings: &mut Siblings<'t>, label: &'t str) -> Result<bool, JumbfError>
-    requires { siblings.old.mixed ≡ true }
-    ensures ok { (earlier : List (Option (List ℕ))) → Holds siblings.old earlier → IfOk result (IsAdded siblings.new earlier (Some label.now)) }
-    ensures err { IfErr result (λ e. e ≡ JumbfError.NoMemory) }
-{
-    match siblings.set.insert(label) {
-        Ok(added) => Ok(added),
-        Err(_) => Err(JumbfError::NoMemory),
-    }
-}
-
-/// Adds a label, and answers whether it was new.
-fn add<'t>(alloc: Global, siblings: &mut Siblings<'t>, label: &'t str) -> Result<bool, JumbfError>
-    ensures ok { (earlier : List (Option (List ℕ))) → Holds siblings.old earlier → IfOk result (IsAdded siblings.new earlier (Some label.now)) }
-    ensures err { IfErr result (λ e. e ≡ JumbfError.NoMemory) }
-{
-    if siblings.mixed {
-        return add_mixed(siblings, label);
-    }
-    if is_above(&siblings.labels, label) {
-        let Ok(()) = siblings.labels.push(label) else {
-            return Err(JumbfError::NoMemory);
-        };
-        return Ok(true);
-    }
-    match mix(alloc, siblings) {
-        Ok(()) => add_mixed(siblings, label),
-        Err(fault) => Err(fault),
-    }
-}
-
-/// Adds a label where there is one, and answers whether it was new; none always is.
-pub fn add_any<'t>(
-    alloc: Global,
+/// Adds the label of the box at a place, where it has one.
+pub fn add<'t>(
     siblings: &mut Siblings<'t>,
     label: Option<&'t str>,
-) -> Result<bool, JumbfError>
-    ensures ok { (earlier : List (Option (List ℕ))) → Holds siblings.old earlier → IfOk result (IsAdded siblings.new earlier (text_of label.entry)) }
-    ensures err { IfErr result (λ e. e ≡ JumbfError.NoMemory) }
+    place: usize,
+) -> Result<(), JumbfError>
+    ensures ok { OnOk result (marked siblings.new ≡ marked siblings.old ++ own_marks place (text_of label.entry)) }
+    ensures err { IfErr result (λ e. e ≡ NoMemory) }
 {
-    match label {
-        Some(text) => match add(alloc, siblings, text) {
-            Ok(is_new) => Ok(is_new),
-            Err(fault) => Err(fault),
+    let Some(text) = label else {
+        return Ok(());
+    };
+    let bytes = text.as_bytes();
+    siblings.marks.push((front(bytes), bytes, place))?;
+    Ok(())
+}
+
+/// Whether two labels are one, and the second comes later.
+fn repeats(x: &(u64, &[u8], usize), y: &(u64, &[u8], usize)) -> bool
+    ensures { IsTrue result ↔ Repeats (x.now.0, x.now.1.now, x.now.2) (y.now.0, y.now.1.now, y.now.2) }
+{
+    x.0 == y.0 && x.2 < y.2 && x.1 == y.1
+}
+
+fn lesser(least: Option<usize>, n: usize) -> Option<usize>
+    ensures { result ≡ Some (lesser_of least n) }
+{
+    match least {
+        None => Some(n),
+        Some(m) => Some(m.min(n)),
+    }
+}
+
+/// The least place of those that repeat the one before them.
+fn least_repeated(sorted: &[(u64, &[u8], usize)]) -> Option<usize>
+    ensures { LeastRepeated (marks sorted.now) (length sorted.now) result }
+{
+    let mut least = None;
+    for i in 1..sorted.len() {
+        if repeats(&sorted[i - 1], &sorted[i]) {
+            least = lesser(least, sorted[i].2);
+        }
+    }
+    least
+}
+
+/// Refuses the first label that an earlier sibling has, with the place of its box.
+pub fn none_repeated(siblings: Siblings<'_>) -> Result<(), JumbfError>
+    ensures ok { OnOk result (NoneRepeats (marked siblings.entry)) }
+    ensures err { IfErr result (λ e. (p : ℕ) × (e ≡ DuplicateLabel p) × IsFirstRepeated (marked siblings.entry) p) }
+{
+    let mut sorted = siblings.marks;
+    sorted.sort_unstable();
+    match least_repeated(sorted.as_slice()) {
+        Some(place) => Err(JumbfError::DuplicateLabel(place)),
+        None => Ok(()),
+    }
+}
+
+/// The fault of boxes that stand side by side, where the last of them has this fault: the first label that an earlier
+/// sibling has comes before it. Memory that ran out says nothing of the bytes.
+pub fn first_fault(siblings: Siblings<'_>, fault: JumbfError) -> JumbfError
+    ensures { IsFirstFault (marked siblings.entry) fault result }
+{
+    match fault {
+        JumbfError::NoMemory => JumbfError::NoMemory,
+        _ => match none_repeated(siblings) {
+            Ok(()) => fault,
+            Err(first) => first,
         },
-        None => Ok(true),
     }
 }

@@ -5,8 +5,8 @@ ghost use Rattle.c2_spec.specs.Jumbf.Tree as format;
 ghost use Rattle.c2_spec.specs.Jumbf.Faults.{TreeFault, JumbfFault};
 ghost use Rattle.c2_jumbf.specs.Heads.{IsHead};
 ghost use Rattle.c2_jumbf.specs.Own.{IsOwn};
-ghost use Rattle.c2_jumbf.specs.Labels.{Holds};
-ghost use Rattle.c2_jumbf.specs.Flat.{IsTreeAt, AreTreesIn, ChildFault, Opened};
+ghost use Rattle.c2_jumbf.specs.Labels.{marked};
+ghost use Rattle.c2_jumbf.specs.Flat.{IsTreeAt, AreTreesIn, FaultAt, ChildFault, Opened};
 ghost use Rattle.c2_jumbf.specs.Parsed.{IsParsed};
 
 use crate::borrowed::Tree;
@@ -44,7 +44,8 @@ fn description_in<'t>(
     requires small { at + length region.now < 2 ^ 64 }
     requires kind { head.kind ≡ JUMB }
     ensures ok { IfOk result (λ own. (depth ≤ 16) × IsOwn region.now head own) }
-    ensures err { (earlier : List (Option (List ℕ))) → IfErr result (TreeFault earlier depth at region.now) }
+    ensures err { (earlier : List (Option (List ℕ)))
+        → IfErr result (TreeFault earlier depth at region.now) }
 {
     if depth > DEEPEST {
         return Err(JumbfError::TooDeep(at));
@@ -54,10 +55,7 @@ fn description_in<'t>(
         return Err(JumbfError::NoDescription(at));
     }
     let place = at + head.header;
-    let own = match front::head_at(payload, place) {
-        Ok(own) => own,
-        Err(fault) => return Err(fault),
-    };
+    let own = front::head_at(payload, place)?;
     if own.kind != JUMD {
         return Err(JumbfError::NoDescription(at));
     }
@@ -67,10 +65,9 @@ fn description_in<'t>(
     }
 }
 
-/// The tests of a superbox up to its label; its record and that of its description box are added. Answers the length of
-/// the description box.
+/// The tests of a superbox up to its label, which is added to its siblings'; its record and that of its description box
+/// are added. Answers the length of the description box.
 fn open_super<'t>(
-    alloc: Global,
     region: &'t [u8],
     at: usize,
     depth: u8,
@@ -84,41 +81,33 @@ fn open_super<'t>(
     requires kind { head.kind ≡ JUMB }
     ensures kept { OnOk result (length rows.old.items < length rows.new.items) }
     ensures deep { IfOk result (λ from. (depth ≤ 16) × (head.header + from ≤ head.total)) }
-    ensures ok { (earlier : List (Option (List ℕ))) → Holds siblings.old earlier → IfOk result (Opened earlier siblings.new depth at region.now head rows.old.items rows.new.items) }
-    ensures err { (earlier : List (Option (List ℕ))) → Holds siblings.old earlier → IfErr result (λ e. (e ≡ JumbfError.NoMemory) ⊎ TreeFault earlier depth at region.now e) }
+    ensures ok { IfOk result (Opened depth at region.now head (marked siblings.old) (marked siblings.new)
+        rows.old.items rows.new.items) }
+    ensures err { IfErr result (λ e. (e ≡ JumbfError.NoMemory)
+        ⊎ FaultAt depth at region.now (marked siblings.old) (marked siblings.new) e) }
 {
-    let own = match description_in(region, at, depth, head) {
-        Ok(own) => own,
-        Err(fault) => return Err(fault),
-    };
-    match labels::add_any(alloc, siblings, own.fields.label) {
-        Ok(true) => {}
-        Ok(false) => return Err(JumbfError::DuplicateLabel(at)),
-        Err(fault) => return Err(fault),
-    }
+    let own = description_in(region, at, depth, head)?;
+    labels::add(siblings, own.fields.label, at)?;
     let index = rows.len();
-    let Ok(()) = rows.push(Row {
+    rows.push(Row {
         place: at,
         total: head.total,
         after: index,
         header: head.header as u8,
         depth,
-    }) else {
-        return Err(JumbfError::NoMemory);
-    };
-    let Ok(()) = rows.push(Row {
+    })?;
+    rows.push(Row {
         place: at + head.header,
         total: own.head.total,
         after: index + 2,
         header: own.head.header as u8,
         depth: depth + 1,
-    }) else {
-        return Err(JumbfError::NoMemory);
-    };
+    })?;
     Ok(own.head.total)
 }
 
-/// The tree at the front of the region, which ends where the box has to end at the latest. Answers the box's length.
+/// The tree that begins the region, which is cut where the box has to end at the latest. Answers the box's length. Its label
+/// is added to its siblings', and compared with theirs later.
 #[cycle(tree)]
 fn tree_at<'t>(
     alloc: Global,
@@ -130,43 +119,34 @@ fn tree_at<'t>(
 ) -> Result<usize, JumbfError>
     requires small { at + length region.now < 2 ^ 64 }
     requires depth { depth ≤ 17 }
-    ensures ok { (earlier : List (Option (List ℕ))) → Holds siblings.old earlier → IfOk result (λ total. IsTreeAt earlier siblings.new depth at region.now total rows.old.items rows.new.items) }
+    ensures ok { IfOk result (λ total. IsTreeAt depth at region.now total
+        (marked siblings.old) (marked siblings.new) rows.old.items rows.new.items) }
     ensures within { IfOk result (λ total. (0 < total) × (total ≤ length region.now)) }
-    ensures err { (earlier : List (Option (List ℕ))) → Holds siblings.old earlier → IfErr result (λ e. (e ≡ JumbfError.NoMemory) ⊎ TreeFault earlier depth at region.now e) }
+    ensures err { IfErr result (λ e. (e ≡ JumbfError.NoMemory)
+        ⊎ FaultAt depth at region.now (marked siblings.old) (marked siblings.new) e) }
 {
-    let head = match front::head_at(region, at) {
-        Ok(head) => head,
-        Err(fault) => return Err(fault),
-    };
+    let head = front::head_at(region, at)?;
     let index = rows.len();
     if head.kind != JUMB {
-        let row = Row {
+        rows.push(Row {
             place: at,
             total: head.total,
             after: index + 1,
             header: head.header as u8,
             depth,
-        };
-        let Ok(()) = rows.push(row) else {
-            return Err(JumbfError::NoMemory);
-        };
+        })?;
         return Ok(head.total);
     }
-    let from = match open_super(alloc, region, at, depth, head, siblings, rows) {
-        Ok(from) => from,
-        Err(fault) => return Err(fault),
-    };
+    let from = open_super(region, at, depth, head, siblings, rows)?;
     let children = &region[head.header + from..head.total];
-    match trees_in(alloc, children, at + head.header + from, depth + 1, rows) {
-        Ok(()) => {}
-        Err(fault) => return Err(fault),
-    }
+    trees_in(alloc, children, at + head.header + from, depth + 1, rows)?;
     let after = rows.len();
     rows[index].after = after;
     Ok(head.total)
 }
 
-/// The trees that fill the payload.
+/// The trees that fill the payload. Their labels are compared once all are read or one has a fault: the first label that
+/// an earlier sibling has comes before that fault.
 #[cycle(tree)]
 fn trees_in<'t>(
     alloc: Global,
@@ -184,19 +164,13 @@ fn trees_in<'t>(
     let mut siblings = labels::no_siblings(alloc);
     let mut from: usize = 0;
     while from < payload.len() {
-        match tree_at(
-            alloc,
-            &payload[from..],
-            at + from,
-            depth,
-            &mut siblings,
-            rows,
-        ) {
+        let rest = &payload[from..];
+        match tree_at(alloc, rest, at + from, depth, &mut siblings, rows) {
             Ok(total) => from += total,
-            Err(fault) => return Err(fault),
+            Err(fault) => return Err(labels::first_fault(siblings, fault)),
         }
     }
-    Ok(())
+    labels::none_repeated(siblings)
 }
 
 /// The records of the tree that the bytes spell.
@@ -206,15 +180,11 @@ fn rows_of(alloc: Global, bytes: &[u8]) -> Result<Vec<Row>, JumbfError>
 {
     let mut rows = Vec::new(alloc);
     let mut siblings = labels::no_siblings(alloc);
-    match tree_at(alloc, bytes, 0, 1, &mut siblings, &mut rows) {
-        Ok(total) => {
-            if total < bytes.len() {
-                return Err(JumbfError::Trailing(total));
-            }
-            Ok(rows)
-        }
-        Err(fault) => Err(fault),
+    let total = tree_at(alloc, bytes, 0, 1, &mut siblings, &mut rows)?;
+    if total < bytes.len() {
+        return Err(JumbfError::Trailing(total));
     }
+    Ok(rows)
 }
 
 /// The tree that the bytes spell, or the first failing test.
@@ -222,10 +192,8 @@ fn read<'t>(alloc: Global, bytes: &'t [u8]) -> Result<Tree<'t>, JumbfError>
     ensures ok { IfOk result (λ tree. SpellsTree bytes.now tree) }
     ensures err { IfErr result (λ e. (e ≡ JumbfError.NoMemory) ⊎ JumbfFault bytes.now e) }
 {
-    match rows_of(alloc, bytes) {
-        Ok(rows) => Ok(Tree { bytes, rows }),
-        Err(fault) => Err(fault),
-    }
+    let rows = rows_of(alloc, bytes)?;
+    Ok(Tree { bytes, rows })
 }
 
 /// The tree that the bytes spell, borrowed from them; where there is none, the first failing test with its place

@@ -1,16 +1,18 @@
 use Rattle.std.proofs.Common.{inr, refl, arith}
-use Rattle.c2_jumbf.proofs.Opening.{open_twice, opened}
+use Rattle.std.proofs.lemmas.Result.{err_from_is_err_and}
+use Rattle.c2_jumbf.specs.Labels.{marked}
+use Rattle.c2_jumbf.proofs.Opening.{unlabelled_fault, opened}
 use Rattle.c2_jumbf.proofs.reading.open_super.Goals as goal
 
-pub returns-in-Err-clause-err : goal.returns-in-Err-clause-err
-returns-in-Err-clause-err c = λ earlier held. inr (c.in-Err.ensures.err earlier)
-
-pub returns-in-Ok-false-clause-err : goal.returns-in-Ok-false-clause-err
-returns-in-Ok-false-clause-err c = λ earlier held. inr (open_twice c.args.region.now c.args.head c.in-Ok.own.head c.in-Ok.own.fields c.args.depth c.args.at earlier
-    (λ i. omega (arith, c.type_inv.region i)) (omega arith) c.requires.head_is c.requires.kind c.in-Ok.ensures.ok.0 c.in-Ok.ensures.ok.1.front c.in-Ok.ensures.ok.1.kind c.in-Ok.ensures.ok.1.fields (rw c.in-Ok-false.field-0-test at (c.in-Ok-false.ensures.ok earlier held)).old)
+pub returns-in_err-own-clause-err : goal.returns-in_err-own-clause-err
+returns-in_err-own-clause-err c =
+    let p = err_from_is_err_and c.from_residual.result c.from_residual.ensures.1 in
+    rw (p.1, p.2) (inr (unlabelled_fault c.args.region.now c.args.depth c.args.at (marked c.args.siblings.now) c.in_err-own.field-0.0 c.in_err-own.ensures.err))
 
 pub returns-clause-ok : goal.returns-clause-ok
-returns-clause-ok c = λ earlier held.
-    let added = rw c.in-Ok-true.field-0-test at (c.in-Ok-true.ensures.ok earlier held) in
-    opened c.args.region.now c.args.head c.in-Ok.own.head c.in-Ok.own.fields c.add_any.new.siblings c.args.depth c.args.at _ c.len-index.result earlier c.args.rows.now.items c.push.new.self.items c.push-2.new.self.items
-    (λ i. omega (arith, c.type_inv.region i)) (omega arith) c.requires.head_is c.in-Ok.ensures.ok.0 c.in-Ok.ensures.ok.1.front c.in-Ok.ensures.ok.1.kind c.in-Ok.ensures.ok.1.fields added.new.0 added.new.1 c.in-Ok-push.ensures.items c.in-Ok-push-2.ensures.items refl (omega (arith, c.len-index.ensures, c.args.rows.now.ok.0))
+returns-clause-ok c =
+    let own = c.in_ok-own.own in
+    let is = c.in_ok-own.ensures.ok in
+    opened c.args.region.now c.args.head own.head own.fields (marked c.args.siblings.now) (marked c.add.new.siblings) c.args.depth c.args.at _ c.len-index.result c.args.rows.now.items c.push.new.self.items c.push-2.new.self.items
+    (λ i. omega (arith, c.type_inv.region i)) (omega arith) c.requires.head_is is.0 is.1.front is.1.kind is.1.fields c.requires.kind c.in_ok-add.ensures.ok
+    c.in_ok-push.ensures.items c.in_ok-push-2.ensures.items refl (omega (arith, c.len-index.ensures, c.args.rows.now.ok.0))
