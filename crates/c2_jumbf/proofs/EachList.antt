@@ -7,9 +7,10 @@ use Rattle.std.proofs.lemmas.Slice.Eq.{bytes_eq-Decides}
 use Rattle.std.specs.List.{All, AllByRecursion}
 use Rattle.std.specs.Str.{bytes_eq}
 use borrow.Author.Tests.{both_ways}
+use Rattle.c2_spec.specs.declared.kinds.TheConstants.{JUMB, JUMD}
 use Rattle.c2_spec.specs.declared.jumbf.JumbfError.{JumbfError}
 use Rattle.c2_spec.specs.declared.jumbf.JumbfError.TheVariants.{NoDescription, BadDescription, DuplicateLabel, TooDeep, Trailing}
-use Rattle.c2_spec.specs.Jumbf.Tree.{Description, description_payload, description_bytes, FitsHead, head_len, boxed, jumb_kind, jumd_kind, Tree, Trees, leaf, super, none, tree_bytes, trees_bytes, tree_label, tree_labels, IsNewLabel, IsLegalTree, AreLegalTrees, AreDistinctLabels, SpellsTree}
+use Rattle.c2_spec.specs.Jumbf.Tree.{Description, description_payload, description_bytes, FitsHead, head_len, boxed, Tree, Trees, leaf, super, none, tree_bytes, trees_bytes, tree_label, tree_labels, IsNewLabel, IsLegalTree, AreLegalTrees, AreDistinctLabels, SpellsTree}
 use Rattle.c2_spec.specs.Jumbf.Faults.{tells_wide, told_total, told_kind, told_payload, box_head_fault, IsSuperbox, OpensSuperbox, TreeFault, JumbfFault}
 use Rattle.c2_spec.specs.Jumbf.Boxes.{node}
 use Rattle.c2_spec.proofs.JumbfHeads.{good_at}
@@ -85,9 +86,9 @@ opened_or earlier depth at region all k d rest o short reader = ⊎_elim (λ new
     go new (filling ts legal distinct split) =
         let content : told_payload region ≡ description_bytes d ++ trees_bytes ts = o.payload ∙ ap (λ (x : List ℕ). description_bytes d ++ x) split in
         let head : FitsHead (told_kind region) (tells_wide region) (length (told_payload region)) = told_fits region (told region) all k in
-        let fits : FitsHead jumb_kind (tells_wide region) (length (description_bytes d ++ trees_bytes ts)) = subst (λ (x : List ℕ). FitsHead jumb_kind (tells_wide region) (length x)) content (subst (λ n. FitsHead n (tells_wide region) (length (told_payload region))) o.superbox.kind head) in
+        let fits : FitsHead JUMB (tells_wide region) (length (description_bytes d ++ trees_bytes ts)) = subst (λ (x : List ℕ). FitsHead JUMB (tells_wide region) (length x)) content (subst (λ n. FitsHead n (tells_wide region) (length (told_payload region))) o.superbox.kind head) in
         spelled (super (tells_wide region) d ts) (drop (told region).total region) (o.superbox.deep, o.description, fits, legal, distinct) new
-        (front_whole region (told region) all k ∙ ap (λ n. boxed n (tells_wide region) (told_payload region) ++ drop (told region).total region) o.superbox.kind ∙ ap (λ (x : List ℕ). boxed jumb_kind (tells_wide region) x ++ drop (told region).total region) content)
+        (front_whole region (told region) all k ∙ ap (λ n. boxed n (tells_wide region) (told_payload region) ++ drop (told region).total region) o.superbox.kind ∙ ap (λ (x : List ℕ). boxed JUMB (tells_wide region) x ++ drop (told region).total region) content)
 
 -- A superbox by its head, and a reader of what stands behind its description.
 super_or : (earlier : List (Option (List ℕ))) (depth at : ℕ) (region : List ℕ) → AreBytes region → IsHead region (told region) → IsSuperbox depth region
@@ -103,7 +104,7 @@ super_or earlier depth at region all k s reader = some (told_payload region) ref
     size : length inner + (told region).header ≡ (told region).total
     size = payload_size region (told region) k
 
-    read : box_head_fault 0 inner ≡ None → told_kind inner ≡ jumd_kind → TreeOr earlier depth at region
+    read : box_head_fault 0 inner ≡ None → told_kind inner ≡ JUMD → TreeOr earlier depth at region
     read good kind = go (fields_or (tells_wide inner) (told_payload inner) (bytes-drop (head_len (tells_wide inner)) (take (told_total inner) inner) (bytes-take (told_total inner) inner inner_bytes)))
       where
         first : IsHead inner (told inner)
@@ -116,10 +117,10 @@ super_or earlier depth at region all k s reader = some (told_payload region) ref
         go (undescribed fault) = failing (BadDescription (at + head_len (tells_wide region))) (TreeFault.bad_description s (good_at 0 at inner good) kind fault)
         go (described d wide fields content) =
             let head : FitsHead (told_kind inner) (tells_wide inner) (length (told_payload inner)) = told_fits inner (told inner) inner_bytes first in
-            let same : FitsHead jumd_kind (tells_wide inner) (length (description_payload d)) = subst (λ (x : List ℕ). FitsHead jumd_kind (tells_wide inner) (length x)) content (subst (λ n. FitsHead n (tells_wide inner) (length (told_payload inner))) kind head) in
-            let fits : FitsHead jumd_kind d.wide (length (description_payload d)) = subst (λ w. FitsHead jumd_kind w (length (description_payload d))) (sym wide) same in
+            let same : FitsHead JUMD (tells_wide inner) (length (description_payload d)) = subst (λ (x : List ℕ). FitsHead JUMD (tells_wide inner) (length x)) content (subst (λ n. FitsHead n (tells_wide inner) (length (told_payload inner))) kind head) in
+            let fits : FitsHead JUMD d.wide (length (description_payload d)) = subst (λ w. FitsHead JUMD w (length (description_payload d))) (sym wide) same in
             let whole : inner ≡ description_bytes d ++ behind = front_whole inner (told inner) inner_bytes first ∙ ap (λ n. boxed n (tells_wide inner) (told_payload inner) ++ behind) kind
-            ∙ ap (λ w. boxed jumd_kind w (told_payload inner) ++ behind) (sym wide) ∙ ap (λ (x : List ℕ). boxed jumd_kind d.wide x ++ behind) content in
+            ∙ ap (λ w. boxed JUMD w (told_payload inner) ++ behind) (sym wide) ∙ ap (λ (x : List ℕ). boxed JUMD d.wide x ++ behind) content in
             let sizes : length inner ≡ length (description_bytes d) + length behind = ap length whole ∙ length-append (description_bytes d) behind in
             opened_or earlier depth at region all k d behind (record { superbox = s; description = record { fields = fields; fits = fits }; payload = whole }) (omega (arith, sizes, size, k.total))
             (λ place. reader place behind (omega (arith, sizes, size, k.inside, k.header, head_size (tells_wide region))) (bytes-drop (told inner).total inner inner_bytes))
@@ -127,7 +128,7 @@ super_or earlier depth at region all k s reader = some (told_payload region) ref
     some : (x : List ℕ) → inner ≡ x → TreeOr earlier depth at region
     some [] nil = failing (NoDescription at) (TreeFault.empty s nil)
     some (b ∷ bs) is = ⊎_elim
-        (λ good. ⊎_elim (λ kind. read (good_at (at + head_len (tells_wide region)) 0 inner good) kind) (λ other. failing (NoDescription at) (TreeFault.no_description s (good_at (at + head_len (tells_wide region)) at inner good) other)) (cases_eq (told_kind inner) jumd_kind))
+        (λ good. ⊎_elim (λ kind. read (good_at (at + head_len (tells_wide region)) 0 inner good) kind) (λ other. failing (NoDescription at) (TreeFault.no_description s (good_at (at + head_len (tells_wide region)) at inner good) other)) (cases_eq (told_kind inner) JUMD))
         (λ bad. failing bad.0 (TreeFault.child_head s (omega (arith, ap length is)) bad.1))
         (good_or (at + head_len (tells_wide region)) inner)
 
@@ -139,7 +140,7 @@ box_or earlier depth at region all reader = ⊎_elim (λ good. headed good (told
     headed good k = ⊎_elim
         (λ kind. ⊎_elim (λ deep. failing (TooDeep at) (TreeFault.too_deep good kind deep)) (λ within. super_or earlier depth at region all k (record { head = k.good; kind = kind; deep = within }) reader) (cases_lt 16 depth))
         (λ other. spelled (leaf (record { kind = told_kind region; wide = tells_wide region; payload = told_payload region })) (drop (told region).total region) (told_fits region (told region) all k, other) tt (front_whole region (told region) all k))
-        (cases_eq (told_kind region) jumb_kind)
+        (cases_eq (told_kind region) JUMB)
 
 -- each region
 tree_or : (n : ℕ) (earlier : List (Option (List ℕ))) (depth at : ℕ) (region : List ℕ) → length region < n → AreBytes region → TreeOr earlier depth at region

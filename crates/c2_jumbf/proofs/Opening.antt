@@ -1,9 +1,10 @@
 -- A superbox up to its label.
 use Rattle.std.proofs.Common.{◌≡◌, ◌≢◌, ℕ, ◌+◌, ◌-◌, ◌^◌, ◌<◌, ◌≤◌, List, [], ◌∷◌, ◌++◌, length, take, drop, Option, Some, None, refl, sym, ap, ◌∙◌, subst, append_assoc, arith}
 use Rattle.std.proofs.lemmas.List.{length-drop, drop-take, drop-drop, length-take-le, append-nil}
+use Rattle.c2_spec.specs.declared.kinds.TheConstants.{JUMB, JUMD}
 use Rattle.c2_spec.specs.declared.jumbf.JumbfError.{JumbfError}
 use Rattle.c2_spec.specs.declared.jumbf.JumbfError.TheVariants.{TooDeep, NoDescription, BadDescription, DuplicateLabel}
-use Rattle.c2_spec.specs.Jumbf.Tree.{Description, IsDescription, description_payload, description_bytes, FitsHead, head_len, boxed, jumb_kind, jumd_kind, IsNewLabel}
+use Rattle.c2_spec.specs.Jumbf.Tree.{Description, IsDescription, description_payload, description_bytes, FitsHead, head_len, boxed, IsNewLabel}
 use Rattle.c2_spec.specs.Jumbf.Faults.{tells_wide, told_payload, box_head_fault, TreeFault, IsSuperbox, DescriptionFault}
 use Rattle.c2_spec.proofs.JumbfHeads.{good_at}
 use Rattle.c2_jumbf.specs.declared.rows.Row.{Row}
@@ -24,33 +25,33 @@ payload_is region h k =
 pub payload_length : (region : List ℕ) (h : Front) → IsHead region h → length (take (h.total - h.header) (drop h.header region)) ≡ h.total - h.header
 payload_length region h k = length-take-le (h.total - h.header) (drop h.header region) (omega (arith, length-drop h.header region, k.inside, k.least))
 
-superbox : (region : List ℕ) (h : Front) (depth : ℕ) → IsHead region h → h.kind ≡ jumb_kind → depth ≤ 16 → IsSuperbox depth region
+superbox : (region : List ℕ) (h : Front) (depth : ℕ) → IsHead region h → h.kind ≡ JUMB → depth ≤ 16 → IsSuperbox depth region
 superbox region h depth k kind deep = record { head = k.good; kind = sym k.kind ∙ kind; deep = deep }
 
-pub open_deep : (region : List ℕ) (h : Front) (depth at : ℕ) (earlier : List (Option (List ℕ))) → IsHead region h → h.kind ≡ jumb_kind → 16 < depth → TreeFault earlier depth at region (TooDeep at)
+pub open_deep : (region : List ℕ) (h : Front) (depth at : ℕ) (earlier : List (Option (List ℕ))) → IsHead region h → h.kind ≡ JUMB → 16 < depth → TreeFault earlier depth at region (TooDeep at)
 open_deep region h depth at earlier k kind deep = TreeFault.too_deep (good_at 0 at region k.good) (sym k.kind ∙ kind) deep
 
-pub open_empty : (region : List ℕ) (h : Front) (depth at : ℕ) (earlier : List (Option (List ℕ))) → IsHead region h → h.kind ≡ jumb_kind → depth ≤ 16 → length (take (h.total - h.header) (drop h.header region)) ≡ 0 → TreeFault earlier depth at region (NoDescription at)
+pub open_empty : (region : List ℕ) (h : Front) (depth at : ℕ) (earlier : List (Option (List ℕ))) → IsHead region h → h.kind ≡ JUMB → depth ≤ 16 → length (take (h.total - h.header) (drop h.header region)) ≡ 0 → TreeFault earlier depth at region (NoDescription at)
 open_empty region h depth at earlier k kind deep none = TreeFault.empty (superbox region h depth k kind deep) (nil (told_payload region) (ap length (sym (payload_is region h k)) ∙ none))
   where
     nil : (xs : List ℕ) → length xs ≡ 0 → xs ≡ []
     nil [] e = refl
     nil (x ∷ xs) e = absurd (omega arith)
 
-pub open_head : (region : List ℕ) (h : Front) (depth at place : ℕ) (earlier : List (Option (List ℕ))) (e : JumbfError) → IsHead region h → h.kind ≡ jumb_kind → depth ≤ 16 → 0 < length (take (h.total - h.header) (drop h.header region))
+pub open_head : (region : List ℕ) (h : Front) (depth at place : ℕ) (earlier : List (Option (List ℕ))) (e : JumbfError) → IsHead region h → h.kind ≡ JUMB → depth ≤ 16 → 0 < length (take (h.total - h.header) (drop h.header region))
     → place ≡ at + h.header → box_head_fault place (take (h.total - h.header) (drop h.header region)) ≡ Some e → TreeFault earlier depth at region e
 open_head region h depth at place earlier e k kind deep some where_is fails =
     let same : length (take (h.total - h.header) (drop h.header region)) ≡ length (told_payload region) = ap length (payload_is region h k) in
     TreeFault.child_head (superbox region h depth k kind deep) (omega (arith, some, same))
     (ap (λ n. box_head_fault (at + n) (told_payload region)) (sym k.header) ∙ ap (λ n. box_head_fault n (told_payload region)) (sym where_is) ∙ ap (box_head_fault place) (sym (payload_is region h k)) ∙ fails)
 
-pub open_kind : (region : List ℕ) (h own : Front) (depth at : ℕ) (earlier : List (Option (List ℕ))) → IsHead region h → h.kind ≡ jumb_kind → depth ≤ 16 → IsHead (take (h.total - h.header) (drop h.header region)) own → own.kind ≢ jumd_kind
+pub open_kind : (region : List ℕ) (h own : Front) (depth at : ℕ) (earlier : List (Option (List ℕ))) → IsHead region h → h.kind ≡ JUMB → depth ≤ 16 → IsHead (take (h.total - h.header) (drop h.header region)) own → own.kind ≢ JUMD
     → TreeFault earlier depth at region (NoDescription at)
 open_kind region h own depth at earlier k kind deep first other =
     let f : IsHead (told_payload region) own = subst (λ (x : List ℕ). IsHead x own) (payload_is region h k) first in
     TreeFault.no_description (superbox region h depth k kind deep) (good_at 0 at (told_payload region) f.good) (λ e. other (f.kind ∙ e))
 
-pub open_fields : (region : List ℕ) (h own : Front) (depth at place : ℕ) (earlier : List (Option (List ℕ))) → IsHead region h → h.kind ≡ jumb_kind → depth ≤ 16 → IsHead (take (h.total - h.header) (drop h.header region)) own → own.kind ≡ jumd_kind
+pub open_fields : (region : List ℕ) (h own : Front) (depth at place : ℕ) (earlier : List (Option (List ℕ))) → IsHead region h → h.kind ≡ JUMB → depth ≤ 16 → IsHead (take (h.total - h.header) (drop h.header region)) own → own.kind ≡ JUMD
     → place ≡ at + h.header → DescriptionFault (take (own.total - own.header) (drop own.header (take (h.total - h.header) (drop h.header region)))) → TreeFault earlier depth at region (BadDescription place)
 open_fields region h own depth at place earlier k kind deep first named where_is none =
     let f : IsHead (told_payload region) own = subst (λ (x : List ℕ). IsHead x own) (payload_is region h k) first in
@@ -68,7 +69,7 @@ pub record IsRead (region : List ℕ) (h own : Front) (f : Fields) : Type 0 wher
   pub label : description.label ≡ read_label f
   pub wide : head_len description.wide ≡ own.header
 
-pub is_read : (region : List ℕ) (h own : Front) (f : Fields) → AreBytes region → length region < 2 ^ 64 → IsHead region h → IsHead (take (h.total - h.header) (drop h.header region)) own → own.kind ≡ jumd_kind
+pub is_read : (region : List ℕ) (h own : Front) (f : Fields) → AreBytes region → length region < 2 ^ 64 → IsHead region h → IsHead (take (h.total - h.header) (drop h.header region)) own → own.kind ≡ JUMD
     → HasFields (take (own.total - own.header) (drop own.header (take (h.total - h.header) (drop h.header region)))) f → IsRead region h own f
 is_read region h own f bytes small k first named has = record { description = d; legal = legal; size = size; inside = inside; bytes = spelled_front; label = has.label; wide = sym first.header }
   where
@@ -87,14 +88,14 @@ is_read region h own f bytes small k first named has = record { description = d;
     size_is : length payload ≡ h.total - h.header
     size_is = payload_length region h k
 
-    fits : FitsHead jumd_kind (tells_wide payload) (length (description_payload d))
-    fits = subst (λ (x : List ℕ). FitsHead jumd_kind (tells_wide payload) (length x)) content (subst (λ n. FitsHead n (tells_wide payload) (length (told_payload payload))) (sym first.kind ∙ named) (front_fits payload own payload_bytes (omega (arith, size_is, small, k.inside)) first))
+    fits : FitsHead JUMD (tells_wide payload) (length (description_payload d))
+    fits = subst (λ (x : List ℕ). FitsHead JUMD (tells_wide payload) (length x)) content (subst (λ n. FitsHead n (tells_wide payload) (length (told_payload payload))) (sym first.kind ∙ named) (front_fits payload own payload_bytes (omega (arith, size_is, small, k.inside)) first))
 
     legal : IsDescription d
     legal = record { fields = record { uuid = has.legal.uuid; label = has.legal.label; id = has.legal.id; digest = has.legal.digest; private = has.legal.private }; fits = fits }
 
     front : take own.total payload ≡ description_bytes d
-    front = front_box payload own payload_bytes first ∙ ap (λ n. boxed n (tells_wide payload) (told_payload payload)) (sym first.kind ∙ named) ∙ ap (boxed jumd_kind (tells_wide payload)) content
+    front = front_box payload own payload_bytes first ∙ ap (λ n. boxed n (tells_wide payload) (told_payload payload)) (sym first.kind ∙ named) ∙ ap (boxed JUMD (tells_wide payload)) content
 
     size : own.total ≡ length (description_bytes d)
     size = sym (length-take-le own.total payload first.inside) ∙ ap length front
@@ -109,11 +110,11 @@ is_read region h own f bytes small k first named has = record { description = d;
 
     spelled_front : told_payload region ≡ description_bytes d ++ drop (h.header + own.total) (take h.total region)
     spelled_front = sym (payload_is region h k) ∙ front_whole payload own payload_bytes first ∙ ap (λ n. boxed n (tells_wide payload) (told_payload payload) ++ drop own.total payload) (sym first.kind ∙ named)
-        ∙ ap (λ (x : List ℕ). boxed jumd_kind (tells_wide payload) x ++ drop own.total payload) content ∙ ap (λ (x : List ℕ). description_bytes d ++ x) behind
+        ∙ ap (λ (x : List ℕ). boxed JUMD (tells_wide payload) x ++ drop own.total payload) content ∙ ap (λ (x : List ℕ). description_bytes d ++ x) behind
 
 -- the label stood among earlier siblings
-pub open_twice : (region : List ℕ) (h own : Front) (f : Fields) (depth at : ℕ) (earlier : List (Option (List ℕ))) → AreBytes region → length region < 2 ^ 64 → IsHead region h → h.kind ≡ jumb_kind → depth ≤ 16
-    → IsHead (take (h.total - h.header) (drop h.header region)) own → own.kind ≡ jumd_kind → HasFields (take (own.total - own.header) (drop own.header (take (h.total - h.header) (drop h.header region)))) f
+pub open_twice : (region : List ℕ) (h own : Front) (f : Fields) (depth at : ℕ) (earlier : List (Option (List ℕ))) → AreBytes region → length region < 2 ^ 64 → IsHead region h → h.kind ≡ JUMB → depth ≤ 16
+    → IsHead (take (h.total - h.header) (drop h.header region)) own → own.kind ≡ JUMD → HasFields (take (own.total - own.header) (drop own.header (take (h.total - h.header) (drop h.header region)))) f
     → (IsNewLabel (read_label f) earlier → ⊥) → TreeFault earlier depth at region (DuplicateLabel at)
 open_twice region h own f depth at earlier bytes small k kind deep first named fields old_label =
     let r : IsRead region h own f = is_read region h own f bytes small k first named fields in
@@ -122,8 +123,8 @@ open_twice region h own f depth at earlier bytes small k kind deep first named f
 
 -- the superbox is open
 pub opened : (region : List ℕ) (h own : Front) (f : Fields) (before after : List Mark) (depth at place index : ℕ) (old mid new : List Row) → AreBytes region → length region < 2 ^ 64 → IsHead region h → depth ≤ 16
-    → IsHead (take (h.total - h.header) (drop h.header region)) own → own.kind ≡ jumd_kind → HasFields (take (own.total - own.header) (drop own.header (take (h.total - h.header) (drop h.header region)))) f
-    → h.kind ≡ jumb_kind → after ≡ before ++ own_marks at (read_label f)
+    → IsHead (take (h.total - h.header) (drop h.header region)) own → own.kind ≡ JUMD → HasFields (take (own.total - own.header) (drop own.header (take (h.total - h.header) (drop h.header region)))) f
+    → h.kind ≡ JUMB → after ≡ before ++ own_marks at (read_label f)
     → mid ≡ old ++ record { place = at; total = h.total; after = index; header = h.header; depth = depth } ∷ []
     → new ≡ mid ++ record { place = place; total = own.total; after = index + 2; header = own.header; depth = depth + 1 } ∷ []
     → place ≡ at + h.header → index ≡ length old → Opened depth at region h before after old new own.total

@@ -1,8 +1,9 @@
 -- Boxes by their heads, once they are read whole.
 use Rattle.std.proofs.Common.{◌≡◌, ◌≢◌, ℕ, ◌+◌, ◌-◌, ◌^◌, ◌<◌, ◌≤◌, List, [], ◌∷◌, ◌++◌, length, get_or, take, drop, set, Option, refl, sym, ap, ◌∙◌, subst, append_assoc, arith, length-append}
 use Rattle.std.proofs.lemmas.List.{length-drop, drop-take, set_at, length-take-le, get_or_at, append-nil}
+use Rattle.c2_spec.specs.declared.kinds.TheConstants.{JUMB}
 use Rattle.c2_spec.specs.declared.jumbf.JumbfError.{JumbfError}
-use Rattle.c2_spec.specs.Jumbf.Tree.{Description, Tree, leaf, super, tree_bytes, trees_bytes, description_bytes, tree_labels, FitsHead, head_len, boxed, jumb_kind}
+use Rattle.c2_spec.specs.Jumbf.Tree.{Description, Tree, leaf, super, tree_bytes, trees_bytes, description_bytes, tree_labels, FitsHead, head_len, boxed}
 use Rattle.c2_spec.specs.Jumbf.Faults.{tells_wide, told_kind, told_total, told_payload, TreeFault, OpensSuperbox}
 use Rattle.c2_spec.specs.Jumbf.Boxes.{trees_count}
 use Rattle.c2_jumbf.specs.declared.rows.Row.{Row}
@@ -19,7 +20,7 @@ total_size region h t k e =
     omega (arith, sizes, length-drop h.total region, k.inside)
 
 -- A box that is no superbox.
-pub leaf_tree : (region : List ℕ) (h : Front) (ms : List Mark) (depth at : ℕ) (old : List Row) → AreBytes region → length region < 2 ^ 64 → IsHead region h → h.kind ≢ jumb_kind
+pub leaf_tree : (region : List ℕ) (h : Front) (ms : List Mark) (depth at : ℕ) (old : List Row) → AreBytes region → length region < 2 ^ 64 → IsHead region h → h.kind ≢ JUMB
     → IsTreeAt depth at region h.total ms ms old (old ++ record { place = at; total = h.total; after = length old + 1; header = h.header; depth = depth } ∷ [])
 leaf_tree region h ms depth at old bytes small k other =
     let t : Tree = leaf (record { kind = told_kind region; wide = tells_wide region; payload = told_payload region }) in
@@ -43,7 +44,7 @@ children_are region h from le =
     ap (λ n. drop (h.header + from) (take n region)) e ∙ drop-take (h.header + from) (h.total - (h.header + from)) region
 
 -- A superbox, once its children are read.
-pub super_tree : (region : List ℕ) (h : Front) (before after : List Mark) (depth at from : ℕ) (old mid new : List Row) → AreBytes region → length region < 2 ^ 64 → IsHead region h → h.kind ≡ jumb_kind
+pub super_tree : (region : List ℕ) (h : Front) (before after : List Mark) (depth at from : ℕ) (old mid new : List Row) → AreBytes region → length region < 2 ^ 64 → IsHead region h → h.kind ≡ JUMB
     → Opened depth at region h before after old mid from → AreTreesIn (depth + 1) (at + h.header + from) (take (h.total - (h.header + from)) (drop (h.header + from) region)) mid new
     → IsTreeAt depth at region h.total before after old (set new (length old) (record { place = at; total = h.total; after = length new; header = h.header; depth = depth }))
 super_tree region h before after depth at from old mid new bytes small k kind o t =
@@ -66,11 +67,11 @@ super_tree region h before after depth at from old mid new bytes small k kind o 
     content : told_payload region ≡ description_bytes d ++ trees_bytes t.trees
     content = o.bytes ∙ ap (λ (x : List ℕ). description_bytes d ++ x) (children_are region h from o.inside ∙ t.bytes)
 
-    fits : FitsHead jumb_kind (tells_wide region) (length (description_bytes d ++ trees_bytes t.trees))
-    fits = subst (λ (x : List ℕ). FitsHead jumb_kind (tells_wide region) (length x)) content (subst (λ n. FitsHead n (tells_wide region) (length (told_payload region))) (sym k.kind ∙ kind) (front_fits region h bytes small k))
+    fits : FitsHead JUMB (tells_wide region) (length (description_bytes d ++ trees_bytes t.trees))
+    fits = subst (λ (x : List ℕ). FitsHead JUMB (tells_wide region) (length x)) content (subst (λ n. FitsHead n (tells_wide region) (length (told_payload region))) (sym k.kind ∙ kind) (front_fits region h bytes small k))
 
     whole : region ≡ tree_bytes tree ++ drop h.total region
-    whole = front_whole region h bytes k ∙ ap (λ n. boxed n (tells_wide region) (told_payload region) ++ drop h.total region) (sym k.kind ∙ kind) ∙ ap (λ (x : List ℕ). boxed jumb_kind (tells_wide region) x ++ drop h.total region) content
+    whole = front_whole region h bytes k ∙ ap (λ n. boxed n (tells_wide region) (told_payload region) ++ drop h.total region) (sym k.kind ∙ kind) ∙ ap (λ (x : List ℕ). boxed JUMB (tells_wide region) x ++ drop h.total region) content
 
     size : h.total ≡ length (tree_bytes tree)
     size = total_size region h tree k whole
@@ -103,7 +104,7 @@ super_tree region h before after depth at from old mid new bytes small k kind o 
         ∙ ap (λ n. old ++ own (head_len (tells_wide region)) (length (tree_bytes tree)) (length old + (2 + trees_count t.trees)) ∷ second (head_len (tells_wide region)) (length (description_bytes d)) ∷ rows_all (at + head_len (tells_wide region) + length (description_bytes d)) (depth + 1) n t.trees) mid_length
 
 -- A fault among the children is a fault of the superbox.
-pub super_fault : (region : List ℕ) (h : Front) (before after : List Mark) (depth at from : ℕ) (old mid : List Row) (e : JumbfError) → IsHead region h → h.kind ≡ jumb_kind
+pub super_fault : (region : List ℕ) (h : Front) (before after : List Mark) (depth at from : ℕ) (old mid : List Row) (e : JumbfError) → IsHead region h → h.kind ≡ JUMB
     → Opened depth at region h before after old mid from → ChildFault (depth + 1) (at + h.header + from) (take (h.total - (h.header + from)) (drop (h.header + from) region)) e → FaultAt depth at region before after e
 super_fault region h before after depth at from old mid e k kind o f =
     let n : length (take (h.total - (h.header + from)) (drop (h.header + from) region)) ≡ h.total - (h.header + from) = length-take-le _ _ (omega (arith, length-drop (h.header + from) region, k.inside)) in
@@ -114,7 +115,7 @@ super_fault region h before after depth at from old mid e k kind o f =
     record { label = o.description.label; marked = o.marked; inside = λ earlier new. TreeFault.inside o.description f.trees f.rest opens new f.legal f.distinct f.some fails; duplicate = o.duplicate }
 
 -- The same with the record as the code writes it.
-pub super_written : (region : List ℕ) (h : Front) (before after : List Mark) (depth at from : ℕ) (old mid new : List Row) (x : Row) (i n : ℕ) → AreBytes region → length region < 2 ^ 64 → IsHead region h → h.kind ≡ jumb_kind
+pub super_written : (region : List ℕ) (h : Front) (before after : List Mark) (depth at from : ℕ) (old mid new : List Row) (x : Row) (i n : ℕ) → AreBytes region → length region < 2 ^ 64 → IsHead region h → h.kind ≡ JUMB
     → Opened depth at region h before after old mid from → AreTreesIn (depth + 1) (at + h.header + from) (take (h.total - (h.header + from)) (drop (h.header + from) region)) mid new
     → x ≡ get_or new i x → i ≡ length old → n ≡ length new
     → IsTreeAt depth at region h.total before after old (set new i (record { place = x.place; total = x.total; after = n; header = x.header; depth = x.depth }))
@@ -139,7 +140,7 @@ super_written region h before after depth at from old mid new x i n bytes small 
         ∙ ap (λ j. set new (length old) (record { place = at; total = h.total; after = j; header = h.header; depth = depth })) size
 
 -- A leaf with the record as the code pushes it.
-pub leaf_pushed : (region : List ℕ) (h : Front) (ms : List Mark) (depth at i : ℕ) (old new : List Row) → AreBytes region → length region < 2 ^ 64 → IsHead region h → h.kind ≢ jumb_kind
+pub leaf_pushed : (region : List ℕ) (h : Front) (ms : List Mark) (depth at i : ℕ) (old new : List Row) → AreBytes region → length region < 2 ^ 64 → IsHead region h → h.kind ≢ JUMB
     → new ≡ old ++ record { place = at; total = h.total; after = i + 1; header = h.header; depth = depth } ∷ [] → i ≡ length old → IsTreeAt depth at region h.total ms ms old new
 leaf_pushed region h ms depth at i old new bytes small k other pushed index =
     subst (λ r. IsTreeAt depth at region h.total ms ms old r) (sym (pushed ∙ ap (λ j. old ++ record { place = at; total = h.total; after = j + 1; header = h.header; depth = depth } ∷ []) index))

@@ -31,7 +31,7 @@ pub fn row_at(tree: &Tree<'_>, i: usize) -> Row
     tree.rows[i]
 }
 
-/// Where a box begins, in bytes from the front of the tree's bytes.
+/// Where a box begins, in bytes from the first of the tree's bytes.
 pub fn place(tree: &Tree<'_>, i: usize) -> usize
     requires { i < tree_count tree.now }
     ensures { result ≡ (box_at tree.now i).place }
@@ -78,7 +78,7 @@ pub fn kind(tree: &Tree<'_>, i: usize) -> [u8; 4]
     [bytes[4], bytes[5], bytes[6], bytes[7]]
 }
 
-/// The bytes behind a box's own header: its payload, and so for a superbox its description box and all further boxes.
+/// The bytes after a box's own header: its payload, and so for a superbox its description box and all further boxes.
 pub fn contents<'t>(tree: &'t Tree<'_>, i: usize) -> &'t [u8]
     requires { i < tree_count tree.now }
     ensures { result.now ≡ any_contents (box_at tree.now i).box }

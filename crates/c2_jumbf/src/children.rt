@@ -40,8 +40,10 @@ fn is_labelled(tree: &Tree<'_>, i: usize, label: &str) -> bool
 fn labelled_child(tree: &Tree<'_>, i: usize, label: &str) -> Option<usize>
     requires { i < tree_count tree.now }
     ensures legal { IsLegalTree 1 tree.now }
-    ensures found { IfSome result (λ k. Contains (child_indices tree.now i) k × (any_label (box_at tree.now k).box ≡ Some label.now)) }
-    ensures none { IfNone result ((k : ℕ) → Contains (child_indices tree.now i) k → any_label (box_at tree.now k).box ≡ Some label.now → ⊥) }
+    ensures found { IfSome result (λ k. Contains (child_indices tree.now i) k
+        × (any_label (box_at tree.now k).box ≡ Some label.now)) }
+    ensures none { IfNone result ((k : ℕ) → Contains (child_indices tree.now i) k
+        → any_label (box_at tree.now k).box ≡ Some label.now → ⊥) }
 {
     let end = after(tree, i);
     let mut at = i + 1;
@@ -60,9 +62,11 @@ pub fn find(tree: &Tree<'_>, start: usize, path: &str) -> Option<usize>
     requires { start < tree_count tree.now }
     ensures within { IfSome result (λ i. i < tree_count tree.now) }
     ensures found { IfSome result (LabelsLead tree.now start (path_labels path.now)) }
-    ensures none { IfNone result ((i : ℕ) → LabelsLead tree.now start (path_labels path.now) i → ⊥) }
+    ensures none { IfNone result ((i : ℕ)
+        → LabelsLead tree.now start (path_labels path.now) i → ⊥) }
     ensures only { (i : ℕ) → LabelsLead tree.now start (path_labels path.now) i → result ≡ Some i }
 {
+    // Only the prover needs this: it takes from here that the tree is legal.
     let _rows = &tree.rows;
     let mut at = start;
     for label in path.split('/') {

@@ -13,14 +13,14 @@ pub struct Fields<'a> {
     pub label: Option<&'a str>,
 }
 
-/// A label and what stands behind its zero byte.
+/// A label and what comes after its zero byte.
 #[derive(Clone, Copy)]
 pub struct Labelled<'a> {
     pub label: &'a str,
     pub rest: &'a [u8],
 }
 
-/// A label, where there is one, and what stands behind it.
+/// A label, where there is one, and what comes after it.
 #[derive(Clone, Copy)]
 pub struct Part<'a> {
     pub label: Option<&'a str>,
@@ -41,7 +41,7 @@ pub fn label_end(bytes: &[u8]) -> usize
     bytes.len()
 }
 
-/// The label at the front of the bytes.
+/// The label that begins the bytes.
 fn label_at(bytes: &[u8]) -> Option<Labelled<'_>>
     ensures found { IfSome result (λ r. HasLabel bytes.now r.label.now r.rest.now) }
     ensures none { IfNone result (LabelFault bytes.now) }
@@ -62,7 +62,7 @@ fn label_at(bytes: &[u8]) -> Option<Labelled<'_>>
     }
 }
 
-/// The label behind the toggles, where there is one, and the rest.
+/// The label after the toggles, where there is one, and the rest.
 pub fn label_part(on: bool, bytes: &[u8]) -> Option<Part<'_>>
     ensures found { IfSome result (λ p. IsLabelPart on bytes.now (text_of p.label) p.rest.now) }
     ensures none { IfNone result ((on ≡ true) × LabelFault bytes.now) }
@@ -82,9 +82,10 @@ pub fn label_part(on: bool, bytes: &[u8]) -> Option<Part<'_>>
     }
 }
 
-/// What stands behind a field of a fixed size, where that is there.
+/// What comes after a field of a fixed size, where that is there.
 fn fixed_part(on: bool, size: usize, bytes: &[u8]) -> Option<&[u8]>
-    ensures found { IfSome result (λ rest. (value : Option (List ℕ)) × IsFixedPart on size bytes.now value rest.now) }
+    ensures found { IfSome result (λ rest. (value : Option (List ℕ))
+        × IsFixedPart on size bytes.now value rest.now) }
     ensures none { IfNone result ((on ≡ true) × (length bytes.now < size)) }
 {
     if !on {

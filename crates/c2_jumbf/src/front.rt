@@ -7,7 +7,7 @@ ghost use Rattle.c2_jumbf.specs.Heads.{IsHead};
 
 use c2_spec::{Head, JumbfError};
 
-/// What the head of a box tells: the header's length, the box's length with it, and TBox as a number.
+/// What the head of a box says: the header's length, the box's length with it, and TBox as a number.
 #[derive(Clone, Copy, Debug)]
 pub struct Front {
     pub header: usize,
@@ -38,7 +38,7 @@ fn u64_at(bytes: &[u8], at: usize) -> u64
     ])
 }
 
-/// The head of the box that stands at the front of the bytes and ends within them; `at` is its place.
+/// The head of the box that begins the bytes and ends within them; `at` is its place.
 #[tactic(auto, unfolding(c2_spec::specs::Jumbf::Faults::box_head_fault))]
 pub fn head_at(bytes: &[u8], at: usize) -> Result<Front, JumbfError>
     ensures ok { IfOk result (IsHead bytes.now) }
@@ -79,10 +79,12 @@ pub fn head_at(bytes: &[u8], at: usize) -> Result<Front, JumbfError>
     })
 }
 
-/// The header of the box that stands at a place and ends at or before the end of the bytes.
+/// The header of the box that begins at a place and ends at or before the end of the bytes (ISO/IEC 19566-5, A.2).
+/// `BadHead` where no header is there, `Overrun` where the box ends after the bytes.
 pub fn head(bytes: &[u8], at: usize) -> Result<Head, JumbfError>
     requires inside { at ≤ length bytes.now }
-    ensures ok { IfOk result (λ h. (box_head_fault at (drop at bytes.now) ≡ None) × (h ≡ told_head (drop at bytes.now))) }
+    ensures ok { IfOk result (λ h. (box_head_fault at (drop at bytes.now) ≡ None)
+        × (h ≡ told_head (drop at bytes.now))) }
     ensures err { IfErr result (λ e. box_head_fault at (drop at bytes.now) ≡ Some e) }
 {
     match head_at(&bytes[at..], at) {

@@ -54,7 +54,8 @@ pub fn add<'t>(
     label: Option<&'t str>,
     place: usize,
 ) -> Result<(), JumbfError>
-    ensures ok { OnOk result (marked siblings.new ≡ marked siblings.old ++ own_marks place (text_of label.entry)) }
+    ensures ok { OnOk result (marked siblings.new
+        ≡ marked siblings.old ++ own_marks place (text_of label.entry)) }
     ensures err { IfErr result (λ e. e ≡ NoMemory) }
 {
     let Some(text) = label else {
@@ -67,7 +68,8 @@ pub fn add<'t>(
 
 /// Whether two labels are one, and the second comes later.
 fn repeats(x: &(u64, &[u8], usize), y: &(u64, &[u8], usize)) -> bool
-    ensures { IsTrue result ↔ Repeats (x.now.0, x.now.1.now, x.now.2) (y.now.0, y.now.1.now, y.now.2) }
+    ensures { IsTrue result
+        ↔ Repeats (x.now.0, x.now.1.now, x.now.2) (y.now.0, y.now.1.now, y.now.2) }
 {
     x.0 == y.0 && x.2 < y.2 && x.1 == y.1
 }
@@ -97,7 +99,8 @@ fn least_repeated(sorted: &[(u64, &[u8], usize)]) -> Option<usize>
 /// Refuses the first label that an earlier sibling has, with the place of its box.
 pub fn none_repeated(siblings: Siblings<'_>) -> Result<(), JumbfError>
     ensures ok { OnOk result (NoneRepeats (marked siblings.entry)) }
-    ensures err { IfErr result (λ e. (p : ℕ) × (e ≡ DuplicateLabel p) × IsFirstRepeated (marked siblings.entry) p) }
+    ensures err { IfErr result (λ e. (p : ℕ) × (e ≡ DuplicateLabel p)
+        × IsFirstRepeated (marked siblings.entry) p) }
 {
     let mut sorted = siblings.marks;
     sorted.sort_unstable();
@@ -107,7 +110,7 @@ pub fn none_repeated(siblings: Siblings<'_>) -> Result<(), JumbfError>
     }
 }
 
-/// The fault of boxes that stand side by side, where the last of them has this fault: the first label that an earlier
+/// The fault of boxes that are side by side, where the last of them has this fault: the first label that an earlier
 /// sibling has comes before it. Memory that ran out says nothing of the bytes.
 pub fn first_fault(siblings: Siblings<'_>, fault: JumbfError) -> JumbfError
     ensures { IsFirstFault (marked siblings.entry) fault result }

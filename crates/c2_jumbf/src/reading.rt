@@ -1,5 +1,7 @@
 // Trees of boxes are read in one pass: each box by its tests, its record written as it is met.
 ghost use Rattle.std.specs.Prelude.{◌≡◌, ◌⊎◌, ◌+◌, ◌^◌, ◌<◌, ◌≤◌, ℕ, List, length, Option, IfOk, IfErr, OnOk, MatchResult};
+ghost use Rattle.c2_base.specs.declared.limits.TheConstants.{MAX_SUPERBOX_DEPTH};
+ghost use Rattle.c2_spec.specs.declared.kinds.TheConstants.{JUMB};
 ghost use Rattle.c2_spec.specs.Jumbf.Tree.{SpellsTree};
 ghost use Rattle.c2_spec.specs.Jumbf.Tree as format;
 ghost use Rattle.c2_spec.specs.Jumbf.Faults.{TreeFault, JumbfFault};
@@ -14,17 +16,10 @@ use crate::fields::{self, Fields};
 use crate::front::{self, Front};
 use crate::labels::{self, Siblings};
 use crate::rows::Row;
+use c2_base::limits::MAX_SUPERBOX_DEPTH;
 use c2_spec::JumbfError;
+use c2_spec::kinds::{JUMB, JUMD};
 use std::alloc::Global;
-
-/// TBox of a superbox, `jumb`.
-pub const JUMB: u32 = 0x6A756D62;
-
-/// TBox of a description box, `jumd`.
-pub const JUMD: u32 = 0x6A756D64;
-
-/// The depth of the deepest superboxes.
-const DEEPEST: u8 = 16;
 
 /// The head of a superbox's description box, and the label that it has.
 #[derive(Clone, Copy)]
@@ -43,11 +38,11 @@ fn description_in<'t>(
     requires head_is { IsHead region.now head }
     requires small { at + length region.now < 2 ^ 64 }
     requires kind { head.kind ≡ JUMB }
-    ensures ok { IfOk result (λ own. (depth ≤ 16) × IsOwn region.now head own) }
+    ensures ok { IfOk result (λ own. (depth ≤ MAX_SUPERBOX_DEPTH) × IsOwn region.now head own) }
     ensures err { (earlier : List (Option (List ℕ)))
         → IfErr result (TreeFault earlier depth at region.now) }
 {
-    if depth > DEEPEST {
+    if depth > MAX_SUPERBOX_DEPTH {
         return Err(JumbfError::TooDeep(at));
     }
     let payload = &region[head.header..head.total];
@@ -77,12 +72,12 @@ fn open_super<'t>(
 ) -> Result<usize, JumbfError>
     requires head_is { IsHead region.now head }
     requires small { at + length region.now < 2 ^ 64 }
-    requires depth { depth ≤ 17 }
+    requires depth { depth ≤ MAX_SUPERBOX_DEPTH + 1 }
     requires kind { head.kind ≡ JUMB }
     ensures kept { OnOk result (length rows.old.items < length rows.new.items) }
-    ensures deep { IfOk result (λ from. (depth ≤ 16) × (head.header + from ≤ head.total)) }
-    ensures ok { IfOk result (Opened depth at region.now head (marked siblings.old) (marked siblings.new)
-        rows.old.items rows.new.items) }
+    ensures deep { IfOk result (λ from. (depth ≤ MAX_SUPERBOX_DEPTH) × (head.header + from ≤ head.total)) }
+    ensures ok { IfOk result (Opened depth at region.now head
+        (marked siblings.old) (marked siblings.new) rows.old.items rows.new.items) }
     ensures err { IfErr result (λ e. (e ≡ JumbfError.NoMemory)
         ⊎ FaultAt depth at region.now (marked siblings.old) (marked siblings.new) e) }
 {
@@ -118,7 +113,7 @@ fn tree_at<'t>(
     rows: &mut Vec<Row>,
 ) -> Result<usize, JumbfError>
     requires small { at + length region.now < 2 ^ 64 }
-    requires depth { depth ≤ 17 }
+    requires depth { depth ≤ MAX_SUPERBOX_DEPTH + 1 }
     ensures ok { IfOk result (λ total. IsTreeAt depth at region.now total
         (marked siblings.old) (marked siblings.new) rows.old.items rows.new.items) }
     ensures within { IfOk result (λ total. (0 < total) × (total ≤ length region.now)) }
@@ -156,9 +151,10 @@ fn trees_in<'t>(
     rows: &mut Vec<Row>,
 ) -> Result<(), JumbfError>
     requires small { at + length payload.now < 2 ^ 64 }
-    requires depth { depth ≤ 17 }
+    requires depth { depth ≤ MAX_SUPERBOX_DEPTH + 1 }
     ensures ok { IfOk result (λ _. AreTreesIn depth at payload.now rows.old.items rows.new.items) }
-    ensures err { IfErr result (λ e. (e ≡ JumbfError.NoMemory) ⊎ ChildFault depth at payload.now e) }
+    ensures err { IfErr result (λ e. (e ≡ JumbfError.NoMemory)
+        ⊎ ChildFault depth at payload.now e) }
     ensures kept { OnOk result (length rows.old.items ≤ length rows.new.items) }
 {
     let mut siblings = labels::no_siblings(alloc);
@@ -197,15 +193,18 @@ fn read<'t>(alloc: Global, bytes: &'t [u8]) -> Result<Tree<'t>, JumbfError>
 }
 
 /// The tree that the bytes spell, borrowed from them; where there is none, the first failing test with its place
-/// (ISO/IEC 19566-5; the limit of 16 superboxes in depth and the refusal of equal sibling labels are c2's own).
+/// (ISO/IEC 19566-5; the limit on the depth of superboxes and the refusal of equal sibling labels are c2's own). Takes n log n
+/// steps for n labels side by side, and 32 bytes for each box that has an index.
 pub fn parse<'t>(alloc: Global, bytes: &'t [u8]) -> Result<Tree<'t>, JumbfError>
     // What is read is the legal tree that these bytes spell.
     ensures ok { IfOk result (λ tree. SpellsTree bytes.now tree) }
     ensures err { IfErr result (λ e. (e ≡ JumbfError.NoMemory) ⊎ JumbfFault bytes.now e) }
 
     // A legal tree that they spell is read, and a first failing test is answered, unless memory runs out.
-    ensures only_tree { (t : format.Tree) → SpellsTree bytes.now t → MatchResult result (λ tree. tree ≡ t) (λ e. e ≡ JumbfError.NoMemory) }
-    ensures only_fault { (f : JumbfError) → JumbfFault bytes.now f → MatchResult result (λ _. ⊥) (λ e. (e ≡ JumbfError.NoMemory) ⊎ (e ≡ f)) }
+    ensures only_tree { (t : format.Tree) → SpellsTree bytes.now t
+        → MatchResult result (λ tree. tree ≡ t) (λ e. e ≡ JumbfError.NoMemory) }
+    ensures only_fault { (f : JumbfError) → JumbfFault bytes.now f
+        → MatchResult result (λ _. ⊥) (λ e. (e ≡ JumbfError.NoMemory) ⊎ (e ≡ f)) }
 {
     read(alloc, bytes)
 }

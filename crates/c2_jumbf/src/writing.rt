@@ -2,18 +2,17 @@
 ghost use Rattle.std.specs.Prelude.{◌≡◌, ◌+◌, ◌<◌, ◌≤◌, ◌⊎◌, ◌++◌, ℕ, List, length, true, false, IfOk, IfErr};
 ghost use Rattle.std.specs.Int.{w32, from_be_bytes};
 ghost use Rattle.std.specs.Bool.{OnTrue, OnFalse};
+ghost use Rattle.c2_base.specs.declared.limits.TheConstants.{MAX_STORE_LEN};
 ghost use Rattle.c2_spec.specs.Jumbf.Tree.{SpellsTree, tree_bytes, boxed, IsDescription};
-ghost use Rattle.c2_spec.specs.Jumbf.Writing.{most_bytes, IsWrittenLabel, fresh_description, fresh_super, super_size, SuperRefused};
+ghost use Rattle.c2_spec.specs.Jumbf.Writing.{IsWrittenLabel, fresh_description, fresh_super, super_size, SuperRefused};
 
 use crate::borrowed::Tree;
 use crate::fields::label_end;
-use crate::reading::{JUMB, JUMD};
+use c2_base::limits::MAX_STORE_LEN;
 use c2_base::{Blob, NoMemory};
 use c2_spec::WriteError;
+use c2_spec::kinds::{JUMB, JUMD};
 use std::alloc::Global;
-
-/// The most bytes of a box that is written.
-const MOST: u64 = 33_554_432;
 
 /// The toggles of a requestable description with a label.
 const LABELLED: u8 = 0x03;
@@ -30,17 +29,17 @@ pub fn write(alloc: Global, tree: &Tree<'_>) -> Result<Blob, NoMemory>
 
 /// A box with a 4-byte length: its kind and its payload. `TooLarge` where it would have more than 33,554,432 bytes.
 pub fn write_leaf(alloc: Global, kind: [u8; 4], bytes: &[u8]) -> Result<Blob, WriteError>
-    ensures ok { IfOk result (λ leaf. (leaf ≡ boxed (from_be_bytes w32 kind) false bytes.now) × (8 + length bytes.now ≤ most_bytes)) }
-    ensures err { IfErr result (λ e. (e ≡ WriteError.NoMemory) ⊎ ((e ≡ WriteError.TooLarge (8 + length bytes.now)) × (most_bytes < 8 + length bytes.now))) }
+    ensures ok { IfOk result (λ leaf. (leaf ≡ boxed (from_be_bytes w32 kind) false bytes.now)
+        × (8 + length bytes.now ≤ MAX_STORE_LEN)) }
+    ensures err { IfErr result (λ e. (e ≡ WriteError.NoMemory)
+        ⊎ ((e ≡ WriteError.TooLarge (8 + length bytes.now)) × (MAX_STORE_LEN < 8 + length bytes.now))) }
 {
     let total = 8 + bytes.len() as u64;
-    if total > MOST {
+    if total > MAX_STORE_LEN {
         return Err(WriteError::TooLarge(total));
     }
-    match leaf_of(alloc, total as u32, kind, bytes) {
-        Ok(leaf) => Ok(Blob::from_vec(leaf)),
-        Err(_) => Err(WriteError::NoMemory),
-    }
+    let leaf = leaf_of(alloc, total as u32, kind, bytes)?;
+    Ok(Blob::from_vec(leaf))
 }
 
 /// The header and the payload of a box of this length.
@@ -68,31 +67,31 @@ fn is_written_label(label: &str) -> bool
 }
 
 /// A superbox with a 4-byte length, its description with this type UUID and label and toggles 0x03, and these contents
-/// behind it. `BadLabel` where the label is empty or has a control byte, then `TooLarge` as for a leaf.
+/// after it. `BadLabel` where the label is empty or has a control byte, then `TooLarge` as for a leaf.
 pub fn write_super(
     alloc: Global,
     uuid: [u8; 16],
     label: &str,
     contents: &[u8],
 ) -> Result<Blob, WriteError>
-    ensures ok { IfOk result (λ superbox. (superbox ≡ fresh_super uuid label.now contents.now) × (IsWrittenLabel label.now × (super_size label.now contents.now ≤ most_bytes))) }
+    ensures ok { IfOk result (λ superbox. (superbox ≡ fresh_super uuid label.now contents.now)
+        × (IsWrittenLabel label.now × (super_size label.now contents.now ≤ MAX_STORE_LEN))) }
     ensures described { IfOk result (λ _. IsDescription (fresh_description uuid label.now)) }
 
-    // A label that may not be written is told even where the box is too large.
-    ensures err { IfErr result (λ e. (e ≡ WriteError.NoMemory) ⊎ SuperRefused label.now contents.now e) }
+    // A label that may not be written is refused first, also where the box is too large.
+    ensures err { IfErr result (λ e. (e ≡ WriteError.NoMemory)
+        ⊎ SuperRefused label.now contents.now e) }
 {
     if !is_written_label(label) {
         return Err(WriteError::BadLabel);
     }
     let own = 26 + label.len() as u64;
     let total = own.saturating_add(8).saturating_add(contents.len() as u64);
-    if total > MOST {
+    if total > MAX_STORE_LEN {
         return Err(WriteError::TooLarge(total));
     }
-    match super_of(alloc, total as u32, own as u32, uuid, label, contents) {
-        Ok(superbox) => Ok(Blob::from_vec(superbox)),
-        Err(_) => Err(WriteError::NoMemory),
-    }
+    let superbox = super_of(alloc, total as u32, own as u32, uuid, label, contents)?;
+    Ok(Blob::from_vec(superbox))
 }
 
 /// The two headers of a superbox and of its description of these lengths, the description and the contents.

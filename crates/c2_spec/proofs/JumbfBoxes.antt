@@ -4,7 +4,8 @@ use Rattle.std.specs.Int.{w32, to_be_bytes}
 use Rattle.std.proofs.lemmas.List.{drop-drop, drop_at, length-drop, append-nil, take_at}
 use Rattle.std.specs.List.{AllByRecursion}
 use Rattle.std.proofs.lemmas.List.Elements.{All-get_or, All-from_recursion}
-use Rattle.c2_spec.specs.Jumbf.Tree.{description_bytes, Tree, Trees, leaf, super, none, more, tree_bytes, trees_bytes, head_len, head_bytes, boxed, jumb_kind, jumd_kind, description_payload, IsLegalTree, AreLegalTrees}
+use Rattle.c2_spec.specs.declared.kinds.TheConstants.{JUMB, JUMD}
+use Rattle.c2_spec.specs.Jumbf.Tree.{description_bytes, Tree, Trees, leaf, super, none, more, tree_bytes, trees_bytes, head_len, head_bytes, boxed, description_payload, IsLegalTree, AreLegalTrees}
 use Rattle.c2_spec.specs.Jumbf.Boxes.{AnyBox, node, described, IndexedBox, tree_count, trees_count, boxes_from, boxes_from_all, boxes_of, box_at, any_count, index_after, IsLegalBox, any_bytes, any_wide, any_kind, any_contents}
 
 -- as many boxes as are counted
@@ -36,7 +37,7 @@ mutual
   stand (leaf b) bytes rest at depth i e h = (record { rest = rest; there = e; legal = h }, tt)
   stand (super wide d us) bytes rest at depth i e h =
       let first : drop (at + head_len wide) bytes ≡ description_bytes d ++ (trees_bytes us ++ rest) =
-      sym (drop-drop (head_len wide) at bytes) ∙ ap (drop (head_len wide)) e ∙ cut_head jumb_kind wide (description_bytes d ++ trees_bytes us) rest ∙ append_assoc (description_bytes d) (trees_bytes us) rest in
+      sym (drop-drop (head_len wide) at bytes) ∙ ap (drop (head_len wide)) e ∙ cut_head JUMB wide (description_bytes d ++ trees_bytes us) rest ∙ append_assoc (description_bytes d) (trees_bytes us) rest in
       let second : drop (at + head_len wide + length (description_bytes d)) bytes ≡ trees_bytes us ++ rest =
       sym (drop-drop (length (description_bytes d)) (at + head_len wide) bytes) ∙ ap (drop (length (description_bytes d))) first ∙ drop_at (description_bytes d) (trees_bytes us ++ rest) (length (description_bytes d)) refl in
       (record { rest = rest; there = e; legal = h }, (record { rest = trees_bytes us ++ rest; there = first; legal = h.1 }, stand_all us bytes rest (at + head_len wide + length (description_bytes d)) (depth + 1) (i + 2) second h.3))
@@ -154,8 +155,8 @@ boxed_long kind false payload = omega arith
 -- the length of a box, and what stands behind its header
 pub any_size : (b : AnyBox) → length (any_bytes b) ≡ head_len (any_wide b) + length (any_contents b)
 any_size (node (leaf b)) = boxed_long b.kind b.wide b.payload
-any_size (node (super wide d us)) = boxed_long jumb_kind wide (description_bytes d ++ trees_bytes us)
-any_size (described d) = boxed_long jumd_kind d.wide (description_payload d)
+any_size (node (super wide d us)) = boxed_long JUMB wide (description_bytes d ++ trees_bytes us)
+any_size (described d) = boxed_long JUMD d.wide (description_payload d)
 
 pub head_size : (w : Bool) → 8 ≤ head_len w
 head_size true = lit≤ tt
@@ -164,8 +165,8 @@ head_size false = lit≤ tt
 -- a box is its head and its contents
 pub any_split : (b : AnyBox) → (head : List ℕ) × (any_bytes b ≡ head ++ any_contents b)
 any_split (node (leaf b)) = (head_bytes b.kind b.wide (length b.payload), refl)
-any_split (node (super wide d us)) = (head_bytes jumb_kind wide (length (description_bytes d ++ trees_bytes us)), refl)
-any_split (described d) = (head_bytes jumd_kind d.wide (length (description_payload d)), refl)
+any_split (node (super wide d us)) = (head_bytes JUMB wide (length (description_bytes d ++ trees_bytes us)), refl)
+any_split (described d) = (head_bytes JUMD d.wide (length (description_payload d)), refl)
 
 pub any_behind : (b : AnyBox) → drop (head_len (any_wide b)) (any_bytes b) ≡ any_contents b
 any_behind b =
@@ -179,8 +180,8 @@ boxed_kind kind false payload = refl
 
 pub any_kind_bytes : (b : AnyBox) → get_or (any_bytes b) 4 0 ∷ get_or (any_bytes b) 5 0 ∷ get_or (any_bytes b) 6 0 ∷ get_or (any_bytes b) 7 0 ∷ [] ≡ to_be_bytes w32 (any_kind b)
 any_kind_bytes (node (leaf b)) = boxed_kind b.kind b.wide b.payload
-any_kind_bytes (node (super wide d us)) = boxed_kind jumb_kind wide (description_bytes d ++ trees_bytes us)
-any_kind_bytes (described d) = boxed_kind jumd_kind d.wide (description_payload d)
+any_kind_bytes (node (super wide d us)) = boxed_kind JUMB wide (description_bytes d ++ trees_bytes us)
+any_kind_bytes (described d) = boxed_kind JUMD d.wide (description_payload d)
 
 -- the box's bytes as they are borrowed
 pub box_ends : (bytes : List ℕ) (t : Tree) (i : ℕ) → bytes ≡ tree_bytes t → i < tree_count t → IsLegalTree 1 t → (box_at t i).place + length (any_bytes (box_at t i).box) ≤ length bytes

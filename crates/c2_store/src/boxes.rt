@@ -38,7 +38,8 @@ fn is_superbox(tree: &Tree<'_>, i: usize) -> bool
 
 /// One more index at the end, where it is wanted.
 pub fn push_if(found: &mut Vec<usize>, i: usize, wanted: bool) -> Result<(), NoMemory>
-    ensures { OnOk result (found.new.items ≡ (if wanted then found.old.items ++ i ∷ [] else found.old.items)) }
+    ensures { OnOk result (found.new.items
+        ≡ (if wanted then found.old.items ++ i ∷ [] else found.old.items)) }
 {
     if wanted {
         found.push(i)?;

@@ -5,9 +5,9 @@ ghost use Rattle.c2_spec.specs.C2pa.Manifest.{item_at};
 
 use c2_jumbf::{Tree, child, contents, kind};
 
-#[tactic(auto, using(c2_spec::proofs::JumbfChildren::child_inside))]
-/// The item of a claim, signature or assertion box: the payload of its first content box, which stands behind its
+/// The item of a claim, signature or assertion box: the payload of its first content box, which comes after its
 /// description, where that is a leaf of kind `cbor`. Takes no memory.
+#[tactic(auto, using(c2_spec::proofs::JumbfChildren::child_inside))]
 pub fn item<'t>(tree: &'t Tree<'_>, i: usize) -> Option<&'t [u8]>
     requires { i < tree_count tree.now }
     ensures { option_map (λ b. b.now) result ≡ item_at tree.now i }

@@ -6,41 +6,31 @@ ghost use Rattle.c2_spec.specs.C2pa.Manifest as form;
 use crate::boxes::{has_label, has_uuid, push_if, superboxes};
 use c2_base::NoMemory;
 use c2_jumbf::Tree;
+use c2_spec::kinds::{ASSERTIONS_TYPE, CLAIM_TYPE, SIGNATURE_TYPE, UPDATE_TYPE};
 use c2_spec::{Indices, ManifestBoxes};
 use std::alloc::Global;
-
-/// What stands behind the four letters of a C2PA box's type UUID is the same for all.
-pub const STORE: [u8; 16] = *b"c2pa\x00\x11\x00\x10\x80\x00\x00\xAA\x00\x38\x9B\x71";
-
-pub const MANIFEST: [u8; 16] = *b"c2ma\x00\x11\x00\x10\x80\x00\x00\xAA\x00\x38\x9B\x71";
-
-pub const UPDATE: [u8; 16] = *b"c2um\x00\x11\x00\x10\x80\x00\x00\xAA\x00\x38\x9B\x71";
-
-const CLAIM: [u8; 16] = *b"c2cl\x00\x11\x00\x10\x80\x00\x00\xAA\x00\x38\x9B\x71";
-
-const SIGNATURE: [u8; 16] = *b"c2cs\x00\x11\x00\x10\x80\x00\x00\xAA\x00\x38\x9B\x71";
-
-const ASSERTIONS: [u8; 16] = *b"c2as\x00\x11\x00\x10\x80\x00\x00\xAA\x00\x38\x9B\x71";
 
 fn is_claim(tree: &Tree<'_>, i: usize) -> bool
     requires { i < tree_count tree.now }
     ensures { result ≡ form.has_type (codes "c2cl") (box_at tree.now i).box }
 {
-    has_uuid(tree, i, &CLAIM)
+    has_uuid(tree, i, &CLAIM_TYPE)
 }
 
 fn is_signature(tree: &Tree<'_>, i: usize) -> bool
     requires { i < tree_count tree.now }
-    ensures { result ≡ form.is_named (codes "c2cs") (codes "c2pa.signature") (box_at tree.now i).box }
+    ensures { result
+        ≡ form.is_named (codes "c2cs") (codes "c2pa.signature") (box_at tree.now i).box }
 {
-    has_uuid(tree, i, &SIGNATURE) && has_label(tree, i, "c2pa.signature")
+    has_uuid(tree, i, &SIGNATURE_TYPE) && has_label(tree, i, "c2pa.signature")
 }
 
 fn is_assertion_store(tree: &Tree<'_>, i: usize) -> bool
     requires { i < tree_count tree.now }
-    ensures { result ≡ form.is_named (codes "c2as") (codes "c2pa.assertions") (box_at tree.now i).box }
+    ensures { result
+        ≡ form.is_named (codes "c2as") (codes "c2pa.assertions") (box_at tree.now i).box }
 {
-    has_uuid(tree, i, &ASSERTIONS) && has_label(tree, i, "c2pa.assertions")
+    has_uuid(tree, i, &ASSERTIONS_TYPE) && has_label(tree, i, "c2pa.assertions")
 }
 
 /// The boxes of type `c2cl` among these.
@@ -89,7 +79,8 @@ fn assertion_store_in(tree: &Tree<'_>, boxes: &[usize]) -> Option<usize>
 /// The superboxes of the assertion store among these boxes.
 fn assertions_in(alloc: Global, tree: &Tree<'_>, boxes: &[usize]) -> Result<Indices, NoMemory>
     requires { All (λ i. i < tree_count tree.now) boxes.now }
-    ensures { IfOk result (λ found. found ≡ form.inside tree.now (form.assertion_store_in tree.now boxes.now)) }
+    ensures { IfOk result (λ found.
+        found ≡ form.inside tree.now (form.assertion_store_in tree.now boxes.now)) }
 {
     match assertion_store_in(tree, boxes) {
         Some(i) => {
@@ -111,7 +102,7 @@ pub fn manifest(alloc: Global, tree: &Tree<'_>, i: usize) -> Result<ManifestBoxe
     let assertions = assertions_in(alloc, tree, &boxes)?;
     Ok(ManifestBoxes {
         whole: i,
-        is_update: has_uuid(tree, i, &UPDATE),
+        is_update: has_uuid(tree, i, &UPDATE_TYPE),
         claims,
         signature,
         assertions,

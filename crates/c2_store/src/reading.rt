@@ -7,28 +7,27 @@ ghost use Rattle.c2_spec.specs.C2pa.Manifest as form;
 ghost use Rattle.c2_spec.specs.C2pa.Manifest.{first_refusal, manifest_tests, manifest_boxes, store_refusal, store_of};
 
 use crate::boxes::{has_label, has_uuid, superboxes};
-use crate::manifests::{MANIFEST, STORE, UPDATE, manifest};
+use crate::manifests::manifest;
 use crate::store::Store;
 use c2_base::NoMemory;
+use c2_base::limits::MAX_MANIFESTS;
 use c2_jumbf::{Tree, count, label_of, place};
+use c2_spec::kinds::{MANIFEST_TYPE, STORE_TYPE, UPDATE_TYPE};
 use c2_spec::{ManifestBoxes, StoreError};
 use std::alloc::Global;
-
-/// The most manifests of a store.
-const MOST_MANIFESTS: usize = 1024;
 
 fn is_store(tree: &Tree<'_>) -> bool
     requires { 0 < tree_count tree.now }
     ensures { result ≡ form.is_store tree.now }
 {
-    has_uuid(tree, 0, &STORE) && has_label(tree, 0, "c2pa")
+    has_uuid(tree, 0, &STORE_TYPE) && has_label(tree, 0, "c2pa")
 }
 
 fn is_manifest(tree: &Tree<'_>, i: usize) -> bool
     requires { i < tree_count tree.now }
     ensures { result ≡ form.is_manifest (box_at tree.now i).box }
 {
-    has_uuid(tree, i, &MANIFEST) || has_uuid(tree, i, &UPDATE)
+    has_uuid(tree, i, &MANIFEST_TYPE) || has_uuid(tree, i, &UPDATE_TYPE)
 }
 
 fn has_slash(bytes: &[u8]) -> bool
@@ -81,7 +80,7 @@ fn bad_count(manifests: usize) -> Option<StoreError>
     if manifests == 0 {
         return Some(StoreError::NoManifest);
     }
-    if manifests > MOST_MANIFESTS {
+    if manifests > MAX_MANIFESTS {
         return Some(StoreError::TooMany(manifests));
     }
     None
@@ -90,14 +89,12 @@ fn bad_count(manifests: usize) -> Option<StoreError>
 /// The first test that fails of a store with these child superboxes of its root.
 fn bad_inside(tree: &Tree<'_>, boxes: &[usize]) -> Option<StoreError>
     requires { All (λ i. i < tree_count tree.now) boxes.now }
-    ensures { result ≡ option_or (first_refusal (flat_map (manifest_tests tree.now) boxes.now)) (first_refusal (form.count_tests (length boxes.now))) }
+    ensures { result ≡ option_or (first_refusal (flat_map (manifest_tests tree.now) boxes.now))
+        (first_refusal (form.count_tests (length boxes.now))) }
 {
     match first_bad(tree, boxes) {
         Some(found) => Some(found),
-        None => {
-            let found = bad_count(boxes.len());
-            found
-        }
+        None => bad_count(boxes.len()),
     }
 }
 
@@ -137,8 +134,10 @@ fn manifests_of(
 /// for a label that is missing, empty or has `/`; NoManifest; TooMany with their number where there are more than 1,024
 /// manifests. Leaf children pass unread.
 pub fn of_tree(alloc: Global, tree: &Tree<'_>) -> Result<Store, StoreError>
-    ensures { MatchResult result (λ s. (store_refusal tree.now ≡ None) × (s ≡ store_of tree.now)) (λ e. (e ≡ StoreError.NoMemory) ⊎ (store_refusal tree.now ≡ Some e)) }
+    ensures { MatchResult result (λ s. (store_refusal tree.now ≡ None) × (s ≡ store_of tree.now))
+        (λ e. (e ≡ StoreError.NoMemory) ⊎ (store_refusal tree.now ≡ Some e)) }
 {
+    // Only the prover needs this: it takes from here that a tree has a box.
     let _count = count(tree);
     let boxes = superboxes(alloc, tree, 0)?;
     match refusal(tree, &boxes) {

@@ -3,8 +3,8 @@ use Rattle.std.proofs.lemmas.Result.{err_from_is_err_and}
 use Rattle.c2_jumbf.proofs.Opening.{open_deep, open_empty, open_head, open_kind, open_fields, payload_length}
 use Rattle.c2_jumbf.proofs.reading.description_in.Goals as goal
 
-pub returns-then-depth-gt-DEEPEST-clause-err : goal.returns-then-depth-gt-DEEPEST-clause-err
-returns-then-depth-gt-DEEPEST-clause-err c = λ earlier. open_deep c.args.region.now c.args.head c.args.depth c.args.at earlier c.requires.head_is c.requires.kind (omega arith)
+pub returns-then-depth-gt-MAX_SUPERBOX_DEPTH-clause-err : goal.returns-then-depth-gt-MAX_SUPERBOX_DEPTH-clause-err
+returns-then-depth-gt-MAX_SUPERBOX_DEPTH-clause-err c = λ earlier. open_deep c.args.region.now c.args.head c.args.depth c.args.at earlier c.requires.head_is c.requires.kind (omega arith)
 
 pub returns-then-is_empty-clause-err : goal.returns-then-is_empty-clause-err
 returns-then-is_empty-clause-err c = λ earlier. open_empty c.args.region.now c.args.head c.args.depth c.args.at earlier c.requires.head_is c.requires.kind (omega arith) (search rules)

@@ -6,8 +6,8 @@ use Rattle.c2_jumbf.proofs.writing.write_super.Goals as goal
 pub returns-then-not-is_written_label-clause-err : goal.returns-then-not-is_written_label-clause-err
 returns-then-not-is_written_label-clause-err c = inr (SuperRefused.bad_label c.if-not-is_written_label.ensures.bad)
 
-pub returns-then-total-gt-MOST-clause-err : goal.returns-then-total-gt-MOST-clause-err
-returns-then-total-gt-MOST-clause-err c =
+pub returns-then-total-gt-MAX_STORE_LEN-clause-err : goal.returns-then-total-gt-MAX_STORE_LEN-clause-err
+returns-then-total-gt-MAX_STORE_LEN-clause-err c =
     let a = c.saturating_add.ensures in
     let b = c.saturating_add-total.ensures in
     let n : min (super_size c.args.label.now c.args.contents.now) (2 ^ 64 - 1) ≡ c.saturating_add-total.result = omega (arith, a, b) in
