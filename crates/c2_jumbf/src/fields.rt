@@ -129,10 +129,10 @@ pub fn fields_of(payload: &[u8]) -> Option<Fields<'_>>
     let Some(part) = label_part(toggles / 2 % 2 == 1, &payload[17..]) else {
         return None;
     };
-    let Some(behind) = fixed_part(toggles / 4 % 2 == 1, 4, part.rest) else {
+    let Some(after_id) = fixed_part(toggles / 4 % 2 == 1, 4, part.rest) else {
         return None;
     };
-    let Some(rest) = fixed_part(toggles / 8 % 2 == 1, 32, behind) else {
+    let Some(rest) = fixed_part(toggles / 8 % 2 == 1, 32, after_id) else {
         return None;
     };
     if !is_private(toggles / 16 % 2 == 1, rest) {

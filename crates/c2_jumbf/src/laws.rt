@@ -9,7 +9,7 @@ ghost use Rattle.c2_spec.specs.declared.jumbf.JumbfError.{JumbfError};
 
 /// Whatever the bytes are, they spell one legal tree, or one test is the first that fails; never both.
 pub fn each_list_is_a_tree_or_not()
-    ensures told { (bytes : List ℕ) → All (λ b. b < 2 ^ 8) bytes
+    ensures some { (bytes : List ℕ) → All (λ b. b < 2 ^ 8) bytes
         → ((t : Tree) × SpellsTree bytes t) ⊎ ((e : JumbfError) × JumbfFault bytes e) }
     ensures apart { (bytes : List ℕ) (t : Tree) (e : JumbfError) → SpellsTree bytes t
         → JumbfFault bytes e → ⊥ }

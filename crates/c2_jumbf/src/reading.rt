@@ -75,7 +75,8 @@ fn open_super<'t>(
     requires depth { depth ≤ MAX_SUPERBOX_DEPTH + 1 }
     requires kind { head.kind ≡ JUMB }
     ensures kept { OnOk result (length rows.old.items < length rows.new.items) }
-    ensures deep { IfOk result (λ from. (depth ≤ MAX_SUPERBOX_DEPTH) × (head.header + from ≤ head.total)) }
+    ensures deep { IfOk result (λ from. (depth ≤ MAX_SUPERBOX_DEPTH)
+        × (head.header + from ≤ head.total)) }
     ensures ok { IfOk result (Opened depth at region.now head
         (marked siblings.old) (marked siblings.new) rows.old.items rows.new.items) }
     ensures err { IfErr result (λ e. (e ≡ JumbfError.NoMemory)

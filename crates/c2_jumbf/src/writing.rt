@@ -32,7 +32,8 @@ pub fn write_leaf(alloc: Global, kind: [u8; 4], bytes: &[u8]) -> Result<Blob, Wr
     ensures ok { IfOk result (λ leaf. (leaf ≡ boxed (from_be_bytes w32 kind) false bytes.now)
         × (8 + length bytes.now ≤ MAX_STORE_LEN)) }
     ensures err { IfErr result (λ e. (e ≡ WriteError.NoMemory)
-        ⊎ ((e ≡ WriteError.TooLarge (8 + length bytes.now)) × (MAX_STORE_LEN < 8 + length bytes.now))) }
+        ⊎ ((e ≡ WriteError.TooLarge (8 + length bytes.now))
+        × (MAX_STORE_LEN < 8 + length bytes.now))) }
 {
     let total = 8 + bytes.len() as u64;
     if total > MAX_STORE_LEN {

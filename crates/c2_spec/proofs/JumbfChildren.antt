@@ -1,10 +1,10 @@
 -- The children of a box are met from one index to the index after it.
-use Rattle.std.proofs.Common.{◌≡◌, ℕ, zero, suc, ◌+◌, ◌-◌, ◌<◌, ◌≤◌, List, [], ◌∷◌, ◌++◌, length, get_or, drop, Some, slice_get, refl, sym, ap, ◌∙◌, subst, append_assoc, arith}
+use Rattle.std.proofs.Common.{◌≡◌, ℕ, zero, suc, ◌+◌, ◌-◌, ◌<◌, ◌≤◌, List, [], ◌∷◌, ◌++◌, length, get_or, drop, map, Option, Some, None, slice_get, refl, sym, ap, ◌∙◌, subst, append_assoc, arith}
 use Rattle.std.specs.List.{AllByRecursion}
 use Rattle.std.proofs.lemmas.List.{get_or-drop, length-drop, drop-drop, drop_at}
-use Rattle.c2_spec.specs.Jumbf.Tree.{description_bytes, head_len, Tree, Trees, leaf, super, none, more, tree_bytes}
-use Rattle.c2_spec.specs.Jumbf.Boxes.{AnyBox, node, described, IndexedBox, tree_count, trees_count, any_count, index_after, boxes_from, boxes_from_all, boxes_of, box_at, indices_from, children_of, child_indices}
-use Rattle.c2_spec.proofs.JumbfBoxes.{length-boxes, own_boxes, inner_boxes, box_index, box_inside, count_is, some_box}
+use Rattle.c2_spec.specs.Jumbf.Tree.{description_bytes, head_len, Tree, Trees, leaf, super, none, more, tree_bytes, tree_label, tree_labels, AreDistinctLabels, IsLegalTree}
+use Rattle.c2_spec.specs.Jumbf.Boxes.{AnyBox, node, described, IndexedBox, tree_count, trees_count, any_count, index_after, boxes_from, boxes_from_all, boxes_of, box_at, indices_from, children_of, child_indices, any_label, IsLegalBox}
+use Rattle.c2_spec.proofs.JumbfBoxes.{length-boxes, own_boxes, inner_boxes, box_stands, box_index, box_inside, count_is, some_box}
 
 -- These indices are met from a box to the index after it, up to an end.
 abbrev pub Chain : Tree → ℕ → ℕ → List ℕ → Type 0
@@ -123,3 +123,57 @@ child_at P (x ∷ xs) (suc k) j h e = child_at P xs k j h.1 e
 
 pub child_inside : (t : Tree) (i k j : ℕ) → i < tree_count t → Some j ≡ slice_get (child_indices t i) k → j < tree_count t
 child_inside t i k j l e = child_at (λ n. n < tree_count t) (child_indices t i) k j (children_inside t i l) e
+
+-- ---- labels
+
+-- the labels of boxes by their indices
+abbrev pub label_at : Tree → ℕ → Option (List ℕ)
+label_at t k = any_label (box_at t k).box
+
+node_label : (u : Tree) → any_label (node u) ≡ tree_label u
+node_label (leaf b) = refl
+node_label (super wide d us) = refl
+
+labels_all : (us : Trees) (t : Tree) (at depth i : ℕ) (rest : List IndexedBox) → drop i (boxes_of t) ≡ boxes_from_all at depth i us ++ rest → map (label_at t) (indices_from i us) ≡ tree_labels us
+labels_all none t at depth i rest e = refl
+labels_all (more u us) t at depth i rest e =
+    let h : (others : List IndexedBox) × (boxes_from at depth i u ≡ record { index = i; place = at; depth = depth; box = node u } ∷ others) = head_of u at depth i in
+    let whole : drop i (boxes_of t) ≡ boxes_from at depth i u ++ (boxes_from_all (at + length (tree_bytes u)) depth (i + tree_count u) us ++ rest) = e ∙ append_assoc (boxes_from at depth i u) (boxes_from_all (at + length (tree_bytes u)) depth (i + tree_count u) us) rest in
+    let f = front_box_is t i (record { index = i; place = at; depth = depth; box = node u }) (h.0 ++ (boxes_from_all (at + length (tree_bytes u)) depth (i + tree_count u) us ++ rest)) (whole ∙ ap (λ (x : List IndexedBox). x ++ (boxes_from_all (at + length (tree_bytes u)) depth (i + tree_count u) us ++ rest)) h.1) in
+    let next : drop (i + tree_count u) (boxes_of t) ≡ boxes_from_all (at + length (tree_bytes u)) depth (i + tree_count u) us ++ rest =
+    sym (drop-drop (tree_count u) i (boxes_of t)) ∙ ap (drop (tree_count u)) whole ∙ drop_at (boxes_from at depth i u) (boxes_from_all (at + length (tree_bytes u)) depth (i + tree_count u) us ++ rest) (tree_count u) (length-boxes u at depth i) in
+    ap (λ o. o ∷ map (label_at t) (indices_from (i + tree_count u) us)) (ap (λ b. any_label b.box) f.0 ∙ node_label u)
+    ∙ ap (λ (x : List (Option (List ℕ))). tree_label u ∷ x) (labels_all us t (at + length (tree_bytes u)) depth (i + tree_count u) rest next)
+
+-- The labels of a box's children are distinct.
+pub distinct_children : (t : Tree) (i : ℕ) → i < tree_count t → IsLegalTree 1 t → AreDistinctLabels (map (label_at t) (child_indices t i))
+distinct_children t i l h = go (box_at t i).box refl
+  where
+    s : (rest : List IndexedBox) × (drop i (boxes_of t) ≡ own_boxes (box_at t i) ++ rest)
+    s = box_inside t i l
+
+    go : (b : AnyBox) → (box_at t i).box ≡ b → AreDistinctLabels (map (label_at t) (children_of i (box_at t i).box))
+    go (node (leaf b)) is = subst (λ c. AreDistinctLabels (map (label_at t) (children_of i c))) (sym is) tt
+    go (described d) is = subst (λ c. AreDistinctLabels (map (label_at t) (children_of i c))) (sym is) tt
+    go (node (super wide d us)) is = subst (λ c. AreDistinctLabels (map (label_at t) (children_of i c))) (sym is) (subst AreDistinctLabels (sym labels) (tt, legal.4))
+      where
+        legal : IsLegalTree (box_at t i).depth (super wide d us)
+        legal = subst (IsLegalBox (box_at t i).depth) is (box_stands t i l h).legal
+
+        place : ℕ
+        place = (box_at t i).place + head_len wide
+
+        deeper : ℕ
+        deeper = (box_at t i).depth + 1
+
+        there : drop i (boxes_of t) ≡ inner_boxes (box_at t i).index (box_at t i).place (box_at t i).depth (node (super wide d us)) ++ s.0
+        there = s.1 ∙ ap (λ b. inner_boxes (box_at t i).index (box_at t i).place (box_at t i).depth b ++ s.0) is
+
+        third : drop (i + 2) (boxes_of t) ≡ boxes_from_all (place + length (description_bytes d)) deeper (i + 2) us ++ s.0
+        third = sym (drop-drop 2 i (boxes_of t)) ∙ ap (drop 2) there ∙ ap (λ n. boxes_from_all (place + length (description_bytes d)) deeper (n + 2) us ++ s.0) (box_index t i l)
+
+        second : box_at t (i + 1) ≡ record { index = (box_at t i).index + 1; place = place; depth = deeper; box = described d }
+        second = (front_box_is t (i + 1) (record { index = (box_at t i).index + 1; place = place; depth = deeper; box = described d }) (boxes_from_all (place + length (description_bytes d)) deeper ((box_at t i).index + 2) us ++ s.0) (sym (drop-drop 1 i (boxes_of t)) ∙ ap (drop 1) there)).0
+
+        labels : map (label_at t) ((i + 1) ∷ indices_from (i + 2) us) ≡ None ∷ tree_labels us
+        labels = ap (λ o. o ∷ map (label_at t) (indices_from (i + 2) us)) (ap (λ b. any_label b.box) second) ∙ ap (λ (x : List (Option (List ℕ))). None ∷ x) (labels_all us t (place + length (description_bytes d)) deeper (i + 2) s.0 third)

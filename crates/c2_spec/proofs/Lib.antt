@@ -27,4 +27,5 @@ pub mod JumbfBoxes
 pub mod JumbfChildren
 pub mod StoreRefusals
 pub mod BoxesOfManifests
+pub mod LabelsOfManifests
 pub mod BoxParts

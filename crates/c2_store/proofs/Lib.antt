@@ -1,4 +1,3 @@
 pub mod Gathering
 pub mod Picking
-pub mod Labelled
 pub mod Refusing

@@ -1,6 +1,6 @@
 //! The manifests of a store, as indices of boxes in its tree (C2PA Technical Specification 2.x).
 //!
-//! Which trees are stores, and which boxes a manifest has, stands in `Manifest` of c2_spec.
+//! Which trees are stores, and which boxes a manifest has, is defined in `C2pa.Manifest` of c2_spec.
 #![tactic(auto)]
 
 mod boxes;

@@ -59,8 +59,8 @@ pub fn whole(store: &Store, i: usize) -> usize
 pub fn label<'t>(tree: &'t Tree<'_>, store: &Store, i: usize) -> &'t str
     requires inside { i < length store.now }
     requires same { IsStoreOf tree.now store.now }
-    ensures { Some result.now
-        ≡ option_and_then (λ (m : Boxes). any_label (box_at tree.now m.whole).box) (slice_get store.now i) }
+    ensures { Some result.now ≡ option_and_then
+        (λ (m : Boxes). any_label (box_at tree.now m.whole).box) (slice_get store.now i) }
 {
     match label_of(tree, whole(store, i)) {
         Some(label) => label,

@@ -1,6 +1,6 @@
 use Rattle.std.proofs.Common.{rules}
 use Rattle.c2_spec.proofs.BoxesOfManifests.{whole_inside}
-use Rattle.c2_store.proofs.Labelled.{labelled}
+use Rattle.c2_spec.proofs.LabelsOfManifests.{labelled}
 use Rattle.c2_store.proofs.store.label.Goals as goal
 
 pub label_of-requires : goal.label_of-requires
