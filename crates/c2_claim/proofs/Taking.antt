@@ -11,15 +11,17 @@ use Rattle.c2_spec.specs.declared.cbor.Cbor.{Cbor}
 abbrev pub texts : List Cbor → Option (List (List ℕ))
 texts vs = each_of text_item (items_view vs)
 
--- with these behind them
+-- with these after them
 abbrev pub before : List (List ℕ) → Option (List (List ℕ)) → Option (List (List ℕ))
 before back front = option_map (λ xs. xs ++ back) front
 
+-- one in front of them
 joined_before : (x : Option (List ℕ)) (rest : Option (List (List ℕ))) (back : List (List ℕ)) → joined x (before back rest) ≡ before back (joined x rest)
 joined_before None rest back = refl
 joined_before (Some x) None back = refl
 joined_before (Some x) (Some xs) back = refl
 
+-- none in front of nothing
 joined_none : (x : Option (List ℕ)) → joined x None ≡ None
 joined_none None = refl
 joined_none (Some x) = refl
@@ -34,6 +36,7 @@ last_not : (vs : List Cbor) (v : Cbor) → text_item (view v) ≡ None → texts
 last_not [] v e = ap (λ x. joined x (Some [])) e
 last_not (w ∷ vs) v e = ap (joined (text_item (view w))) (last_not vs v e) ∙ joined_none (text_item (view w))
 
+-- one more after them
 regroup : (front : Option (List (List ℕ))) (t : List ℕ) (back : List (List ℕ)) → before back (before (t ∷ []) front) ≡ before (t ∷ back) front
 regroup None t back = refl
 regroup (Some xs) t back = ap Some (append_assoc xs (t ∷ []) back)
