@@ -1,12 +1,14 @@
 #!/usr/bin/env python3
 """Small stores and what c2 must say of each, computed by store.py.
 
-    rows.py show               a table of stores: a comment line that says what is shown, then the store in hex, ` => `, and
-    rows.py questions          status and line of `show`, or of `questions` without verdict files
+    rows.py write              writes the tables of crates/c2_tests: a comment line that says what a row shows, then the store
+                               in hex, ` => `, and status and line of `show`, or of `questions` without verdict files
+    rows.py check              fails where a table there isn't the one that would be written
     rows.py files DIRECTORY    writes a JPEG around each of these stores
 """
 
 import os
+import pathlib
 import sys
 
 import question_rows
@@ -17,12 +19,51 @@ from store import report
 ROWS = {"show": show_rows.rows, "questions": question_rows.rows}
 
 
-def table(command):
-    lines = []
+# What a source text of Rust can't have as it is, or shouldn't.
+NOT_PLAIN = ("\x7f", "\u2028", "\u2029")
+
+
+def rows_of(command):
+    """The rows of a command: two lines each, what it shows and the row."""
     for what, contents in ROWS[command]():
         line, status = report(command, jpeg(contents))
-        lines.append(f"# {what}\n{contents.hex()} => {status} {line}\n")
-    return "".join(lines)
+        yield f"# {what}\n{contents.hex()} => {status} {line}\n"
+
+
+def escaped(text):
+    """The text as a string of Rust, a line of it in each line."""
+    text = text.replace("\\", "\\\\").replace('"', '\\"')
+    for char in NOT_PLAIN:
+        text = text.replace(char, f"\\u{{{ord(char):x}}}")
+    return text.replace("\n", "\\n\\\n")
+
+
+def module(command):
+    """The module of the tests that holds the table, and its text."""
+    here = pathlib.Path(__file__).resolve().parent
+    path = here.parent.parent / "crates" / "c2_tests" / "src" / f"{command}_rows.rt"
+    rows = list(rows_of(command))
+    plain = "".join(row for row in rows if not any(char in row for char in NOT_PLAIN))
+    others = "".join(row for row in rows if any(char in row for char in NOT_PLAIN))
+    text = (
+        f"// What `{command}` says of small stores. Written by tests/real/rows.py, which computes the answers: not to be edited.\n\n"
+        "/// A line that says what the row shows, and the row: a store in hex, ` => `, and status and line.\n"
+        f'pub const ROWS: &str = r##"{plain}"##;\n'
+    )
+    if others:
+        text += f'\n/// Rows with characters that are written as escapes.\npub const ESCAPED: &str = "{escaped(others)}";\n'
+    return path, text
+
+
+def write_modules():
+    for command in ROWS:
+        path, text = module(command)
+        path.write_text(text, encoding="utf-8")
+
+
+def check_modules():
+    """The names of modules whose table isn't the one that would be written."""
+    return [path.name for path, text in map(module, ROWS) if path.read_text(encoding="utf-8") != text]
 
 
 def write_files(directory):
@@ -36,9 +77,17 @@ def main():
     command, *directory = sys.argv[1:]
     if command == "files":
         write_files(*directory)
+    elif command == "write":
+        write_modules()
+    elif command == "check":
+        wrong = check_modules()
+        for name in wrong:
+            print(f"{name} isn't what rows.py writes")
+        return 1 if wrong else 0
     else:
-        sys.stdout.buffer.write(table(command).encode("utf-8"))
+        raise SystemExit(__doc__)
+    return 0
 
 
 if __name__ == "__main__":
-    main()
+    sys.exit(main())

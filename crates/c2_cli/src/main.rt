@@ -1,6 +1,7 @@
 //! The command line of `c2`: it makes the real objects and calls `run`.
 #![tactic(auto)]
 
+use c2_base::limits::MAX_INPUT_LEN;
 use c2_base::{HostFile, HostOut, NoMemory, ReadAllError, read_all};
 use c2_cmd::types::{RolesError, Status};
 use c2_cmd::{roles, run};
@@ -10,9 +11,6 @@ use std::alloc::Global;
 use std::env;
 use std::io::ErrorKind;
 use std::process::ExitCode;
-
-// The most bytes that a verdict file may have.
-const MOST_VERDICTS: u64 = 1_048_576;
 
 fn main(rt: HostRuntime) -> ExitCode {
     let status = match run_words(&rt, rt.alloc()) {
@@ -67,7 +65,7 @@ fn file_of(rt: &HostRuntime, words: &Vec<String>, place: Option<usize>) -> HostF
 // The judge by the verdict file of this name; none where it can't be read or isn't one.
 fn judge_of(rt: &HostRuntime, alloc: Global, name: &str) -> Result<Option<ListJudge>, NoMemory> {
     let mut file = HostFile::named(rt, name);
-    let bytes = match read_all(alloc, &mut file, MOST_VERDICTS) {
+    let bytes = match read_all(alloc, &mut file, MAX_INPUT_LEN) {
         Ok(bytes) => bytes,
         Err(ReadAllError::NoMemory) => return Err(NoMemory),
         Err(_) => return Ok(None),

@@ -1,8 +1,9 @@
-mod Asked
+mod Asking
+mod Delivering
 mod Ingredients
+mod Listing
 mod Naming
-mod Panels
+mod OneOutcome
+mod Preparing
 mod Replying
-mod Saying
-mod Storing
 mod Taking

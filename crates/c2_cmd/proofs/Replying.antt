@@ -1,56 +1,95 @@
--- Replies are outcomes.
-use Rattle.std.proofs.Common.{◌≡◌, refl, sym, ◌∙◌, ap, ℕ, List, true, Some, None}
+-- Outcomes over what was opened, found or read are outcomes over the file.
+use Rattle.std.proofs.Common.{◌≡◌, refl, sym, ◌∙◌, ap, subst, ℕ, List, true, Some, None}
+use Rattle.std.specs.Prelude.{◌≢◌, is_some, IsSome, IfOk, IfErr, OnOk, Ok, Err}
 use Rattle.std.proofs.lemmas.Bool.{false≢true}
-use Rattle.std.specs.Prelude.{is_some}
 use Rattle.std.specs.declared.option.Option.{Option}
+use Rattle.std.specs.declared.result.Result.{Result}
+use Rattle.c2_base.specs.declared.media.Found.{Found}
 use Rattle.c2_base.specs.declared.values.Question.{Question}
 use Rattle.c2_spec.specs.declared.digest.Alg.{Alg}
 use Rattle.c2_spec.specs.declared.panel.Verdict.{Verdict}
-use Rattle.c2_spec.specs.Located.{Located}
+use Rattle.c2_spec.specs.declared.store.ManifestBoxes.{ManifestBoxes}
 use Rattle.c2_spec.specs.Jpeg.Store.{IsLocated}
-use Rattle.c2_spec.specs.Jumbf.Tree.{Tree, SpellsTree}
-use Rattle.c2_spec.specs.Jumbf.Faults.{JumbfFault}
-use Rattle.c2_spec.specs.StoreTree.{StoreTree, refused, spelled, IsStoreTree}
-use Rattle.c2_spec.specs.declared.jumbf.JumbfError.{JumbfError}
-use Rattle.c2_cmd.specs.declared.types.Roles.{Roles}
+use Rattle.c2_spec.specs.Judges.Panel.{Judges}
+use Rattle.c2_spec.specs.Jumbf.Tree.{Tree}
+use Rattle.c2_spec.specs.Located.{Opening, Located, refused, absent, here}
+use Rattle.c2_rules.specs.Opened.{IsBoxTree, IsBoxed, IsManifestStore}
+use Rattle.c2_validate.specs.Opened.{IsRead, tree_of}
+use Rattle.c2_validate.specs.declared.types.StoreRead.{StoreRead}
+use Rattle.c2_validate.specs.declared.types.StoreRead.TheVariants as read
+use Rattle.c2_cmd.specs.Outcome.{Outcome, reports, Reports, IsListing, IsMediaOutcome, IsCommandOutcome, IsOutcome, inputs, uses_media}
+use Rattle.c2_cmd.specs.CommandLine.{reads_media}
+use Rattle.c2_cmd.specs.Reply.{outcome_of, IsReply, IsShort, IsStored, IsFoundOutcome, IsMediaCause}
+use Rattle.c2_cmd.specs.declared.open.Stored.{Stored}
+use Rattle.c2_cmd.specs.declared.open.Stored.TheVariants as stored
+use Rattle.c2_cmd.specs.declared.reply.Fault.{Fault}
+use Rattle.c2_cmd.specs.declared.reply.Fault.TheVariants as fault
 use Rattle.c2_cmd.specs.declared.reply.Reply.{Reply}
-use Rattle.c2_cmd.specs.Outcome.{Outcome, IsCommandOutcome, IsOutcome, IsTreeOutcome, tree_outcome, inputs, uses_media}
-use Rattle.c2_cmd.specs.declared.open.Opened.{Opened}
-use Rattle.c2_cmd.specs.Open.{located_of}
-use Rattle.c2_cmd.specs.Run.{AreKnown}
-use Rattle.c2_cmd.specs.Words.{reads_media}
-use Rattle.c2_cmd.specs.Reply.{outcome_of, IsReply}
+use Rattle.c2_cmd.specs.declared.types.Answer.TheVariants as answer
+use Rattle.c2_cmd.specs.declared.types.Command.{Command}
+use Rattle.c2_cmd.specs.declared.types.Roles.{Roles}
 
--- the reply that is this outcome
-pub reply_is : (expected : Outcome) (reply : Reply) → outcome_of reply ≡ expected → IsReply (λ e. e ≡ expected) reply
-reply_is expected reply is = record { holds = is; only = λ e h. h ∙ sym is }
+-- ---- a file that was opened
 
--- a reply over what the file comes to is the reply over the file
-pub reply_of-located : (P : Located → Outcome → Type 0) (file : List ℕ) (what : Located) (reply : Reply) → IsLocated file what → ((w : Located) → IsLocated file w → w ≡ what) → IsReply (P what) reply
-    → IsReply (λ expected. (w : Located) × IsLocated file w × P w expected) reply
-reply_of-located P file what reply is only r = record {
-  holds = (what, is, r.holds);
-  only = λ expected h. r.only expected (rw (only h.0 h.1) at h.2);
-}
+-- a file whose store was found, and one that has a reply already
+pub stored_here : (file : List ℕ) (s : Stored) (f : Found) → s ≡ stored.Here f → IsStored file s → IsLocated file (here f.start f.length f.store)
+stored_here file s f is h = subst (λ (x : Stored). IsStored file x) is h
 
--- a reply to the command is the reply to words with these roles, where the source that they use tells its bytes
-pub reply_of-known : (said : Question → Verdict) (hash : Alg → List ℕ → List ℕ) (known : Option (List ℕ)) (found : Option Roles) (roles : Roles) (reply : Reply) → found ≡ Some roles → is_some roles.media ≡ reads_media roles.command → reads_media roles.command ≡ true → AreKnown found known
-    → ((file : List ℕ) → known ≡ Some file → IsReply (IsCommandOutcome roles.command roles (inputs (Some file) None None said hash)) reply) → IsReply (IsOutcome found (inputs known None None said hash)) reply
-reply_of-known said hash None found roles reply is media reads tells r = absurd (false≢true (tells.media_told (ap uses_media is ∙ media ∙ reads)))
-reply_of-known said hash (Some file) found roles reply is media reads tells r = rw is (r file refl)
+pub stored_reply : (file : List ℕ) (s : Stored) (reply : Reply) → s ≡ stored.Reply reply → IsStored file s → (l : Located) × IsLocated file l × IsShort l (outcome_of reply)
+stored_reply file s reply is h = subst (λ (x : Stored). IsStored file x) is h
 
--- the same over what was opened
-pub reply_of-opened : (P : Located → Outcome → Type 0) (file : List ℕ) (opened it : Opened) (reply : Reply) → opened ≡ it → IsLocated file (located_of opened) → ((w : Located) → IsLocated file w → w ≡ located_of opened) → IsReply (P (located_of it)) reply
-    → IsReply (λ expected. (w : Located) × IsLocated file w × P w expected) reply
-reply_of-opened P file opened it reply same is only r = reply_of-located P file (located_of opened) reply is only (rw same r)
+-- ---- a store that was found
 
--- a reply of `list` over the one tree that the bytes spell
-pub reply_of-tree : (store : List ℕ) (t : Tree) (reply : Reply) → SpellsTree store t → ((u : Tree) → SpellsTree store u → t ≡ u) → ((e : JumbfError) → JumbfFault store e → ⊥) → outcome_of reply ≡ tree_outcome (spelled t) → IsReply (IsTreeOutcome store) reply
-reply_of-tree store t reply is only no_fault out = record {
-  holds = (spelled t, is, out);
-  only = λ expected h. tree_only h.0 h.1 expected h.2;
-}
-  where
-    tree_only : (what : StoreTree) → IsStoreTree store what → (expected : Outcome) → expected ≡ tree_outcome what → expected ≡ outcome_of reply
-    tree_only (refused reason number) h expected e = absurd (no_fault h.0 h.1)
-    tree_only (spelled u) h expected e = e ∙ ap (λ x. tree_outcome (spelled x)) (sym (only u h)) ∙ sym out
+-- a reply over the store that was found in a file is one over the file
+pub media_outcome : (P : Tree → Outcome → Type 0) (file : List ℕ) (f : Found) (e : Outcome) → IsLocated file (here f.start f.length f.store) → IsFoundOutcome P f e → IsMediaOutcome P file e
+media_outcome P file f e is h = (h.0, (here f.start f.length f.store, is, h.1), h.2)
+
+-- a list over the store that was found in a file is one over the file
+pub boxed_outcome : (file : List ℕ) (f : Found) (e : Outcome) → IsLocated file (here f.start f.length f.store) → (what : Opening Tree) × IsBoxTree f.start f.length f.store what × Reports IsListing what e → (what : Opening Tree) × IsBoxed file what × Reports IsListing what e
+boxed_outcome file f e is h = (h.0, (here f.start f.length f.store, is, h.1), h.2)
+
+-- a store that was read as manifests
+pub read_here : (f : Found) (r : StoreRead) (t : Tree) (s : List ManifestBoxes) → r ≡ read.Here t s → IsRead f r → IsManifestStore f.start f.length f.store (here f.start f.length t)
+read_here f r t s is h = subst (λ (x : StoreRead). IsManifestStore f.start f.length f.store (tree_of f x)) is h.store
+
+-- a file without a store, or one that is refused, is opened as what it is
+pub short_boxed : (file : List ℕ) (l : Located) (e : Outcome) → IsLocated file l → IsShort l e → (what : Opening Tree) × IsBoxed file what × Reports IsListing what e
+short_boxed file (refused reason number) e is h = (refused reason number, (refused reason number, is, refl), h)
+short_boxed file absent e is h = (absent, (absent, is, refl), h)
+short_boxed file (here start len store) e is h = absurd h
+
+pub media_short : (P : Tree → Outcome → Type 0) (file : List ℕ) (l : Located) (e : Outcome) → IsLocated file l → IsShort l e → IsMediaOutcome P file e
+media_short P file (refused reason number) e is h = (refused reason number, (refused reason number, is, refl), h)
+media_short P file absent e is h = (absent, (absent, is, refl), h)
+media_short P file (here start len store) e is h = absurd h
+
+-- ---- the sources that a call uses are known
+
+-- a reply over the known bytes is the call's
+pub known_outcome : (said : Question → Verdict) (hash : Alg → List ℕ → List ℕ) (known : Option (List ℕ)) (found : Option Roles) (roles : Roles) (reply : Reply) → found ≡ Some roles → is_some roles.media ≡ reads_media roles.command → reads_media roles.command ≡ true → (uses_media found ≡ true → IsSome known)
+    → ((file : List ℕ) → known ≡ Some file → IsCommandOutcome roles.command roles (inputs (Some file) None None said hash) (outcome_of reply)) → IsOutcome found (inputs known None None said hash) (outcome_of reply)
+known_outcome said hash None found roles reply is media reads tells r = absurd (false≢true (tells (ap uses_media is ∙ media ∙ reads)))
+known_outcome said hash (Some file) found roles reply is media reads tells r = rw is (r file refl)
+
+-- the only outcome
+pub one_reply : (P : Outcome → Type 0) (reply : Reply) → ((a b : Outcome) → P a → P b → a ≡ b) → P (outcome_of reply) → IsReply P reply
+one_reply P reply once h = record { holds = h; only = λ e k. once e (outcome_of reply) k h }
+
+-- what follows of each value follows of a result's
+pub each_ok : {A E : Type 0} (P Q : A → Type 0) (r : Result A E) → ((x : A) → P x → Q x) → IfOk r P → IfOk r Q
+each_ok P Q (Ok x) to h = to x h
+each_ok P Q (Err e) to h = tt
+
+-- what holds anyway holds where a result is `Ok`
+pub always_ok : {A E : Type 0} (P : Type 0) (r : Result A E) → P → OnOk r P
+always_ok P (Ok x) h = h
+always_ok P (Err e) h = tt
+
+-- out of memory needs no cause
+pub memory_cause : {A : Type 0} (before now : ℕ) (r : Result A Fault) → IfErr r (λ e. e ≡ fault.Memory) → IfErr r (IsMediaCause before now)
+memory_cause before now (Ok x) h = tt
+memory_cause before now (Err e) h = subst (λ (x : Fault). IsMediaCause before now x) (sym h) tt
+
+-- a reply that is done answers no words that fit no command
+pub no_usage : (reply : Reply) (text : List ℕ) → outcome_of reply ≡ reports answer.Done text → reply.answer ≢ answer.Usage
+no_usage reply text out usage = let both = sym (ap (λ (e : Outcome). e.answer) out) ∙ usage in cc (both)

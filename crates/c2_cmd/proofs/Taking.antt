@@ -5,7 +5,7 @@ use Rattle.std.proofs.lemmas.List.{drop-drop, append_assoc, take_all, length-dro
 use Rattle.std.specs.declared.option.Option.{Option}
 use Rattle.c2_base.specs.Source.{FilledAt}
 use Rattle.c2_spec.specs.declared.digest.Alg.{Alg}
-use Rattle.c2_cmd.specs.Pieces.{between, TakesIn}
+use Rattle.c2_cmd.specs.Outside.{between, TakesIn}
 
 -- the bytes between two places, and the next ones
 pub between-more : (from at n : ℕ) (file : List ℕ) → from ≤ at → between from at file ++ take n (drop at file) ≡ between from (at + n) file

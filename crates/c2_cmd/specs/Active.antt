@@ -7,7 +7,7 @@ use Rattle.c2_spec.specs.C2pa.Manifest.{Superbox, Manifest, superbox_at, manifes
 use Rattle.c2_spec.specs.declared.store.ManifestBoxes.{ManifestBoxes}
 use Rattle.c2_rules.specs.Claims.{active_of}
 use Rattle.c2_rules.specs.Ingredients.{is_ingredient, first_ingredient, label_text}
-use Rattle.c2_cmd.specs.declared.questions.ActiveManifest.{ActiveManifest}
+use Rattle.c2_cmd.specs.declared.prepare.ActiveManifest.{ActiveManifest}
 
 -- the label of the first of these boxes that is one of an ingredient
 abbrev pub first_label : Tree → List ℕ → Option (List ℕ)

@@ -1,8 +1,7 @@
 pub mod Active
-pub mod Open
 pub mod Outcome
-pub mod Pieces
+pub mod Outside
 pub mod Reply
 pub mod Run
 pub mod Status
-pub mod Words
+pub mod CommandLine

@@ -1,14 +1,12 @@
--- What a run comes to: a relation between the roles of its words, what it is handed, and its outcome.
+-- The outcome of a run: a relation between the roles of its words, what it is handed, and its outcome.
 use Rattle.std.specs.Prelude.{◌≡◌, ℕ, ◌+◌, Bool, false, List, [], ◌∷◌, ◌++◌, take, drop, codes, is_some, unwrap_or, Some, None}
 use Rattle.std.specs.declared.option.Option.{Option}
 use Rattle.c2_base.specs.declared.values.Question.{Question}
 use Rattle.c2_spec.specs.declared.digest.Alg.{Alg}
 use Rattle.c2_spec.specs.declared.digest.Alg.TheVariants.{Sha256}
 use Rattle.c2_spec.specs.declared.panel.Verdict.{Verdict}
-use Rattle.c2_spec.specs.Located.{Located, refused, absent, here}
+use Rattle.c2_spec.specs.Located.{Opening, Located, refused, absent, here}
 use Rattle.c2_spec.specs.Jpeg.Store.{IsLocated}
-use Rattle.c2_spec.specs.StoreTree.{StoreTree, IsStoreTree}
-use Rattle.c2_spec.specs.StoreTree as tree
 use Rattle.c2_spec.specs.Jumbf.Tree.{Tree}
 use Rattle.c2_spec.specs.C2pa.Manifest.{Manifest, manifests_of}
 use Rattle.c2_spec.specs.Judges.Question.{question_digest}
@@ -16,8 +14,7 @@ use Rattle.c2_spec.specs.declared.claim.Claim.{Claim}
 use Rattle.c2_rules.specs.Claims.{HaveClaims, active_of}
 use Rattle.c2_rules.specs.Ingredients.{first_ingredient, assertion_uri, label_text}
 use Rattle.c2_rules.specs.Questions.{IsQuestionOf}
-use Rattle.c2_rules.specs.Shape.{Shape, IsShape}
-use Rattle.c2_rules.specs.Shape as shape
+use Rattle.c2_rules.specs.Opened.{IsBoxed, IsOpened}
 use Rattle.c2_texts.specs.Show.{show_line}
 use Rattle.c2_texts.specs.Texts.{usage_line, refused_line, none_line, digest_line, listing, failing_line, question_line, no_question_line}
 use Rattle.c2_cmd.specs.declared.types.Answer.{Answer}
@@ -25,7 +22,7 @@ use Rattle.c2_cmd.specs.declared.types.Answer.TheVariants as answer
 use Rattle.c2_cmd.specs.declared.types.Command.{Command}
 use Rattle.c2_cmd.specs.declared.types.Command.TheVariants as command
 use Rattle.c2_cmd.specs.declared.types.Roles.{Roles}
-use Rattle.c2_cmd.specs.Words.{asks_judges}
+use Rattle.c2_cmd.specs.CommandLine.{asks_judges}
 
 -- what an outcome depends on beside the words: the bytes of the sources, what the panel of judges says of a question,
 -- and the hash
@@ -36,7 +33,7 @@ pub record Inputs : Type 0 where
   pub said : Question → Verdict
   pub hash : Alg → List ℕ → List ℕ
 
--- the inputs of a run whose sources tell these bytes
+-- the inputs of a run whose sources have these bytes, where they are known
 abbrev pub inputs : Option (List ℕ) → Option (List ℕ) → Option (List ℕ) → (Question → Verdict) → (Alg → List ℕ → List ℕ) → Inputs
 inputs media second third said hash = record { media = unwrap_or media []; second = unwrap_or second []; third = unwrap_or third []; said = said; hash = hash }
 
@@ -54,41 +51,33 @@ reports answer report = record { answer = answer; report = report; file = None }
 abbrev pub outside : ℕ → ℕ → List ℕ → List ℕ
 outside start len file = take start file ++ drop (start + len) file
 
--- the outcome of `digest` over a file that comes to this, where `hash` gives the digest of a list
-abbrev pub digest_outcome : (List ℕ → List ℕ) → List ℕ → Located → Outcome
-digest_outcome hash file (refused reason number) = reports answer.Refused (refused_line reason number)
-digest_outcome hash file absent = reports answer.NoStore none_line
-digest_outcome hash file (here start len store) = reports answer.Done (digest_line start len (hash (outside start len file)))
+-- What is reported of a file that is opened as this: its refusal, or that it has no store. `IsReport` says what is reported of one
+-- with a store, by the embedded range and what the store is seen as.
+abbrev pub Reports : {A : Type 0} → (ℕ → ℕ → A → Outcome → Type 0) → Opening A → Outcome → Type 0
+Reports IsReport (refused reason number) expected = expected ≡ reports answer.Refused (refused_line reason number)
+Reports IsReport absent expected = expected ≡ reports answer.NoStore none_line
+Reports IsReport (here start len a) expected = IsReport start len a expected
 
+-- `digest` of a file with a store in this range, where `hash` gives the digest of a list
+abbrev pub IsDigested : (List ℕ → List ℕ) → List ℕ → ℕ → ℕ → List ℕ → Outcome → Type 0
+IsDigested hash file start len store expected = expected ≡ reports answer.Done (digest_line start len (hash (outside start len file)))
+
+-- the outcome of `digest`: it makes the tests of the container alone
 abbrev pub IsDigestOutcome : (List ℕ → List ℕ) → List ℕ → Outcome → Type 0
-IsDigestOutcome hash file expected = (what : Located) × IsLocated file what × (expected ≡ digest_outcome hash file what)
+IsDigestOutcome hash file expected = (l : Located) × IsLocated file l × Reports (IsDigested hash file) l expected
 
--- the outcome of `list` over a store that comes to this
-abbrev pub tree_outcome : StoreTree → Outcome
-tree_outcome (tree.refused reason number) = reports answer.Refused (refused_line reason number)
-tree_outcome (tree.spelled t) = reports answer.Done (listing t)
+-- `list` over the box tree of a store
+abbrev pub IsListing : ℕ → ℕ → Tree → Outcome → Type 0
+IsListing start len t expected = expected ≡ reports answer.Done (listing t)
 
-abbrev pub IsTreeOutcome : List ℕ → Outcome → Type 0
-IsTreeOutcome store expected = (what : StoreTree) × IsStoreTree store what × (expected ≡ tree_outcome what)
-
--- the outcome of `list` over a file that comes to this: a refused container first, then a refused box
-abbrev pub IsListing : Located → Outcome → Type 0
-IsListing (refused reason number) expected = expected ≡ reports answer.Refused (refused_line reason number)
-IsListing absent expected = expected ≡ reports answer.NoStore none_line
-IsListing (here start len store) expected = IsTreeOutcome store expected
-
+-- the outcome of `list`: it makes the tests of the container, then those of the boxes
 abbrev pub IsListOutcome : List ℕ → Outcome → Type 0
-IsListOutcome file expected = (what : Located) × IsLocated file what × IsListing what expected
+IsListOutcome file expected = (what : Opening Tree) × IsBoxed file what × Reports IsListing what expected
 
--- the outcome of a command that reads the manifests of a store, where `IsExpected` says what it comes to over the box tree of
--- a store: a refused container first, then a refused box, then a refused store
-abbrev pub IsStoreOutcome : (Tree → Outcome → Type 0) → Shape → Outcome → Type 0
-IsStoreOutcome IsExpected (shape.refused reason number) expected = expected ≡ reports answer.Refused (refused_line reason number)
-IsStoreOutcome IsExpected shape.absent expected = expected ≡ reports answer.NoStore none_line
-IsStoreOutcome IsExpected (shape.here start len t) expected = IsExpected t expected
-
+-- the outcome of a command that reads the manifests of a store, where `IsExpected` says what it is over the store's box tree: it
+-- makes the tests of the container, then those of the boxes, then those of the manifests
 abbrev pub IsMediaOutcome : (Tree → Outcome → Type 0) → List ℕ → Outcome → Type 0
-IsMediaOutcome IsExpected file expected = (what : Shape) × IsShape file what × IsStoreOutcome IsExpected what expected
+IsMediaOutcome IsExpected file expected = (what : Opening Tree) × IsOpened file what × Reports (λ start len t e. IsExpected t e) what expected
 
 -- the outcome of `show` over the box tree of a store
 abbrev pub shown : Tree → List (Option Claim) → Outcome
@@ -146,22 +135,22 @@ AsksUnless m None qs = (found : Option Question) × IsQuestionOf m found × (qs 
 abbrev pub AsksOfTree : Tree → List Question → Type 0
 AsksOfTree t qs = (m : Manifest) × (active_of (manifests_of t) ≡ Some m) × AsksUnless m (first_ingredient m) qs
 
--- over what a file comes to, and over a file
-abbrev pub AsksOfShape : Shape → List Question → Type 0
-AsksOfShape (shape.refused reason number) qs = qs ≡ []
-AsksOfShape shape.absent qs = qs ≡ []
-AsksOfShape (shape.here start len t) qs = AsksOfTree t qs
+-- over a file that is opened as this, and over a file
+abbrev pub AsksOfOpened : Opening Tree → List Question → Type 0
+AsksOfOpened (refused reason number) qs = qs ≡ []
+AsksOfOpened absent qs = qs ≡ []
+AsksOfOpened (here start len t) qs = AsksOfTree t qs
 
 abbrev pub AsksOfMedia : List ℕ → List Question → Type 0
-AsksOfMedia file qs = (what : Shape) × IsShape file what × AsksOfShape what qs
+AsksOfMedia file qs = (what : Opening Tree) × IsOpened file what × AsksOfOpened what qs
 
 -- the judges are asked these questions, in this order, by a command, and by words with these roles
-abbrev pub CommandAsks : Command → List ℕ → List Question → Type 0
-CommandAsks command.Digest file qs = qs ≡ []
-CommandAsks command.List file qs = qs ≡ []
-CommandAsks command.Show file qs = qs ≡ []
-CommandAsks command.Questions file qs = AsksOfMedia file qs
+abbrev pub CommandAsks : Command → Inputs → List Question → Type 0
+CommandAsks command.Digest i qs = qs ≡ []
+CommandAsks command.List i qs = qs ≡ []
+CommandAsks command.Show i qs = qs ≡ []
+CommandAsks command.Questions i qs = AsksOfMedia i.media qs
 
 abbrev pub Asks : Option Roles → Inputs → List Question → Type 0
 Asks None i qs = qs ≡ []
-Asks (Some roles) i qs = CommandAsks roles.command i.media qs
+Asks (Some roles) i qs = CommandAsks roles.command i qs

@@ -1,20 +1,26 @@
 -- For private clauses: replies in memory.
-use Rattle.std.specs.Prelude.{◌≡◌, ℕ, List, [], string_bytes, Some, Result, Ok, Err, ⊤}
+use Rattle.std.specs.Prelude.{◌≡◌, ◌≢◌, ℕ, ◌+◌, ◌≤◌, List, [], ◌∷◌, string_bytes, Result, Ok, Err, ⊤}
+use Rattle.std.specs.declared.option.Option.{Option}
+use Rattle.std.specs.Option.{ForSome}
 use Rattle.c2_base.specs.Causes.{Rose}
 use Rattle.c2_base.specs.declared.media.Found.{Found}
 use Rattle.c2_base.specs.declared.values.Question.{Question}
-use Rattle.c2_spec.specs.declared.jumbf.JumbfError.{JumbfError}
-use Rattle.c2_spec.specs.declared.reason.Reason.{Reason}
-use Rattle.c2_spec.specs.declared.store.StoreError.{StoreError}
-use Rattle.c2_spec.specs.Jumbf.Tree.{Tree}
 use Rattle.c2_spec.specs.declared.panel.Verdict.{Verdict}
-use Rattle.c2_spec.specs.Judges.Panel.{SomeRose}
-use Rattle.c2_spec.specs.Located.{Located, here}
-use Rattle.c2_spec.specs.StoreTree.{StoreTree, tree_refusal}
-use Rattle.c2_rules.specs.Asking.{HaveAsked, HaveAskedFront, HaveFailed}
-use Rattle.c2_rules.specs.Shape.{Shape, refused, store_shape, IsTreeShape, IsLocatedShape}
-use Rattle.c2_texts.specs.Texts.{refused_line}
-use Rattle.c2_cmd.specs.Outcome.{Outcome, reports, tree_outcome, IsStoreOutcome, AsksOfShape}
+use Rattle.c2_spec.specs.Jpeg.Store.{IsLocated}
+use Rattle.c2_spec.specs.Judges.Panel.{Judges, SomeRose}
+use Rattle.c2_spec.specs.Judges.Question.{question_digest}
+use Rattle.c2_spec.specs.Jumbf.Tree.{Tree}
+use Rattle.c2_spec.specs.Located.{Opening, Located, refused, absent, here}
+use Rattle.c2_rules.specs.Asking.{HaveAsked, HaveAskedPrefix, HaveFailed}
+use Rattle.c2_rules.specs.Opened.{IsBoxTree, IsManifestStore}
+use Rattle.c2_texts.specs.Texts.{question_line, refused_line, none_line}
+use Rattle.c2_validate.specs.declared.error.ValidateError.{ValidateError}
+use Rattle.c2_validate.specs.declared.error.ValidateError.TheVariants as error
+use Rattle.c2_cmd.specs.Outcome.{Outcome, reports, Reports, IsListing, IsMediaOutcome, IsQuestioned, AsksOfMedia, AsksOfOpened, AsksOfTree}
+use Rattle.c2_cmd.specs.declared.open.Stored.{Stored}
+use Rattle.c2_cmd.specs.declared.open.Stored.TheVariants as stored
+use Rattle.c2_cmd.specs.declared.prepare.Prepared.{Prepared}
+use Rattle.c2_cmd.specs.declared.prepare.Prepared.TheVariants as prepared
 use Rattle.c2_cmd.specs.declared.types.Answer.TheVariants as answer
 use Rattle.c2_cmd.specs.declared.reply.Reply.{Reply}
 use Rattle.c2_cmd.specs.declared.reply.Fault.{Fault}
@@ -24,70 +30,109 @@ use Rattle.c2_cmd.specs.declared.reply.Fault.TheVariants.{Input, Judge, Memory}
 abbrev pub outcome_of : Reply → Outcome
 outcome_of reply = reports reply.answer (string_bytes reply.text)
 
--- the reply is the one outcome of which this holds
+-- the reply stands for the one outcome of which this holds
 pub record IsReply (IsExpected : Outcome → Type 0) (reply : Reply) : Type 0 where
   pub holds : IsExpected (outcome_of reply)
   pub only : (expected : Outcome) → IsExpected expected → expected ≡ outcome_of reply
 
--- the cause of a fault, by the counts of the source before and after
-abbrev pub HasReason : ℕ → ℕ → Fault → Type 0
-HasReason before now Input = Rose before now
-HasReason before now Judge = ⊥
-HasReason before now Memory = ⊤
+-- where the bytes of the media are known, the reply stands for this outcome of theirs
+abbrev pub Replies : (List ℕ → Outcome → Type 0) → Option (List ℕ) → Reply → Type 0
+Replies IsExpected known reply = ForSome known (λ file. IsExpected file (outcome_of reply))
 
--- the reply is the refusal that this error of a box stands for
-pub record IsTreeRefusal (error : JumbfError) (reply : Reply) : Type 0 where
-  pub what : StoreTree
-  pub refuses : tree_refusal error ≡ Some what
-  pub outcome : outcome_of reply ≡ tree_outcome what
+-- ---- causes of faults
 
--- the reply is the refusal that this error of a store's manifests stands for
-pub record IsStoreRefusal (error : StoreError) (reply : Reply) : Type 0 where
-  pub reason : Reason
-  pub number : ℕ
-  pub refuses : store_shape error ≡ Some (refused reason number)
-  pub outcome : outcome_of reply ≡ reports answer.Refused (refused_line reason number)
+-- the fault that an error stands for
+abbrev pub fault_of : ValidateError → Fault
+fault_of error.ReadFault = Input
+fault_of error.JudgeFault = Judge
+fault_of error.NoMemory = Memory
 
--- the outcome over a store that was found, by what it comes to as a container
-abbrev pub IsFoundOutcome : (Tree → Outcome → Type 0) → Located → Outcome → Type 0
-IsFoundOutcome IsExpected l expected = (what : Shape) × IsLocatedShape l what × IsStoreOutcome IsExpected what expected
+-- the cause of a fault of a call that asks no judge, by the counts of the media before and after
+abbrev pub IsMediaCause : ℕ → ℕ → Fault → Type 0
+IsMediaCause before now Input = Rose before now
+IsMediaCause before now Judge = ⊥
+IsMediaCause before now Memory = ⊤
 
--- the outcome over the box tree in this range
-abbrev pub IsTypedOutcome : (Tree → Outcome → Type 0) → ℕ → ℕ → Tree → Outcome → Type 0
-IsTypedOutcome IsExpected start len t expected = (what : Shape) × IsTreeShape start len t what × IsStoreOutcome IsExpected what expected
+-- the cause of a fault of a call that reads no media, by the counts of the judges before and after
+abbrev pub IsJudgeCause : Judges → Judges → Fault → Type 0
+IsJudgeCause old new Input = ⊥
+IsJudgeCause old new Judge = SomeRose old.faults new.faults
+IsJudgeCause old new Memory = ⊤
 
--- where a store was found
-abbrev pub found_at : Found → Located
-found_at found = here found.start found.length found.store
+-- the cause of a fault, by the counts of the media and of the judges before and after
+abbrev pub IsCause : ℕ → ℕ → Judges → Judges → Fault → Type 0
+IsCause before now old new Input = Rose before now
+IsCause before now old new Judge = SomeRose old.faults new.faults
+IsCause before now old new Memory = ⊤
 
--- the cause of a fault, by the counts of the source and of the judges before and after
-abbrev pub HasReasonWith : ℕ → ℕ → List ℕ → List ℕ → Fault → Type 0
-HasReasonWith before now judges_before judges_now Input = Rose before now
-HasReasonWith before now judges_before judges_now Judge = SomeRose judges_before judges_now
-HasReasonWith before now judges_before judges_now Memory = ⊤
+-- ---- the media
 
--- the cause of a fault of a call that reads no source, by the counts of the judges before and after
-abbrev pub IsJudgeReason : List ℕ → List ℕ → Fault → Type 0
-IsJudgeReason before now Input = ⊥
-IsJudgeReason before now Judge = SomeRose before now
-IsJudgeReason before now Memory = ⊤
+-- what every command reports that reads, of a file that is refused or has no store
+abbrev pub IsShort : Located → Outcome → Type 0
+IsShort (refused reason number) expected = expected ≡ reports answer.Refused (refused_line reason number)
+IsShort absent expected = expected ≡ reports answer.NoStore none_line
+IsShort (here start len store) expected = ⊥
 
--- who was asked these questions, and who failed, by the answer of a call
-abbrev pub HasPanelOf : {T : Type 0} → List (Question → Verdict) → List Question → List ℕ → List ℕ → List ℕ → List ℕ → Result T Fault → Type 0
-HasPanelOf said qs before now faults_before faults_now (Ok x) = HaveAsked said qs before now
-HasPanelOf said qs before now faults_before faults_now (Err Input) = HaveAskedFront said qs before now
-HasPanelOf said qs before now faults_before faults_now (Err Judge) = HaveFailed said qs before now faults_before faults_now
-HasPanelOf said qs before now faults_before faults_now (Err Memory) = HaveAskedFront said qs before now
+-- a media file was opened: its store was found in this range, or this is the reply to every command that reads
+abbrev pub IsStored : List ℕ → Stored → Type 0
+IsStored file (stored.Here f) = IsLocated file (here f.start f.length f.store)
+IsStored file (stored.Reply reply) = (l : Located) × IsLocated file l × IsShort l (outcome_of reply)
 
--- the judges were asked the questions of which this holds; and stand as they were where these are none
-pub record HasAsked {J T : Type 0} (Asks : List Question → Type 0) (old new : J) (said : List (Question → Verdict)) (before now faults_before faults_now : List ℕ) (result : Result T Fault) : Type 0 where
-  pub quiet : Asks [] → new ≡ old
-  pub panel : (qs : List Question) → Asks qs → HasPanelOf said qs before now faults_before faults_now result
+-- the embedded range lies inside a file of this length; and a reply answers no words that fit no command
+abbrev pub IsStoredIn : ℕ → Stored → Type 0
+IsStoredIn len (stored.Here f) = f.start + f.length ≤ len
+IsStoredIn len (stored.Reply reply) = reply.answer ≢ answer.Usage
 
--- the judges are asked these over a store that was found, by what it comes to as a container
-abbrev pub AsksOfFound : Located → List Question → Type 0
-AsksOfFound l qs = (what : Shape) × IsLocatedShape l what × AsksOfShape what qs
+-- ---- a store that was found
 
--- the judges are asked these over the box tree in this range
-abbrev pub AsksOfTyped : ℕ → ℕ → Tree → List Question → Type 0
-AsksOfTyped start len t qs = (what : Shape) × IsTreeShape start len t what × AsksOfShape what qs
+-- the outcome of a command that reads the manifests of this store
+abbrev pub IsFoundOutcome : (Tree → Outcome → Type 0) → Found → Outcome → Type 0
+IsFoundOutcome IsExpected f expected = (what : Opening Tree) × IsManifestStore f.start f.length f.store what × Reports (λ start len t e. IsExpected t e) what expected
+
+-- the reply of such a command, and the reply of `list`
+abbrev pub RepliesOver : (Tree → Outcome → Type 0) → Found → Reply → Type 0
+RepliesOver IsExpected f reply = IsFoundOutcome IsExpected f (outcome_of reply)
+
+abbrev pub ListsStore : Found → Reply → Type 0
+ListsStore f reply = (what : Opening Tree) × IsBoxTree f.start f.length f.store what × Reports IsListing what (outcome_of reply)
+
+-- ---- questions
+
+-- the outcome where the panel is asked this question of the manifest with this label
+abbrev pub asked_outcome : List ℕ → Question → (Question → Verdict) → Outcome
+asked_outcome label q said = reports answer.Done (question_line (question_digest q) label (said q))
+
+-- `questions` is prepared: there is nothing to ask, and this is the reply whatever the judges say; or this question is to be
+-- asked of the manifest with this label
+abbrev pub Prepares : (List Question → Type 0) → ((Question → Verdict) → Outcome → Type 0) → Prepared → Type 0
+Prepares AreAsked IsExpected (prepared.Reply reply) = AreAsked [] × ((said : Question → Verdict) → IsExpected said (outcome_of reply))
+Prepares AreAsked IsExpected (prepared.Ask label q) = AreAsked (q ∷ []) × ((said : Question → Verdict) → IsExpected said (asked_outcome (string_bytes label) q said))
+
+-- over a file, over a store that was found, and over the box tree of a store
+abbrev pub PreparesMedia : List ℕ → Prepared → Type 0
+PreparesMedia file = Prepares (AsksOfMedia file) (λ said. IsMediaOutcome (IsQuestioned said) file)
+
+abbrev pub AsksOfFound : Found → List Question → Type 0
+AsksOfFound f qs = (what : Opening Tree) × IsManifestStore f.start f.length f.store what × AsksOfOpened what qs
+
+abbrev pub PreparesFound : Found → Prepared → Type 0
+PreparesFound f = Prepares (AsksOfFound f) (λ said. IsFoundOutcome (IsQuestioned said) f)
+
+abbrev pub PreparesTree : Tree → Prepared → Type 0
+PreparesTree t = Prepares (AsksOfTree t) (λ said. IsQuestioned said t)
+
+-- a reply answers no words that fit no command
+abbrev pub HasNoUsage : Prepared → Type 0
+HasNoUsage (prepared.Reply reply) = reply.answer ≢ answer.Usage
+HasNoUsage (prepared.Ask label q) = ⊤
+
+-- which judges were asked these questions, and who failed, by the result of a call
+abbrev pub AskedFor : {T : Type 0} → List Question → Judges → Judges → Result T Fault → Type 0
+AskedFor qs old new (Ok x) = HaveAsked old.said qs old.asked new.asked
+AskedFor qs old new (Err Input) = HaveAskedPrefix old.said qs old.asked new.asked
+AskedFor qs old new (Err Judge) = HaveFailed old.said qs old.asked new.asked old.faults new.faults
+AskedFor qs old new (Err Memory) = HaveAskedPrefix old.said qs old.asked new.asked
+
+-- the judges were asked the questions of which this holds
+abbrev pub AskedThose : {T : Type 0} → (List Question → Type 0) → Judges → Judges → Result T Fault → Type 0
+AskedThose AreQuestions old new result = (qs : List Question) → AreQuestions qs → AskedFor qs old new result

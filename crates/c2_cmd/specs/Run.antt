@@ -1,13 +1,15 @@
 -- What `run` promises by its status: what its report holds, what its faults come from, and what it leaves as it was.
-use Rattle.std.specs.Prelude.{◌≡◌, ℕ, Bool, true, List, IsSome, ⊤}
+use Rattle.std.specs.Prelude.{◌≡◌, ℕ, Bool, true, List, IsSome, ⊤, map, string_bytes, String}
 use Rattle.std.specs.declared.option.Option.{Option}
 use Rattle.c2_base.specs.Causes.{Rose}
 use Rattle.c2_base.specs.Sink.{then_written, HasWrittenPrefix}
 use Rattle.c2_base.specs.declared.values.Question.{Question}
+use Rattle.c2_spec.specs.declared.digest.Alg.{Alg}
 use Rattle.c2_spec.specs.declared.panel.Verdict.{Verdict}
-use Rattle.c2_spec.specs.Judges.Panel.{SomeRose}
-use Rattle.c2_rules.specs.Asking.{HaveAsked, HaveAskedFront, HaveFailed}
-use Rattle.c2_cmd.specs.Outcome.{Outcome, uses_media}
+use Rattle.c2_spec.specs.Judges.Panel.{SomeRose, NoneFell, Judges, panel_says}
+use Rattle.c2_rules.specs.Asking.{HaveAsked, HaveAskedPrefix, HaveFailed}
+use Rattle.c2_cmd.specs.CommandLine.{roles_of}
+use Rattle.c2_cmd.specs.Outcome.{Outcome, Inputs, inputs, uses_media, uses_judges, IsOutcome, Asks}
 use Rattle.c2_cmd.specs.declared.types.Answer.{Answer}
 use Rattle.c2_cmd.specs.declared.types.Answer.TheVariants as answer
 use Rattle.c2_cmd.specs.declared.types.Roles.{Roles}
@@ -21,28 +23,67 @@ status_of answer.Refused = Refused
 status_of answer.NoStore = NoStore
 status_of answer.Usage = Usage
 
--- the sources that the command uses tell their bytes
-pub record AreKnown (roles : Option Roles) (media : Option (List ℕ)) : Type 0 where
-  pub media_told : uses_media roles ≡ true → IsSome media
+-- the roles of the words of a call
+abbrev pub roles_in : {R : Type 0} → List (String R) → Option Roles
+roles_in words = roles_of (map string_bytes words)
+
+-- what a call was handed: the roles of its words, the bytes of its sources where they are known, what its judges say, and
+-- the hash
+pub record Call : Type 0 where
+  pub roles : Option Roles
+  pub media : Option (List ℕ)
+  pub second : Option (List ℕ)
+  pub third : Option (List ℕ)
+  pub said : List (Question → Verdict)
+  pub hash : Alg → List ℕ → List ℕ
+
+-- the call with these words, sources, judges and this hash
+abbrev pub call_of : {R : Type 0} → List (String R) → Option (List ℕ) → Option (List ℕ) → Option (List ℕ) → List (Question → Verdict) → (Alg → List ℕ → List ℕ) → Call
+call_of words media second third said hash = record { roles = roles_in words; media = media; second = second; third = third; said = said; hash = hash }
+
+-- what the outcome of a call depends on beside its roles
+abbrev pub handed : Call → Inputs
+handed c = inputs c.media c.second c.third (panel_says c.said) c.hash
+
+-- the bytes of the sources that the call uses are known
+pub record IsKnown (c : Call) : Type 0 where
+  pub media_known : uses_media c.roles ≡ true → IsSome c.media
+
+-- the call comes to this outcome
+abbrev pub ComesTo : Call → Outcome → Type 0
+ComesTo c expected = IsOutcome c.roles (handed c) expected
+
+-- the call puts these questions to its judges, in this order
+abbrev pub Puts : Call → List Question → Type 0
+Puts c qs = Asks c.roles (handed c) qs
+
+-- a sink: what was written to it, where that is known, and whether it is finished
+pub record SinkState : Type 0 where
+  pub written : Option (List ℕ)
+  pub finished : Bool
+
+-- the state of a sink, by the meanings of the trait
+abbrev pub state_of : {W : Type 0} → (W → Option (List ℕ)) → (W → Bool) → W → SinkState
+state_of {W} written finished w = record { written = written w; finished = finished w }
 
 -- a sink took all of a text and is finished
-pub record Delivers (text : List ℕ) (old new : Option (List ℕ)) (finished : Bool) : Type 0 where
-  pub written : new ≡ then_written old text
-  pub is_finished : finished ≡ true
+pub record Delivers (text : List ℕ) (old new : SinkState) : Type 0 where
+  pub written : new.written ≡ then_written old.written text
+  pub is_finished : new.finished ≡ true
 
--- a sink took a front of a text and wasn't finished
-pub record Leaves (text : List ℕ) (old new : Option (List ℕ)) (was finished : Bool) : Type 0 where
-  pub front : HasWrittenPrefix old new text
-  pub same : finished ≡ was
+-- a sink took a prefix of a text and wasn't finished
+pub record Leaves (text : List ℕ) (old new : SinkState) : Type 0 where
+  pub prefix : HasWrittenPrefix old.written new.written text
+  pub same : new.finished ≡ old.finished
 
--- the report after a run with this outcome and this status: all of the outcome's report, or after a fault or want of
--- memory a front of it
-abbrev pub HasReport : Outcome → Option (List ℕ) → Option (List ℕ) → Bool → Bool → Status → Type 0
-HasReport expected old new was finished InputFault = Leaves expected.report old new was finished
-HasReport expected old new was finished OutputFault = Leaves expected.report old new was finished
-HasReport expected old new was finished JudgeFault = Leaves expected.report old new was finished
-HasReport expected old new was finished NoMemory = Leaves expected.report old new was finished
-HasReport expected old new was finished status = (status ≡ status_of expected.answer) × Delivers expected.report old new finished
+-- the report after a run with this outcome and this status: all of the outcome's report, or after a fault or out of memory
+-- a prefix of it
+abbrev pub HasReport : Outcome → SinkState → SinkState → Status → Type 0
+HasReport expected old new InputFault = Leaves expected.report old new
+HasReport expected old new OutputFault = Leaves expected.report old new
+HasReport expected old new JudgeFault = Leaves expected.report old new
+HasReport expected old new NoMemory = Leaves expected.report old new
+HasReport expected old new status = (status ≡ status_of expected.answer) × Delivers expected.report old new
 
 -- an object that the command uses failed in this call
 abbrev pub HasFailed : Bool → ℕ → ℕ → Type 0
@@ -52,7 +93,7 @@ HasFailed used before now = (used ≡ true) × Rose before now
 abbrev pub HasJudgeFailed : Bool → List ℕ → List ℕ → Type 0
 HasJudgeFailed used before now = (used ≡ true) × SomeRose before now
 
--- this holds after every answer but a fault and want of memory
+-- this holds after every answer but a fault and out of memory
 abbrev pub WithoutFault : Type 0 → Status → Type 0
 WithoutFault claim InputFault = ⊤
 WithoutFault claim OutputFault = ⊤
@@ -67,10 +108,19 @@ WhereReplied claim JudgeFault = ⊤
 WhereReplied claim NoMemory = ⊤
 WhereReplied claim status = claim
 
--- Which judges were asked how often, and who failed, by the status: each of these questions was put to the panel, or after a fault
--- or want of memory those of a front of them.
-abbrev pub HasPanel : List (Question → Verdict) → List Question → List ℕ → List ℕ → List ℕ → List ℕ → Status → Type 0
-HasPanel said qs before now faults_before faults_now InputFault = HaveAskedFront said qs before now
-HasPanel said qs before now faults_before faults_now NoMemory = HaveAskedFront said qs before now
-HasPanel said qs before now faults_before faults_now JudgeFault = HaveFailed said qs before now faults_before faults_now
-HasPanel said qs before now faults_before faults_now status = HaveAsked said qs before now
+-- Which judges were asked how often, and who failed, by the status: each of these questions was put to the panel, or after a
+-- fault or out of memory those of a prefix of them.
+abbrev pub AskedPanel : List Question → Judges → Judges → Status → Type 0
+AskedPanel qs old new InputFault = HaveAskedPrefix old.said qs old.asked new.asked
+AskedPanel qs old new NoMemory = HaveAskedPrefix old.said qs old.asked new.asked
+AskedPanel qs old new JudgeFault = HaveFailed old.said qs old.asked new.asked old.faults new.faults
+AskedPanel qs old new status = HaveAsked old.said qs old.asked new.asked
+
+-- What a run leaves of its judges: each says what it said, and no count has fallen. Their counts of faults stand after every
+-- answer but a fault and out of memory, and a fault of a judge is answered only where one who may be asked failed.
+pub record KeepsJudges (roles : Option Roles) (old new : Judges) (status : Status) : Type 0 where
+  pub same : new.said ≡ old.said
+  pub asked_later : NoneFell old.asked new.asked
+  pub faults_later : NoneFell old.faults new.faults
+  pub quiet : WithoutFault (new.faults ≡ old.faults) status
+  pub cause : status ≡ JudgeFault → HasJudgeFailed (uses_judges roles) old.faults new.faults

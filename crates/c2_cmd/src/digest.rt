@@ -1,21 +1,18 @@
 // The command `digest`.
-ghost use Rattle.std.specs.Prelude.{◌≡◌, ◌≢◌, ◌+◌, ◌≤◌, Ok, Some, IfOk, IfErr, OnOk, length};
-ghost use Rattle.std.specs.Option.{ForSome};
+ghost use Rattle.std.specs.Prelude.{◌≡◌, ◌≢◌, IfOk, IfErr, OnOk};
 ghost use Rattle.c2_base.specs.Source.{StaysSource};
 ghost use Rattle.c2_cmd.specs.Outcome.{IsDigestOutcome};
-ghost use Rattle.c2_cmd.specs.Reply.{IsReply, HasReason};
+ghost use Rattle.c2_cmd.specs.Reply.{IsMediaCause, Replies};
 
-use crate::open::{Opened, open};
-use crate::pieces::digest_outside;
-use crate::replies::{digest_reply, none_reply, refused_reply};
+use crate::open::{Stored, open};
+use crate::outside::digest_outside;
+use crate::replies::digest_reply;
 use crate::reply::{Fault, Reply};
 use crate::types::Answer;
-use c2_base::{Failed, Source};
+use c2_base::Source;
+use c2_base::limits::PIECE_LEN;
 use c2_hash::{Alg, Hashing};
 use std::alloc::Global;
-
-// How many bytes are hashed at once.
-const PIECE: usize = 65_536;
 
 /// The reply to `digest`.
 pub fn reply_to_digest<H: Hashing, S: Source>(
@@ -23,29 +20,18 @@ pub fn reply_to_digest<H: Hashing, S: Source>(
     hashing: &H,
     media: &mut S,
 ) -> Result<Reply, Fault>
-    ensures reply { IfOk result (λ reply. ForSome (S.known media.old) (λ file. IsReply (IsDigestOutcome (H.digest_of Alg.Sha256) file) reply)) }
+    ensures reply { let hash = H.digest_of Alg.Sha256 in
+        IfOk result (Replies (IsDigestOutcome hash) (S.known media.old)) }
     ensures words { IfOk result (λ reply. reply.answer ≢ Answer.Usage) }
     ensures stays { StaysSource S.len S.known S.faults media.old media.new }
     ensures count { OnOk result (S.faults media.new ≡ S.faults media.old) }
-    ensures fault { IfErr result (HasReason (S.faults media.old) (S.faults media.new)) }
+    ensures fault { IfErr result (IsMediaCause (S.faults media.old) (S.faults media.new)) }
 {
     let found = match open(alloc, media)? {
-        Opened::Here(found) => found,
-        Opened::NoStore => {
-            let reply = none_reply(alloc)?;
-            return Ok(reply);
-        }
-        Opened::Refused(reason, number) => {
-            let reply = refused_reply(alloc, reason, number)?;
-            return Ok(reply);
-        }
+        Stored::Here(found) => found,
+        Stored::Reply(reply) => return Ok(reply),
     };
-    let mut buf = vec![in alloc; 0; PIECE]?;
-    match digest_outside(hashing, media, found.start, found.length, &mut buf) {
-        Ok(digest) => {
-            let reply = digest_reply(alloc, found.start, found.length, &digest)?;
-            Ok(reply)
-        }
-        Err(Failed) => Err(Fault::Input),
-    }
+    let mut buf = vec![in alloc; 0; PIECE_LEN]?;
+    let digest = digest_outside(hashing, media, found.start, found.length, &mut buf)?;
+    digest_reply(alloc, found.start, found.length, &digest)
 }

@@ -1,20 +1,22 @@
 //! The commands of `c2`, over whatever sources and sinks they are handed.
 //!
-//! What a run comes to stands in `specs/Outcome.antt`, and what `run` promises of it in `specs/Run.antt`.
+//! The outcome of a run stands in `specs/Outcome.antt`, and what `run` promises of it in `specs/Run.antt`.
 #![tactic(auto)]
 
+mod command_line;
 mod digest;
+mod laws;
 mod list;
 mod open;
-mod pieces;
+mod outside;
+mod prepare;
 mod questions;
 mod replies;
 mod reply;
 mod run_command;
 mod show;
-mod trees;
 pub mod types;
-mod words;
 
+pub use command_line::roles;
+pub use laws::one_outcome;
 pub use run_command::run;
-pub use words::roles;

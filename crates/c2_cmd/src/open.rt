@@ -1,83 +1,39 @@
-// The container of a media file.
-ghost use Rattle.std.specs.Prelude.{◌≡◌, ℕ, ◌+◌, ◌≤◌, Ok, Some, IfSome, IfOk, IfErr, OnOk};
+// The media of a command that reads.
+ghost use Rattle.std.specs.Prelude.{◌≡◌, IfOk, IfErr, OnOk};
 ghost use Rattle.std.specs.Option.{ForSome};
 ghost use Rattle.c2_base.specs.Source.{StaysSource};
-ghost use Rattle.c2_spec.specs.Located.{Located, said, refusal};
-ghost use Rattle.c2_spec.specs.Jpeg.Store.{IsLocated};
-ghost use Rattle.c2_cmd.specs.Reply.{HasReason};
-ghost use Rattle.c2_cmd.specs.Open.{located_of, IsWithin, IsFaultOf};
+ghost use Rattle.c2_cmd.specs.Reply.{IsMediaCause, IsStored, IsStoredIn};
 
-use crate::reply::Fault;
-use c2_base::{Found, MediaError, Source};
-use c2_jpegseg::locate;
-use c2_spec::Reason;
+use crate::replies::{none_reply, refused_reply};
+use crate::reply::{Fault, Reply};
+use c2_base::{Found, Source};
+use c2_validate::find_store;
+use c2_validate::types::Opened;
 use std::alloc::Global;
 
-/// What a media file comes to.
+/// The media of a command that reads.
 #[derive(Drop)]
-pub enum Opened {
-    /// The container is refused, with the reason's number.
-    Refused(Reason, u64),
-
-    /// The file has no store.
-    NoStore,
-
-    /// The embedded range and the store.
+pub enum Stored {
+    /// It has this store.
     Here(Found),
+
+    /// It has none, or is refused: this is the reply.
+    Reply(Reply),
 }
 
-/// Makes the container's tests.
-pub fn open<S: Source>(alloc: Global, media: &mut S) -> Result<Opened, Fault>
-    ensures found { IfOk result (λ opened. ForSome (S.known media.old) (λ file. IsLocated file (located_of opened))) }
-    ensures only { IfOk result (λ opened. ForSome (S.known media.old) (λ file. (what : Located) → IsLocated file what → what ≡ located_of opened)) }
-    ensures within { IfOk result (IsWithin (S.len media.old)) }
+/// Makes the tests of the container.
+pub fn open<S: Source>(alloc: Global, media: &mut S) -> Result<Stored, Fault>
+    ensures stored { ForSome (S.known media.old) (λ file. IfOk result (IsStored file)) }
+    ensures within { IfOk result (IsStoredIn (S.len media.old)) }
     ensures stays { StaysSource S.len S.known S.faults media.old media.new }
     ensures count { OnOk result (S.faults media.new ≡ S.faults media.old) }
-    ensures fault { IfErr result (HasReason (S.faults media.old) (S.faults media.new)) }
+    ensures fault { IfErr result (IsMediaCause (S.faults media.old) (S.faults media.new)) }
 {
-    match locate(alloc, media) {
-        Ok(found) => {
-            let opened = unrefused(found);
-            Ok(opened)
-        }
-        Err(error) => {
-            let opened = refused(error)?;
-            Ok(opened)
+    match find_store(alloc, media)? {
+        Opened::Here(media) => Ok(Stored::Here(media.found)),
+        Opened::NoStore(_) => Ok(Stored::Reply(none_reply(alloc)?)),
+        Opened::Refused(reason, number) => {
+            Ok(Stored::Reply(refused_reply(alloc, reason, number)?))
         }
     }
-}
-
-// A file that isn't refused.
-fn unrefused(found: Option<Found>) -> Opened
-    ensures value { said (Ok found) ≡ Some (located_of result) }
-    ensures within { (len : ℕ) → IfSome found (λ f. f.start + f.length ≤ len) → IsWithin len result }
-{
-    match found {
-        Some(found) => Opened::Here(found),
-        None => Opened::NoStore,
-    }
-}
-
-// A refusal, unless the error says nothing of the file.
-fn refused(error: MediaError) -> Result<Opened, Fault>
-    ensures value { IfOk result (λ opened. refusal error ≡ Some (located_of opened)) }
-    ensures within { IfOk result (λ opened. (len : ℕ) → IsWithin len opened) }
-    ensures fault { IfErr result (IsFaultOf error) }
-{
-    let (reason, number) = match error {
-        MediaError::NotMedia => (Reason::NotMedia, 0),
-        MediaError::FileTooLarge(size) => (Reason::FileTooLarge, size),
-        MediaError::Truncated(size) => (Reason::Truncated, size),
-        MediaError::BadMarker(at) => (Reason::BadMarker, at),
-        MediaError::BadSegment(at) => (Reason::BadSegment, at),
-        MediaError::BadPacket(at) => (Reason::BadPacket, at),
-        MediaError::TwoStores(at) => (Reason::TwoStores, at),
-        MediaError::BadBox(at) => (Reason::BadBox, at),
-        MediaError::BadProvenanceBox(at) => (Reason::BadProvenanceBox, at),
-        MediaError::StoreTooLarge(size) => (Reason::StoreTooLarge, size),
-        MediaError::TooManyBoxes => (Reason::TooManyBoxes, 1_048_576),
-        MediaError::ReadFault => return Err(Fault::Input),
-        MediaError::NoMemory => return Err(Fault::Memory),
-    };
-    Ok(Opened::Refused(reason, number))
 }

@@ -34,7 +34,8 @@ pub fn none_reply(alloc: Global) -> Result<Reply, Fault>
 
 /// A refusal with its number.
 pub fn refused_reply(alloc: Global, reason: Reason, number: u64) -> Result<Reply, Fault>
-    ensures reply { IfOk result (λ r. outcome_of r ≡ reports Answer.Refused (refused_line reason number)) }
+    ensures reply { let line = refused_line reason number in
+        IfOk result (λ r. outcome_of r ≡ reports Answer.Refused line) }
     ensures memory { IfErr result (λ e. e ≡ Fault.Memory) }
 {
     Ok(Reply {
@@ -45,7 +46,8 @@ pub fn refused_reply(alloc: Global, reason: Reason, number: u64) -> Result<Reply
 
 /// An embedded range and the digest of the bytes outside it.
 pub fn digest_reply(alloc: Global, start: u64, length: u64, digest: &Digest) -> Result<Reply, Fault>
-    ensures reply { IfOk result (λ r. outcome_of r ≡ reports Answer.Done (digest_line start length digest.now)) }
+    ensures reply { let line = digest_line start length digest.now in
+        IfOk result (λ r. outcome_of r ≡ reports Answer.Done line) }
     ensures memory { IfErr result (λ e. e ≡ Fault.Memory) }
 {
     Ok(Reply {

@@ -1,9 +1,11 @@
-// Replies: what a run without a fault comes to, before it is written.
+// Replies: the answer and the text of a run without a fault, before it is written.
 ghost use Rattle.std.specs.Prelude.{◌≡◌};
-ghost use Rattle.c2_cmd.specs.declared.reply.Fault.TheVariants.{Memory};
+ghost use Rattle.c2_cmd.specs.Reply.{fault_of};
+ghost use Rattle.c2_cmd.specs.declared.reply.Fault.TheVariants.{Input, Memory};
 
 use crate::types::Answer;
-use c2_base::NoMemory;
+use c2_base::{Failed, NoMemory};
+use c2_validate::ValidateError;
 use std::alloc::AllocError;
 
 /// Why a run has no reply.
@@ -39,5 +41,25 @@ impl From<NoMemory> for Fault {
 
     fn from(_failed: NoMemory) -> Fault {
         Fault::Memory
+    }
+}
+
+impl From<Failed> for Fault {
+    ghost from_gives = { λ _ e. e ≡ Input };
+
+    fn from(_failed: Failed) -> Fault {
+        Fault::Input
+    }
+}
+
+impl From<ValidateError> for Fault {
+    ghost from_gives = { λ error e. e ≡ fault_of error };
+
+    fn from(error: ValidateError) -> Fault {
+        match error {
+            ValidateError::ReadFault => Fault::Input,
+            ValidateError::JudgeFault => Fault::Judge,
+            ValidateError::NoMemory => Fault::Memory,
+        }
     }
 }

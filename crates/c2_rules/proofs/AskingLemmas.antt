@@ -3,7 +3,7 @@ use Rattle.std.proofs.Common.{◌≡◌, ℕ, List, [], ◌∷◌, ◌++◌, Opt
 use Rattle.c2_base.specs.declared.values.Question.{Question}
 use Rattle.c2_spec.specs.declared.panel.Verdict.{Verdict}
 use Rattle.c2_spec.specs.Judges.Panel.{verdicts, panel_size, Counted, MovedBelow, FailedAt}
-use Rattle.c2_rules.specs.Asking.{HaveAsked, HaveAskedFront, HaveFailed}
+use Rattle.c2_rules.specs.Asking.{HaveAsked, HaveAskedPrefix, HaveFailed}
 use Rattle.c2_rules.specs.Readings.{Reading, question_in}
 use Rattle.c2_rules.specs.Rules.{claim_tests}
 use Rattle.c2_rules.specs.Tests.{first_failing}
@@ -14,7 +14,7 @@ pub asked_one : (said : List (Question → Verdict)) (q : Question) (before now 
 asked_one said q before now h = (now, h, refl)
 
 pub failed_one : (said : List (Question → Verdict)) (q : Question) (before now faults_before faults_now : List ℕ) → (i : ℕ) × FailedAt i (verdicts said q) before now faults_before faults_now → HaveFailed said (q ∷ []) before now faults_before faults_now
-failed_one said q before now faults_before faults_now h = record { front = []; question = q; rest = []; split = refl; between = before; asked = refl; judge = h.0; failed = h.1 }
+failed_one said q before now faults_before faults_now h = record { prefix = []; question = q; rest = []; split = refl; between = before; asked = refl; judge = h.0; failed = h.1 }
 
 -- of a question that may be none
 pub failed_some : (said : List (Question → Verdict)) (o : Option Question) (q : Question) (before now faults_before faults_now : List ℕ) → o ≡ Some q → (i : ℕ) × FailedAt i (verdicts said q) before now faults_before faults_now
@@ -23,43 +23,43 @@ failed_some said o q before now faults_before faults_now is h =
     subst (λ (p : Option Question). HaveFailed said (option_to_list p) before now faults_before faults_now) (sym is) (failed_one said q before now faults_before faults_now h)
 
 -- nothing was asked
-pub front_none : (said : List (Question → Verdict)) (qs : List Question) (now : List ℕ) → HaveAskedFront said qs now now
-front_none said qs now = record { front = []; rest = qs; split = refl; asked = refl }
+pub front_none : (said : List (Question → Verdict)) (qs : List Question) (now : List ℕ) → HaveAskedPrefix said qs now now
+front_none said qs now = record { prefix = []; rest = qs; split = refl; asked = refl }
 
-pub front_all : (said : List (Question → Verdict)) (qs : List Question) (before now : List ℕ) → HaveAsked said qs before now → HaveAskedFront said qs before now
-front_all said qs before now h = record { front = qs; rest = []; split = sym (append-nil qs); asked = h }
+pub front_all : (said : List (Question → Verdict)) (qs : List Question) (before now : List ℕ) → HaveAsked said qs before now → HaveAskedPrefix said qs before now
+front_all said qs before now h = record { prefix = qs; rest = []; split = sym (append-nil qs); asked = h }
 
 -- some and then others
 pub asked_append : (said : List (Question → Verdict)) (qs rs : List Question) (a b c : List ℕ) → HaveAsked said qs a b → HaveAsked said rs b c → HaveAsked said (qs ++ rs) a c
 asked_append said [] rs a b c p q = subst (λ (x : List ℕ). HaveAsked said rs x c) p q
 asked_append said (x ∷ qs) rs a b c p q = (p.0, p.1, asked_append said qs rs p.0 b c p.2 q)
 
-pub front_append : (said : List (Question → Verdict)) (qs rs : List Question) (a b c : List ℕ) → HaveAsked said qs a b → HaveAskedFront said rs b c → HaveAskedFront said (qs ++ rs) a c
+pub front_append : (said : List (Question → Verdict)) (qs rs : List Question) (a b c : List ℕ) → HaveAsked said qs a b → HaveAskedPrefix said rs b c → HaveAskedPrefix said (qs ++ rs) a c
 front_append said qs rs a b c p q =
-    record { front = qs ++ q.front; rest = q.rest; split = ap (λ (x : List Question). qs ++ x) q.split ∙ sym (append_assoc qs q.front q.rest); asked = asked_append said qs q.front a b c p q.asked }
+    record { prefix = qs ++ q.prefix; rest = q.rest; split = ap (λ (x : List Question). qs ++ x) q.split ∙ sym (append_assoc qs q.prefix q.rest); asked = asked_append said qs q.prefix a b c p q.asked }
 
 pub failed_append : (said : List (Question → Verdict)) (qs rs : List Question) (a b c f g : List ℕ) → HaveAsked said qs a b → HaveFailed said rs b c f g → HaveFailed said (qs ++ rs) a c f g
 failed_append said qs rs a b c f g p q = record {
-  front = qs ++ q.front;
+  prefix = qs ++ q.prefix;
   question = q.question;
   rest = q.rest;
-  split = ap (λ (x : List Question). qs ++ x) q.split ∙ sym (append_assoc qs q.front (q.question ∷ q.rest));
+  split = ap (λ (x : List Question). qs ++ x) q.split ∙ sym (append_assoc qs q.prefix (q.question ∷ q.rest));
   between = q.between;
-  asked = asked_append said qs q.front a b q.between p q.asked;
+  asked = asked_append said qs q.prefix a b q.between p q.asked;
   judge = q.judge;
   failed = q.failed;
 }
 
 -- and others behind that weren't
-pub front_more : (said : List (Question → Verdict)) (qs rs : List Question) (a b : List ℕ) → HaveAskedFront said qs a b → HaveAskedFront said (qs ++ rs) a b
-front_more said qs rs a b p = record { front = p.front; rest = p.rest ++ rs; split = ap (λ (x : List Question). x ++ rs) p.split ∙ append_assoc p.front p.rest rs; asked = p.asked }
+pub front_more : (said : List (Question → Verdict)) (qs rs : List Question) (a b : List ℕ) → HaveAskedPrefix said qs a b → HaveAskedPrefix said (qs ++ rs) a b
+front_more said qs rs a b p = record { prefix = p.prefix; rest = p.rest ++ rs; split = ap (λ (x : List Question). x ++ rs) p.split ∙ append_assoc p.prefix p.rest rs; asked = p.asked }
 
 pub failed_more : (said : List (Question → Verdict)) (qs rs : List Question) (a b f g : List ℕ) → HaveFailed said qs a b f g → HaveFailed said (qs ++ rs) a b f g
 failed_more said qs rs a b f g p = record {
-  front = p.front;
+  prefix = p.prefix;
   question = p.question;
   rest = p.rest ++ rs;
-  split = ap (λ (x : List Question). x ++ rs) p.split ∙ append_assoc p.front (p.question ∷ p.rest) rs;
+  split = ap (λ (x : List Question). x ++ rs) p.split ∙ append_assoc p.prefix (p.question ∷ p.rest) rs;
   between = p.between;
   asked = p.asked;
   judge = p.judge;

@@ -1,5 +1,5 @@
 -- What a file's store is read as, the check list over it, and what judges are asked. Read in this order.
-pub mod Shape
+pub mod Opened
 pub mod Ingredients
 pub mod Questions
 pub mod Claims

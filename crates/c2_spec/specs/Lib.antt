@@ -9,4 +9,3 @@ pub mod Judges
 pub mod Jumbf
 pub mod Located
 pub mod Reason
-pub mod StoreTree

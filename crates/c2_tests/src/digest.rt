@@ -90,7 +90,7 @@ fn push_packet(file: &mut Vec<u8>, number: u8, body: &[u8]) -> Result<(), Fail> 
     Ok(())
 }
 
-// Puts this many zero bytes behind others.
+// Appends this many zero bytes.
 fn push_zeros(bytes: &mut Vec<u8>, count: usize) -> Result<(), Fail> {
     for _ in 0..count {
         bytes.push(0)?;

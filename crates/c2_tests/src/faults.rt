@@ -29,7 +29,7 @@ fn each_failing_read_is_told(rt: HostRuntime) -> Result<(), Fail> {
             status => {
                 assert_eq!(rt; status, Status::Done, "at call {fail_at}");
                 assert_eq!(rt; report.bytes(), ONE_PACKET_DIGEST.as_bytes());
-                // The length, a front of the file, and the bytes on both sides of the packet were asked for.
+                // The length, a prefix of the file, and the bytes on both sides of the packet were asked for.
                 assert!(rt; 4 < fail_at, "at call {fail_at}");
                 return Ok(());
             }

@@ -21,13 +21,11 @@ mod manifests;
 #[cfg(test)]
 mod outside;
 #[cfg(test)]
-mod questions;
+mod questions_rows;
 #[cfg(test)]
-mod show_boxes;
+mod show_rows;
 #[cfg(test)]
-mod show_claims;
-#[cfg(test)]
-mod show_stores;
+mod stores;
 #[cfg(test)]
 mod tables;
 #[cfg(test)]

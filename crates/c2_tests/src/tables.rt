@@ -75,20 +75,20 @@ fn store_comes_to(
     let store = hex::decode(alloc, hex)?;
     let file = in_jpeg(alloc, store.as_slice(), 63_984)?;
     let media = MemSource::new(Blob::copied(alloc, file.as_slice())?, 7, 0);
-    let got = told_of(alloc, given, media)?;
+    let got = said_of(alloc, given, media)?;
     assert_eq!(rt; got.as_str(), known, "in pieces: {hex}");
     let media = MemSource::new(Blob::from_vec(file), 65_536, 0);
-    let got = told_of(alloc, given, media)?;
+    let got = said_of(alloc, given, media)?;
     assert_eq!(rt; got.as_str(), known, "in one packet: {hex}");
     let file = in_jpeg(alloc, store.as_slice(), 50)?;
     let media = MemSource::new(Blob::from_vec(file), 65_536, 0);
-    let got = told_of(alloc, given, media)?;
+    let got = said_of(alloc, given, media)?;
     assert_eq!(rt; got.as_str(), known, "in packets: {hex}");
     Ok(())
 }
 
 // The status of a run without judges and its report, which is one line.
-fn told_of(alloc: Global, given: &Vec<String>, mut media: MemSource) -> Result<String, Fail> {
+fn said_of(alloc: Global, given: &Vec<String>, mut media: MemSource) -> Result<String, Fail> {
     let mut sink = MemSink::with_room(alloc, 1000, 0)?;
     let mut judges: Vec<Box<dyn Judge>> = Vec::new(alloc);
     let status = run(alloc, &Sha, given, &mut media, &mut sink, &mut judges);

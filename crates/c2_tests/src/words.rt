@@ -67,7 +67,7 @@ fn at_most_64_judges_are_named(rt: HostRuntime) -> Result<(), Fail> {
     gives_usage(&rt, alloc, &with_judges(alloc, 65)?)
 }
 
-// The words have these roles: one media file, and names of judges behind it.
+// The words have these roles: one media file, and names of judges after it.
 fn has_roles(
     rt: &impl Abort,
     alloc: Global,

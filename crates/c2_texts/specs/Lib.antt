@@ -1,4 +1,3 @@
 pub mod Items
-pub mod Listing
 pub mod Show
 pub mod Texts

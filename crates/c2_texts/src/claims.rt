@@ -4,7 +4,7 @@ ghost use Rattle.std.specs.Option.{option_map};
 ghost use Rattle.serde_json.specs.Data.{Data, array, string};
 ghost use Rattle.serde_json.specs.View.{items_of, view};
 ghost use Rattle.serde_json.specs.Written.{comma_if, compact_text};
-ghost use Rattle.c2_texts.specs.Items.{items_inside};
+ghost use Rattle.c2_texts.specs.Items.{Appends, AppendsItems, items_inside};
 ghost use Rattle.c2_texts.specs.Show as form;
 
 use crate::json::{comma, push_value};
@@ -32,23 +32,25 @@ fn entry_value(alloc: Global, entry: &Ref) -> Result<Value, AllocError>
     json!(in alloc; {"alg": alg, "hash": hash, "url": (entry.url.as_str())})
 }
 
-// Puts an entry behind what is there.
+// Appends an entry.
 fn push_entry(alloc: Global, out: &mut String, later: bool, entry: &Ref) -> Result<(), AllocError>
-    ensures { OnOk result (string_bytes out.new ≡ string_bytes out.old ++ (comma_if later ++ compact_text (form.entry_data entry.now))) }
+    ensures { let text = comma_if later ++ compact_text (form.entry_data entry.now) in
+        OnOk result (Appends out.old out.new text) }
 {
     let value = entry_value(alloc, entry)?;
     push_value(alloc, out, comma(later), &value)?;
     Ok(())
 }
 
-// Puts these entries behind what is there, and says whether an entry stands there now.
+// Appends these entries, and says whether the array has an entry now.
 fn push_entries(
     alloc: Global,
     out: &mut String,
     before: bool,
     entries: &[Ref],
 ) -> Result<bool, AllocError>
-    ensures { IfOk result (λ later. (rest : List Data) → string_bytes out.new ++ items_inside later rest ≡ string_bytes out.old ++ items_inside before (map form.entry_data entries.now ++ rest)) }
+    ensures { let items = map form.entry_data entries.now in
+        IfOk result (λ later. AppendsItems before later out.old out.new items) }
 {
     let mut later = before;
     for entry in entries {
@@ -58,9 +60,11 @@ fn push_entries(
     Ok(later)
 }
 
-// Puts a claim's entries behind what is there, the created ones first.
+// Appends a claim's entries, the created ones first.
 fn push_assertions(alloc: Global, out: &mut String, claim: &Claim) -> Result<(), AllocError>
-    ensures { OnOk result (string_bytes out.new ≡ string_bytes out.old ++ (codes ",\"assertions\":" ++ compact_text (array (items_of (map form.entry_data (claim.now.created ++ claim.now.gathered)))))) }
+    ensures { let entries = map form.entry_data (claim.now.created ++ claim.now.gathered) in
+        let text = codes ",\"assertions\":" ++ compact_text (array (items_of entries)) in
+        OnOk result (Appends out.old out.new text) }
 {
     out.push_str(",\"assertions\":[")?;
     let later = push_entries(alloc, out, false, claim.created.as_slice())?;
@@ -69,18 +73,18 @@ fn push_assertions(alloc: Global, out: &mut String, claim: &Claim) -> Result<(),
     Ok(())
 }
 
-// Puts a text behind what is there.
+// Appends a text.
 fn push_text(alloc: Global, out: &mut String, before: &str, text: &str) -> Result<(), AllocError>
-    ensures { OnOk result (string_bytes out.new ≡ string_bytes out.old ++ (before.now ++ compact_text (string text.now))) }
+    ensures { OnOk result (Appends out.old out.new (before.now ++ compact_text (string text.now))) }
 {
     let value = Value::try_from_str(alloc, text)?;
     push_value(alloc, out, before, &value)?;
     Ok(())
 }
 
-// Puts these texts behind what is there.
+// Appends these texts.
 fn push_texts(alloc: Global, out: &mut String, texts: &[Text]) -> Result<(), AllocError>
-    ensures { OnOk result (string_bytes out.new ≡ string_bytes out.old ++ items_inside false (map string texts.now)) }
+    ensures { OnOk result (Appends out.old out.new (items_inside false (map string texts.now))) }
 {
     let mut later = false;
     for text in texts {
@@ -90,9 +94,11 @@ fn push_texts(alloc: Global, out: &mut String, texts: &[Text]) -> Result<(), All
     Ok(())
 }
 
-// Puts the URIs of what is redacted behind what is there.
+// Appends the URIs of what is redacted.
 fn push_redacted(alloc: Global, out: &mut String, texts: &[Text]) -> Result<(), AllocError>
-    ensures { OnOk result (string_bytes out.new ≡ string_bytes out.old ++ (codes ",\"redacted\":" ++ compact_text (array (items_of (map string texts.now))))) }
+    ensures { let uris = map string texts.now in
+        let text = codes ",\"redacted\":" ++ compact_text (array (items_of uris)) in
+        OnOk result (Appends out.old out.new text) }
 {
     out.push_str(",\"redacted\":[")?;
     push_texts(alloc, out, texts)?;
@@ -100,9 +106,9 @@ fn push_redacted(alloc: Global, out: &mut String, texts: &[Text]) -> Result<(), 
     Ok(())
 }
 
-// Puts a claim behind what is there.
+// Appends a claim.
 fn push_claim(alloc: Global, out: &mut String, claim: &Claim) -> Result<(), AllocError>
-    ensures { OnOk result (string_bytes out.new ≡ string_bytes out.old ++ compact_text (form.claim_data claim.now)) }
+    ensures { OnOk result (Appends out.old out.new (compact_text (form.claim_data claim.now))) }
 {
     let alg = text_or_null(alloc, &claim.alg)?;
     push_value(alloc, out, "{\"alg\":", &alg)?;
@@ -113,13 +119,14 @@ fn push_claim(alloc: Global, out: &mut String, claim: &Claim) -> Result<(), Allo
     Ok(())
 }
 
-/// Puts a manifest's claim behind what is there, or null where it has none.
+/// Appends a manifest's claim, or null where it has none.
 pub fn push_claim_or_null(
     alloc: Global,
     out: &mut String,
     claim: Option<&Claim>,
 ) -> Result<(), AllocError>
-    ensures { OnOk result (string_bytes out.new ≡ string_bytes out.old ++ compact_text (form.claim_or_null (option_map (λ c. c.now) claim.entry))) }
+    ensures { let value = form.claim_or_null (option_map (λ c. c.now) claim.entry) in
+        OnOk result (Appends out.old out.new (compact_text value)) }
 {
     let Some(claim) = claim else {
         out.push_str("null")?;

@@ -2,6 +2,7 @@
 ghost use Rattle.std.specs.Prelude.{◌≡◌, ◌++◌, false, OnOk, string_bytes};
 ghost use Rattle.serde_json.specs.View.{view};
 ghost use Rattle.serde_json.specs.Written.{comma_if, compact_text, has_float};
+ghost use Rattle.c2_texts.specs.Items.{Appends};
 
 use serde_json::Value;
 use std::alloc::{AllocError, Global};
@@ -13,7 +14,7 @@ pub fn comma(later: bool) -> &'static str
     if later { "," } else { "" }
 }
 
-/// Puts this text and a value behind what is there.
+/// Appends this text and a value.
 pub fn push_value(
     alloc: Global,
     out: &mut String,
@@ -21,7 +22,8 @@ pub fn push_value(
     value: &Value,
 ) -> Result<(), AllocError>
     requires { has_float (view value.now) ≡ false }
-    ensures { OnOk result (string_bytes out.new ≡ string_bytes out.old ++ (before.now ++ compact_text (view value.now))) }
+    ensures { let text = before.now ++ compact_text (view value.now) in
+        OnOk result (Appends out.old out.new text) }
 {
     let text = value.to_string(alloc)?;
     out.push_str(before)?;

@@ -64,7 +64,8 @@ pub fn question_line(
     label: &str,
     verdict: Verdict,
 ) -> Result<String, AllocError>
-    ensures { IfOk result (λ text. string_bytes text ≡ form.question_line id.now label.now verdict) }
+    ensures { let line = form.question_line id.now label.now verdict in
+        IfOk result (λ text. string_bytes text ≡ line) }
 {
     let hex = hex::encode(alloc, id)?;
     let label = printable(alloc, label)?;

@@ -7,7 +7,7 @@ ghost use Rattle.serde_json.specs.View.{items_of, view};
 ghost use Rattle.serde_json.specs.Written.{compact_text};
 ghost use Rattle.c2_spec.specs.Jumbf.Boxes.{tree_count};
 ghost use Rattle.c2_spec.specs.C2pa.Manifest.{IsStoreOf, superbox_at, manifest_at};
-ghost use Rattle.c2_texts.specs.Items.{items_inside};
+ghost use Rattle.c2_texts.specs.Items.{Appends, items_inside};
 ghost use Rattle.c2_texts.specs.Show as form;
 
 use crate::claims::push_claim_or_null;
@@ -21,7 +21,8 @@ use std::alloc::{AllocError, Global};
 // A box, where it has a label.
 fn box_value(alloc: Global, tree: &Tree<'_>, i: usize) -> Result<Option<Value>, AllocError>
     requires { i < tree_count tree.now }
-    ensures { IfOk result (λ value. option_map view value ≡ form.box_data (superbox_at tree.now i)) }
+    ensures { let box = form.box_data (superbox_at tree.now i) in
+        IfOk result (λ value. option_map view value ≡ box) }
 {
     let Some(label) = label_of(tree, i) else {
         return Ok(None);
@@ -31,7 +32,7 @@ fn box_value(alloc: Global, tree: &Tree<'_>, i: usize) -> Result<Option<Value>, 
     Ok(Some(value))
 }
 
-// Puts a box behind what is there, where it has a label, and says whether a box stands there now.
+// Appends a box, where it has a label, and says whether the array has a box now.
 fn push_box(
     alloc: Global,
     out: &mut String,
@@ -40,7 +41,9 @@ fn push_box(
     i: usize,
 ) -> Result<bool, AllocError>
     requires { i < tree_count tree.now }
-    ensures { IfOk result (λ later. (rest : List Data) → string_bytes out.new ++ items_inside later rest ≡ string_bytes out.old ++ items_inside before (cons_option (form.box_data (superbox_at tree.now i)) rest)) }
+    ensures { let box = form.box_data (superbox_at tree.now i) in
+        IfOk result (λ later. (rest : List Data) → string_bytes out.new ++ items_inside later rest
+        ≡ string_bytes out.old ++ items_inside before (cons_option box rest)) }
 {
     let Some(value) = box_value(alloc, tree, i)? else {
         return Ok(before);
@@ -49,7 +52,7 @@ fn push_box(
     Ok(true)
 }
 
-// Puts those of these boxes that have labels behind what is there.
+// Appends those of these boxes that have labels.
 fn push_boxes(
     alloc: Global,
     out: &mut String,
@@ -57,7 +60,8 @@ fn push_boxes(
     boxes: &[usize],
 ) -> Result<(), AllocError>
     requires { All (λ i. i < tree_count tree.now) boxes.now }
-    ensures { OnOk result (string_bytes out.new ≡ string_bytes out.old ++ items_inside false (filter_map form.box_data (map (superbox_at tree.now) boxes.now))) }
+    ensures { let items = filter_map form.box_data (map (superbox_at tree.now) boxes.now) in
+        OnOk result (Appends out.old out.new (items_inside false items)) }
 {
     let mut later = false;
     for i in boxes {
@@ -66,7 +70,7 @@ fn push_boxes(
     Ok(())
 }
 
-// Puts the array of those of these boxes that have labels behind what is there.
+// Appends the array of those of these boxes that have labels.
 fn push_labelled(
     alloc: Global,
     out: &mut String,
@@ -74,7 +78,9 @@ fn push_labelled(
     boxes: &[usize],
 ) -> Result<(), AllocError>
     requires { All (λ i. i < tree_count tree.now) boxes.now }
-    ensures { OnOk result (string_bytes out.new ≡ string_bytes out.old ++ (codes "{\"boxes\":" ++ compact_text (array (items_of (filter_map form.box_data (map (superbox_at tree.now) boxes.now)))))) }
+    ensures { let items = filter_map form.box_data (map (superbox_at tree.now) boxes.now) in
+        let text = codes "{\"boxes\":" ++ compact_text (array (items_of items)) in
+        OnOk result (Appends out.old out.new text) }
 {
     out.push_str("{\"boxes\":[")?;
     push_boxes(alloc, out, tree, boxes)?;
@@ -82,7 +88,7 @@ fn push_labelled(
     Ok(())
 }
 
-/// Puts the manifest with this index, which has this claim, behind what is there.
+/// Appends the manifest with this index, which has this claim.
 pub fn push_manifest(
     alloc: Global,
     out: &mut String,
@@ -93,7 +99,10 @@ pub fn push_manifest(
 ) -> Result<(), AllocError>
     requires inside { i < length store.now }
     requires same { IsStoreOf tree.now store.now }
-    ensures { OnOk result (Some (string_bytes out.new) ≡ option_map (λ m. string_bytes out.old ++ compact_text (form.manifest_data (manifest_at tree.now m) (option_map (λ c. c.now) claim.entry))) (slice_get store.now i)) }
+    ensures { let claim = option_map (λ c. c.now) claim.entry in
+        OnOk result (Some (string_bytes out.new) ≡ option_map (λ m. string_bytes out.old
+        ++ compact_text (form.manifest_data (manifest_at tree.now m) claim))
+        (slice_get store.now i)) }
 {
     push_labelled(alloc, out, tree, assertions(store, i))?;
     out.push_str(",\"claim\":")?;

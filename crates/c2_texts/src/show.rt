@@ -3,7 +3,7 @@ ghost use Rattle.std.specs.Prelude.{◌≡◌, ◌++◌, IfOk, OnOk, false, stri
 ghost use Rattle.serde_json.specs.View.{view};
 ghost use Rattle.c2_spec.specs.C2pa.Manifest.{IsStoreOf, manifests_of};
 ghost use Rattle.c2_rules.specs.Claims.{active_of};
-ghost use Rattle.c2_texts.specs.Items.{items_inside};
+ghost use Rattle.c2_texts.specs.Items.{Appends, items_inside};
 ghost use Rattle.c2_texts.specs.Show as form;
 
 use crate::json::{comma, push_value};
@@ -14,7 +14,7 @@ use c2_store::{Store, label, manifest_count};
 use serde_json::Value;
 use std::alloc::{AllocError, Global};
 
-// Puts all manifests, each with its claim, behind what is there, in box order.
+// Appends all manifests, each with its claim, in box order.
 fn push_manifests(
     alloc: Global,
     out: &mut String,
@@ -24,7 +24,8 @@ fn push_manifests(
 ) -> Result<(), AllocError>
     requires same { IsStoreOf tree.now store.now }
     requires manifests { chain.now.manifests ≡ manifests_of tree.now }
-    ensures { OnOk result (string_bytes out.new ≡ string_bytes out.old ++ items_inside false (form.manifests_data chain.now.manifests chain.now.claims)) }
+    ensures { let items = form.manifests_data chain.now.manifests chain.now.claims in
+        OnOk result (Appends out.old out.new (items_inside false items)) }
 {
     let mut later = false;
     for i in 0..manifest_count(store) {
@@ -38,7 +39,8 @@ fn push_manifests(
 // The label of the active manifest, which is the last.
 fn active_value(alloc: Global, tree: &Tree<'_>, store: &Store) -> Result<Value, AllocError>
     requires { IsStoreOf tree.now store.now }
-    ensures { IfOk result (λ value. view value ≡ form.active_data (active_of (manifests_of tree.now))) }
+    ensures { let active = active_of (manifests_of tree.now) in
+        IfOk result (λ value. view value ≡ form.active_data active) }
 {
     let Some(last) = manifest_count(store).checked_sub(1) else {
         return Ok(Value::Null);

@@ -1,14 +1,26 @@
-use Rattle.std.proofs.Common.{◌≡◌, ◌∙◌, ap}
+use Rattle.std.proofs.Common.{◌∙◌, ap}
 use Rattle.c2_spec.specs.declared.digest.Alg.TheVariants.{Sha256}
-use Rattle.c2_cmd.specs.Outcome.{digest_outcome, reports}
-use Rattle.c2_texts.specs.Texts.{digest_line}
+use Rattle.c2_spec.specs.Located.{here}
+use Rattle.c2_cmd.specs.Outcome.{IsDigestOutcome, reports}
+use Rattle.c2_cmd.specs.Reply.{Replies, outcome_of}
 use Rattle.c2_cmd.specs.declared.types.Answer.TheVariants as answer
-use Rattle.c2_cmd.proofs.Replying.{reply_is, reply_of-opened}
+use Rattle.c2_cmd.proofs.Replying.{always_ok, each_ok, memory_cause, no_usage, stored_here}
+use Rattle.c2_texts.specs.Texts.{digest_line}
 use Rattle.c2_cmd.proofs.digest.reply_to_digest.Goals as goal
 
-pub returns-in-Ok-clause-reply : goal.returns-in-Ok-clause-reply
-returns-in-Ok-clause-reply g c file known =
+pub returns-clause-reply : goal.returns-clause-reply
+returns-clause-reply g c =
     let hash = g.H.Hashing.digest_of Sha256 in
-    let digest = c.in-Ok.ensures.digest file (c.in_ok-found.ensures.stays.same_bytes ∙ known) in
-    let out = c.in_ok-reply-in-Ok.ensures.reply ∙ ap (λ d. reports answer.Done (digest_line c.in-Here.found.start c.in-Here.found.length d)) digest in
-    reply_of-opened (λ what expected. expected ≡ digest_outcome hash file what) file _ _ _ c.in-Here.is (c.in_ok-found.ensures.found file known) (c.in_ok-found.ensures.only file known) (reply_is _ _ out)
+    let found = c.in-Here.found in
+    each_ok _ (Replies (IsDigestOutcome hash) (g.S.Source.known c.args.media.now)) c.digest_reply.result (λ r out file known.
+    let digest = c.in_ok-digest.ensures.digest file (c.in_ok-found.ensures.stays.same_bytes ∙ known) in
+    (here found.start found.length found.store, stored_here file _ found c.in-Here.is (c.in_ok-found.ensures.stored file known), out ∙ ap (λ d. reports answer.Done (digest_line found.start found.length d)) digest)) c.digest_reply.ensures.reply
+
+pub returns-clause-words : goal.returns-clause-words
+returns-clause-words g c = each_ok _ _ c.digest_reply.result (λ r out. no_usage r _ out) c.digest_reply.ensures.reply
+
+pub returns-clause-count : goal.returns-clause-count
+returns-clause-count g c = always_ok _ c.digest_reply.result (c.in_ok-digest.ensures.cause.ok ∙ c.in_ok-found.ensures.count)
+
+pub returns-clause-fault : goal.returns-clause-fault
+returns-clause-fault g c = memory_cause _ _ c.digest_reply.result c.digest_reply.ensures.memory

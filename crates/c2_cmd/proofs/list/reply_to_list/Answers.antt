@@ -1,8 +1,14 @@
-use Rattle.c2_cmd.specs.Outcome.{IsListing}
-use Rattle.c2_cmd.proofs.Replying.{reply_of-opened}
+use Rattle.c2_cmd.specs.Outcome.{IsListOutcome}
+use Rattle.c2_cmd.specs.Reply.{ListsStore, Replies, outcome_of}
+use Rattle.c2_cmd.proofs.Replying.{boxed_outcome, each_ok, short_boxed, stored_here, stored_reply}
 use Rattle.c2_cmd.proofs.list.reply_to_list.Goals as goal
 
-pub returns-clause-reply : goal.returns-clause-reply
-returns-clause-reply g c file known =
-    let store = c.in_ok-reply.ensures.reply in
-    reply_of-opened IsListing file _ _ _ c.in-Here.is (c.in_ok-found.ensures.found file known) (c.in_ok-found.ensures.only file known) (rw c.as_slice.ensures.value at store)
+pub returns-in-Here-clause-reply : goal.returns-in-Here-clause-reply
+returns-in-Here-clause-reply g c =
+    each_ok (ListsStore c.in-Here.found) (Replies IsListOutcome (g.S.Source.known c.args.media.now)) c.list_store.result (λ r h file known.
+    boxed_outcome file c.in-Here.found (outcome_of r) (stored_here file _ c.in-Here.found c.in-Here.is (c.in_ok-found.ensures.stored file known)) h) c.list_store.ensures.reply
+
+pub returns-in-Reply-clause-reply : goal.returns-in-Reply-clause-reply
+returns-in-Reply-clause-reply g c file known =
+    let short = stored_reply file _ c.in-Reply.reply c.in-Reply.is (c.in_ok-found.ensures.stored file known) in
+    short_boxed file short.0 (outcome_of c.in-Reply.reply) short.1 short.2

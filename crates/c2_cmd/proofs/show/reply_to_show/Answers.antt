@@ -1,15 +1,14 @@
-use Rattle.c2_cmd.specs.Outcome.{IsShown}
-use Rattle.c2_cmd.proofs.Storing.{opened_reply, container_reply, absent_reply}
+use Rattle.c2_cmd.specs.Outcome.{IsMediaOutcome, IsShown}
+use Rattle.c2_cmd.specs.Reply.{Replies, RepliesOver, outcome_of}
+use Rattle.c2_cmd.proofs.Replying.{each_ok, media_outcome, media_short, stored_here, stored_reply}
 use Rattle.c2_cmd.proofs.show.reply_to_show.Goals as goal
 
-pub returns-clause-reply : goal.returns-clause-reply
-returns-clause-reply g c file known =
-    opened_reply IsShown file _ _ _ c.in-Here.is (c.in_ok-found.ensures.found file known) (c.in_ok-found.ensures.only file known) c.in_ok-reply.ensures.reply
+pub returns-in-Here-clause-reply : goal.returns-in-Here-clause-reply
+returns-in-Here-clause-reply g c =
+    each_ok (RepliesOver IsShown c.in-Here.found) (Replies (IsMediaOutcome IsShown) (g.S.Source.known c.args.media.now)) c.show_found.result (λ r h file known.
+    media_outcome IsShown file c.in-Here.found (outcome_of r) (stored_here file _ c.in-Here.found c.in-Here.is (c.in_ok-found.ensures.stored file known)) h) c.show_found.ensures.reply
 
-pub returns-in-Refused-clause-reply : goal.returns-in-Refused-clause-reply
-returns-in-Refused-clause-reply g c file known =
-    opened_reply IsShown file _ _ _ c.in-Refused.is (c.in_ok-found.ensures.found file known) (c.in_ok-found.ensures.only file known) (container_reply IsShown c.in-Refused.reason c.in-Refused.number _ c.in_ok-reply-in-Refused.ensures.reply)
-
-pub returns-in-NoStore-clause-reply : goal.returns-in-NoStore-clause-reply
-returns-in-NoStore-clause-reply g c file known =
-    opened_reply IsShown file _ _ _ c.in-NoStore.is (c.in_ok-found.ensures.found file known) (c.in_ok-found.ensures.only file known) (absent_reply IsShown _ c.in_ok-reply-in-NoStore.ensures.reply)
+pub returns-in-Reply-clause-reply : goal.returns-in-Reply-clause-reply
+returns-in-Reply-clause-reply g c file known =
+    let short = stored_reply file _ c.in-Reply.reply c.in-Reply.is (c.in_ok-found.ensures.stored file known) in
+    media_short IsShown file short.0 (outcome_of c.in-Reply.reply) short.1 short.2

@@ -8,9 +8,8 @@ boxes-preserved c =
     let before = c.boxes.invariant in
     let below : c.boxes.i < tree_count c.args.tree.now = omega (arith, before.end, c.boxes-test.true) in
     record {
-      legal = before.legal;
       end = before.end;
-      lines = lines_more c.args.tree.now c.boxes.i (string_bytes c.boxes.text) _ below before.legal before.lines (search rules);
+      lines = lines_more c.args.tree.now c.boxes.i (string_bytes c.boxes.text) _ below before.lines (search rules);
     }
 
 pub returns : goal.returns

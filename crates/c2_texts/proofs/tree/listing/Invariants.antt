@@ -1,13 +1,11 @@
 use Rattle.std.proofs.Common.{◌≡◌, take, string_bytes}
 use Rattle.std.specs.List.{flat_map}
-use Rattle.c2_spec.specs.Jumbf.Tree.{IsLegalTree}
 use Rattle.c2_spec.specs.Jumbf.Boxes.{boxes_of, tree_count}
 use Rattle.c2_texts.specs.Texts.{box_line}
 use Rattle.c2_texts.proofs.tree.listing.Given as goal
 
 abbrev pub invariant-boxes : goal.invariant-boxes
 invariant-boxes l = record {
-  legal : IsLegalTree 1 l.tree;
   end : l.i-end ≡ tree_count l.tree;
   lines : string_bytes l.text ≡ flat_map box_line (take l.i (boxes_of l.tree));
 }

@@ -1,0 +1,149 @@
+-- Words and inputs come to one outcome, and to one list of questions.
+use Rattle.std.proofs.Common.{◌≡◌, refl, sym, ◌∙◌, ap, subst, ℕ, List, [], ◌∷◌, Option, Some, None, length, slice_get}
+use Rattle.c2_base.specs.declared.values.Question.{Question}
+use Rattle.c2_spec.specs.declared.claim.Claim.{Claim}
+use Rattle.c2_spec.specs.declared.digest.Alg.TheVariants.{Sha256}
+use Rattle.c2_spec.specs.declared.jumbf.JumbfError.{JumbfError}
+use Rattle.c2_spec.specs.declared.panel.Verdict.{Verdict}
+use Rattle.c2_spec.specs.declared.reason.Refusal.{Refusal}
+use Rattle.c2_spec.specs.declared.store.StoreError.{StoreError}
+use Rattle.c2_spec.specs.C2pa.Manifest.{Manifest, manifests_of, store_refusal}
+use Rattle.c2_spec.specs.Jpeg.Store.{IsLocated}
+use Rattle.c2_spec.specs.Jumbf.Faults.{JumbfFault}
+use Rattle.c2_spec.specs.Jumbf.Tree.{Tree, SpellsTree}
+use Rattle.c2_spec.specs.Located.{Opening, Located, refused, absent, here, refused_by}
+use Rattle.c2_spec.specs.Reason.{boxes_refusal, manifests_refusal}
+use Rattle.c2_rules.specs.Claims.{HaveClaims, active_of}
+use Rattle.c2_rules.specs.Ingredients.{first_ingredient}
+use Rattle.c2_rules.specs.Opened.{Opens, IsBoxTree, IsManifestTree, IsManifestStore, IsBoxed, IsOpened}
+use Rattle.c2_rules.specs.Questions.{HasQuestion, IsQuestionOf}
+use Rattle.c2_cmd.specs.Outcome.{Outcome, Inputs, Reports, IsOutcome, IsCommandOutcome, IsDigested, IsListing, IsShown, IsQuestioned, IsAskedUnless, Asks, CommandAsks, AsksUnless, AsksOfTree, AsksOfOpened, shown, verdict_line, reports, one_or_none}
+use Rattle.c2_cmd.specs.declared.types.Answer.TheVariants as answer
+use Rattle.c2_cmd.specs.declared.types.Command.{Command}
+use Rattle.c2_cmd.specs.declared.types.Command.TheVariants as command
+use Rattle.c2_cmd.specs.declared.types.Roles.{Roles}
+
+-- what the laws of the crates below say
+pub record Laws : Type 0 where
+  pub located : (file : List ℕ) (v w : Located) → IsLocated file v → IsLocated file w → v ≡ w
+  pub apart : (bytes : List ℕ) (t : Tree) (e : JumbfError) → SpellsTree bytes t → JumbfFault bytes e → ⊥
+  pub tree : (bytes : List ℕ) (t u : Tree) → SpellsTree bytes t → SpellsTree bytes u → t ≡ u
+  pub fault : (bytes : List ℕ) (e f : JumbfError) → JumbfFault bytes e → JumbfFault bytes f → e ≡ f
+  pub claims : (ms : List Manifest) (cs ds : List (Option Claim)) → HaveClaims ms cs → HaveClaims ms ds → cs ≡ ds
+  pub question : (m : Manifest) (q r : Question) → HasQuestion m q → HasQuestion m r → q ≡ r
+
+-- where the first value is one, and so is each that follows from it, the second is one
+one_after : {A B : Type 0} (First : A → Type 0) (Next : A → B → Type 0) → ((a b : A) → First a → First b → a ≡ b) → ((a : A) (x y : B) → Next a x → Next a y → x ≡ y) → (x y : B) → (a : A) × First a × Next a x → (b : A) × First b × Next b y → x ≡ y
+one_after {A} {B} First Next first next x y h k = next h.0 x y h.2 (subst (λ (a : A). Next a y) (first k.0 h.0 k.1 h.1) k.2)
+
+one_some : {A : Type 0} (a b : A) → Some a ≡ Some b → a ≡ b
+one_some a b e = cc (e)
+
+none_some : {A : Type 0} (a : A) (o : Option A) → o ≡ Some a → o ≡ None → ⊥
+none_some a o p q = let bad = sym p ∙ q in cc (bad)
+
+-- ---- openings
+
+-- an opening that is refused so
+abbrev opening_of : Option Refusal → Opening Tree
+opening_of None = absent
+opening_of (Some r) = refused_by r
+
+one_opens : {A B : Type 0} (Is : ℕ → ℕ → A → Opening B → Type 0) → ((start len : ℕ) (a : A) (x y : Opening B) → Is start len a x → Is start len a y → x ≡ y) → (o : Opening A) (x y : Opening B) → Opens Is o x → Opens Is o y → x ≡ y
+one_opens Is once (refused reason number) x y h k = h ∙ sym k
+one_opens Is once absent x y h k = h ∙ sym k
+one_opens Is once (here start len a) x y h k = once start len a x y h k
+
+one_box_tree : Laws → (start len : ℕ) (store : List ℕ) (x y : Opening Tree) → IsBoxTree start len store x → IsBoxTree start len store y → x ≡ y
+one_box_tree laws start len store (refused r n) (refused q m) h k = ap opening_of (sym h.2 ∙ ap boxes_refusal (laws.fault store h.0 k.0 h.1 k.1) ∙ k.2)
+one_box_tree laws start len store (refused r n) absent h k = absurd k
+one_box_tree laws start len store (refused r n) (here s l t) h k = absurd (laws.apart store t h.0 k.0 h.1)
+one_box_tree laws start len store absent y h k = absurd h
+one_box_tree laws start len store (here s l t) (refused q m) h k = absurd (laws.apart store t k.0 h.0 k.1)
+one_box_tree laws start len store (here s l t) absent h k = absurd k
+one_box_tree laws start len store (here s l t) (here p m u) h k = h.1 ∙ ap (here start len) (laws.tree store t u h.0 k.0) ∙ sym k.1
+
+one_manifest_tree : (start len : ℕ) (t : Tree) (x y : Opening Tree) → IsManifestTree start len t x → IsManifestTree start len t y → x ≡ y
+one_manifest_tree start len t (refused r n) (refused q m) h k = ap opening_of (sym h.2 ∙ ap manifests_refusal (one_some h.0 k.0 (sym h.1 ∙ k.1)) ∙ k.2)
+one_manifest_tree start len t (refused r n) absent h k = absurd k
+one_manifest_tree start len t (refused r n) (here s l u) h k = absurd (none_some h.0 (store_refusal t) h.1 k.0)
+one_manifest_tree start len t absent y h k = absurd h
+one_manifest_tree start len t (here s l u) (refused r n) h k = absurd (none_some k.0 (store_refusal t) k.1 h.0)
+one_manifest_tree start len t (here s l u) absent h k = absurd k
+one_manifest_tree start len t (here s l u) (here p m v) h k = h.1 ∙ sym k.1
+
+one_manifest_store : Laws → (start len : ℕ) (store : List ℕ) (x y : Opening Tree) → IsManifestStore start len store x → IsManifestStore start len store y → x ≡ y
+one_manifest_store laws start len store x y h k =
+    one_after (IsBoxTree start len store) (Opens IsManifestTree) (one_box_tree laws start len store) (one_opens IsManifestTree one_manifest_tree) x y h k
+
+one_boxed : Laws → (file : List ℕ) (x y : Opening Tree) → IsBoxed file x → IsBoxed file y → x ≡ y
+one_boxed laws file x y h k = one_after (IsLocated file) (Opens IsBoxTree) (laws.located file) (one_opens IsBoxTree (one_box_tree laws)) x y h k
+
+one_opened : Laws → (file : List ℕ) (x y : Opening Tree) → IsOpened file x → IsOpened file y → x ≡ y
+one_opened laws file x y h k = one_after (IsLocated file) (Opens IsManifestStore) (laws.located file) (one_opens IsManifestStore (one_manifest_store laws)) x y h k
+
+-- ---- outcomes
+
+one_report : {A : Type 0} (Is : ℕ → ℕ → A → Outcome → Type 0) → ((start len : ℕ) (a : A) (x y : Outcome) → Is start len a x → Is start len a y → x ≡ y) → (o : Opening A) (x y : Outcome) → Reports Is o x → Reports Is o y → x ≡ y
+one_report Is once (refused reason number) x y h k = h ∙ sym k
+one_report Is once absent x y h k = h ∙ sym k
+one_report Is once (here start len a) x y h k = once start len a x y h k
+
+one_shown : Laws → (t : Tree) (x y : Outcome) → IsShown t x → IsShown t y → x ≡ y
+one_shown laws t x y h k = one_after (HaveClaims (manifests_of t)) (λ claims e. e ≡ shown t claims) (laws.claims (manifests_of t)) (λ claims a b p q. p ∙ sym q) x y h k
+
+same_question : Laws → (m : Manifest) (a b : Option Question) → IsQuestionOf m a → IsQuestionOf m b → a ≡ b
+same_question laws m None None p q = refl
+same_question laws m None (Some b) p q = absurd (p b q)
+same_question laws m (Some a) None p q = absurd (q a p)
+same_question laws m (Some a) (Some b) p q = ap Some (laws.question m a b p q)
+
+one_asked : Laws → (said : Question → Verdict) (m : Manifest) (o : Option (List ℕ)) (x y : Outcome) → IsAskedUnless said m o x → IsAskedUnless said m o y → x ≡ y
+one_asked laws said m (Some label) x y h k = h ∙ sym k
+one_asked laws said m None x y h k = one_after (IsQuestionOf m) (λ found e. e ≡ reports answer.Done (verdict_line said m found)) (same_question laws m) (λ found a b p q. p ∙ sym q) x y h k
+
+one_active : (t : Tree) (m n : Manifest) → active_of (manifests_of t) ≡ Some m → active_of (manifests_of t) ≡ Some n → m ≡ n
+one_active t m n p q = one_some m n (sym p ∙ q)
+
+one_questioned : Laws → (said : Question → Verdict) (t : Tree) (x y : Outcome) → IsQuestioned said t x → IsQuestioned said t y → x ≡ y
+one_questioned laws said t x y h k =
+    one_after (λ (m : Manifest). active_of (manifests_of t) ≡ Some m) (λ (m : Manifest) (e : Outcome). IsAskedUnless said m (first_ingredient m) e) (one_active t) (λ (m : Manifest). one_asked laws said m (first_ingredient m)) x y h k
+
+one_media : Laws → (P : Tree → Outcome → Type 0) → ((t : Tree) (x y : Outcome) → P t x → P t y → x ≡ y) → (file : List ℕ) (x y : Outcome) → (what : Opening Tree) × IsOpened file what × Reports (λ start len t e. P t e) what x → (what : Opening Tree) × IsOpened file what × Reports (λ start len t e. P t e) what y → x ≡ y
+one_media laws P once file x y h k = one_after (IsOpened file) (Reports (λ start len t e. P t e)) (one_opened laws file) (one_report (λ start len t e. P t e) (λ start len t. once t)) x y h k
+
+one_command : Laws → (c : Command) (roles : Roles) (i : Inputs) (x y : Outcome) → IsCommandOutcome c roles i x → IsCommandOutcome c roles i y → x ≡ y
+one_command laws command.Digest roles i x y h k =
+    one_after (IsLocated i.media) (Reports (IsDigested (i.hash Sha256) i.media)) (laws.located i.media) (one_report (IsDigested (i.hash Sha256) i.media) (λ start len store a b p q. p ∙ sym q)) x y h k
+one_command laws command.List roles i x y h k = one_after (IsBoxed i.media) (Reports IsListing) (one_boxed laws i.media) (one_report IsListing (λ start len t a b p q. p ∙ sym q)) x y h k
+one_command laws command.Show roles i x y h k = one_media laws IsShown (one_shown laws) i.media x y h k
+one_command laws command.Questions roles i x y h k = one_media laws (IsQuestioned i.said) (one_questioned laws i.said) i.media x y h k
+
+pub one_outcome : Laws → (roles : Option Roles) (i : Inputs) (x y : Outcome) → IsOutcome roles i x → IsOutcome roles i y → x ≡ y
+one_outcome laws None i x y h k = h ∙ sym k
+one_outcome laws (Some roles) i x y h k = one_command laws roles.command roles i x y h k
+
+-- ---- questions
+
+one_unless : Laws → (m : Manifest) (o : Option (List ℕ)) (ps qs : List Question) → AsksUnless m o ps → AsksUnless m o qs → ps ≡ qs
+one_unless laws m (Some label) ps qs h k = h ∙ sym k
+one_unless laws m None ps qs h k = one_after (IsQuestionOf m) (λ found l. l ≡ one_or_none found) (same_question laws m) (λ found a b p q. p ∙ sym q) ps qs h k
+
+one_of_tree : Laws → (t : Tree) (ps qs : List Question) → AsksOfTree t ps → AsksOfTree t qs → ps ≡ qs
+one_of_tree laws t ps qs h k =
+    one_after (λ (m : Manifest). active_of (manifests_of t) ≡ Some m) (λ (m : Manifest) (l : List Question). AsksUnless m (first_ingredient m) l) (one_active t) (λ (m : Manifest). one_unless laws m (first_ingredient m)) ps qs h k
+
+one_of_opened : Laws → (what : Opening Tree) (ps qs : List Question) → AsksOfOpened what ps → AsksOfOpened what qs → ps ≡ qs
+one_of_opened laws (refused reason number) ps qs h k = h ∙ sym k
+one_of_opened laws absent ps qs h k = h ∙ sym k
+one_of_opened laws (here start len t) ps qs h k = one_of_tree laws t ps qs h k
+
+one_asks : Laws → (c : Command) (i : Inputs) (ps qs : List Question) → CommandAsks c i ps → CommandAsks c i qs → ps ≡ qs
+one_asks laws command.Digest i ps qs h k = h ∙ sym k
+one_asks laws command.List i ps qs h k = h ∙ sym k
+one_asks laws command.Show i ps qs h k = h ∙ sym k
+one_asks laws command.Questions i ps qs h k = one_after (IsOpened i.media) AsksOfOpened (one_opened laws i.media) (one_of_opened laws) ps qs h k
+
+pub one_list : Laws → (roles : Option Roles) (i : Inputs) (ps qs : List Question) → Asks roles i ps → Asks roles i qs → ps ≡ qs
+one_list laws None i ps qs h k = h ∙ sym k
+one_list laws (Some roles) i ps qs h k = one_asks laws roles.command i ps qs h k

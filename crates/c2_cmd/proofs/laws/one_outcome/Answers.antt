@@ -1,0 +1,22 @@
+use Rattle.c2_cmd.proofs.OneOutcome.{Laws, one_list, one_outcome}
+use Rattle.c2_cmd.proofs.laws.one_outcome.Goals as goal
+
+pub returns-clause-outcome : goal.returns-clause-outcome
+returns-clause-outcome c = one_outcome (record {
+  located = c.each_file_is_located.ensures.once;
+  apart = c.each_list_is_a_tree_or_not.ensures.apart;
+  tree = c.each_list_is_a_tree_or_not.ensures.one_tree;
+  fault = c.each_list_is_a_tree_or_not.ensures.one_fault;
+  claims = c.one_list_of_claims.ensures;
+  question = c.one_question.ensures;
+})
+
+pub returns-clause-questions : goal.returns-clause-questions
+returns-clause-questions c = one_list (record {
+  located = c.each_file_is_located.ensures.once;
+  apart = c.each_list_is_a_tree_or_not.ensures.apart;
+  tree = c.each_list_is_a_tree_or_not.ensures.one_tree;
+  fault = c.each_list_is_a_tree_or_not.ensures.one_fault;
+  claims = c.one_list_of_claims.ensures;
+  question = c.one_question.ensures;
+})

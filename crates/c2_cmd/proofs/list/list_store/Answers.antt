@@ -1,0 +1,15 @@
+use Rattle.std.proofs.Common.{ap}
+use Rattle.c2_cmd.specs.Outcome.{reports}
+use Rattle.c2_cmd.specs.Reply.{ListsStore}
+use Rattle.c2_cmd.specs.declared.types.Answer.TheVariants as answer
+use Rattle.c2_cmd.proofs.Replying.{each_ok}
+use Rattle.c2_cmd.proofs.Listing.{given, lists_refused, lists_tree}
+use Rattle.c2_cmd.proofs.list.list_store.Goals as goal
+
+pub returns-in_ok-listing-in-Ok-clause-reply : goal.returns-in_ok-listing-in-Ok-clause-reply
+returns-in_ok-listing-in-Ok-clause-reply c =
+    lists_tree c.args.found.now _ _ (record { answer = answer.Done; text = c.in_ok-listing-in-Ok.field-0 }) c.as_slice.ensures.value c.in-Ok.ensures.ok (ap (λ text. reports answer.Done text) c.in_ok-listing-in-Ok.ensures)
+
+pub returns-in_ok-refusal-in-Err-clause-reply : goal.returns-in_ok-refusal-in-Err-clause-reply
+returns-in_ok-refusal-in-Err-clause-reply c =
+    each_ok _ (ListsStore c.args.found.now) c.refused_reply.result (λ r out. lists_refused c.args.found.now _ _ _ _ r c.as_slice.ensures.value c.in-Err.ensures.err c.of_boxes.ensures (given _ _ _ c.in_ok-refusal-in-Err.ensures.value) out) c.refused_reply.ensures.reply

@@ -1,0 +1,13 @@
+use Rattle.c2_cmd.specs.Reply.{PreparesFound, PreparesMedia}
+use Rattle.c2_cmd.proofs.Preparing.{prepares_media, prepares_short}
+use Rattle.c2_cmd.proofs.Replying.{each_ok, stored_here, stored_reply}
+use Rattle.c2_cmd.proofs.prepare.prepare.Goals as goal
+
+pub returns-in-Here-clause-prepared : goal.returns-in-Here-clause-prepared
+returns-in-Here-clause-prepared g c file known =
+    each_ok (PreparesFound c.in-Here.found) (PreparesMedia file) c.prepare_found.result (λ p h. prepares_media file c.in-Here.found p (stored_here file _ c.in-Here.found c.in-Here.is (c.in_ok-found.ensures.stored file known)) h) c.prepare_found.ensures.prepared
+
+pub returns-in-Reply-clause-prepared : goal.returns-in-Reply-clause-prepared
+returns-in-Reply-clause-prepared g c file known =
+    let short = stored_reply file _ c.in-Reply.reply c.in-Reply.is (c.in_ok-found.ensures.stored file known) in
+    prepares_short file short.0 c.in-Reply.reply short.1 short.2

@@ -1,8 +1,0 @@
-use Rattle.c2_cmd.proofs.Panels.{front_one, failed_one}
-use Rattle.c2_cmd.proofs.questions.ask_line.Goals as goal
-
-pub returns-in-Err-clause-asked : goal.returns-in-Err-clause-asked
-returns-in-Err-clause-asked g c = failed_one _ _ _ _ _ _ c.in-Err.ensures.asks.failed
-
-pub returns-in-Err-question_line-clause-asked : goal.returns-in-Err-question_line-clause-asked
-returns-in-Err-question_line-clause-asked g c = front_one _ _ _ _ c.in-Ok.ensures.asks.asked

@@ -1,0 +1,72 @@
+-- Which word of a command line is which.
+use Rattle.std.specs.Prelude.{◌≡◌, ℕ, Bool, true, false, not, ◌==◌, nat_le, bytes_eq, List, [], ◌∷◌, length, codes, Ok, Err, Some, None, ⊤, option_and_then, if◌then◌else◌}
+use Rattle.std.specs.declared.option.Option.{Option}
+use Rattle.std.specs.List.{list_all}
+use Rattle.std.specs.declared.result.Result.{Result}
+use Rattle.c2_base.specs.declared.limits.TheConstants.{MAX_JUDGE_NAMES}
+use Rattle.c2_cmd.specs.declared.types.Command.{Command}
+use Rattle.c2_cmd.specs.declared.types.Command.TheVariants as command
+use Rattle.c2_cmd.specs.declared.types.Roles.{Roles}
+use Rattle.c2_cmd.specs.declared.types.RolesError.{RolesError}
+use Rattle.c2_cmd.specs.declared.types.RolesError.TheVariants.{Usage, NoMemory}
+
+-- the dash, with which no word begins
+abbrev pub dash : ℕ
+dash = 0x2D
+
+-- a word that may be a name: it isn't empty and doesn't begin with a dash
+abbrev pub is_name : List ℕ → Bool
+is_name [] = false
+is_name (first ∷ rest) = not (first == dash)
+
+-- whether a command reads a media file, and whether it asks judges
+abbrev pub reads_media : Command → Bool
+reads_media command.Digest = true
+reads_media command.List = true
+reads_media command.Show = true
+reads_media command.Questions = true
+
+abbrev pub asks_judges : Command → Bool
+asks_judges command.Digest = false
+asks_judges command.List = false
+asks_judges command.Show = false
+asks_judges command.Questions = true
+
+-- how many names of judges may follow
+abbrev pub most_judges : Command → ℕ
+most_judges command.Digest = 0
+most_judges command.List = 0
+most_judges command.Show = 0
+most_judges command.Questions = MAX_JUDGE_NAMES
+
+-- the command of a word
+abbrev pub command_of : List ℕ → Option Command
+command_of word =
+    if bytes_eq word (codes "digest") then Some command.Digest
+    else if bytes_eq word (codes "list") then Some command.List
+    else if bytes_eq word (codes "show") then Some command.Show
+    else if bytes_eq word (codes "questions") then Some command.Questions
+    else None
+
+-- the roles of `COMMAND MEDIA` and `COMMAND MEDIA JUDGE..`
+abbrev pub reading_roles : Command → Roles
+reading_roles c = record { command = c; media = Some 1; second = None; third = None; out = None; judges = 2; count = None }
+
+-- the roles of a command with these names after it, if they fit
+abbrev pub roles_with : Command → List (List ℕ) → Option Roles
+roles_with c [] = None
+roles_with c (media ∷ judges) = if nat_le (length judges) (most_judges c) then Some (reading_roles c) else None
+
+abbrev pub roles_of_names : List (List ℕ) → Option Roles
+roles_of_names [] = None
+roles_of_names (first ∷ names) = option_and_then (λ c. roles_with c names) (command_of first)
+
+-- the roles of these words, if they fit
+abbrev pub roles_of : List (List ℕ) → Option Roles
+roles_of words = if list_all is_name words then roles_of_names words else None
+
+-- the answer of `roles`
+abbrev pub GivesRoles : List (List ℕ) → Result Roles RolesError → Type 0
+GivesRoles words (Ok roles) = roles_of words ≡ Some roles
+GivesRoles words (Err Usage) = roles_of words ≡ None
+GivesRoles words (Err NoMemory) = ⊤

@@ -1,0 +1,88 @@
+// Which word is which.
+ghost use Rattle.std.specs.Prelude.{◌≡◌, map, string_bytes, is_some, IfOk, IfSome};
+ghost use Rattle.std.specs.List.{list_all};
+ghost use Rattle.c2_cmd.specs.CommandLine.{GivesRoles, roles_of_names, is_name, reads_media, most_judges, command_of};
+
+use crate::types::{Command, Roles, RolesError};
+use c2_base::limits::MAX_JUDGE_NAMES;
+use std::alloc::Global;
+
+/// Says which word is which: `Usage` exactly where the words fit no command, unless memory runs out.
+#[tactic(auto, using(crate::proofs::Naming::all_names))]
+pub fn roles(_alloc: Global, words: &Vec<String>) -> Result<Roles, RolesError>
+    ensures roles { GivesRoles (map string_bytes words.now.items) result }
+    ensures media { IfOk result (λ roles. is_some roles.media ≡ reads_media roles.command) }
+{
+    if !are_names(words) {
+        return Err(RolesError::Usage);
+    }
+    match roles_of_names(words) {
+        Some(roles) => Ok(roles),
+        None => Err(RolesError::Usage),
+    }
+}
+
+// Whether each word may be a name.
+fn are_names(words: &Vec<String>) -> bool
+    ensures { result ≡ list_all (λ word. is_name (string_bytes word)) words.now.items }
+{
+    words.iter().all(is_name)
+}
+
+// The roles of words that may all be names.
+fn roles_of_names(words: &Vec<String>) -> Option<Roles>
+    ensures roles { result ≡ roles_of_names (map string_bytes words.now.items) }
+    ensures media { IfSome result (λ roles. is_some roles.media ≡ reads_media roles.command) }
+{
+    let [first, _media, judges @ ..] = words.as_slice() else {
+        return None;
+    };
+    let Some(command) = command_of(first.as_str()) else {
+        return None;
+    };
+    if judges.len() > most_judges(command) {
+        return None;
+    }
+    Some(Roles {
+        command,
+        media: Some(1),
+        second: None,
+        third: None,
+        out: None,
+        judges: 2,
+        count: None,
+    })
+}
+
+// The command of a word.
+fn command_of(word: &str) -> Option<Command>
+    ensures { result ≡ command_of word.now }
+{
+    match word {
+        "digest" => Some(Command::Digest),
+        "list" => Some(Command::List),
+        "show" => Some(Command::Show),
+        "questions" => Some(Command::Questions),
+        _ => None,
+    }
+}
+
+// How many names of judges may follow.
+fn most_judges(command: Command) -> usize
+    ensures { result ≡ most_judges command }
+{
+    match command {
+        Command::Digest | Command::List | Command::Show => 0,
+        Command::Questions => MAX_JUDGE_NAMES,
+    }
+}
+
+// Whether a word may be a name.
+fn is_name(word: &String) -> bool
+    ensures { result ≡ is_name (string_bytes word.now) }
+{
+    match word.as_bytes() {
+        [] => false,
+        [first, ..] => *first != b'-',
+    }
+}
