@@ -1,3 +1,7 @@
 mod BoxThere
+mod FoundLemmas
 mod HeaderLemmas
+mod PartLemmas
+mod RowLemmas
+mod SearchLemmas
 mod WalkLemmas

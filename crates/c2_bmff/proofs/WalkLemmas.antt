@@ -19,7 +19,7 @@ use Rattle.c2_bmff.specs.declared.roots.RootBox.{RootBox}
 use Rattle.c2_bmff.proofs.BoxThere.{AreBytes, bytes-drop, box_there}
 
 -- a header has its length
-header_size : (f : SizeForm) (n : ℕ) (k : List ℕ) → length k ≡ 4 → length (header_bytes f n k) ≡ header_len f
+pub header_size : (f : SizeForm) (n : ℕ) (k : List ℕ) → length k ≡ 4 → length (header_bytes f n k) ≡ header_len f
 header_size short n k four = omega (arith, four)
 header_size long n k four = omega (arith, four, length-append k (to_be_bytes w64 n))
 header_size to_end n k four = omega (arith, four)
@@ -53,7 +53,7 @@ length-placed p [] = refl
 length-placed p (b ∷ bs) = ap suc (length-placed (p + box_len b) bs)
 
 -- and as many rows
-length-rows : (bs : List Box) → length (rows_of bs) ≡ length bs
+pub length-rows : (bs : List Box) → length (rows_of bs) ≡ length bs
 length-rows bs = length-map (placed_from 0 bs) row_of ∙ length-placed 0 bs
 
 -- the row of a header is the row of its box

@@ -4,7 +4,7 @@ ghost use Rattle.std.specs.Int.{w32, w64, from_be_bytes};
 ghost use Rattle.c2_bmff.specs.Headers.{header_fault, IsHeader};
 
 // The type of a box that begins with a user type of 16 bytes.
-const UUID: [u8; 4] = *b"uuid";
+pub(crate) const UUID: [u8; 4] = *b"uuid";
 
 /// What the header of a box states (ISO/IEC 14496-12, 4.2).
 #[derive(Clone, Copy, Debug, PartialEq, Eq)]
@@ -30,7 +30,7 @@ pub enum HeadError {
 }
 
 // The number in the four bytes from `at` on.
-fn u32_at(bytes: &[u8], at: usize) -> u32
+pub(crate) fn u32_at(bytes: &[u8], at: usize) -> u32
     requires { at + 4 ≤ length bytes.now }
     ensures { result ≡ from_be_bytes w32 (take 4 (drop at bytes.now)) }
 {
@@ -38,7 +38,7 @@ fn u32_at(bytes: &[u8], at: usize) -> u32
 }
 
 // The number in the eight bytes from `at` on.
-fn u64_at(bytes: &[u8], at: usize) -> u64
+pub(crate) fn u64_at(bytes: &[u8], at: usize) -> u64
     requires { at + 8 ≤ length bytes.now }
     ensures { result ≡ from_be_bytes w64 (take 8 (drop at bytes.now)) }
 {

@@ -5,10 +5,12 @@
 
 mod header;
 mod laws;
+mod provenance;
 mod roots;
 #[cfg(test)]
 mod tests;
 
 pub use header::{BoxHead, HeadError, head};
 pub use laws::{a_bmff_file_comes_to_one_thing, a_file_has_one_list_of_roots};
+pub use provenance::locate;
 pub use roots::{RootBox, Roots, read_roots};

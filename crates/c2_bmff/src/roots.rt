@@ -58,7 +58,7 @@ impl Roots {
 }
 
 // Fills the first `count` bytes of `bytes` with those from `pos` on.
-fn fill_first<S: Source>(
+pub(crate) fn fill_first<S: Source>(
     source: &mut S,
     pos: u64,
     bytes: &mut [u8],

@@ -1,5 +1,5 @@
 // Worked files of boxes: values from ISO/IEC 14496-12 by hand.
-use crate::{HeadError, RootBox, head, read_roots};
+use crate::{HeadError, RootBox, head, locate, read_roots};
 use c2_base::{Blob, MediaError, MemSource, VastSource};
 use std::alloc::Global;
 use std::process::Abort;
@@ -103,4 +103,86 @@ fn a_user_type_needs_its_bytes(rt: HostRuntime) {
     assert!(rt; head(&header, 22) == Err(HeadError::Short));
     let whole = [0, 0, 0, 24, 0x75, 0x75, 0x69, 0x64, 0, 0, 0, 0, 0, 0, 0, 0];
     assert!(rt; head(&whole, 40).is_ok_and(|head| head.length == 24 && head.kind == *b"uuid"));
+}
+
+// A C2PA box after `ftyp`: user type, version and flags, purpose, offset of the first Merkle box, a bare JUMBF box, two bytes after it.
+const STORE: [u8; 79] = [
+    0, 0, 0, 0x10, 0x66, 0x74, 0x79, 0x70, 0x69, 0x73, 0x6F, 0x6D, 0, 0, 0, 0, 0, 0, 0, 0x3F, 0x75,
+    0x75, 0x69, 0x64, 0xD8, 0xFE, 0xC3, 0xD6, 0x1B, 0x0E, 0x48, 0x3C, 0x92, 0x97, 0x58, 0x28, 0x87,
+    0x7E, 0xC4, 0x81, 0, 0, 0, 0, 0x6D, 0x61, 0x6E, 0x69, 0x66, 0x65, 0x73, 0x74, 0, 0, 0, 0, 0, 0,
+    0, 0, 0, 0, 0, 0, 0x10, 0x6A, 0x75, 0x6D, 0x62, 1, 2, 3, 4, 5, 6, 7, 8, 0, 0,
+];
+
+// What `locate` answers over a source that gives `most` bytes a call: the range and the store.
+fn located(
+    rt: &impl Abort,
+    alloc: Global,
+    bytes: &[u8],
+    want: Result<Option<(u64, u64, &[u8])>, MediaError>,
+) -> Result<(), Fail> {
+    for most in [1, 7, 65_536] {
+        let mut source = MemSource::new(Blob::copied(alloc, bytes)?, usize::max(1, most), 0);
+        let Ok(roots) = read_roots(alloc, &mut source) else {
+            return Ok(assert!(rt; false));
+        };
+        match (locate(alloc, &mut source, &roots), want) {
+            (Ok(Some(found)), Ok(Some((start, length, store)))) => {
+                assert!(rt; found.start == start);
+                assert!(rt; found.length == length);
+                assert!(rt; found.store.as_slice() == store);
+            }
+            (Ok(None), Ok(None)) => {}
+            (Err(error), Err(expected)) => assert!(rt; error == expected),
+            _ => assert!(rt; false),
+        }
+    }
+    Ok(())
+}
+
+#[test]
+fn a_store_is_found_in_its_box(rt: HostRuntime) -> Result<(), Fail> {
+    let alloc = rt.alloc();
+    located(&rt, alloc, &TWO, Ok(None))?;
+    located(&rt, alloc, &STORE, Ok(Some((16, 63, &STORE[61..77]))))?;
+    // Another user type, and another purpose.
+    let mut other = STORE;
+    other[39] = 0;
+    located(&rt, alloc, &other, Ok(None))?;
+    let mut merkle = STORE;
+    merkle[44] = 0x4D;
+    located(&rt, alloc, &merkle, Ok(None))
+}
+
+#[test]
+fn the_first_box_that_fails_is_told(rt: HostRuntime) -> Result<(), Fail> {
+    let alloc = rt.alloc();
+    // Version 1; a store that ends after its box.
+    let mut version = STORE;
+    version[40] = 1;
+    located(&rt, alloc, &version, Err(MediaError::BadProvenanceBox(16)))?;
+    let mut long = STORE;
+    long[64] = 0x13;
+    located(&rt, alloc, &long, Err(MediaError::BadProvenanceBox(16)))?;
+    // The same box twice.
+    let mut twice = Vec::new(alloc);
+    for byte in &STORE {
+        twice.push(*byte)?;
+    }
+    for byte in &STORE[16..] {
+        twice.push(*byte)?;
+    }
+    located(&rt, alloc, &twice, Err(MediaError::TwoStores(79)))?;
+    // A store of 33,554,433 bytes.
+    let mut large = STORE;
+    large[16] = 3;
+    large[61] = 2;
+    large[64] = 1;
+    let mut vast = VastSource::new(Blob::copied(alloc, &large)?, 0x0300_003F + 16);
+    let Ok(roots) = read_roots(alloc, &mut vast) else {
+        return Ok(assert!(rt; false));
+    };
+    assert!(rt;
+        locate(alloc, &mut vast, &roots).err() == Some(MediaError::StoreTooLarge(0x0200_0001))
+    );
+    Ok(())
 }
