@@ -1,5 +1,5 @@
 -- Who was asked, by what was to be asked.
-use Rattle.std.proofs.Common.{◌≡◌, refl, sym, ◌∙◌, ap, subst, ℕ, true, List, [], ◌∷◌, Option, Some, None}
+use Rattle.std.proofs.Common.{◌≡◌, refl, ◌∙◌, ap, subst, ℕ, true, List, [], ◌∷◌, Option, Some, None}
 use Rattle.std.specs.Prelude.{is_some, IsSome}
 use Rattle.std.proofs.lemmas.Bool.{false≢true}
 use Rattle.c2_base.specs.declared.values.Question.{Question}

@@ -1,5 +1,5 @@
 -- What `run` promises of the report, by the reply that it has.
-use Rattle.std.proofs.Common.{◌≡◌, refl, sym, ◌∙◌, ap, subst, true, false, List, Ok, Err, string_bytes}
+use Rattle.std.proofs.Common.{◌≡◌, sym, ◌∙◌, ap, subst, true, false, Ok, Err, string_bytes}
 use Rattle.std.specs.Prelude.{OnOk, OnErr, is_err}
 use Rattle.std.specs.declared.result.Result.{Result}
 use Rattle.c2_base.specs.Sink.{HasWrittenPrefix}

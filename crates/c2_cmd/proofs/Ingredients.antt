@@ -7,7 +7,7 @@ use Rattle.std.proofs.lemmas.Option.{slice_get-get_or, slice_get-map}
 use Rattle.std.proofs.Math.Seq.{drop-length}
 use Rattle.c2_spec.specs.Jumbf.Tree.{Tree}
 use Rattle.c2_spec.specs.Jumbf.Boxes.{box_at, any_label}
-use Rattle.c2_spec.specs.C2pa.Manifest.{Manifest, manifest_at, manifest_boxes, manifests_of, store_of, IsStoreOf, StoreTest, store_test, first_refusal, manifest_tests, count_tests, superboxes, is_store}
+use Rattle.c2_spec.specs.C2pa.Manifest.{Manifest, manifest_at, manifests_of, store_of, IsStoreOf, StoreTest, store_test, first_refusal, manifest_tests, count_tests, superboxes, is_store}
 use Rattle.c2_spec.specs.declared.store.ManifestBoxes.{ManifestBoxes}
 use Rattle.c2_spec.specs.declared.store.StoreError.TheVariants.{NotStore}
 use Rattle.c2_spec.proofs.BoxesOfManifests.{assertions_inside}

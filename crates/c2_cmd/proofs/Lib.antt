@@ -6,4 +6,3 @@ mod Naming
 mod OneOutcome
 mod Preparing
 mod Replying
-mod Taking

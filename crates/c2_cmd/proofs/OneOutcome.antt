@@ -1,12 +1,11 @@
 -- Words and inputs come to one outcome, and to one list of questions.
-use Rattle.std.proofs.Common.{◌≡◌, refl, sym, ◌∙◌, ap, subst, ℕ, List, [], ◌∷◌, Option, Some, None, length, slice_get}
+use Rattle.std.proofs.Common.{◌≡◌, refl, sym, ◌∙◌, ap, subst, ℕ, List, Option, Some, None}
 use Rattle.c2_base.specs.declared.values.Question.{Question}
 use Rattle.c2_spec.specs.declared.claim.Claim.{Claim}
 use Rattle.c2_spec.specs.declared.digest.Alg.TheVariants.{Sha256}
 use Rattle.c2_spec.specs.declared.jumbf.JumbfError.{JumbfError}
 use Rattle.c2_spec.specs.declared.panel.Verdict.{Verdict}
 use Rattle.c2_spec.specs.declared.reason.Refusal.{Refusal}
-use Rattle.c2_spec.specs.declared.store.StoreError.{StoreError}
 use Rattle.c2_spec.specs.C2pa.Manifest.{Manifest, manifests_of, store_refusal}
 use Rattle.c2_spec.specs.Jpeg.Store.{IsLocated}
 use Rattle.c2_spec.specs.Jumbf.Faults.{JumbfFault}

@@ -13,7 +13,7 @@ use Rattle.c2_rules.specs.Ingredients.{first_ingredient, assertion_uri, label_te
 use Rattle.c2_rules.specs.Opened.{IsManifestStore}
 use Rattle.c2_rules.specs.Questions.{IsQuestionOf}
 use Rattle.c2_texts.specs.Texts.{failing_line}
-use Rattle.c2_cmd.specs.Outcome.{Outcome, reports, Reports, verdict_line, IsAskedUnless, IsQuestioned, IsMediaOutcome, AsksUnless, AsksOfTree, AsksOfOpened, AsksOfMedia, one_or_none}
+use Rattle.c2_cmd.specs.Outcome.{Outcome, reports, verdict_line, IsAskedUnless, IsQuestioned, IsMediaOutcome, AsksUnless, AsksOfTree, AsksOfMedia, one_or_none}
 use Rattle.c2_cmd.specs.Reply.{outcome_of, asked_outcome, Prepares, PreparesTree, PreparesFound, PreparesMedia, AsksOfFound, IsFoundOutcome, IsShort}
 use Rattle.c2_cmd.specs.declared.prepare.Prepared.{Prepared}
 use Rattle.c2_cmd.specs.declared.prepare.Prepared.TheVariants as prepared

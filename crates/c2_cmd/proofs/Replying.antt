@@ -10,7 +10,6 @@ use Rattle.c2_spec.specs.declared.digest.Alg.{Alg}
 use Rattle.c2_spec.specs.declared.panel.Verdict.{Verdict}
 use Rattle.c2_spec.specs.declared.store.ManifestBoxes.{ManifestBoxes}
 use Rattle.c2_spec.specs.Jpeg.Store.{IsLocated}
-use Rattle.c2_spec.specs.Judges.Panel.{Judges}
 use Rattle.c2_spec.specs.Jumbf.Tree.{Tree}
 use Rattle.c2_spec.specs.Located.{Opening, Located, refused, absent, here}
 use Rattle.c2_rules.specs.Opened.{IsBoxTree, IsBoxed, IsManifestStore}
@@ -26,7 +25,6 @@ use Rattle.c2_cmd.specs.declared.reply.Fault.{Fault}
 use Rattle.c2_cmd.specs.declared.reply.Fault.TheVariants as fault
 use Rattle.c2_cmd.specs.declared.reply.Reply.{Reply}
 use Rattle.c2_cmd.specs.declared.types.Answer.TheVariants as answer
-use Rattle.c2_cmd.specs.declared.types.Command.{Command}
 use Rattle.c2_cmd.specs.declared.types.Roles.{Roles}
 
 -- ---- a file that was opened

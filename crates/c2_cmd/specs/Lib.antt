@@ -1,6 +1,5 @@
 pub mod Active
 pub mod Outcome
-pub mod Outside
 pub mod Reply
 pub mod Run
 pub mod Status

@@ -9,8 +9,7 @@ use crate::outside::digest_outside;
 use crate::replies::digest_reply;
 use crate::reply::{Fault, Reply};
 use crate::types::Answer;
-use c2_base::Source;
-use c2_base::limits::PIECE_LEN;
+use c2_base::{Range, Source};
 use c2_hash::{Alg, Hashing};
 use std::alloc::Global;
 
@@ -31,7 +30,10 @@ pub fn reply_to_digest<H: Hashing, S: Source>(
         Stored::Here(found) => found,
         Stored::Reply(reply) => return Ok(reply),
     };
-    let mut buf = vec![in alloc; 0; PIECE_LEN]?;
-    let digest = digest_outside(hashing, media, found.start, found.length, &mut buf)?;
+    let range = Range {
+        start: found.start,
+        length: found.length,
+    };
+    let digest = digest_outside(alloc, hashing, media, range)?;
     digest_reply(alloc, found.start, found.length, &digest)
 }

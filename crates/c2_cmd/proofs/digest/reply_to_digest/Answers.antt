@@ -2,7 +2,7 @@ use Rattle.std.proofs.Common.{◌∙◌, ap}
 use Rattle.c2_spec.specs.declared.digest.Alg.TheVariants.{Sha256}
 use Rattle.c2_spec.specs.Located.{here}
 use Rattle.c2_cmd.specs.Outcome.{IsDigestOutcome, reports}
-use Rattle.c2_cmd.specs.Reply.{Replies, outcome_of}
+use Rattle.c2_cmd.specs.Reply.{Replies}
 use Rattle.c2_cmd.specs.declared.types.Answer.TheVariants as answer
 use Rattle.c2_cmd.proofs.Replying.{always_ok, each_ok, memory_cause, no_usage, stored_here}
 use Rattle.c2_texts.specs.Texts.{digest_line}
@@ -20,7 +20,7 @@ pub returns-clause-words : goal.returns-clause-words
 returns-clause-words g c = each_ok _ _ c.digest_reply.result (λ r out. no_usage r _ out) c.digest_reply.ensures.reply
 
 pub returns-clause-count : goal.returns-clause-count
-returns-clause-count g c = always_ok _ c.digest_reply.result (c.in_ok-digest.ensures.cause.ok ∙ c.in_ok-found.ensures.count)
+returns-clause-count g c = always_ok _ c.digest_reply.result (c.in_ok-digest.ensures.count ∙ c.in_ok-found.ensures.count)
 
 pub returns-clause-fault : goal.returns-clause-fault
 returns-clause-fault g c = memory_cause _ _ c.digest_reply.result c.digest_reply.ensures.memory

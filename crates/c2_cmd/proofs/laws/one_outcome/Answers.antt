@@ -1,4 +1,4 @@
-use Rattle.c2_cmd.proofs.OneOutcome.{Laws, one_list, one_outcome}
+use Rattle.c2_cmd.proofs.OneOutcome.{one_list, one_outcome}
 use Rattle.c2_cmd.proofs.laws.one_outcome.Goals as goal
 
 pub returns-clause-outcome : goal.returns-clause-outcome
