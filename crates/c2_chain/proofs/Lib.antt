@@ -1,6 +1,8 @@
-pub mod Messages
-pub mod Existing
-pub mod Unique
-pub mod Placed
-pub mod Keeping
-pub mod Answering
+pub mod AfterLemmas
+pub mod BoundLemmas
+pub mod ChainLemmas
+pub mod FactLemmas
+pub mod LabelLemmas
+pub mod ManifestLemmas
+pub mod StandingLemmas
+pub mod Texts

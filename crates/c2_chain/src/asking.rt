@@ -1,81 +1,109 @@
-// What judges are asked of a manifest.
-ghost use Rattle.std.specs.Prelude.{◌≡◌, ◌<◌, Some, length, slice_get, option_map, IfOk, IfSome};
-ghost use Rattle.c2_base.specs.declared.values.Question.{Question as AnyQuestion};
-ghost use Rattle.c2_spec.specs.C2pa.Manifest.{Manifest};
-ghost use Rattle.c2_spec.specs.C2pa.Uri.{uri_of, target_view};
-ghost use Rattle.c2_rules.specs.Questions as form;
-ghost use Rattle.c2_rules.specs.Questions.{HasQuestion, IsQuestionOf};
-ghost use Rattle.c2_chain.specs.Asked.{IsAsked};
+// The question of a manifest, and what the panel says of it.
+ghost use Rattle.std.specs.Prelude.{◌≡◌, [], ◌∷◌, IfOk, IfErr, IfSome, OnOk, None, map, option_map, vec_len, codes};
+ghost use Rattle.std.specs.Option.{option_to_list};
+ghost use Rattle.c2_spec.specs.Cbor.View.{view};
+ghost use Rattle.c2_spec.specs.C2pa.Manifest as form;
+ghost use Rattle.c2_spec.specs.Judges.Panel.{LeavesJudges, judges_of, panel_says};
+ghost use Rattle.c2_spec.specs.C2pa.Sign1.{IsHeader, parts_of};
+ghost use Rattle.c2_rules.specs.Readings.{question_in};
+ghost use Rattle.c2_chain.specs.Checked.{HasPanel};
 
-use crate::Chain;
-use crate::chain::{kept, label, signature_item};
+use crate::claims::names_signature;
+use crate::uris::claim_label;
 use c2_base::{NoMemory, Question};
-use c2_sigstruct::{SignError, question, read_sign1};
-use c2_uri::{Target, parse};
+use c2_judge::{Judge, JudgeFailed, Verdict, ask_panel};
+use c2_reading::Kept;
+use c2_sigstruct::question;
+use c2_spec::Sign1;
 use std::alloc::Global;
 
-/// Whether a URI with this manifest, or with none, names a box of the manifest with this label.
-fn is_own(named: Option<&str>, own: &str) -> bool
-    ensures { (m : Manifest) → m.label ≡ Some own.now → form.is_own m (option_map (λ x. x.now) named.entry) ≡ result }
-{
-    match named {
-        Some(other) => own == other,
-        None => true,
+/// Why a check ended without an answer.
+#[derive(Clone, Copy, Debug, PartialEq, Eq)]
+pub enum ChainError {
+    /// A judge failed.
+    JudgeFault,
+
+    /// Memory ran out.
+    NoMemory,
+}
+
+impl From<NoMemory> for ChainError {
+    ghost use Rattle.std.specs.Prelude.{◌≡◌};
+    ghost use Rattle.c2_chain.specs.declared.asking.ChainError.TheVariants.{NoMemory};
+
+    ghost from_gives = { λ _ e. e ≡ NoMemory };
+
+    fn from(_failed: NoMemory) -> ChainError {
+        ChainError::NoMemory
     }
 }
 
-fn is_signature(target: &Target<'_>) -> bool
-    ensures { result ≡ form.is_signature (target_view target.now) }
+/// The claim bytes of a manifest.
+fn claim_bytes<'c>(own: &'c Kept<'_>) -> Option<&'c [u8]>
+    ensures { option_map (λ b. b.now) result ≡ form.claim_bytes own.now.manifest.claims }
 {
-    match target {
-        Target::Signature => true,
-        _ => false,
+    match own.claims.as_slice() {
+        [one] => match one.label {
+            Some("c2pa.claim.v2") => one.item,
+            _ => None,
+        },
+        _ => None,
     }
 }
 
-/// Whether a text is the URI of the signature of the manifest with this label.
-fn is_signature_uri(text: &str, own: &str) -> bool
-    ensures { (m : Manifest) → m.label ≡ Some own.now → form.is_signature_uri m (uri_of text.now) ≡ result }
+/// The signed message of a manifest.
+fn message<'c>(own: &'c Kept<'_>) -> &'c Option<Sign1>
+    ensures value { option_map parts_of result.now ≡ own.now.message }
+    ensures header { IfSome result.now (λ s. IsHeader (view s.unprotected)) }
 {
-    match parse(text) {
-        Some(uri) => is_own(uri.manifest, own) && is_signature(&uri.target),
-        None => false,
-    }
+    &own.message
 }
 
-/// What is asked of the message that these bytes are over a claim, or nothing where they are no message.
-fn ask(alloc: Global, message: &[u8], claim: &[u8]) -> Result<Option<Question>, NoMemory>
-    ensures { IfOk result (λ found. IsAsked message.now claim.now found) }
+/// What judges are asked of a manifest.
+pub fn own_question(alloc: Global, own: &Kept<'_>) -> Result<Option<Question>, NoMemory>
+    ensures { IfOk result (λ q. q ≡ question_in own.now) }
 {
-    let sign = match read_sign1(alloc, message) {
-        Ok(sign) => sign,
-        Err(SignError::NoMemory) => return Err(NoMemory),
-        Err(SignError::Form) => return Ok(None),
-    };
-    let asked = question(alloc, &sign, claim)?;
-    Ok(Some(asked))
-}
-
-/// What judges are asked of a manifest: the signed message in its signature box, over the bytes of its claim.
-///
-/// None exactly where there is nothing to ask: the manifest has no claim; the claim's `signature` isn't the URI of the
-/// signature of this manifest; or the signature box is missing, has no item, or its item is no signed message.
-pub fn question_of(alloc: Global, chain: &Chain<'_>, i: usize) -> Result<Option<Question>, NoMemory>
-    requires { i < length chain.now.manifests }
-    // What is answered is the manifest's question, and none is where it has none.
-    ensures holds { IfOk result (λ found. IfSome (slice_get chain.now.manifests i) (λ m. IsQuestionOf m found)) }
-    // A question that the manifest has is answered, unless memory runs out.
-    ensures only { IfSome (slice_get chain.now.manifests i) (λ m. (q : AnyQuestion) → HasQuestion m q → IfOk result (λ found. found ≡ Some q)) }
-{
-    let Some(own) = kept(chain, i) else {
-        return Ok(None);
-    };
-    if !is_signature_uri(own.claim.signature.as_str(), label(chain, i)) {
+    if !names_signature(own) {
         return Ok(None);
     }
-    let Some(message) = signature_item(chain, i) else {
+    let Some(bytes) = claim_bytes(own) else {
         return Ok(None);
     };
-    let found = ask(alloc, message, own.bytes)?;
-    Ok(found)
+    let Some(sign) = message(own) else {
+        return Ok(None);
+    };
+    let q = question(alloc, sign, bytes)?;
+    Ok(Some(q))
+}
+
+/// What the panel says of a question, where there is one.
+// The condition always holds: a function that changes boxed judges is called under a contract only where it has one.
+#[tactic(auto, using(c2_rules::proofs::AskingLemmas::stays, c2_rules::proofs::AskingLemmas::leaves_ok, c2_rules::proofs::AskingLemmas::leaves_err))]
+pub fn verdict_of(
+    judges: &mut Vec<Box<dyn Judge>>,
+    q: &Option<Question>,
+) -> Result<Option<Verdict>, ChainError>
+    requires { Unit {0} }
+    ensures answer { IfOk result
+        (λ v. v ≡ option_map (panel_says (map (λ j. says j) judges.old.items)) q.now) }
+    ensures panel { let old = judges_of (λ j. says j) (λ j. asked_times j) (λ j. judge_faults j)
+        judges.old.items in
+        let new = judges_of (λ j. says j) (λ j. asked_times j) (λ j. judge_faults j)
+        judges.new.items in
+        HasPanel (option_to_list q.now) old new result }
+    ensures leaves { let old = judges_of (λ j. says j) (λ j. asked_times j) (λ j. judge_faults j)
+        judges.old.items in
+        let new = judges_of (λ j. says j) (λ j. asked_times j) (λ j. judge_faults j)
+        judges.new.items in
+        LeavesJudges old new result }
+    ensures quiet { q.now ≡ None → judges.new ≡ judges.old }
+    ensures memory { IfErr result (λ e. e ≡ ChainError.JudgeFault) }
+{
+    let Some(q) = q else {
+        return Ok(None);
+    };
+    match ask_panel(judges, q) {
+        Ok(verdict) => Ok(Some(verdict)),
+        Err(JudgeFailed) => Err(ChainError::JudgeFault),
+    }
 }

@@ -1,64 +1,65 @@
-// The bytes in the boxes of a manifest.
-ghost use Rattle.std.specs.Prelude.{◌≡◌, ◌<◌, All, IfSome, codes, length, map, slice_get, option_map, option_and_then};
-ghost use Rattle.c2_spec.specs.Jumbf.Boxes.{tree_count, box_at, any_label};
-ghost use Rattle.c2_spec.specs.C2pa.Manifest as form;
-ghost use Rattle.c2_spec.specs.C2pa.Manifest.{Superbox, IsStoreOf, superbox_at, manifests_of, is_given};
+// The rule on boxes that no entry lists.
+ghost use Rattle.std.specs.Prelude.{◌≡◌, IfOk, Some, option_map};
+ghost use Rattle.c2_rules.specs.Readings as readings;
+ghost use Rattle.c2_rules.specs.Rules as rules;
+ghost use Rattle.c2_rules.specs.Tests.{over_all, first_failing};
 
-use c2_jumbf::{Tree, label_of};
-use c2_store::{Store, claims, item, signature};
+use crate::entries::lists_label;
+use crate::uris::at_box;
+use c2_base::NoMemory;
+use c2_reading::{Kept, KeptBox, box_label};
+use c2_rules::{Code, Failing, Parsed};
+use std::alloc::Global;
 
-/// The label of the claims that are known.
-const CLAIM: &str = "c2pa.claim.v2";
-
-fn is_known(tree: &Tree<'_>, i: usize) -> bool
-    requires { i < tree_count tree.now }
-    ensures { result ≡ is_given (any_label (box_at tree.now i).box) (codes "c2pa.claim.v2") }
+/// Whether an entry of a manifest lists this label.
+fn lists_own(own: &Kept<'_>, name: &str) -> bool
+    ensures { result ≡ rules.lists_label own.now.manifest (readings.entries_in own.now) name.now }
 {
-    match label_of(tree, i) {
-        Some(label) => label == CLAIM,
-        None => false,
+    match &own.claim {
+        Parsed::Value(claim) => {
+            lists_label(own, claim.created.as_slice(), name)
+                || lists_label(own, claim.gathered.as_slice(), name)
+        }
+        _ => false,
     }
 }
 
-/// The claim bytes in a claim box.
-fn bytes_in<'t>(tree: &'t Tree<'_>, i: usize) -> Option<&'t [u8]>
-    requires { i < tree_count tree.now }
-    ensures { option_map (λ b. b.now) result ≡ form.claim_bytes_in (superbox_at tree.now i) }
+fn is_undeclared(own: &Kept<'_>, name: Option<&str>) -> bool
+    ensures { result ≡ rules.is_undeclared own.now (option_map (λ x. x.now) name.entry) }
 {
-    if is_known(tree, i) {
-        return item(tree, i);
-    }
-    None
-}
-
-/// The claim bytes of a manifest with these claim boxes: those in the one that there is.
-fn bytes_among<'t>(tree: &'t Tree<'_>, boxes: &[usize]) -> Option<&'t [u8]>
-    requires { All (λ i. i < tree_count tree.now) boxes.now }
-    ensures { option_map (λ b. b.now) result ≡ form.claim_bytes (map (superbox_at tree.now) boxes.now) }
-{
-    match boxes {
-        [i] => bytes_in(tree, *i),
-        _ => None,
+    match name {
+        Some(name) => !lists_own(own, name),
+        None => true,
     }
 }
 
-/// The claim bytes of a manifest.
-pub fn claim_bytes<'t>(tree: &'t Tree<'_>, store: &Store, i: usize) -> Option<&'t [u8]>
-    requires inside { i < length store.now }
-    requires same { IsStoreOf tree.now store.now }
-    ensures { IfSome (slice_get (manifests_of tree.now) i) (λ m. option_map (λ b. b.now) result ≡ form.claim_bytes m.claims) }
+/// Whether no entry lists this box.
+fn is_unlisted(own: &Kept<'_>, b: &KeptBox<'_>) -> bool
+    ensures { result ≡ (rules.box_test own.now b.now).fails }
 {
-    bytes_among(tree, claims(store, i))
+    is_undeclared(own, box_label(b))
 }
 
-/// The item of a manifest's signature box.
-pub fn signature_item<'t>(tree: &'t Tree<'_>, store: &Store, i: usize) -> Option<&'t [u8]>
-    requires inside { i < length store.now }
-    requires same { IsStoreOf tree.now store.now }
-    ensures { IfSome (slice_get (manifests_of tree.now) i) (λ m. option_map (λ b. b.now) result ≡ option_and_then (λ (b : Superbox). b.item) m.signature) }
+/// This fails at a box that no entry lists.
+fn at_unlisted(alloc: Global, own: &Kept<'_>, b: &KeptBox<'_>) -> Result<Option<Failing>, NoMemory>
+    ensures { IfOk result (λ found. found ≡ Some (rules.box_test own.now b.now).failing) }
 {
-    match signature(store, i) {
-        Some(index) => item(tree, index),
-        None => None,
+    at_box(alloc, own, box_label(b), Code::AssertionUndeclared)
+}
+
+/// The first of these assertion boxes of a manifest that no entry lists.
+pub fn check_boxes(
+    alloc: Global,
+    own: &Kept<'_>,
+    boxes: &[KeptBox<'_>],
+) -> Result<Option<Failing>, NoMemory>
+    ensures { let tests = over_all (λ k b. rules.box_test own.now b) 0 boxes.now in
+        IfOk result (λ found. found ≡ first_failing tests) }
+{
+    for (k, b) in boxes.iter().enumerate() {
+        if is_unlisted(own, b) {
+            return at_unlisted(alloc, own, b);
+        }
     }
+    Ok(None)
 }

@@ -1,40 +1,58 @@
-// The manifests of a store with their claims.
-ghost use Rattle.std.specs.Prelude.{◌≡◌, ◌<◌, Some, length, slice_get, option_map, option_and_then, IfOk, IfSome};
-ghost use Rattle.c2_spec.specs.C2pa.Manifest.{Superbox, IsStoreOf, HasClaim, manifests_of};
+// The manifests of a store, and the public calls on them.
+ghost use Rattle.std.specs.Prelude.{◌≡◌, ◌≢◌, ◌<◌, None, Some, length, map, slice_get, option_map, IfOk, IfSome};
+ghost use Rattle.c2_base.specs.declared.values.Question.{Question as AnyQuestion};
+ghost use Rattle.c2_spec.specs.C2pa.Manifest.{IsStoreOf, HasClaim, manifests_of, store_of};
+ghost use Rattle.c2_spec.specs.Judges.Panel.{LeavesJudges, judges_of, panel_says};
+ghost use Rattle.c2_rules.specs.BoxPlaces.{child_at, ingredient_at};
+ghost use Rattle.c2_rules.specs.Chains as form;
+ghost use Rattle.c2_rules.specs.CheckList.{judged_tests, questions_of, tests_of};
 ghost use Rattle.c2_rules.specs.Claims.{HaveClaims};
-ghost use Rattle.c2_chain.specs.Kept.{Keeps};
-ghost use Rattle.c2_chain.specs.declared.kept.KeptClaim.{KeptClaim as Kept};
+ghost use Rattle.c2_rules.specs.Questions.{HasQuestion, IsQuestionOf};
+ghost use Rattle.c2_rules.specs.Readings.{AreReadings, question_in};
+ghost use Rattle.c2_rules.specs.Rules.{claim_tests};
+ghost use Rattle.c2_rules.specs.Tests.{first_failing};
+ghost use Rattle.c2_chain.specs.Checked.{HasPanel};
 
-use crate::boxes;
-use crate::kept::{KeptClaim, keep_each};
-use c2_base::NoMemory;
+use crate::asking::{ChainError, own_question};
+use crate::indices::{child_in, ingredient_in};
+use crate::manifest::check_alone;
+use c2_base::{NoMemory, Question};
+use c2_hash::Hashing;
+use c2_judge::Judge;
 use c2_jumbf::Tree;
-use c2_spec::Claim;
+use c2_reading::{
+    ReadManifests, a_reading_is_the_claim_and_the_question, is_reached, is_redacted, is_touched,
+    manifests, one_question, reaches as is_below, read_claim_at, read_manifests,
+};
+use c2_rules::Failing;
+use c2_spec::{Claim, Ingredient};
 use c2_store::Store;
 use std::alloc::Global;
 use std::marker::Model;
 
-/// The manifests of a store with their claims. It borrows the tree and the store.
+/// The manifests of a store, as they are read. It borrows the tree and the store.
 #[derive(Drop)]
 pub struct Chain<'t> {
-    tree: &'t Tree<'t>,
     store: &'t Store,
-    claims: Vec<Option<KeptClaim<'t>>>,
+    all: ReadManifests<'t>,
 }
 
 impl<'t> Model for Chain<'t> {
-    ghost use Rattle.c2_spec.specs.C2pa.Manifest.{manifests_of};
-    ghost use Rattle.c2_rules.specs.Claims.{Chained};
-    ghost use Rattle.c2_chain.specs.Kept.{claims_of, IsChain};
+    ghost use Rattle.std.specs.Coded.{codes};
+    ghost use Rattle.c2_rules.proofs.ItemCode.{item_code};
+    ghost use Rattle.c2_rules.specs.Claims.{Chained, chained_of};
+    ghost use Rattle.c2_chain.specs.Kept.{IsChain};
 
     ghost Value = { Chained };
 
-    ghost view = { λ c. record { manifests = manifests_of c.tree.now; claims = claims_of c.claims.items } };
+    ghost coded = { Prim.hlevel (codes, item_code) };
 
-    ghost invariant = { λ c. IsChain c.tree.now c.store.now c.claims.items };
+    ghost view = { λ c. chained_of c.store.now c.all };
+
+    ghost invariant = { λ c. IsChain c.all };
 }
 
-/// The chain of a store: each manifest's claim is read once, and none is kept where the manifest has none.
+/// The chain of a store: each claim, each signed message and each ingredient is read once.
 pub fn of_store<'t>(
     alloc: Global,
     tree: &'t Tree<'t>,
@@ -43,45 +61,27 @@ pub fn of_store<'t>(
     requires { IsStoreOf tree.now store.now }
     ensures manifests { IfOk result (λ chain. chain.manifests ≡ manifests_of tree.now) }
     ensures claims { IfOk result (λ chain. HaveClaims chain.manifests chain.claims) }
+    ensures reads { IfOk result (λ chain. AreReadings (manifests_of tree.now) chain.readings) }
+    ensures boxes { IfOk result (λ chain. chain.boxes ≡ store_of tree.now) }
 {
-    let claims = keep_each(alloc, tree, store)?;
-    Ok(Chain {
-        tree,
-        store,
-        claims,
-    })
+    // Only the prover needs this law.
+    a_reading_is_the_claim_and_the_question();
+    let all = read_manifests(alloc, tree, store)?;
+    Ok(Chain { store, all })
 }
 
 /// The number of manifests. Takes no memory.
 pub fn manifest_count(chain: &Chain<'_>) -> usize
     ensures { result ≡ length chain.now.manifests }
 {
-    chain.claims.len()
+    manifests(&chain.all).len()
 }
 
-/// What is kept of a manifest.
-pub fn kept<'c, 't>(chain: &'c Chain<'t>, i: usize) -> &'c Option<KeptClaim<'t>>
-    requires { i < length chain.now.manifests }
-    ensures claim { slice_get chain.now.claims i ≡ Some (option_map (λ (k : Kept). k.claim) result.now) }
-    ensures keeps { IfSome (slice_get chain.now.manifests i) (λ m. Keeps m result.now) }
+/// What is read of the manifests.
+fn all<'c, 't>(chain: &'c Chain<'t>) -> &'c ReadManifests<'t>
+    ensures { result.now ≡ chain.now.readings }
 {
-    &chain.claims[i]
-}
-
-/// A manifest's label.
-pub fn label<'t>(chain: &'t Chain<'_>, i: usize) -> &'t str
-    requires { i < length chain.now.manifests }
-    ensures { IfSome (slice_get chain.now.manifests i) (λ m. m.label ≡ Some result.now) }
-{
-    c2_store::label(chain.tree, chain.store, i)
-}
-
-/// The item of a manifest's signature box.
-pub fn signature_item<'t>(chain: &'t Chain<'_>, i: usize) -> Option<&'t [u8]>
-    requires { i < length chain.now.manifests }
-    ensures { IfSome (slice_get chain.now.manifests i) (λ m. option_map (λ b. b.now) result ≡ option_and_then (λ (b : Superbox). b.item) m.signature) }
-{
-    boxes::signature_item(chain.tree, chain.store, i)
+    &chain.all
 }
 
 /// The claim of a manifest. None exactly where it has none: it has no claim box or more than one, or one with another label
@@ -89,10 +89,111 @@ pub fn signature_item<'t>(chain: &'t Chain<'_>, i: usize) -> Option<&'t [u8]>
 pub fn claim_of<'t>(chain: &'t Chain<'_>, i: usize) -> Option<&'t Claim>
     requires { i < length chain.now.manifests }
     ensures value { slice_get chain.now.claims i ≡ Some (option_map (λ c. c.now) result) }
-    ensures holds { IfSome (slice_get chain.now.manifests i) (λ m. HasClaim m (option_map (λ c. c.now) result)) }
+    ensures holds { IfSome (slice_get chain.now.manifests i)
+        (λ m. HasClaim m (option_map (λ c. c.now) result)) }
 {
-    match kept(chain, i) {
-        Some(own) => Some(&own.claim),
-        None => None,
-    }
+    read_claim_at(&chain.all, i)
+}
+
+/// What judges are asked of a manifest: the signed message in its signature box, over the bytes of its claim.
+///
+/// None exactly where there is nothing to ask: the manifest has no claim; the claim's `signature` isn't the URI of the
+/// signature of this manifest; or the signature box is missing, has no item, or its item is no signed message.
+pub fn question_of(alloc: Global, chain: &Chain<'_>, i: usize) -> Result<Option<Question>, NoMemory>
+    requires { i < length chain.now.manifests }
+    // What is answered is the manifest's question, and none is where it has none.
+    ensures holds { IfOk result
+        (λ found. IfSome (slice_get chain.now.manifests i) (λ m. IsQuestionOf m found)) }
+    // A question that the manifest has is answered, unless memory runs out.
+    ensures only { IfSome (slice_get chain.now.manifests i)
+        (λ m. (q : AnyQuestion) → HasQuestion m q → IfOk result (λ found. found ≡ Some q)) }
+    ensures value { IfOk result
+        (λ found. IfSome (slice_get chain.now.readings i) (λ r. found ≡ question_in r)) }
+{
+    // Only the prover needs these laws.
+    a_reading_is_the_claim_and_the_question();
+    one_question();
+    own_question(alloc, &manifests(&chain.all)[i])
+}
+
+/// Whether a manifest is the active one, or is reached from it by child steps. Takes no memory.
+pub fn reached(chain: &Chain<'_>, i: usize) -> bool
+    requires { i < length chain.now.readings }
+    ensures { result ≡ form.is_reached chain.now.readings i }
+{
+    is_reached(&chain.all, i)
+}
+
+/// Whether manifest `m` is reached from manifest `n` by one or more child steps. Takes no memory.
+pub fn reaches(chain: &Chain<'_>, n: usize, m: usize) -> bool
+    requires n { n < length chain.now.readings }
+    requires m { m < length chain.now.readings }
+    ensures { result ≡ form.reaches chain.now.readings n m }
+{
+    is_below(&chain.all, n, m)
+}
+
+/// Whether this label is redacted in manifest `i`: a reached manifest, from which it is reached, has a claim that redacts
+/// the assertion with this label in it by an absolute URI. Takes no memory.
+pub fn redacted(chain: &Chain<'_>, i: usize, label: &str) -> bool
+    requires { i < length chain.now.readings }
+    ensures { result ≡ form.is_redacted chain.now.readings i label.now }
+{
+    is_redacted(&chain.all, i, label)
+}
+
+/// Whether the claim of manifest `i` lists a label that is redacted in it. Takes no memory.
+pub fn touched(chain: &Chain<'_>, i: usize) -> bool
+    requires { i < length chain.now.readings }
+    ensures { result ≡ form.is_touched chain.now.readings i }
+{
+    is_touched(&chain.all, i)
+}
+
+/// The first rule of manifest `i` that fails, from those on its claim to those on its ingredients' form; None where all
+/// hold. It is checked whether or not it is reached.
+///
+/// The panel is asked the manifest's question once, after the rules on the claim and the signature; where one of these
+/// fails, no judge is asked. `JudgeFault` comes only where a judge that was due failed.
+pub fn check_manifest<H: Hashing>(
+    alloc: Global,
+    hashing: &H,
+    chain: &Chain<'_>,
+    i: usize,
+    judges: &mut Vec<Box<dyn Judge>>,
+) -> Result<Option<Failing>, ChainError>
+    requires { i < length chain.now.readings }
+    ensures answer { let said = panel_says (map (λ j. says j) judges.old.items) in
+        let rs = chain.now.readings in
+        let tests = tests_of (judged_tests H.digest_of said) rs i (slice_get rs i) in
+        IfOk result (λ found. found ≡ first_failing tests) }
+    ensures panel { let old = judges_of (λ j. says j) (λ j. asked_times j) (λ j. judge_faults j)
+        judges.old.items in
+        let new = judges_of (λ j. says j) (λ j. asked_times j) (λ j. judge_faults j)
+        judges.new.items in
+        HasPanel (questions_of (slice_get chain.now.readings i)) old new result }
+    ensures leaves { let old = judges_of (λ j. says j) (λ j. asked_times j) (λ j. judge_faults j)
+        judges.old.items in
+        let new = judges_of (λ j. says j) (λ j. asked_times j) (λ j. judge_faults j)
+        judges.new.items in
+        LeavesJudges old new result }
+    ensures quiet { IfSome (slice_get chain.now.readings i)
+        (λ r. first_failing (claim_tests r) ≢ None → judges.new ≡ judges.old) }
+{
+    check_alone(alloc, hashing, all(chain), i, judges)
+}
+
+/// The ingredient in the box with tree index `at`. Some exactly where that box stands in the assertion store of a
+/// manifest, is of the kind of ingredients that is read, and has an item that is one. Takes no memory.
+pub fn ingredient_of<'t>(chain: &'t Chain<'_>, at: usize) -> Option<&'t Ingredient>
+    ensures { option_map (λ g. g.now) result ≡ ingredient_at chain.now at }
+{
+    ingredient_in(chain.store, &chain.all, at)
+}
+
+/// The position of the child that the box with tree index `at` names. None exactly where it names none. Takes no memory.
+pub fn child_of(chain: &Chain<'_>, at: usize) -> Option<usize>
+    ensures { result ≡ child_at chain.now at }
+{
+    child_in(chain.store, &chain.all, at)
 }

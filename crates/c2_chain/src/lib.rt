@@ -1,19 +1,38 @@
-//! The claims of a store's manifests, and what judges are asked of each of them (C2PA Technical Specification 2.x).
+//! The manifests of a store: which of them are reached, what is redacted in them, what judges are asked, and the first rule
+//! of a manifest that fails (C2PA Technical Specification 2.x, "Validation").
 //!
-//! What they are stands in `Claims` and `Questions` of c2_rules.
+//! What they are stands in `Chains`, `Questions` and `Rules` of c2_rules.
 #![tactic(auto)]
 
 mod asking;
+mod bindings;
 mod boxes;
 mod chain;
-mod kept;
-mod laws;
+mod claims;
+mod digests;
+mod entries;
+mod facts;
+mod forms;
+mod indices;
+mod ingredients;
+mod manifest;
+mod redactions;
+#[cfg(test)]
+mod rule_tests;
+#[cfg(test)]
+mod stores;
 #[cfg(test)]
 mod tests;
+mod uris;
+mod verdict;
 
-pub use asking::question_of;
-pub use chain::{Chain, claim_of, manifest_count, of_store};
-pub use laws::{
-    each_list_is_an_item_or_not, each_manifest_has_a_claim_or_not,
-    each_manifest_has_a_question_or_not, one_claim, one_list_of_claims, one_question,
+pub use asking::ChainError;
+pub use c2_reading::{
+    a_reading_is_the_claim_and_the_question, each_list_is_an_item_or_not,
+    each_manifest_has_a_claim_or_not, each_manifest_has_a_question_or_not, each_store_is_read,
+    labels_of_a_store_differ, one_claim, one_list_of_claims, one_question, one_reading,
+};
+pub use chain::{
+    Chain, check_manifest, child_of, claim_of, ingredient_of, manifest_count, of_store,
+    question_of, reached, reaches, redacted, touched,
 };

@@ -79,9 +79,11 @@ IsListOutcome file expected = (what : Opening Tree) × IsBoxed file what × Repo
 abbrev pub IsMediaOutcome : (Tree → Outcome → Type 0) → List ℕ → Outcome → Type 0
 IsMediaOutcome IsExpected file expected = (what : Opening Tree) × IsOpened file what × Reports (λ start len t e. IsExpected t e) what expected
 
--- the outcome of `show` over the box tree of a store
+-- the outcome of `show` over the box tree of a store, of which it looks at the manifests and their claims alone
 abbrev pub shown : Tree → List (Option Claim) → Outcome
-shown t claims = reports answer.Done (show_line (record { manifests = manifests_of t; claims = claims }))
+shown t claims =
+    reports answer.Done
+    (show_line (record { manifests = manifests_of t; claims = claims; readings = []; boxes = [] }))
 
 abbrev pub IsShown : Tree → Outcome → Type 0
 IsShown t expected = (claims : List (Option Claim)) × HaveClaims (manifests_of t) claims × (expected ≡ shown t claims)

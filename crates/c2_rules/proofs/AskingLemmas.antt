@@ -1,8 +1,8 @@
 -- A panel that was asked one question after the other.
-use Rattle.std.proofs.Common.{◌≡◌, ℕ, List, [], ◌∷◌, ◌++◌, Option, Some, None, option_to_list, is_some, refl, sym, ap, ◌∙◌, subst, append_assoc, append-nil}
+use Rattle.std.proofs.Common.{◌≡◌, ℕ, ◌≤◌, arith, Result, Ok, Err, List, [], ◌∷◌, ◌++◌, Option, Some, None, option_to_list, is_some, refl, sym, ap, ◌∙◌, subst, append_assoc, append-nil}
 use Rattle.c2_base.specs.declared.values.Question.{Question}
 use Rattle.c2_spec.specs.declared.panel.Verdict.{Verdict}
-use Rattle.c2_spec.specs.Judges.Panel.{verdicts, panel_size, Counted, MovedBelow, FailedAt}
+use Rattle.c2_spec.specs.Judges.Panel.{verdicts, panel_size, Counted, MovedBelow, FailedAt, Judges, LeavesJudges, NoneFell}
 use Rattle.c2_rules.specs.Asking.{HaveAsked, HaveAskedPrefix, HaveFailed}
 use Rattle.c2_rules.specs.Readings.{Reading, question_in}
 use Rattle.c2_rules.specs.Rules.{claim_tests}
@@ -21,6 +21,9 @@ pub failed_some : (said : List (Question → Verdict)) (o : Option Question) (q 
     → HaveFailed said (option_to_list o) before now faults_before faults_now
 failed_some said o q before now faults_before faults_now is h =
     subst (λ (p : Option Question). HaveFailed said (option_to_list p) before now faults_before faults_now) (sym is) (failed_one said q before now faults_before faults_now h)
+
+pub asked_some : (said : List (Question → Verdict)) (o : Option Question) (q : Question) (before now : List ℕ) → o ≡ Some q → MovedBelow Counted (panel_size (verdicts said q)) before now → HaveAsked said (option_to_list o) before now
+asked_some said o q before now is h = subst (λ (p : Option Question). HaveAsked said (option_to_list p) before now) (sym is) (asked_one said q before now h)
 
 -- nothing was asked
 pub front_none : (said : List (Question → Verdict)) (qs : List Question) (now : List ℕ) → HaveAskedPrefix said qs now now
@@ -50,7 +53,7 @@ failed_append said qs rs a b c f g p q = record {
   failed = q.failed;
 }
 
--- and others behind that weren't
+-- and others after them that weren't
 pub front_more : (said : List (Question → Verdict)) (qs rs : List Question) (a b : List ℕ) → HaveAskedPrefix said qs a b → HaveAskedPrefix said (qs ++ rs) a b
 front_more said qs rs a b p = record { prefix = p.prefix; rest = p.rest ++ rs; split = ap (λ (x : List Question). x ++ rs) p.split ∙ append_assoc p.prefix p.rest rs; asked = p.asked }
 
@@ -77,3 +80,20 @@ no_question r f fails = by (question_in r) refl
 
 pub asked_nothing : (said : List (Question → Verdict)) (o : Option Question) (now : List ℕ) → o ≡ None → HaveAsked said (option_to_list o) now now
 asked_nothing said o now none = subst (λ (p : Option Question). HaveAsked said (option_to_list p) now now) (sym none) refl
+
+-- ---- judges that nobody asked
+
+within : (ns : List ℕ) → NoneFell ns ns
+within ns i lt = omega arith
+
+pub stays : {T E : Type 0} (js : Judges) (r : Result T E) → LeavesJudges js js r
+stays {T} {E} js (Ok x) = record { same = refl; asked_later = within js.asked; faults_later = within js.faults; ok = refl }
+stays {T} {E} js (Err e) = record { same = refl; asked_later = within js.asked; faults_later = within js.faults; ok = tt }
+
+-- whatever is answered in the end, where the panel's answer was handled
+pub leaves_ok : {T U E F : Type 0} (old new : Judges) (x : T) (r : Result U F) → LeavesJudges {T = T} {E = E} old new (Ok x) → LeavesJudges old new r
+leaves_ok {T} {U} {E} {F} old new x (Ok y) h = record { same = h.same; asked_later = h.asked_later; faults_later = h.faults_later; ok = h.ok }
+leaves_ok {T} {U} {E} {F} old new x (Err e) h = record { same = h.same; asked_later = h.asked_later; faults_later = h.faults_later; ok = tt }
+
+pub leaves_err : {T U E F : Type 0} (old new : Judges) (e : E) (f : F) → LeavesJudges {T = T} {E = E} old new (Err e) → LeavesJudges {T = U} {E = F} old new (Err f)
+leaves_err {T} {U} {E} {F} old new e f h = record { same = h.same; asked_later = h.asked_later; faults_later = h.faults_later; ok = tt }

@@ -2,13 +2,13 @@
 pub mod Opened
 pub mod Ingredients
 pub mod Questions
-pub mod Claims
 pub mod Asking
 pub mod Tests
 pub mod Codes
 pub mod Readings
+pub mod Claims
 pub mod Chains
-pub mod ReadStore
+pub mod BoxPlaces
 pub mod Seen
 pub mod Rules
 pub mod Binding

@@ -1,20 +1,12 @@
 use Rattle.c2_spec.specs.C2pa.Manifest.{manifests_of}
-use Rattle.c2_chain.proofs.Placed.{stored_count}
-use Rattle.c2_chain.proofs.Keeping.{claims_kept, kept_count}
+use Rattle.c2_chain.proofs.ChainLemmas.{same_manifests, claims_had, is_chain}
 use Rattle.c2_chain.proofs.chain.of_store.Goals as goal
 
 pub invariant_of-result : goal.invariant_of-result
-invariant_of-result c =
-    let t = c.args.tree.now in
-    let s = c.args.store.now in
-    let ks = c.in_ok-claims.claims.items in
-    record {
-      store = c.requires;
-      each = c.in_ok-claims.ensures;
-      claims = claims_kept (manifests_of t) ks c.in_ok-claims.ensures;
-      count = kept_count (manifests_of t) ks c.in_ok-claims.ensures;
-      stored = stored_count t s c.requires;
-    }
+invariant_of-result c = is_chain c.a_reading_is_the_claim_and_the_question.ensures.claim (manifests_of c.args.tree.now) c.in_ok-all.all c.in_ok-all.ensures
+
+pub returns-clause-manifests : goal.returns-clause-manifests
+returns-clause-manifests c = same_manifests (manifests_of c.args.tree.now) c.in_ok-all.all c.in_ok-all.ensures
 
 pub returns-clause-claims : goal.returns-clause-claims
-returns-clause-claims c = claims_kept (manifests_of c.args.tree.now) c.in_ok-claims.claims.items c.in_ok-claims.ensures
+returns-clause-claims c = claims_had c.a_reading_is_the_claim_and_the_question.ensures.claim (manifests_of c.args.tree.now) c.in_ok-all.all c.in_ok-all.ensures

@@ -1,0 +1,9 @@
+use Rattle.std.proofs.Common.{◌≡◌, length}
+use Rattle.c2_chain.specs.Facts.{AreFacts}
+use Rattle.c2_chain.proofs.facts.find_facts.Given as goal
+
+abbrev pub invariant-loop-m : goal.invariant-loop-m
+invariant-loop-m g l = record {
+  count : length l.facts.items ≡ l.m;
+  right : AreFacts g.H.Hashing.digest_of l.all l.facts.items;
+}

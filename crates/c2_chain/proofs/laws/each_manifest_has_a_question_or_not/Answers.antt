@@ -1,5 +1,0 @@
-use Rattle.c2_chain.proofs.Messages.{each_question}
-use Rattle.c2_chain.proofs.laws.each_manifest_has_a_question_or_not.Goals as goal
-
-pub returns : goal.returns
-returns c = each_question

@@ -1,5 +1,0 @@
-use Rattle.c2_chain.proofs.Unique.{one_claim}
-use Rattle.c2_chain.proofs.laws.one_claim.Goals as goal
-
-pub returns : goal.returns
-returns c = one_claim

@@ -1,5 +1,0 @@
-use Rattle.c2_chain.proofs.Unique.{one_list_of_claims}
-use Rattle.c2_chain.proofs.laws.one_list_of_claims.Goals as goal
-
-pub returns : goal.returns
-returns c = one_list_of_claims

@@ -1,5 +1,0 @@
-use Rattle.c2_chain.proofs.Unique.{one_question}
-use Rattle.c2_chain.proofs.laws.one_question.Goals as goal
-
-pub returns : goal.returns
-returns c = one_question

@@ -1,0 +1,6 @@
+-- For private clauses: the place of an assertion box.
+use Rattle.c2_rules.specs.BoxPlaces.{BoxPlace}
+use Rattle.c2_chain.specs.declared.indices.Place.{Place}
+
+abbrev pub pair_of : Place → BoxPlace
+pair_of p = record { manifest = p.manifest; box = p.index }

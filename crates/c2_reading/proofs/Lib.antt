@@ -1,0 +1,10 @@
+pub mod Messages
+pub mod Existing
+pub mod Unique
+pub mod ParsingLemmas
+pub mod KeepingLemmas
+pub mod RowLemmas
+pub mod Labels
+pub mod OneReading
+pub mod ReadClaims
+pub mod SomeReading

@@ -1,0 +1,11 @@
+use Rattle.c2_reading.proofs.OneReading.{one_reading, one_list_of_readings, one_store}
+use Rattle.c2_reading.proofs.laws.one_reading.Goals as goal
+
+pub returns-clause-manifest : goal.returns-clause-manifest
+returns-clause-manifest c = one_reading
+
+pub returns-clause-manifests : goal.returns-clause-manifests
+returns-clause-manifests c = one_list_of_readings
+
+pub returns-clause-store : goal.returns-clause-store
+returns-clause-store c = one_store

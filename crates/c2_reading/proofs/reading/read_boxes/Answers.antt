@@ -1,0 +1,10 @@
+use Rattle.c2_spec.specs.C2pa.Manifest.{superbox_at}
+use Rattle.c2_rules.specs.Readings.{IsReadBox}
+use Rattle.c2_reading.proofs.ParsingLemmas.{zip_more, zip_all}
+use Rattle.c2_reading.proofs.reading.read_boxes.Goals as goal
+
+pub loop-i-preserved : goal.loop-i-preserved
+loop-i-preserved c = zip_more IsReadBox (superbox_at c.args.tree.now) c.args.boxes.now c.loop-i.i 0 c.loop-i.found.items c.push.new.self.items c.in_ok-own.own c.loop-i-test.true c.loop-i.invariant c.in_ok-push.ensures.items c.in_ok-own.ensures
+
+pub returns : goal.returns
+returns c = zip_all IsReadBox (superbox_at c.args.tree.now) c.args.boxes.now c.loop-i.i c.loop-i.found.items c.loop-i-test.false c.loop-i.invariant

@@ -1,0 +1,92 @@
+// Where the manifests stand that ingredients name.
+ghost use Rattle.std.specs.Prelude.{◌≡◌, ◌<◌, IfOk, length, filter_map, option_and_then, option_map, Some};
+ghost use Rattle.c2_spec.specs.C2pa.Assertion.{manifest_named};
+ghost use Rattle.c2_rules.specs.Chains as form;
+ghost use Rattle.c2_rules.specs.Readings as readings;
+ghost use Rattle.c2_rules.specs.declared.parsed.Parsed.TheVariants.{Value};
+
+use crate::kept::{Kept, KeptBox, boxes, ingredient, label};
+use c2_base::NoMemory;
+use c2_rules::Parsed;
+use c2_spec::Ingredient;
+use c2_uri::{Target, parse};
+use std::alloc::Global;
+
+/// The place of the manifest with this label.
+pub fn place_among(kept: &[Kept<'_>], name: &str) -> Option<usize>
+    ensures { result ≡ form.place_of kept.now name.now }
+{
+    kept.iter().position(|k| label(k) == name)
+}
+
+/// The label of the manifest that a URI names as a whole.
+pub fn named(url: &str) -> Option<&str>
+    ensures { option_map (λ m. m.now) result ≡ manifest_named url.now }
+{
+    match parse(url) {
+        Some(uri) => match uri.target {
+            Target::Whole => uri.manifest,
+            _ => None,
+        },
+        None => None,
+    }
+}
+
+/// The place of the manifest with this label, where it stands before place `n`.
+fn place_before(kept: &[Kept<'_>], n: usize, name: &str) -> Option<usize>
+    ensures { result ≡ form.place_before n (form.place_of kept.now name.now) }
+{
+    match place_among(kept, name) {
+        Some(m) => { if m < n { Some(m) } else { None } }
+        None => None,
+    }
+}
+
+/// The place of the child that an ingredient of the manifest at `n` names.
+fn child_named(kept: &[Kept<'_>], n: usize, g: &Ingredient) -> Option<usize>
+    ensures { result ≡ form.place_before n
+        (option_and_then (form.place_of kept.now) (form.named_by (Some g.now))) }
+{
+    let Some(manifest) = &g.manifest else {
+        return None;
+    };
+    match named(manifest.url.as_str()) {
+        Some(name) => place_before(kept, n, name),
+        None => None,
+    }
+}
+
+/// The place of the child that this box of the manifest at `n` names.
+pub fn child_of(kept: &[Kept<'_>], n: usize, b: &KeptBox<'_>) -> Option<usize>
+    ensures { result ≡ form.child_of kept.now n b.now }
+{
+    match ingredient(b) {
+        Parsed::Value(g) => child_named(kept, n, g),
+        _ => None,
+    }
+}
+
+/// The places of the children that these boxes of the manifest at `n` name.
+fn children_of(
+    alloc: Global,
+    kept: &[Kept<'_>],
+    n: usize,
+    boxes: &[KeptBox<'_>],
+) -> Result<Vec<usize>, NoMemory>
+    ensures { IfOk result (λ v. v.items ≡ filter_map (form.child_of kept.now n) boxes.now) }
+{
+    let found = boxes
+        .iter()
+        .filter_map(|b| child_of(kept, n, b))
+        .collect(alloc)?;
+    Ok(found)
+}
+
+/// The places of the children of the manifest at `n`, box by box.
+pub fn children(alloc: Global, kept: &[Kept<'_>], n: usize) -> Result<Vec<usize>, NoMemory>
+    requires { n < length kept.now }
+    ensures { IfOk result (λ v. v.items ≡ form.children kept.now n) }
+{
+    let found = children_of(alloc, kept, n, boxes(&kept[n]))?;
+    Ok(found)
+}
