@@ -18,10 +18,6 @@ mod ingredients;
 mod manifest;
 mod redactions;
 #[cfg(test)]
-mod rule_tests;
-#[cfg(test)]
-mod stores;
-#[cfg(test)]
 mod tests;
 mod uris;
 mod verdict;
