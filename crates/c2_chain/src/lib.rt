@@ -18,6 +18,10 @@ mod ingredients;
 mod manifest;
 mod redactions;
 #[cfg(test)]
+mod rule_tests;
+#[cfg(test)]
+mod stores;
+#[cfg(test)]
 mod tests;
 mod uris;
 mod verdict;
