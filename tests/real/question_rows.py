@@ -1,5 +1,6 @@
 """Small stores for `questions`: what each shows, and its bytes."""
 
+from drafts import Assertion, Ingredient, Manifest, Written, write
 from make_store import (
     NULL,
     UNDEFINED,
@@ -11,6 +12,7 @@ from make_store import (
     claim,
     claim_box,
     data,
+    hashed_uri,
     head,
     item,
     manifest,
@@ -41,7 +43,7 @@ def rows():
         yield f"the claim's signature is {uri}", asked(sign1(), claimed=claim(signature=uri))
     for how, message in refused_messages():
         yield f"the message {how}", asked(message)
-    yield from ingredients()
+    yield from chains()
     yield "NotStore", superbox(b"c2pa", "c2px", manifest("m"))
     yield "NoManifest", store()
     yield "ManifestType", store(superbox(b"c2cm", "n"), manifest("m"))
@@ -160,23 +162,91 @@ def refused_messages():
     yield "has a text as its signature", array(protected, header, NULL, text("Z"))
 
 
-def ingredients():
-    """Ingredients: one of version 3 in the active manifest's assertion store is a refusal of its own."""
-    with_boxes = lambda *labels, label="m": asked(sign1(), assertions(*map(assertion, labels)), label=label)
-    yield "an ingredient of version 3", with_boxes("c2pa.ingredient.v3")
-    yield "a second instance of it", with_boxes("a", "c2pa.ingredient.v3__2")
-    yield "the first of two in the order of boxes", with_boxes("c2pa.ingredient.v3__12", "c2pa.ingredient.v3")
-    yield "under a label with characters of two to four bytes", with_boxes("c2pa.ingredient.v3", label="é日本\U0001f4f7")
-    boxes = assertions(assertion("c2pa.ingredient.v3"))
-    yield "an ingredient where no question could be put", store(manifest("m", boxes))
-    yield "a refused store with an ingredient", store(manifest("a/b"), manifest("m", boxes))
-    yield "an ingredient of the first version isn't one of version 3", with_boxes("c2pa.ingredient")
-    yield "nor is one of version 2", with_boxes("c2pa.ingredient.v2__1")
-    yield "nor is one of a later version", with_boxes("c2pa.ingredient.v4")
-    others = "c2pa.ingredient.v3__", "c2pa.ingredient.v3__1__2", "c2pa.ingredient.v3_1", "x.c2pa.ingredient.v3"
-    yield "labels that aren't quite its own", with_boxes(*others)
-    yield "two underscores and no ASCII digit", with_boxes("c2pa.ingredient.v3__a", "c2pa.ingredient.v3__\u0661")
-    yield "an ingredient in an older manifest alone", store(manifest("l", boxes), manifest("m", CLAIM, SIGNATURE))
-    yield "an ingredient box outside the assertion store", asked(sign1(), assertion("c2pa.ingredient.v3"))
-    other = superbox(b"c2ax", "c2pa.assertions", assertion("c2pa.ingredient.v3"))
-    yield "an ingredient in an assertion store of another type", asked(sign1(), other)
+def chain(*drafts):
+    """A store of drafts, whose signatures differ, so that their questions do."""
+    for number, draft in enumerate(drafts):
+        draft.signature = bytes([number])
+    return write(drafts, Written())
+
+
+def given(label, *encoded, more=()):
+    """A manifest with ingredients of these items."""
+    numbered = (f"c2pa.ingredient.v3__{number}" for number in range(1, 1 + len(encoded)))
+    return Manifest(label, *(Assertion(*pair) for pair in zip(numbered, encoded)), *more)
+
+
+def chains():
+    """Ingredients: each manifest that is reached by them is asked about, the last first."""
+    yield "a manifest and the one that it names", chain(Manifest("d"), Manifest("m", Ingredient("d")))
+    yield "a chain of three", chain(Manifest("d"), Manifest("e", Ingredient("d")), Manifest("m", Ingredient("e")))
+    last = Manifest("A", Ingredient("B"), Ingredient("C", label="c2pa.ingredient.v3__1"))
+    shared = Manifest("D"), Manifest("B", Ingredient("D")), Manifest("C", Ingredient("D")), last
+    yield "a manifest that two name is asked about once", chain(*shared)
+    yield "one that nobody names isn't asked about", chain(Manifest("d"), Manifest("m"))
+    yield "one that only such a one names isn't either", chain(Manifest("c"), Manifest("d", Ingredient("c")), Manifest("m"))
+    without = [Manifest(label, *boxes) for label, boxes in (("d", ()), ("m", (Ingredient("d"),)))]
+    without[1].change_claims = lambda _: []
+    yield "no claim, and an ingredient all the same", chain(*without)
+    without = Manifest("d")
+    without.change_message = lambda _: b"\xff"
+    yield "a named manifest without a message", chain(without, Manifest("m", Ingredient("d")))
+    refused = Manifest("m", Ingredient("d"))
+    refused.claim_fields = {"redacted_assertions": NULL, "alg": uint(1)}
+    yield "a claim that is refused, and an ingredient all the same", chain(Manifest("d"), refused)
+    wrong = Ingredient("d")
+    wrong.hashes = [bytes(32), bytes(32)]
+    yield "other digests in the ingredient: the question is put", chain(Manifest("d"), Manifest("m", wrong))
+    hidden = Ingredient("d")
+    hidden.is_listed = False
+    yield "an ingredient box that no entry lists is followed", chain(Manifest("d"), Manifest("m", hidden))
+    unsigned = Ingredient("d", is_signed=False)
+    yield "an ingredient without claimSignature is followed", chain(Manifest("d"), Manifest("m", unsigned))
+    yield "an update is asked about", chain(Manifest("d"), Manifest("u", Ingredient("d"), update=True), Manifest("m", Ingredient("u")))
+    yield "an active update too", chain(Manifest("d"), Manifest("u", Ingredient("d", "parentOf"), update=True))
+    yield "a manifest that names itself", chain(Manifest("m", Ingredient("m")))
+    yield "a manifest that names a later one", chain(Manifest("d", Ingredient("m")), Manifest("m"))
+    yield "two that name each other", chain(Manifest("d", Ingredient("m")), Manifest("m", Ingredient("d")))
+    yield "a manifest that isn't there", chain(Manifest("d"), Manifest("m", Ingredient("z")))
+    yield "labels with characters of two to four bytes", chain(Manifest("é日本"), Manifest("\U0001f4f7 \"x\"", Ingredient("é日本")))
+    yield from other_ingredients()
+
+
+def other_ingredients():
+    """Boxes that aren't read as ingredients: nothing is followed."""
+    for label in (
+        "c2pa.ingredient",
+        "c2pa.ingredient.v2__1",
+        "c2pa.ingredient.v4",
+        "c2pa.ingredient.v3__",
+        "c2pa.ingredient.v3__1__2",
+        "c2pa.ingredient.v3_1",
+        "c2pa.ingredient.v3__a",
+        "c2pa.ingredient.v3__\u0661",
+        "x.c2pa.ingredient.v3",
+    ):
+        yield f"a box labelled {label}", chain(Manifest("d"), Manifest("m", Ingredient("d", label=label)))
+    parent = ("relationship", text("parentOf"))
+    named = hashed_uri("self#jumbf=/c2pa/d")
+    signature = ("claimSignature", hashed_uri("self#jumbf=/c2pa/e/c2pa.signature"))
+    for what, encoded in (
+        ("is no CBOR", b"\xff"),
+        ("has no relationship", mapping(("activeManifest", named))),
+        ("has another relationship", mapping(("relationship", text("childOf")), ("activeManifest", named))),
+        ("names a signature", mapping(parent, ("activeManifest", hashed_uri("self#jumbf=/c2pa/d/c2pa.signature")))),
+        ("names a manifest without self", mapping(parent, ("activeManifest", hashed_uri("/c2pa/d")))),
+        ("has the signature of another manifest", mapping(parent, ("activeManifest", named), signature)),
+        ("has a signature alone", mapping(parent, signature)),
+        ("has a null", mapping(parent, ("activeManifest", NULL))),
+    ):
+        yield f"an ingredient that {what}", chain(Manifest("d"), given("m", encoded))
+    good = mapping(parent, ("activeManifest", named))
+    yield "the second of two ingredients", chain(Manifest("d"), given("m", b"\xff", good))
+    json = Ingredient("d")
+    json.content = b"json"
+    yield "an ingredient of JSON", chain(Manifest("d"), Manifest("m", json))
+    other = Manifest("m", Ingredient("d"))
+    other.store_type = b"c2ax"
+    yield "an ingredient in an assertion store of another type", chain(Manifest("d"), other)
+    outside = asked(sign1(), assertion("c2pa.ingredient.v3", good))
+    yield "an ingredient box outside the assertion store", outside
+    yield "a refused store with an ingredient", chain(Manifest("a/b"), Manifest("m", Ingredient("a/b")))

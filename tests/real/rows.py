@@ -24,9 +24,10 @@ NOT_PLAIN = ("\x7f", "\u2028", "\u2029")
 
 
 def rows_of(command):
-    """The rows of a command: two lines each, what it shows and the row."""
+    """The rows of a command: two lines each, what it shows and the row. A report of several lines has ` / ` between them."""
     for what, contents in ROWS[command]():
         line, status = report(command, jpeg(contents))
+        line = line.replace("\n", " / ")
         yield f"# {what}\n{contents.hex()} => {status} {line}\n"
 
 

@@ -1,0 +1,211 @@
+"""Drafts of manifest stores: what a manifest shall say, written out with digests and ranges that are right unless a draft says
+otherwise. Boxes and items are those of make_store.py.
+
+A store is written from its first manifest to its last, since an ingredient has the digests of a manifest before its own; and
+twice, since the binding of the last one has the digest of the file around it.
+"""
+
+import hashlib
+
+import cbor
+from make import segment
+from make_store import (
+    array,
+    assertions,
+    box,
+    claim_box,
+    data,
+    item,
+    jpeg,
+    manifest,
+    mapping,
+    sign1,
+    signature_box,
+    store,
+    superbox,
+    tag,
+    text,
+    uint,
+)
+from manifests import BMFF_HASH, DATA_HASH
+from media import PROVENANCE, BadBinding, Binding, media_of
+
+ACTIONS = mapping(("actions", array(mapping(("action", text("c2pa.created"))))))
+NO_DIGEST = bytes(32)
+
+
+def digest(contents):
+    return hashlib.sha256(contents).digest()
+
+
+def fields(*pairs):
+    """A map of those pairs that have a value."""
+    return mapping(*((key, value) for key, value in pairs if value is not None))
+
+
+def reference(url, hashed, alg=None):
+    return fields(("url", text(url)), ("hash", data(hashed)), ("alg", None if alg is None else text(alg)))
+
+
+class Written:
+    """What is there of a store that is being written: contents of manifests and signature boxes, and numbers of the binding."""
+
+    def __init__(self, start=0, length=0, covered=NO_DIGEST):
+        self.start, self.length, self.covered = start, length, covered
+        self.manifests, self.signatures = {}, {}
+
+
+class Assertion:
+    """An assertion box and its entry in the claim."""
+
+    def __init__(self, label, encoded=b"\xa0", content=b"cbor"):
+        self.label, self.content, self.given = label, content, encoded
+        self.is_listed = self.is_there = True
+        self.url = self.alg = self.hashed = self.change = None
+
+    def encoded(self, written):
+        spelled = self.given(written) if callable(self.given) else self.given
+        return self.change(spelled) if self.change else spelled
+
+    def box(self, written):
+        return superbox(self.content, self.label, box(self.content, self.encoded(written)))
+
+    def entry(self, written):
+        url = f"self#jumbf=c2pa.assertions/{self.label}" if self.url is None else self.url
+        return reference(url, digest(self.box(written)[8:]) if self.hashed is None else self.hashed, self.alg)
+
+
+class Ingredient(Assertion):
+    """An ingredient of version 3, which names a manifest."""
+
+    def __init__(self, named, relationship="componentOf", is_signed=True, label="c2pa.ingredient.v3"):
+        super().__init__(label, self.spelled)
+        self.named, self.relationship, self.is_signed = named, relationship, is_signed
+        self.algs, self.hashes = [None, None], [None, None]
+
+    def spelled(self, written):
+        references = []
+        for number, (known, more) in enumerate(((written.manifests, ""), (written.signatures, "/c2pa.signature"))):
+            hashed = self.hashes[number] or digest(known.get(self.named) or b"")
+            references.append(reference(f"self#jumbf=/c2pa/{self.named}{more}", hashed, self.algs[number]))
+        signature = references[1] if self.is_signed else None
+        manifest_there = references[0] if self.named is not None else None
+        return fields(("relationship", text(self.relationship)), ("activeManifest", manifest_there), ("claimSignature", signature))
+
+
+class DataHash(Assertion):
+    def __init__(self, alg="sha256", label="c2pa.hash.data"):
+        super().__init__(label, self.spelled)
+        # the ranges, None for that of the store; their numbers have four bytes each, so that the item keeps its length
+        self.ranges, self.named_alg, self.more = [None], alg, []
+
+    def spelled(self, written):
+        ranges = [(written.start, written.length) if given is None else given for given in self.ranges]
+        width = lambda number: 4 if number < 1 << 32 else 8
+        spelled = [mapping(("start", uint(at, width(at))), ("length", uint(length, width(length)))) for at, length in ranges]
+        alg = None if self.named_alg is None else text(self.named_alg)
+        return fields(("alg", alg), ("hash", data(written.covered)), ("exclusions", array(*spelled)), *self.more)
+
+
+class BmffHash(Assertion):
+    def __init__(self, exclusions=(), alg="sha256", label="c2pa.hash.bmff.v2"):
+        super().__init__(label, self.spelled)
+        self.exclusions, self.named_alg, self.more = list(exclusions), alg, []
+
+    def spelled(self, written):
+        alg = None if self.named_alg is None else text(self.named_alg)
+        return fields(("exclusions", array(*self.exclusions)), ("alg", alg), ("hash", data(written.covered)), *self.more)
+
+
+def exclusion(xpath, *pairs):
+    return mapping(("xpath", text(xpath)), *pairs)
+
+
+PROVENANCE_BOX = exclusion("/uuid", ("data", array(mapping(("offset", uint(8)), ("value", data(PROVENANCE))))))
+ALL_EXCLUDED = PROVENANCE_BOX, exclusion("/ftyp"), exclusion("/mfra")
+
+
+class Manifest:
+    """A manifest: its assertions, claim and signature. What a draft changes of the boxes of claim and signature is a function."""
+
+    def __init__(self, label, *given, update=False):
+        self.label, self.assertions, self.is_update = label, list(given), update
+        self.redactions, self.claim_alg, self.gathered = [], "sha256", 0
+        self.claim_fields, self.extra_entries = {}, []
+        self.signature = b"\x5a" * 4
+        self.change_claim = self.change_claims = self.change_signatures = self.change_message = lambda it: it
+        self.change_boxes = lambda boxes: boxes
+        self.store_label, self.store_type = "c2pa.assertions", b"c2as"
+
+    def claim(self, written):
+        entries = [given.entry(written) for given in self.assertions if given.is_listed] + self.extra_entries
+        split = len(entries) - self.gathered
+        spelled = {
+            "instanceID": text("i"),
+            "signature": text("self#jumbf=c2pa.signature"),
+            "created_assertions": array(*entries[:split]),
+            "gathered_assertions": array(*entries[split:]) if self.gathered else None,
+            "redacted_assertions": array(*map(text, self.redactions)) if self.redactions else None,
+            "alg": None if self.claim_alg is None else text(self.claim_alg),
+            **self.claim_fields,
+        }
+        return self.change_claim(fields(*spelled.items()))
+
+    def write(self, written):
+        boxes = [given.box(written) for given in self.assertions if given.is_there]
+        kept = superbox(self.store_type, self.store_label, *self.change_boxes(boxes))
+        message = self.change_message(tag(18, sign1(signature=self.signature)))
+        claims = self.change_claims([claim_box(item(self.claim(written)))])
+        signatures = self.change_signatures([signature_box(item(message))])
+        contents = manifest(self.label, kept, *claims, *signatures, update=self.is_update)
+        written.manifests.setdefault(self.label, contents[8:])
+        if signatures:
+            written.signatures.setdefault(self.label, signatures[0][8:])
+        return contents
+
+
+def write(manifests, written):
+    return store(*(draft.write(written) for draft in manifests))
+
+
+class Jpeg:
+    """A JPEG around a store: what stands before it and behind it."""
+
+    def __init__(self, front=b"\xff\xd8", rest=b"\xff\xd9"):
+        self.front, self.rest = front, rest
+
+    def around(self, contents):
+        return jpeg(contents, self.front, self.rest)
+
+    def file(self, manifests):
+        """The file, whose binding is right where it excludes the store's range alone."""
+        length = len(self.around(write(manifests, Written()))) - len(self.front) - len(self.rest)
+        covered = digest(self.front + self.rest)
+        return self.around(write(manifests, Written(len(self.front), length, covered)))
+
+
+class Bmff:
+    """A BMFF file around a store: the boxes before it and behind it."""
+
+    def __init__(self, front=box(b"ftyp", b"isom\0\0\0\0"), rest=b""):
+        self.front, self.rest = front, rest
+
+    def around(self, contents):
+        return self.front + box(b"uuid", PROVENANCE + bytes(4) + b"manifest\0" + bytes(8) + contents) + self.rest
+
+    def file(self, manifests):
+        """The file. What its binding covers is computed as rules.py does it, from the file without a right digest."""
+        length = len(self.around(write(manifests, Written()))) - len(self.front) - len(self.rest)
+        written = Written(len(self.front), length)
+        for given in manifests[-1].assertions:
+            if isinstance(given, (DataHash, BmffHash)):
+                kind = BMFF_HASH if isinstance(given, BmffHash) else DATA_HASH
+                without = media_of(self.around(write(manifests, Written(written.start, length))))
+                try:
+                    written.covered = Binding(kind, cbor.read_whole(given.encoded(written)), without).cover(without)[0]
+                except (BadBinding, cbor.NotCbor):
+                    pass
+        return self.around(write(manifests, Written(written.start, length, written.covered)))
+
+
+APP0 = segment(0xE0, b"JFIF\0\1\2\0\0\1\0\1\0\0")
