@@ -11,7 +11,6 @@ import cbor
 from make import segment
 from make_store import (
     array,
-    assertions,
     box,
     claim_box,
     data,
@@ -168,30 +167,11 @@ def write(manifests, written):
     return store(*(draft.write(written) for draft in manifests))
 
 
-class Jpeg:
-    """A JPEG around a store: what stands before it and behind it."""
+class Around:
+    """A media file around a store: what stands before it and behind it."""
 
-    def __init__(self, front=b"\xff\xd8", rest=b"\xff\xd9"):
+    def __init__(self, front, rest):
         self.front, self.rest = front, rest
-
-    def around(self, contents):
-        return jpeg(contents, self.front, self.rest)
-
-    def file(self, manifests):
-        """The file, whose binding is right where it excludes the store's range alone."""
-        length = len(self.around(write(manifests, Written()))) - len(self.front) - len(self.rest)
-        covered = digest(self.front + self.rest)
-        return self.around(write(manifests, Written(len(self.front), length, covered)))
-
-
-class Bmff:
-    """A BMFF file around a store: the boxes before it and behind it."""
-
-    def __init__(self, front=box(b"ftyp", b"isom\0\0\0\0"), rest=b""):
-        self.front, self.rest = front, rest
-
-    def around(self, contents):
-        return self.front + box(b"uuid", PROVENANCE + bytes(4) + b"manifest\0" + bytes(8) + contents) + self.rest
 
     def file(self, manifests):
         """The file. What its binding covers is computed as rules.py does it, from the file without a right digest."""
@@ -206,6 +186,22 @@ class Bmff:
                 except (BadBinding, cbor.NotCbor):
                     pass
         return self.around(write(manifests, Written(written.start, length, written.covered)))
+
+
+class Jpeg(Around):
+    def __init__(self, front=b"\xff\xd8", rest=b"\xff\xd9"):
+        super().__init__(front, rest)
+
+    def around(self, contents):
+        return jpeg(contents, self.front, self.rest)
+
+
+class Bmff(Around):
+    def __init__(self, front=box(b"ftyp", b"isom\0\0\0\0"), rest=b""):
+        super().__init__(front, rest)
+
+    def around(self, contents):
+        return self.front + box(b"uuid", PROVENANCE + bytes(4) + b"manifest\0" + bytes(8) + contents) + self.rest
 
 
 APP0 = segment(0xE0, b"JFIF\0\1\2\0\0\1\0\1\0\0")
