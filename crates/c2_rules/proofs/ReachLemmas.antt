@@ -17,18 +17,22 @@ use Rattle.c2_rules.proofs.ListLemmas.{contains_none, from_filter_map, in_filter
 
 -- ---- children
 
+-- a place that passes as earlier is itself, and is earlier
 before_if : (k n m : ℕ) (b : Bool) → Decides b (k < n) → cond b (Some k) None ≡ Some m → (k ≡ m) × (k < n)
 before_if k n m true d e = (same_Some k m e, d.0 refl)
 before_if k n m false d e = absurd cc
 
+-- the same of a place that may be absent
 is_before : (n m : ℕ) (o : Option ℕ) → place_before n o ≡ Some m → (o ≡ Some m) × (m < n)
 is_before n m None e = absurd cc
 is_before n m (Some k) e = let both = before_if k n m (ltb k n) (Decides-ltb k n) e in (ap Some both.0, subst (λ (x : ℕ). x < n) both.0 both.1)
 
+-- an earlier place passes as it is
 if_before : (k n : ℕ) (b : Bool) → Decides b (k < n) → k < n → cond b (Some k) None ≡ Some k
 if_before k n true d lt = refl
 if_before k n false d lt = absurd (true≢false (sym (d.1 lt)))
 
+-- a box of a manifest that may be absent is one of a manifest that is there
 in_some : (o : Option Reading) (b : ReadBox) → Contains (boxes_of o) b → (r : Reading) × (o ≡ Some r) × Contains r.boxes b
 in_some None b c = absurd (contains_none b c)
 in_some (Some r) b c = (r, refl, c)
@@ -41,10 +45,12 @@ placed (x ∷ xs) label m e =
     let r : Reading = get_or (x ∷ xs) m x in
     (r, slice_get-get_or (x ∷ xs) m x found.0, (bytes_eq-Decides (label_in r) label).0 found.1)
 
+-- a condition that can't hold doesn't
 not_true : (b : Bool) → (b ≡ true → ⊥) → b ≡ false
 not_true true h = absurd (h refl)
 not_true false h = refl
 
+-- a place within the list where the search ends is where it finds
 position_is : (rs : List Reading) (p : Reading → Bool) (m : ℕ) → m < length rs → position_or_len p rs ≡ m → position p rs ≡ Some m
 position_is rs p m lt e =
     let here : position_or_len p rs < length rs = omega arith in
@@ -65,6 +71,7 @@ place_is rs m r differ at =
         let is : k ≡ m = differ k m (get_or rs k r) r (slice_get-get_or rs k r (omega arith)) at ((bytes_eq-Decides (label_in (get_or rs k r)) (label_in r)).0 same) in
         omega arith
 
+-- a child by the test is a child
 pub child_is : (rs : List Reading) (n m : ℕ) → Contains (children rs n) m → IsChild rs n m
 child_is rs n m c =
     let from = from_filter_map (child_of rs n) (boxes_at rs n) m c in
@@ -74,9 +81,11 @@ child_is rs n m c =
     let user = in_some (slice_get rs n) from.0 from.1 in
     record { earlier = before.1; user = user.0; is_user = user.1; box = from.0; has_box = user.2; child = there.0; is_child = there.1; names = named.1 ∙ ap Some (sym there.2) }
 
+-- the boxes at a place are those of the manifest there
 in_boxes : (rs : List Reading) (n : ℕ) (r : Reading) (b : ReadBox) → slice_get rs n ≡ Some r → Contains r.boxes b → Contains (boxes_at rs n) b
 in_boxes rs n r b at c = subst (λ (o : Option Reading). Contains (boxes_of o) b) (sym at) c
 
+-- a child is one by the test, where labels differ
 pub is_in_children : (rs : List Reading) (n m : ℕ) → LabelsDiffer rs → IsChild rs n m → Contains (children rs n) m
 is_in_children rs n m differ h =
     let place : option_and_then (place_of rs) (named_in h.box) ≡ Some m = ap (option_and_then (place_of rs)) h.names ∙ place_is rs m h.child differ h.is_child in
@@ -85,6 +94,7 @@ is_in_children rs n m differ h =
 
 -- ---- what is reached
 
+-- what is reached within some steps is reached
 pub reaches_sound : (rs : List Reading) (steps n m : ℕ) → reaches_within rs steps n m ≡ true → Reaches rs n m
 reaches_sound rs zero n m e = absurd cc
 reaches_sound rs (suc steps) n m e = by (λ c f. reaches_sound rs steps c m f) (from_any (λ (c : ℕ). eqb c m || reaches_within rs steps c m) (children rs n) e)
@@ -98,6 +108,7 @@ reaches_sound rs (suc steps) n m e = by (λ c f. reaches_sound rs steps c m f) (
       | inr more ↦ through n c m (child_is rs n c there) (rest c more)
     ]
 
+-- what is reached from a place is so within any number of steps that is greater than the place
 pub reaches_complete : (rs : List Reading) → LabelsDiffer rs → (steps n m : ℕ) → n < steps → Reaches rs n m → reaches_within rs steps n m ≡ true
 reaches_complete rs differ zero n m few r = absurd (omega arith)
 reaches_complete rs differ (suc steps) n m few (child _ _ h) =
@@ -107,17 +118,21 @@ reaches_complete rs differ (suc steps) n m few (through _ c _ h rest) =
     let more : reaches_within rs steps c m ≡ true = reaches_complete rs differ steps c m (omega arith) rest in
     in_any (λ (d : ℕ). eqb d m || reaches_within rs steps d m) (children rs n) c (is_in_children rs n c differ h) (or_right (eqb c m) (reaches_within rs steps c m) more)
 
+-- the test says which manifests are reached from a place
 pub reaches_decides : (rs : List Reading) → LabelsDiffer rs → (n m : ℕ) → (reaches rs n m ≡ true) ↔ Reaches rs n m
 reaches_decides rs differ n m = (λ e. reaches_sound rs (n + 1) n m e, λ r. reaches_complete rs differ (n + 1) n m (omega arith) r)
 
+-- a child of what is reached is reached
 one_more : (rs : List Reading) (a n m : ℕ) → Reaches rs a n → IsChild rs n m → Reaches rs a m
 one_more rs a n m (child _ _ h) next = through a n m h (child n m next)
 one_more rs a n m (through _ c _ h rest) next = through a c m h (one_more rs c n m rest next)
 
+-- what is reached from something reached is reached
 from_member : (rs : List Reading) (n m : ℕ) → Reaches rs n m → Reached rs n → Reached rs m
 from_member rs n m (child _ _ h) there = below n m there h
 from_member rs n m (through _ c _ h rest) there = from_member rs c m rest (below n c there h)
 
+-- what is reached is the active manifest, or reached from it
 active_or_reached : (rs : List Reading) (n : ℕ) → Reached rs n → (n + 1 ≡ length rs) ⊎ Reaches rs (length rs - 1) n
 active_or_reached rs n (active _ e) = inl e
 active_or_reached rs n (below k _ there h) = elim (active_or_reached rs k there) [
@@ -128,13 +143,16 @@ active_or_reached rs n (below k _ there h) = elim (active_or_reached rs k there)
     last_place : k + 1 ≡ length rs → k ≡ length rs - 1
     last_place e = omega arith
 
+-- what is reached from the active manifest is reached
 from_active : (rs : List Reading) (n : ℕ) → Reaches rs (length rs - 1) n → 0 < length rs → Reached rs n
 from_active rs n r some = from_member rs (length rs - 1) n r (active (length rs - 1) (omega arith))
 
+-- where something is reached, the store has a manifest
 some_reading : (rs : List Reading) (n m : ℕ) → Reaches rs n m → 0 < length rs
 some_reading rs n m (child _ _ h) = let lt : n < length rs = slice_get_within rs n h.user h.is_user in omega arith
 some_reading rs n m (through _ c _ h rest) = let lt : n < length rs = slice_get_within rs n h.user h.is_user in omega arith
 
+-- the test says which manifests are reached
 pub reached_decides : (rs : List Reading) → LabelsDiffer rs → (n : ℕ) → (is_reached rs n ≡ true) ↔ Reached rs n
 reached_decides rs differ n = (sound, complete)
   where
@@ -153,22 +171,26 @@ reached_decides rs differ n = (sound, complete)
       | inr reach ↦ or_right (is_active rs n) (reaches rs (length rs - 1) n) ((reaches_decides rs differ (length rs - 1) n).1 reach)
     ]
 
+-- what is reached is in the store
 pub reached_within : (rs : List Reading) (n : ℕ) → Reached rs n → n < length rs
 reached_within rs n (active _ e) = omega arith
 reached_within rs n (below k _ there h) = slice_get_within rs n h.child h.is_child
 
 -- ---- what is redacted
 
+-- a text that passes as given is the one that is there
 given_text : (text : List ℕ) (o : Option (List ℕ)) → is_given o text ≡ true → o ≡ Some text
 given_text text None e = absurd cc
 given_text text (Some given) e = ap Some ((bytes_eq-Decides given text).0 e)
 
+-- a target whose label passes as given is the assertion with that label
 given_label : (label : List ℕ) (t : PlainTarget) → is_given (assertion_label t) label ≡ true → t ≡ assertion label
 given_label label whole e = absurd cc
 given_label label (assertion given) e = ap assertion ((bytes_eq-Decides given label).0 e)
 given_label label signature e = absurd cc
 given_label label (other path) e = absurd cc
 
+-- a URI that passes names the assertion by its manifest and its label
 named_assertion : (manifest label : List ℕ) (o : Option PlainUri) → names_assertion manifest label o ≡ true → o ≡ Some (record { manifest = Some manifest; target = assertion label })
 named_assertion manifest label None e = absurd cc
 named_assertion manifest label (Some u) e =
@@ -177,10 +199,12 @@ named_assertion manifest label (Some u) e =
     let second : u.target ≡ assertion label = given_label label u.target both.1 in
     ap (λ (m : Option (List ℕ)). Some (record { manifest = m; target = u.target })) first ∙ ap (λ (t : PlainTarget). Some (record { manifest = Some manifest; target = t })) second
 
+-- a URI of that manifest and that label passes
 names_assertion_is : (manifest label : List ℕ) (o : Option PlainUri) → o ≡ Some (record { manifest = Some manifest; target = assertion label }) → names_assertion manifest label o ≡ true
 names_assertion_is manifest label o e =
     ap (names_assertion manifest label) e ∙ and_true (bytes_eq manifest manifest) (bytes_eq label label) ((bytes_eq-Decides manifest manifest).1 refl) ((bytes_eq-Decides label label).1 refl)
 
+-- a manifest that redacts a label by the test lists a URI of it
 redacts_is : (a b : Option Reading) (label : List ℕ) → redacts a b label ≡ true
     → (r : Reading) × (t : Reading) × (text : List ℕ) × (a ≡ Some r) × (b ≡ Some t) × Contains (redactions_in r) text × (uri_of text ≡ Some (record { manifest = Some (label_in t); target = assertion label }))
 redacts_is None b label e = absurd cc
@@ -189,12 +213,15 @@ redacts_is (Some r) (Some t) label e =
     let found = from_any (λ (text : List ℕ). names_assertion (label_in t) label (uri_of text)) (redactions_in r) e in
     (r, t, found.0, refl, refl, found.1, named_assertion (label_in t) label (uri_of found.0) found.2)
 
+-- a manifest that lists a URI of a label redacts it by the test
 is_redacting : (r t : Reading) (label text : List ℕ) → Contains (redactions_in r) text → uri_of text ≡ Some (record { manifest = Some (label_in t); target = assertion label }) → redacts (Some r) (Some t) label ≡ true
 is_redacting r t label text c e = in_any (λ (x : List ℕ). names_assertion (label_in t) label (uri_of x)) (redactions_in r) text c (names_assertion_is (label_in t) label (uri_of text) e)
 
+-- the manifest at a place is reached, reaches this one, and redacts this label in it
 abbrev by_place : List Reading → ℕ → List ℕ → ℕ → Bool
 by_place rs m label n = is_reached rs n && reaches rs n m && redacts (slice_get rs n) (slice_get rs m) label
 
+-- the test says which labels are redacted in a manifest
 pub redacted_decides : (rs : List Reading) → LabelsDiffer rs → (m : ℕ) (label : List ℕ) → (is_redacted rs m label ≡ true) ↔ IsRedacted rs m label
 redacted_decides rs differ m label = (sound, complete)
   where
@@ -218,6 +245,7 @@ redacted_decides rs differ m label = (sound, complete)
 
 -- ---- what is touched
 
+-- a manifest that passes as touched lists a label that is redacted in it
 lists_some : (rs : List Reading) (m : ℕ) (o : Option Reading) → lists_redacted rs m o ≡ true
     → (r : Reading) × (e : Ref) × (label : List ℕ) × (o ≡ Some r) × Contains (entries_in r) e × (entry_label r.manifest e ≡ Some label) × (is_redacted rs m label ≡ true)
 lists_some rs m None h = absurd cc
@@ -226,6 +254,7 @@ lists_some rs m (Some r) h =
     let passes = from_passes (is_redacted rs m) (entry_label r.manifest found.0) found.2 in
     (r, found.0, passes.0, refl, found.1, passes.1, passes.2)
 
+-- the test says which manifests are touched
 pub touched_decides : (rs : List Reading) → LabelsDiffer rs → (m : ℕ) → (is_touched rs m ≡ true) ↔ IsTouched rs m
 touched_decides rs differ m = (sound, complete)
   where

@@ -14,9 +14,11 @@ abbrev pub is_own_label : Option (List ℕ) → Option (List ℕ) → Bool
 is_own_label own None = true
 is_own_label own (Some label) = is_given own label
 
+-- a URI in this manifest speaks of it: it names none, or this one
 abbrev pub is_own : Manifest → Option (List ℕ) → Bool
 is_own m named = is_own_label m.label named
 
+-- a URI's target is a signature
 abbrev pub is_signature : PlainTarget → Bool
 is_signature whole = false
 is_signature (assertion label) = false
@@ -28,6 +30,7 @@ abbrev pub is_signature_in : Option (List ℕ) → Option PlainUri → Bool
 is_signature_in own None = false
 is_signature_in own (Some u) = is_own_label own u.manifest && is_signature u.target
 
+-- the URI of this manifest's signature
 abbrev pub is_signature_uri : Manifest → Option PlainUri → Bool
 is_signature_uri m u = is_signature_in m.label u
 

@@ -22,6 +22,7 @@ kinds_by_label : (kind_of (codes "c2pa.hash.data__1") ≡ kinds.DataHash)
     × (kind_of [] ≡ kinds.Ordinary)
 kinds_by_label = (refl, refl, refl, refl, refl, refl, refl, refl, refl, refl, refl)
 
+-- The item null.
 abbrev null : Item
 null = simple 22
 
@@ -33,6 +34,7 @@ named key value more = pair (text key) value more
 abbrev hash_and : List ℕ → Item → Item
 hash_and key value = dict (named (codes "hash") (bytes []) (named key value no_pairs))
 
+-- A range whose length is -2.
 abbrev negative_length : Item
 negative_length = dict (named (codes "start") (uint 1) (named (codes "length") (nint 1) no_pairs))
 
@@ -49,6 +51,7 @@ data_hashes = (refl, refl, refl, refl, refl, refl)
 abbrev ref_item : List ℕ → Item
 ref_item url = dict (named (codes "url") (text url) (named (codes "hash") (bytes []) no_pairs))
 
+-- A hashed URI with an empty hash and no algorithm.
 abbrev ref_value : List ℕ → Ref
 ref_value url = record { url = url; hash = []; alg = None }
 
@@ -57,12 +60,15 @@ abbrev input : Item → Item → Item
 input manifest signature = dict (named (codes "relationship") (text (codes "inputTo"))
     (named (codes "activeManifest") manifest (named (codes "claimSignature") signature no_pairs)))
 
+-- The URI of a manifest labelled m.
 abbrev m : List ℕ
 m = codes "self#jumbf=/c2pa/m"
 
+-- The URI of that manifest's signature.
 abbrev m_signature : List ℕ
 m_signature = codes "self#jumbf=/c2pa/m/c2pa.signature"
 
+-- The URI of another manifest's signature.
 abbrev n_signature : List ℕ
 n_signature = codes "self#jumbf=/c2pa/n/c2pa.signature"
 

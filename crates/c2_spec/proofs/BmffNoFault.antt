@@ -9,6 +9,7 @@ use Rattle.c2_spec.specs.Bmff.Boxes.{Box, IsSizedBox, AreBoxForms, HasRoots, Roo
 use Rattle.c2_spec.proofs.BmffOneList.{box_once, no_bytes, first_box, other_boxes, none_after}
 use Rattle.c2_spec.proofs.BmffPassing.{box_passes}
 
+-- bytes that are root boxes, no more than the limit, have no fault where any of them begins
 fault_or_boxes : (before cs : List Box) (rest : List ℕ) (count p : ℕ) (e : MediaError) → AllByRecursion IsSizedBox before → AreBoxForms cs → flat_map box_bytes before ++ rest ≡ flat_map box_bytes cs → 0 < length rest → count + length cs ≤ most_roots → root_fault (count + length before) p rest ≡ Some e → ⊥
 fault_or_boxes [] [] rest count p e s f same more few bad = let none : length rest ≡ 0 = ap length same in absurd (omega (arith, none, more))
 fault_or_boxes [] (c ∷ cs) rest count p e s f same more few bad =
@@ -22,6 +23,7 @@ fault_or_boxes (b ∷ bs) (c ∷ cs) rest count p e s f same more few bad =
     let counted : count + 1 + length bs ≡ count + suc (length bs) = omega arith in
     fault_or_boxes bs cs rest (count + 1) p e s.1 (other_boxes c cs f) one.1 more (omega (arith, few)) (ap (λ n. root_fault n p rest) counted ∙ bad)
 
+-- a file that has root boxes has no fault of root boxes
 pub roots_or_fault : (file : List ℕ) (roots : List Box) (e : MediaError) → HasRoots file roots → RootFault file e → ⊥
 roots_or_fault file roots e h k =
     let counted : length k.before ≡ 0 + length k.before = omega arith in

@@ -8,18 +8,21 @@ use Rattle.std.specs.List.{flat_map}
 use borrow.Author.Tests.{ne_eqb}
 use Rattle.c2_spec.specs.Bmff.Boxes.{SizeForm, short, long, to_end, Box, IsBox, AreBoxForms, HasRoots, box_bytes, box_len, header_len, header_bytes, is_to_end, stated_size, stated_long_size, stated_kind}
 
+-- how a box says its size, by the number in its first four bytes
 abbrev pub form_by : ℕ → SizeForm
 form_by size = cond (size == 0) to_end (cond (size == 1) long short)
 
--- what the bytes at a box's front tell of it: how it says its size, its type, and the size where one is said
+-- what the first bytes of a box state of it: how it says its size, its type, and the size where one is said
 pub record Tells (region : List ℕ) (form : SizeForm) (kind payload : List ℕ) : Type 0 where
   pub form_is : form_by (stated_size region) ≡ form
   pub kind_is : stated_kind region ≡ kind
   pub size_is : is_to_end form ≡ false → cond (stated_size region == 1) (stated_long_size region) (stated_size region) ≡ header_len form + length payload
 
+-- four bytes of a type come first, whatever follows
 pub kind_first : (kind more : List ℕ) → length kind ≡ 4 → take 4 (kind ++ more) ≡ kind
 kind_first kind more h = take_at kind more 4 h
 
+-- the eight bytes after the type give the 64-bit size that was written there
 pub long_first : (size : ℕ) (kind more : List ℕ) → length kind ≡ 4 → size < 2 ^ 64 → from_be_bytes w64 (take 8 (drop 4 (kind ++ to_be_bytes w64 size ++ more))) ≡ size
 long_first size (a ∷ b ∷ c ∷ d ∷ []) more h s = from_be_bytes-to_be_bytes_8 size s
 long_first size [] more h s = absurd (cc (h))
@@ -28,6 +31,7 @@ long_first size (a ∷ b ∷ []) more h s = absurd (cc (h))
 long_first size (a ∷ b ∷ c ∷ []) more h s = absurd (cc (h))
 long_first size (a ∷ b ∷ c ∷ d ∷ e ∷ es) more h s = absurd (cc (h))
 
+-- the first bytes of a box that is spelled give how it says its size, its type and its size
 pub tells : (form : SizeForm) (kind payload tail : List ℕ) → length kind ≡ 4 → IsBox (record { form = form; kind = kind; payload = payload }) → Tells (box_bytes (record { form = form; kind = kind; payload = payload }) ++ tail) form kind payload
 tells short kind payload tail k b =
     let n : ℕ = 8 + length payload in
@@ -51,6 +55,7 @@ tells long kind payload tail k b =
     }
 tells to_end kind payload tail k b = record { form_is = refl; kind_is = ap (take 4) (append_assoc kind payload tail) ∙ kind_first kind (payload ++ tail) k; size_is = λ e. absurd (cc (e)) }
 
+-- a box of these parts, written short
 abbrev box_of : SizeForm → List ℕ → List ℕ → Box
 box_of form kind payload = record { form = form; kind = kind; payload = payload }
 
@@ -60,6 +65,7 @@ open_header short m n kind e = absurd (cc (e))
 open_header long m n kind e = absurd (cc (e))
 open_header to_end m n kind e = refl
 
+-- boxes of one form and one type, and of one size where they say one, have equal headers
 same_header : (b c : Box) → b.form ≡ c.form → b.kind ≡ c.kind → (is_to_end b.form ≡ false → box_len b ≡ box_len c) → header_bytes b.form (box_len b) b.kind ≡ header_bytes c.form (box_len c) c.kind
 same_header b c form kind len = by (is_to_end b.form) refl ∙ ap₂ (λ (f : SizeForm) (k : List ℕ). header_bytes f (box_len c) k) form kind
   where
@@ -67,6 +73,7 @@ same_header b c form kind len = by (is_to_end b.form) refl ∙ ap₂ (λ (f : Si
     by true e = open_header b.form (box_len b) (box_len c) b.kind e
     by false e = ap (λ n. header_bytes b.form n b.kind) (len e)
 
+-- bytes that begin with two boxes begin with one: the boxes and what follows them are equal
 pub box_once : (b c : Box) (x y : List ℕ) → IsBox b → IsBox c → (is_to_end b.form ≡ true → x ≡ []) → (is_to_end c.form ≡ true → y ≡ []) → box_bytes b ++ x ≡ box_bytes c ++ y → (b ≡ c) × (x ≡ y)
 box_once b c x y h k ends ends' e =
     let t : Tells (box_bytes b ++ x) b.form b.kind b.payload = tells b.form b.kind b.payload x h.kind h in
@@ -96,23 +103,28 @@ box_once b c x y h k ends ends' e =
 
 -- ---- lists of boxes
 
+-- a box has bytes
 pub no_bytes : (form : SizeForm) (kind payload x : List ℕ) → [] ≡ box_bytes (box_of form kind payload) ++ x → ⊥
 no_bytes short kind payload x e = cc (e)
 no_bytes long kind payload x e = cc (e)
 no_bytes to_end kind payload x e = cc (e)
 
+-- the first of boxes in their forms is a box
 pub first_box : (b : Box) (bs : List Box) → AreBoxForms (b ∷ bs) → IsBox b
 first_box b [] f = f
 first_box b (c ∷ cs) f = f.0.is_box
 
+-- the boxes after the first of boxes in their forms are in their forms too
 pub other_boxes : (b : Box) (bs : List Box) → AreBoxForms (b ∷ bs) → AreBoxForms bs
 other_boxes b [] f = tt
 other_boxes b (c ∷ cs) f = f.1
 
+-- nothing follows a box that runs to the end
 pub none_after : (b : Box) (bs : List Box) → AreBoxForms (b ∷ bs) → is_to_end b.form ≡ true → flat_map box_bytes bs ≡ []
 none_after b [] f e = refl
 none_after b (c ∷ cs) f e = absurd (let bad = sym e ∙ f.0.sized in cc (bad))
 
+-- bytes are the concatenation of one list of boxes
 pub lists_once : (bs cs : List Box) → AreBoxForms bs → AreBoxForms cs → flat_map box_bytes bs ≡ flat_map box_bytes cs → bs ≡ cs
 lists_once [] [] f g e = refl
 lists_once [] (c ∷ cs) f g e = absurd (no_bytes c.form c.kind c.payload (flat_map box_bytes cs) e)

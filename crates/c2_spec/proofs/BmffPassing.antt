@@ -1,4 +1,4 @@
--- A box that is spelled passes the tests at its front.
+-- A box that is spelled passes the tests of its header.
 use Rattle.std.proofs.Common.{◌≡◌, ℕ, ◌+◌, ◌^◌, ◌≤◌, Bool, true, false, cond, ◌&&◌, List, [], ◌++◌, length, None, ltb, leb, ◌==◌, refl, sym, ap, ◌∙◌, arith, length-append}
 use Rattle.std.specs.Str.{bytes_eq}
 use Rattle.std.proofs.lemmas.Bool.Decides.{Decides-ltb}
@@ -11,6 +11,7 @@ use Rattle.c2_spec.specs.Bmff.Boxes.{SizeForm, short, long, to_end, Box, IsBox, 
 use Rattle.c2_spec.proofs.BmffOneList.{Tells, tells}
 use Rattle.c2_spec.proofs.BmffTests.{by, six, len_by, file_by}
 
+-- six tests of which each fails have no fault
 six_none : {A : Type 0} (a b c d e f : Bool) (x y : A) → a ≡ false → b ≡ false → c ≡ false → d ≡ false → e ≡ false → f ≡ false → six a b c d e f x y ≡ None
 six_none false false false false false false x y p q r s t u = refl
 six_none true b c d e f x y p q r s t u = absurd (cc (p))
@@ -20,6 +21,7 @@ six_none false false false true e f x y p q r s t u = absurd (cc (s))
 six_none false false false false true f x y p q r s t u = absurd (cc (t))
 six_none false false false false false true x y p q r s t u = absurd (cc (u))
 
+-- two conditions don't both hold where the first excludes the second
 and_no : (a b : Bool) → (a ≡ true → b ≡ false) → (a && b) ≡ false
 and_no true b h = h refl
 and_no false b h = refl
@@ -36,9 +38,11 @@ passes left size big header kind x y head least inside whole sized wide user =
     (le-ltb left (len_by left size big) whole)
     (and_no (bytes_eq kind uuid_kind) (ltb (len_by left size big) (cond (size == 1) 16 8 + 16)) (λ e. le-ltb (len_by left size big) (cond (size == 1) 16 8 + 16) (omega (arith, head, user e))))
 
+-- a box of these parts, written short
 abbrev box_of : SizeForm → List ℕ → List ℕ → Box
 box_of form kind payload = record { form = form; kind = kind; payload = payload }
 
+-- a box of type `uuid` has 16 bytes of payload at least, also by the type that its bytes state
 user_room : (stated kind payload : List ℕ) → stated ≡ kind → (bytes_eq kind uuid_kind ≡ true → 16 ≤ length payload) → bytes_eq stated uuid_kind ≡ true → 16 ≤ length payload
 user_room stated kind payload same h e = h (ap (λ (k : List ℕ). bytes_eq k uuid_kind) (sym same) ∙ e)
 

@@ -14,9 +14,11 @@ use Rattle.c2_spec.proofs.BoxesOfManifests.{IsInside, filter_inside, find_inside
 
 -- ---- parts
 
+-- a part is no longer than the whole
 pub part_shorter : (s x : List ℕ) → IsPart s x → length x ≤ length s
 part_shorter s x p = omega (arith, length-drop p.at s, ap length p.there, length-append x p.rest)
 
+-- a part of bytes is bytes
 pub part_bytes : (s x : List ℕ) → IsPart s x → All (λ b. b < 2 ^ 8) s → All (λ b. b < 2 ^ 8) x
 part_bytes s x p h =
     let is : take (length x) (drop p.at s) ≡ x = ap (take (length x)) p.there ∙ take_at x p.rest (length x) refl in
@@ -32,11 +34,13 @@ tail_part s whole head tail e p = record {
 
 -- ---- boxes
 
+-- a box's bytes are a part of the bytes that spell its tree
 pub box_part : (s : List ℕ) (t : Tree) (i : ℕ) → SpellsTree s t → i < tree_count t → IsPart s (any_bytes (box_at t i).box)
 box_part s t i h l =
     let stands = box_stands t i l h.legal in
     record { at = (box_at t i).place; rest = stands.rest; there = ap (drop (box_at t i).place) h.whole ∙ stands.there }
 
+-- a box's contents are a part of the bytes that spell its tree
 pub contents_part : (s : List ℕ) (t : Tree) (i : ℕ) → SpellsTree s t → i < tree_count t → IsPart s (any_contents (box_at t i).box)
 contents_part s t i h l =
     let split = any_split (box_at t i).box in
@@ -44,10 +48,12 @@ contents_part s t i h l =
 
 -- ---- items
 
+-- the contents of a `cbor` box are a part where a box's contents are
 cbor_part : (s : List ℕ) (b : AnyBox) (is_cbor : Bool) → IsPart s (any_contents b) → IfSome (cond is_cbor (Some (any_contents b)) None) (IsPart s)
 cbor_part s b true h = h
 cbor_part s b false h = tt
 
+-- the item of a box is a part of the bytes that spell its tree
 pub item_part : (s : List ℕ) (t : Tree) (i : ℕ) → SpellsTree s t → i < tree_count t → IfSome (item_at t i) (IsPart s)
 item_part s t i h l = go (slice_get (child_indices t i) 1) refl
   where
@@ -59,13 +65,16 @@ item_part s t i h l = go (slice_get (child_indices t i) 1) refl
 
 -- ---- manifests
 
+-- what the rules see of a superbox are parts of the bytes that spell its tree
 superbox_parts : (s : List ℕ) (t : Tree) (i : ℕ) → SpellsTree s t → i < tree_count t → HasParts s (superbox_at t i)
 superbox_parts s t i h l = (contents_part s t i h l, item_part s t i h l)
 
+-- the same of each superbox in a list of boxes
 each_superbox : (s : List ℕ) (t : Tree) (is : List ℕ) → SpellsTree s t → AllByRecursion (IsInside t) is → AllByRecursion (HasParts s) (map (superbox_at t) is)
 each_superbox s t [] h l = tt
 each_superbox s t (i ∷ is) h l = (superbox_parts s t i h l.0, each_superbox s t is h l.1)
 
+-- the same of a superbox that may be absent
 some_superbox : (s : List ℕ) (t : Tree) (o : Option ℕ) → SpellsTree s t → ((i : ℕ) → o ≡ Some i → i < tree_count t) → IfSome (option_map (superbox_at t) o) (HasParts s)
 some_superbox s t None h l = tt
 some_superbox s t (Some i) h l = superbox_parts s t i h (l i refl)
@@ -82,18 +91,22 @@ manifest_parts s t w h l =
       assertions = each_superbox s t (inside t (assertion_store_in t (superboxes t w))) h (in_store t (assertion_store_in t (superboxes t w)) found);
     }
 
+-- what the rules see of each manifest in a list of boxes are parts of the bytes
 each_manifest : (s : List ℕ) (t : Tree) (ws : List ℕ) (i : ℕ) → SpellsTree s t → AllByRecursion (IsInside t) ws → IfSome (slice_get (map (manifest_at t) (map (manifest_boxes t) ws)) i) (ArePartsOf s)
 each_manifest s t [] i h l = tt
 each_manifest s t (w ∷ ws) zero h l = manifest_parts s t w h l.0
 each_manifest s t (w ∷ ws) (suc i) h l = each_manifest s t ws i h l.1
 
+-- what the rules see of a store's manifests are parts of the bytes that spell its tree
 pub manifests_parts : (s : List ℕ) (t : Tree) (i : ℕ) → SpellsTree s t → IfSome (slice_get (manifests_of t) i) (ArePartsOf s)
 manifests_parts s t i h = each_manifest s t (superboxes t 0) i h (superboxes_inside t 0 (some_box t))
 
+-- the item of a claim box of the known version is a part where what the box has are parts
 known_claim : (s : List ℕ) (b : Superbox) (known : Bool) → HasParts s b → IfSome (cond known b.item None) (IsPart s)
 known_claim s b true h = h.1
 known_claim s b false h = tt
 
+-- claim bytes are a part of the bytes that spell the tree
 pub claim_part : (s : List ℕ) (bs : List Superbox) → AllByRecursion (HasParts s) bs → IfSome (claim_bytes bs) (IsPart s)
 claim_part s [] h = tt
 claim_part s (b ∷ []) h = known_claim s b (is_given b.label (codes "c2pa.claim.v2")) h.0

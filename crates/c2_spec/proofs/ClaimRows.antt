@@ -14,9 +14,11 @@ abbrev claim_with : Item → Pairs → Item
 claim_with created more = dict (named (codes "instanceID") (text [])
     (named (codes "signature") (text []) (named (codes "created_assertions") created more)))
 
+-- An empty list of items.
 abbrev no_list : Item
 no_list = list no_items
 
+-- The claim whose texts and lists are empty.
 abbrev empty_claim : Claim
 empty_claim = record { signature = []; instance = []; alg = None; created = []; gathered = []; redacted = [] }
 

@@ -3,6 +3,7 @@ use Rattle.std.proofs.Common.{◌≡◌, ℕ, [], ◌∷◌, None, Some, refl}
 use Rattle.c2_base.specs.declared.values.Range.{Range}
 use Rattle.c2_spec.specs.Cover.{bad_range, covered_count, data_text, excluded_positions, outside_count}
 
+-- A range, written short.
 abbrev range : ℕ → ℕ → Range
 range start length = record { start = start; length = length }
 

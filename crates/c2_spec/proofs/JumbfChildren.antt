@@ -11,23 +11,27 @@ abbrev pub Chain : Tree → ℕ → ℕ → List ℕ → Type 0
 Chain t end i [] = i ≡ end
 Chain t end i (c ∷ cs) = (c ≡ i) × ((i < end) × ((i < tree_count t) × ((i < index_after t i) × ((index_after t i ≤ end) × Chain t end (index_after t i) cs))))
 
+-- the root as a box with an index
 abbrev first_box : Tree → IndexedBox
 first_box t = record { index = 0; place = 0; depth = 1; box = node t }
 
--- the box at the front of what stands from an index on
+-- the first box from an index on
 pub front_box_is : (t : Tree) (i : ℕ) (b : IndexedBox) (rest : List IndexedBox) → drop i (boxes_of t) ≡ b ∷ rest → (box_at t i ≡ b) × (i < tree_count t)
 front_box_is t i b rest e =
     let n : length (boxes_of t) - i ≡ suc (length rest) = sym (length-drop i (boxes_of t)) ∙ ap length e in
     let z : i + 0 ≡ i = omega arith in
     (sym (get_or-drop i (boxes_of t) 0 (first_box t) ∙ ap (λ k. get_or (boxes_of t) k (first_box t)) z) ∙ ap (λ (x : List IndexedBox). get_or x 0 (first_box t)) e, omega (arith, n, count_is t))
 
+-- the boxes of a tree begin with the tree itself
 pub head_of : (u : Tree) (at depth i : ℕ) → (rest : List IndexedBox) × (boxes_from at depth i u ≡ record { index = i; place = at; depth = depth; box = node u } ∷ rest)
 head_of (leaf b) at depth i = ([], refl)
 head_of (super wide d us) at depth i = (_, refl)
 
+-- a tree has one box at least
 count_some : (u : Tree) → 1 ≤ tree_count u
 count_some u = omega (arith, some_box u)
 
+-- the indices of trees side by side are met one after the other
 chain_all : (us : Trees) (t : Tree) (at depth i : ℕ) (rest : List IndexedBox) → drop i (boxes_of t) ≡ boxes_from_all at depth i us ++ rest → Chain t (i + trees_count us) i (indices_from i us)
 chain_all none t at depth i rest e = let z : i ≡ i + 0 = omega arith in z
 chain_all (more u us) t at depth i rest e =
@@ -104,10 +108,12 @@ pub chain_more : (t : Tree) (end i : ℕ) (cs : List ℕ) → Chain t end i cs �
 chain_more t end i [] h l = absurd (omega (arith, h))
 chain_more t end i (c ∷ cs) h l = (cs, ap (λ n. n ∷ cs) h.0, (refl, h.1))
 
+-- at the end of a chain no child is left
 pub chain_end : (t : Tree) (end i : ℕ) (cs : List ℕ) → Chain t end i cs → end ≤ i → cs ≡ []
 chain_end t end i [] h l = refl
 chain_end t end i (c ∷ cs) h l = absurd (omega (arith, h.1.0))
 
+-- what a chain meets are boxes of the tree
 chain_inside : (t : Tree) (end i : ℕ) (cs : List ℕ) → Chain t end i cs → AllByRecursion (λ j. j < tree_count t) cs
 chain_inside t end i [] h = tt
 chain_inside t end i (c ∷ cs) h = (subst (λ j. j < tree_count t) (sym h.0) h.1.1.0, chain_inside t end (index_after t i) cs h.1.1.1.1.1)
@@ -116,11 +122,13 @@ chain_inside t end i (c ∷ cs) h = (subst (λ j. j < tree_count t) (sym h.0) h.
 pub children_inside : (t : Tree) (i : ℕ) → i < tree_count t → AllByRecursion (λ j. j < tree_count t) (child_indices t i)
 children_inside t i l = chain_inside t (index_after t i) (i + 1) (child_indices t i) (chain_of t i l)
 
+-- what holds of each child holds of the child at a place
 child_at : (P : ℕ → Type 0) (xs : List ℕ) (k j : ℕ) → AllByRecursion P xs → Some j ≡ slice_get xs k → P j
 child_at P [] k j h e = absurd (cc (e))
 child_at P (x ∷ xs) zero j h e = let same : x ≡ j = cc (e) in subst P same h.0
 child_at P (x ∷ xs) (suc k) j h e = child_at P xs k j h.1 e
 
+-- the child at a place is a box of the tree
 pub child_inside : (t : Tree) (i k j : ℕ) → i < tree_count t → Some j ≡ slice_get (child_indices t i) k → j < tree_count t
 child_inside t i k j l e = child_at (λ n. n < tree_count t) (child_indices t i) k j (children_inside t i l) e
 
@@ -130,10 +138,12 @@ child_inside t i k j l e = child_at (λ n. n < tree_count t) (child_indices t i)
 abbrev pub label_at : Tree → ℕ → Option (List ℕ)
 label_at t k = any_label (box_at t k).box
 
+-- the label of a tree as a box is its label
 node_label : (u : Tree) → any_label (node u) ≡ tree_label u
 node_label (leaf b) = refl
 node_label (super wide d us) = refl
 
+-- the labels at the indices of trees side by side are the labels of these trees
 labels_all : (us : Trees) (t : Tree) (at depth i : ℕ) (rest : List IndexedBox) → drop i (boxes_of t) ≡ boxes_from_all at depth i us ++ rest → map (label_at t) (indices_from i us) ≡ tree_labels us
 labels_all none t at depth i rest e = refl
 labels_all (more u us) t at depth i rest e =

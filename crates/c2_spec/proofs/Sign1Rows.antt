@@ -4,6 +4,7 @@ use Rattle.std.proofs.Common.{◌≡◌, [], ◌∷◌, ◌++◌, refl, codes}
 use Rattle.c2_spec.specs.Cbor.Deterministic.{deterministic, shortest_head}
 use Rattle.c2_spec.specs.C2pa.Sign1.{sig_structure}
 
+-- The bytes that are signed for the header {1: -7} and no payload are these 18.
 empty_payload : deterministic (sig_structure (0xA1 ∷ 0x01 ∷ 0x26 ∷ []) [])
     ≡ 0x84 ∷ 0x6A ∷ codes "Signature1" ++ 0x43 ∷ 0xA1 ∷ 0x01 ∷ 0x26 ∷ 0x40 ∷ 0x40 ∷ []
 unfolding shortest_head

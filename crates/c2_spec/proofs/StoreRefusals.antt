@@ -4,7 +4,7 @@ use Rattle.std.specs.List.{find}
 use Rattle.std.specs.Option.{option_map, option_or}
 use Rattle.c2_spec.specs.C2pa.Manifest.{StoreTest, first_refusal}
 
--- whether the test at the front fails
+-- whether the first test fails
 by_case : (t : StoreTest) (ts ys : List StoreTest) (b : Bool) → first_refusal (ts ++ ys) ≡ option_or (first_refusal ts) (first_refusal ys)
     → option_map (λ (u : StoreTest). u.refusal) (cond b (Some t) (find (λ (u : StoreTest). u.fails) (ts ++ ys)))
     ≡ option_or (option_map (λ (u : StoreTest). u.refusal) (cond b (Some t) (find (λ (u : StoreTest). u.fails) ts))) (first_refusal ys)

@@ -32,6 +32,7 @@ empty name label = super false (described name label) none
 abbrev leaf_of : ℕ → List ℕ → Tree
 leaf_of kind payload = leaf (record { kind = kind; wide = false; payload = payload })
 
+-- A store with this one box.
 abbrev store_of_one : Tree → Tree
 store_of_one t = super false (described (codes "c2pa") (codes "c2pa")) (more t none)
 
@@ -54,6 +55,7 @@ refusals = (refl, refl, refl, refl, refl, refl)
 abbrev cbor_kind : ℕ
 cbor_kind = 0x63626F72
 
+-- The box type `json`.
 abbrev json_kind : ℕ
 json_kind = 0x6A736F6E
 

@@ -7,6 +7,7 @@ use Rattle.c2_spec.specs.C2pa.Uri.{PlainUri, PlainTarget, whole, assertion, sign
 abbrev absolute : List ℕ → PlainTarget → Option PlainUri
 absolute manifest target = Some (record { manifest = Some manifest; target = target })
 
+-- A URI that names no manifest.
 abbrev relative : PlainTarget → Option PlainUri
 relative target = Some (record { manifest = None; target = target })
 
