@@ -19,7 +19,7 @@ from cryptography.hazmat.primitives import hashes, serialization
 from cryptography.hazmat.primitives.asymmetric import ec, ed25519, rsa
 
 from make_store import box
-from sign_photo import LABEL, TITLE, Signed, Signer
+from sign_photo import LABEL, LATER_LABEL, TITLE, Signed, Signer
 
 JPEG = bytes.fromhex("ffd8ffe000104a46494600010200000100010000ffd9")
 BMFF = box(b"ftyp", b"mif1\0\0\0\0mif1heic") + box(b"mdat", b"a picture")
@@ -126,6 +126,24 @@ class Cases:
         unknown.protected = bytes.fromhex("a101382e")
         yield "silent", "an algorithm that the judge doesn't know (ES256K)", Signed(unknown, JPEG).bytes
 
+    def twice(self):
+        """Files that were signed twice: the words on the earlier and the later signature."""
+        stranger = Authority("Elsewhere").certify("Signer", self.keys["P-256"].public_key())
+        strange = self.signer(chain=[stranger])
+        earlier, other = Signed(self.signer(), JPEG), Signed(strange, JPEG)
+        later = self.signer("PS256")
+        yield ["approved", "approved"], "signed twice", Signed(later, JPEG, earlier).bytes
+        yield ["untrusted", "approved"], "signed twice, first by a stranger", Signed(later, JPEG, other).bytes
+        yield ["approved", "untrusted"], "signed twice, at last by a stranger", Signed(strange, JPEG, earlier).bytes
+        yield ["approved", "approved"], "a BMFF file that was signed twice", Signed(later, BMFF, Signed(self.signer(), BMFF)).bytes
+
+    def changed_media(self):
+        """Files that were changed outside their stores: the code of `validate`, which approved signatures don't hide."""
+        signed = Signed(self.signer(), JPEG).bytes
+        yield "assertion.dataHash.mismatch", "a changed byte of the picture", signed[:19] + b"x" + signed[20:]
+        signed = Signed(self.signer(), BMFF).bytes
+        yield "assertion.bmffHash.mismatch", "a changed byte of a BMFF file", signed.replace(b"a picture", b"A picture")
+
     def keys_certificate(self, kind):
         return self.root.certify("Signer", self.keys[kind].public_key())
 
@@ -155,32 +173,38 @@ class Run:
         self.compare(what, (done.stdout, done.returncode, done.stderr.count("left out")), ("", 1, 1), done.stderr)
         print(f"{what:50} left out")
 
-    def check(self, what, word, contents, at=MIDDLE, status=0):
+    def check(self, what, words, contents, at=MIDDLE, status=0, answer="valid"):
+        """A file, the word on each of its manifests in the order of the store, and what `validate` says where all are approved."""
         done = self.judged(contents, at)
-        printed = done.stdout.split()[1:] or ["silent"]
-        self.compare(what, (printed, done.returncode), ([word], status), done.stderr)
+        printed = done.stdout.split()[1::2]
+        self.compare(what, (printed, done.returncode), ([word for word in words if word != "silent"], status), done.stderr)
         asked, validated = self.c2("questions"), self.c2("validate")
-        print(f"{what:50} {word:10} {self.asked(what, word, asked):10} {self.validated(what, word, validated)}")
+        for word in reversed(words):
+            answer = answer if word == "approved" else f"failing {CODES[word]}"
+            if word != "approved":
+                break
+        print(f"{what:50} {' '.join(words):20} {self.asked(what, words, asked):20} {self.validated(what, answer, validated)}")
 
     def c2(self, command):
         done = subprocess.run([self.program, command, self.media, self.verdicts], capture_output=True, text=True, check=False)
         absent = done.returncode == 4 or done.stdout == "refused NotMedia 0\n"
         return None if absent else done.stdout
 
-    def asked(self, what, word, line):
-        """The verdict that `questions` gives, which must be the judge's own."""
-        if line is None:
+    def asked(self, what, words, lines):
+        """The verdicts that `questions` gives, which must be the judge's own, the last manifest's first."""
+        if lines is None:
             return "-"
-        self.compare(f"questions: {what}", line.split()[1:], [LABEL, word], line)
-        return line.split()[-1]
+        labels = [LABEL, LATER_LABEL][: len(words)]
+        expected = [f"{label} {word}" for label, word in zip(labels, words)]
+        self.compare(f"questions: {what}", [line.split(" ", 1)[1] for line in reversed(lines.splitlines())], expected, lines)
+        return " ".join(words)
 
-    def validated(self, what, word, line):
-        """The first words that `validate` gives: `valid`, or the code of the verdict."""
+    def validated(self, what, answer, line):
+        """The first words that `validate` gives: `valid`, or a code."""
         if line is None:
             return "-"
-        told = line.split()[:2] if word in CODES else line.split()[:1]
-        self.compare(f"validate: {what}", told, ["failing", CODES[word]] if word in CODES else ["valid"], line)
-        return " ".join(told)
+        self.compare(f"validate: {what}", line.split()[: len(answer.split())], answer.split(), line)
+        return answer
 
     def compare(self, what, found, expected, more):
         if found != expected:
@@ -193,14 +217,18 @@ def main():
     cases = Cases()
     with tempfile.TemporaryDirectory() as folder:
         run = Run(judge, program, folder, cases.root.certificate)
-        print(f"{'cause':50} {'judge':10} {'questions':10} validate")
+        print(f"{'cause':50} {'judge':20} {'questions':20} validate")
         for what, signed in cases.right():
-            run.check(what, "approved", signed.bytes)
+            run.check(what, ["approved"], signed.bytes)
         for word, what, contents in cases.wrong():
-            run.check(what, word, contents, status=1 if word == "silent" else 0)
+            run.check(what, [word], contents, status=1 if word == "silent" else 0)
         signed = Signed(cases.signer(), JPEG).bytes
-        run.check("expired: a day after the certificates end", "invalid", signed, END + datetime.timedelta(1))
-        run.check("a day before the certificates begin", "invalid", signed, START - datetime.timedelta(1))
+        run.check("expired: a day after the certificates end", ["invalid"], signed, END + datetime.timedelta(1))
+        run.check("a day before the certificates begin", ["invalid"], signed, START - datetime.timedelta(1))
+        for words, what, contents in cases.twice():
+            run.check(what, words, contents)
+        for code, what, contents in cases.changed_media():
+            run.check(what, ["approved"], contents, answer=f"failing {code}")
         for what, contents in ("no manifest store", JPEG), ("no media file", b"a text"), ("an empty file", b""):
             run.check_left_out(what, contents)
     print("all as it should be")

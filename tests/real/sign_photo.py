@@ -25,6 +25,7 @@ from make_store import (
     box,
     claim_box,
     data,
+    hashed_uri,
     item,
     jpeg,
     manifest,
@@ -38,6 +39,7 @@ from make_store import (
 )
 
 LABEL = "urn:c2pa:11111111-2222-4333-8444-555555555555"
+LATER_LABEL = "urn:c2pa:22222222-2222-4333-8444-555555555555"
 TITLE = "A picture of a street"
 C2PA_BMFF_BOX = bytes.fromhex("d8fec3d61b0e483c92975828877ec481")
 # The names of COSE (RFC 9053, section 2, and RFC 8230), their numbers less the sign and 1, and their hashes.
@@ -78,10 +80,14 @@ class Signer:
 
 
 class Signed:
-    """A signed media file, and the parts that its signature stands on."""
+    """A signed media file, and the parts that its signature stands on.
 
-    def __init__(self, signer, media):
-        self.signer, self.media = signer, media
+    `parent` is the same media as somebody has signed it before: its manifest stays as it is and becomes the ingredient.
+    """
+
+    def __init__(self, signer, media, parent=None):
+        self.signer, self.media, self.parent = signer, media, parent
+        self.label = LABEL if parent is None else LATER_LABEL
         self.bytes = self.bmff_file() if media[4:8] == b"ftyp" else self.jpeg_file()
 
     def jpeg_file(self):
@@ -97,21 +103,37 @@ class Signed:
 
     def store(self, binding):
         actions = assertion("c2pa.actions.v2", mapping(("actions", array(mapping(("action", text("c2pa.created")))))))
-        label, bound = binding
-        self.claim = claim_of(assertion_uri(actions, "c2pa.actions.v2"), assertion_uri(bound, label))
+        listed = {"c2pa.actions.v2": actions, **self.ingredient(), **dict([binding])}
+        self.claim = claim_of(self.label, *(assertion_uri(contents, label) for label, contents in listed.items()))
         self.signed_bytes = signed_bytes(self.signer.protected, self.claim)
         self.signature = self.signer.signature(self.signed_bytes)
         message = tag(18, sign1(self.signer.protected, self.signer.unprotected, signature=self.signature))
-        boxes = assertions(actions, bound), claim_box(item(self.claim)), signature_box(item(message))
-        return store(manifest(LABEL, *boxes))
+        self.signature_box = signature_box(item(message))
+        self.manifest = manifest(self.label, assertions(*listed.values()), claim_box(item(self.claim)), self.signature_box)
+        return store(*([self.parent.manifest] if self.parent else []), self.manifest)
+
+    def ingredient(self):
+        """The parent as an assertion, by the digests of its manifest and of its signature."""
+        if self.parent is None:
+            return {}
+        uri = f"self#jumbf=/c2pa/{self.parent.label}"
+        named = [
+            (field, hashed_uri(uri + more, hashlib.sha256(contents[8:]).digest()))
+            for field, more, contents in (
+                ("activeManifest", "", self.parent.manifest),
+                ("claimSignature", "/c2pa.signature", self.parent.signature_box),
+            )
+        ]
+        label = "c2pa.ingredient.v3"
+        return {label: assertion(label, mapping(("dc:title", text(TITLE)), ("relationship", text("parentOf")), *named))}
 
 
-def claim_of(*created):
+def claim_of(label, *created):
     """A claim over assertions, its keys in no order of encoding."""
     return mapping(
         ("instanceID", text("xmp:iid:11111111-2222-4333-8444-555555555555")),
         ("claim_generator_info", mapping(("name", text("A newsroom's tool")))),
-        ("signature", text(f"self#jumbf=/c2pa/{LABEL}/c2pa.signature")),
+        ("signature", text(f"self#jumbf=/c2pa/{label}/c2pa.signature")),
         ("created_assertions", array(*created)),
         ("dc:title", text(TITLE)),
         ("alg", text("sha256")),
