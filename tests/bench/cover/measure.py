@@ -1,5 +1,6 @@
-"""Hashes each file of a folder by the program's modes, `sha256sum`, `openssl` and, where one is named, a built `c2 digest`, by turns:
-measure.py PROGRAM FOLDER [TURNS [C2]]. Prints the least processor time of each, its ratio to `bare`, and the peak memory."""
+"""Hashes each file of a folder by the program's modes, `sha256sum`, `openssl` and, where one is named, a built c2 with `digest` and
+`validate`, by turns: measure.py PROGRAM FOLDER [TURNS [C2]]. Prints the least processor time of each, its ratio to `bare`, and the
+peak memory."""
 import os
 import subprocess
 import sys
@@ -16,13 +17,14 @@ def run(words):
 
 program, folder = sys.argv[1:3]
 turns = int(sys.argv[3]) if len(sys.argv) > 3 else 5
-for name in sorted(os.listdir(folder)):
+for name in sorted(name for name in os.listdir(folder) if not name.endswith(".verdicts")):
     path = f"{folder}/{name}"
     words = {mode: [program, mode, path] for mode in ("bare", "whole", "around", "many")}
     words["sha256sum"] = ["sha256sum", path]
     words["openssl"] = ["openssl", "dgst", "-sha256", path]
     if len(sys.argv) > 4:
         words["c2 digest"] = [sys.argv[4], "digest", path]
+        words["c2 validate"] = [sys.argv[4], "validate", path, f"{path}.verdicts"]
     rows = {mode: [] for mode in words}
     for _ in range(turns):
         for mode, command in words.items():
@@ -30,4 +32,4 @@ for name in sorted(os.listdir(folder)):
     least = {mode: min(t for t, _ in each) for mode, each in rows.items()}
     print(f"{name}: {os.path.getsize(path) / 1e6:.0f} MB")
     for mode, each in rows.items():
-        print(f"{mode:10} {least[mode]:6.2f} s {least[mode] / least['bare']:5.2f} {max(m for _, m in each) / 1e6:6.1f} MB")
+        print(f"{mode:12} {least[mode]:6.2f} s {least[mode] / least['bare']:5.2f} {max(m for _, m in each) / 1e6:6.1f} MB")
