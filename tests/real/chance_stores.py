@@ -6,7 +6,22 @@ Then none, one or a few faults are put into it, each of which is made for a rule
 """
 
 import jumbf
-from drafts import ACTIONS, ALL_EXCLUDED, APP0, NO_DIGEST, Assertion, Bmff, BmffHash, DataHash, Ingredient, Jpeg, Manifest, exclusion, reference
+from drafts import (
+    ACTIONS,
+    ALL_EXCLUDED,
+    APP0,
+    NO_DIGEST,
+    Assertion,
+    Bmff,
+    BmffHash,
+    DataHash,
+    Ingredient,
+    Jpeg,
+    Manifest,
+    exclusion,
+    provenance_box,
+    reference,
+)
 from locate import Refused
 from make import segment
 from make_store import (
@@ -134,10 +149,21 @@ def jpeg_around(chance):
 def bmff_around(chance):
     moov = box(b"moov", b"".join(box(chance.choice((b"trak", b"trak", b"mvhd", b"udta")), inner(chance)) for _ in range(3)))
     front = box(b"ftyp", b"isom\0\0\0\0", wide=chance.random() < 0.1) + b"".join(chance.sample((moov, b"", box(b"free", b"ab")), 2))
-    rest = b"".join(chance.sample((box(b"mdat", chance.randbytes(9)), moov, box(b"uuid", bytes(16)), box(b"mfra", b""), b""), 3))
+    boxes = box(b"mdat", chance.randbytes(9)), moov, box(b"uuid", bytes(16)), box(b"mfra", b""), b"", box(b"free", b"", wide=True)
+    rest = b"".join(chance.sample(boxes, 3))
+    if chance.random() < 0.15:
+        rest += odd_provenance(chance)
     if chance.random() < 0.15:
         rest += bytes(4) + b"mdat" + chance.randbytes(5)
-    return Bmff(front, rest)
+    padding = chance.choice((b"", b"", b"", b"\0", bytes(9)))
+    return Bmff(front, rest, chance.randbytes(8), padding, chance.random() < 0.05)
+
+
+def odd_provenance(chance):
+    """A second box of the store's kind, perhaps one that passes unread."""
+    purpose = chance.choice((b"merkle\0", b"manifest", b"manifest\0", b"original\0", b"manifes\0", b""))
+    more = chance.choice((b"", bytes(7), bytes(8), bytes(8) + box(b"jumb", b""), bytes(8) + b"\0\0\0\x09jumb"))
+    return provenance_box(purpose + more, chance.choice((bytes(4), bytes(4), b"\0\0\0\1", b"\1\0\0\0")))
 
 
 def inner(chance):
@@ -508,17 +534,15 @@ def other_binding(drawn, draft):
 
 
 def covered_byte(drawn, _):
-    """A byte of the picture is another than the binding was made for."""
-    draw = type(drawn.media)
+    """The file's last byte is another than the binding was made for."""
+    file = drawn.media.file
 
-    class Changed(draw):
-        def file(self, manifests):
-            contents = bytearray(draw.file(self, manifests))
-            contents[-1] ^= 1
-            return bytes(contents)
+    def changed(manifests):
+        contents = file(manifests)
+        return contents[:-1] + bytes([contents[-1] ^ 1])
 
-    changed = Changed(drawn.media.front, drawn.media.rest + (b"more" if draw is Jpeg else box(b"free", b"x")))
-    drawn.media = changed
+    drawn.media.rest += b"more" if isinstance(drawn.media, Jpeg) else box(b"free", b"x")
+    drawn.media.file = changed
 
 
 def two_labels(drawn, draft):

@@ -8,6 +8,7 @@ twice, since the binding of the last one has the digest of the file around it.
 import hashlib
 
 import cbor
+from locate import Refused
 from make import segment
 from make_store import (
     array,
@@ -180,10 +181,10 @@ class Around:
         for given in manifests[-1].assertions:
             if isinstance(given, (DataHash, BmffHash)):
                 kind = BMFF_HASH if isinstance(given, BmffHash) else DATA_HASH
-                without = media_of(self.around(write(manifests, Written(written.start, length))))
                 try:
+                    without = media_of(self.around(write(manifests, Written(written.start, length))))
                     written.covered = Binding(kind, cbor.read_whole(given.encoded(written)), without).cover(without)[0]
-                except (BadBinding, cbor.NotCbor):
+                except (BadBinding, cbor.NotCbor, Refused):
                     pass
         return self.around(write(manifests, Written(written.start, length, written.covered)))
 
@@ -197,11 +198,18 @@ class Jpeg(Around):
 
 
 class Bmff(Around):
-    def __init__(self, front=box(b"ftyp", b"isom\0\0\0\0"), rest=b""):
+    """`offset` and `padding` are the bytes before and behind the store in its box; a wide box has its length in 8 bytes."""
+
+    def __init__(self, front=box(b"ftyp", b"isom\0\0\0\0"), rest=b"", offset=bytes(8), padding=b"", wide=False):
         super().__init__(front, rest)
+        self.offset, self.padding, self.wide = offset, padding, wide
 
     def around(self, contents):
-        return self.front + box(b"uuid", PROVENANCE + bytes(4) + b"manifest\0" + bytes(8) + contents) + self.rest
+        return self.front + provenance_box(b"manifest\0" + self.offset + contents + self.padding, wide=self.wide) + self.rest
+
+
+def provenance_box(contents, version=bytes(4), wide=False):
+    return box(b"uuid", PROVENANCE + version + contents, wide)
 
 
 APP0 = segment(0xE0, b"JFIF\0\1\2\0\0\1\0\1\0\0")

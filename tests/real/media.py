@@ -285,21 +285,30 @@ class Matched:
     """Which boxes of a file lie on paths. The boxes below one path are looked up once."""
 
     def __init__(self, media):
-        self.data, self.roots, self.below = media.data, media.roots, {}
+        self.data, self.below = media.data, {(): [by_kind(media.roots)]}
+
+    def families(self, steps):
+        """The children of each box on a path, by their kinds."""
+        if steps not in self.below:
+            self.below[steps] = [by_kind(children_of(self.data, box)) for box in self.boxes(steps)]
+        return self.below[steps]
 
     def boxes(self, steps):
         """The boxes on a path."""
-        if steps not in self.below:
-            *above, (kind, nth) = steps
-            families = [self.roots] if not above else [children_of(self.data, box) for box in self.boxes(tuple(above))]
-            found = []
-            for siblings in families:
-                same = [box for box in siblings if box.kind == kind]
-                found += same if nth is None else same[nth - 1 : nth]
-            self.below[steps] = found
-        return self.below[steps]
+        *above, (kind, nth) = steps
+        for siblings in self.families(tuple(above)):
+            same = siblings.get(kind, [])
+            yield from same if nth is None else same[nth - 1 : nth]
 
     def parts(self, exclusion):
         for box in self.boxes(tuple(exclusion.steps)):
             if exclusion.holds(self.data, box):
                 yield from exclusion.parts_of(box)
+
+
+def by_kind(boxes):
+    """Boxes by their kinds, those of one kind in their order."""
+    found = {}
+    for box in boxes:
+        found.setdefault(box.kind, []).append(box)
+    return found

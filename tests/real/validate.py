@@ -3,8 +3,8 @@
 
     validate.py C2 COUNT [SEED [KIND]]      draws COUNT files, the same ones for the same seed; KIND is jpeg (the default) or bmff
 
-A third of the files are drafted stores that were changed by bytes. C2 is run once for each file and command; a command that it
-doesn't have is left out. Prints how often each answer of `validate` came, and each difference, whose files are kept in the
+A third of the files are drafted stores that were changed by bytes; on these all commands are run. A command that C2 doesn't have is
+left out. Prints how often each answer of `validate` came, and each difference, whose files are kept in the
 current directory as differs-N and differs-N.verdicts-M. The status is 1 where one differs. Without C2 (a word `-` in its place)
 only the answers are counted.
 """
@@ -20,14 +20,14 @@ from collections import Counter
 import store
 from chance_stores import changed_file, drawn_file, questions_in, verdict_files
 
-COMMANDS = "validate", "questions"
+JUDGED = "validate", "questions"
 
 
 class Comparison:
     def __init__(self, program, folder):
         self.program, self.folder = program, folder
         self.media = os.path.join(folder, "media")
-        self.commands = [command for command in COMMANDS if self.has(command)]
+        self.commands = [command for command in store.COMMANDS if self.has(command)]
         self.runs, self.differences, self.answers = Counter(), 0, Counter()
 
     def has(self, command):
@@ -38,7 +38,7 @@ class Comparison:
         done = subprocess.run([self.program, *words], stdout=subprocess.PIPE, check=False)
         return done.stdout, done.returncode
 
-    def compare(self, contents, verdicts):
+    def compare(self, contents, verdicts, is_changed):
         write(self.media, contents)
         names = [os.path.join(self.folder, f"verdicts-{number}") for number in range(len(verdicts))]
         for name, rows in zip(names, verdicts):
@@ -49,7 +49,9 @@ class Comparison:
                 write(name, rows)
         self.answers[kind_of_answer(*store.answer("validate", self.media, *names))] += 1
         for command in self.commands if self.program else ():
-            words = [command, self.media, *names]
+            if command not in JUDGED and not is_changed:
+                continue
+            words = [command, self.media, *(names if command in JUDGED else ())]
             self.runs[command] += 1
             expected, told = store.answer(*words), self.told(words)
             if told != expected:
@@ -86,10 +88,10 @@ def main():
     with tempfile.TemporaryDirectory() as folder:
         comparison = Comparison(None if program == "-" else os.path.abspath(program), folder)
         for number in range(int(count)):
-            contents = drawn_file(chance, is_bmff)
-            if number % 3 == 2:
+            contents, is_changed = drawn_file(chance, is_bmff), number % 3 == 2
+            if is_changed:
                 contents = changed_file(chance, contents)
-            comparison.compare(contents, verdict_files(chance, questions_in(contents)))
+            comparison.compare(contents, verdict_files(chance, questions_in(contents)), is_changed)
     for answer, times in sorted(comparison.answers.items()):
         print(f"{times:6} {answer}")
     runs = ", ".join(f"{times} runs of {command}" for command, times in comparison.runs.items()) or "no runs"
