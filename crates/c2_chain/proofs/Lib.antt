@@ -1,3 +1,4 @@
+pub mod ActiveLemmas
 pub mod AfterLemmas
 pub mod BoundLemmas
 pub mod ChainLemmas

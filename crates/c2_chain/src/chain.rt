@@ -86,7 +86,7 @@ pub fn reading_count(chain: &Chain<'_>) -> usize
 }
 
 /// What is read of the manifests.
-fn all<'c, 't>(chain: &'c Chain<'t>) -> &'c ReadManifests<'t>
+pub fn all<'c, 't>(chain: &'c Chain<'t>) -> &'c ReadManifests<'t>
     ensures { result.now ≡ chain.now.readings }
 {
     &chain.all

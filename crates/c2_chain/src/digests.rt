@@ -22,7 +22,7 @@ fn claim_alg<'c>(own: &'c Kept<'_>) -> Option<&'c str>
 }
 
 /// The name of the algorithm of a reference: its own where it has one, else the claim's, else `sha256`.
-fn alg_name<'c>(own: &'c Kept<'_>, alg: &'c Option<Text>) -> &'c str
+pub fn alg_name<'c>(own: &'c Kept<'_>, alg: &'c Option<Text>) -> &'c str
     ensures { result.now ≡ rules.alg_in own.now alg.now }
 {
     match alg {

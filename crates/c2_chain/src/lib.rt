@@ -4,6 +4,7 @@
 //! What they are stands in `Chains`, `Questions` and `Rules` of c2_rules.
 #![tactic(auto)]
 
+mod active;
 mod asking;
 mod bindings;
 mod boxes;
@@ -26,6 +27,7 @@ mod tests;
 mod uris;
 mod verdict;
 
+pub use active::{active_manifest, check_active, readings};
 pub use asking::ChainError;
 pub use c2_reading::{
     a_reading_is_the_claim_and_the_question, each_list_is_an_item_or_not,
@@ -36,3 +38,6 @@ pub use chain::{
     Chain, check_manifest, child_of, claim_of, ingredient_of, manifest_count, of_store,
     question_of, reached, reaches, redacted, touched,
 };
+pub use digests::alg_name;
+pub use entries::box_with;
+pub use redactions::label_kind;
