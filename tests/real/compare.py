@@ -13,10 +13,12 @@ import time
 
 import store
 
-COMMANDS = "digest", "list", "show", "questions"
+COMMANDS = "digest", "list", "show", "questions", "validate"
 # The variants of make.py that are refused; small stores and hostile files may be refused as well.
 REFUSED_VARIANTS = "+interrupted", "+out_of_order", "+twice", "+a_packet_short", "+cut_short", "+stray"
 ASKED = "hostile-asked.jpg"
+# The stores of rule_rows.py, and the verdicts on their questions.
+RULES, RULE_VERDICTS = "row-rule-", "rules.verdicts"
 # The seconds of a run above which it is told.
 SLOW = 1.0
 
@@ -60,11 +62,18 @@ class Comparison:
         for name in self.files:
             for command in self.commands:
                 self.compare(command, name)
-        if "questions" in self.commands:
-            for verdicts in [*self.verdict_files, "no file"]:
-                self.compare("questions", ASKED, verdicts)
-                self.compare("questions", self.files[0], verdicts)
-            self.compare("questions", ASKED, *self.verdict_files)
+        for command in ("questions", "validate"):
+            if command in self.commands:
+                self.run_judged(command)
+
+    def run_judged(self, command):
+        for verdicts in [*self.verdict_files, "no file"]:
+            self.compare(command, ASKED, verdicts)
+            self.compare(command, self.files[0], verdicts)
+        self.compare(command, ASKED, *self.verdict_files)
+        for name in self.files:
+            if name.startswith(RULES):
+                self.compare(command, name, RULE_VERDICTS)
 
 
 def main():

@@ -4,7 +4,7 @@
     rows.py write              writes the tables of crates/c2_tests: a comment line that says what a row shows, then the store
                                in hex, ` => `, and status and line of `show`, or of `questions` without verdict files
     rows.py check              fails where a table there isn't the one that would be written
-    rows.py files DIRECTORY    writes a JPEG around each of these stores
+    rows.py files DIRECTORY    writes a JPEG around each of these stores and of those of rule_rows.py, and the verdicts on the latter
 """
 
 import os
@@ -12,7 +12,9 @@ import pathlib
 import sys
 
 import question_rows
+import rule_rows
 import show_rows
+from drafts import Jpeg
 from make_store import jpeg
 from store import report
 
@@ -70,8 +72,19 @@ def check_modules():
 def write_files(directory):
     for command, rows in ROWS.items():
         for number, (_, contents) in enumerate(rows(), 1):
-            with open(os.path.join(directory, f"row-{command}-{number:03}.jpg"), "wb") as file:
-                file.write(jpeg(contents))
+            write_file(directory, f"row-{command}-{number:03}.jpg", jpeg(contents))
+    verdicts = {}
+    for number, (_, _, drafts) in enumerate(rule_rows.rows(), 1):
+        contents = Jpeg().file(drafts)
+        write_file(directory, f"row-rule-{number:03}.jpg", contents)
+        verdicts |= rule_rows.verdicts_on(contents)
+    rows = "".join(f"{identity} {word}\n" for identity, word in verdicts.items())
+    write_file(directory, "rules.verdicts", rows.encode())
+
+
+def write_file(directory, name, contents):
+    with open(os.path.join(directory, name), "wb") as file:
+        file.write(contents)
 
 
 def main():

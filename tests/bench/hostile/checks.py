@@ -1,8 +1,8 @@
 #!/usr/bin/env python3
 """Writes JPEGs with stores of some 33 MB that are made to be dear for the check list: checks.py DIRECTORY [SCALE [NAME..]].
 
-A scale of 100 gives the full size, a smaller one a hundredth of boxes, entries and bytes for each point. Beside each file
-NAME.jpg stands NAME.verdicts, a verdict file that approves its questions, and NAME.answer, what `validate` must say with it.
+A scale of 100 gives the full size, a smaller one a hundredth of boxes, entries and bytes for each point. Beside each FILE
+stand FILE.verdicts, a verdict file that approves its questions, and FILE.answer, what `validate` must say with it.
 Digests are right, so that the rules go to the end, but where the answer says another thing.
 """
 import hashlib
@@ -216,8 +216,8 @@ def main():
             if sys.argv[3:] and name not in sys.argv[3:]:
                 continue
             assert len(contents) <= MOST + 20 * 600, (name, len(contents))
-            for kind, written in ("jpg", contents), ("verdicts", verdicts_on(contents).encode()), ("answer", answer.encode() + b"\n"):
-                with open(os.path.join(directory, f"{name}.{kind}"), "wb") as file:
+            for more, written in ("", contents), (".verdicts", verdicts_on(contents).encode()), (".answer", answer.encode() + b"\n"):
+                with open(os.path.join(directory, f"{name}.jpg{more}"), "wb") as file:
                     file.write(written)
 
 

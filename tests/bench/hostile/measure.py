@@ -1,8 +1,8 @@
 #!/usr/bin/env python3
 """Runs each command of c2 that takes a file alone on each file in a folder: measure.py PROGRAM FOLDER [TURNS [SECONDS MB]].
 
-A verdict file beside a file (NAME.verdicts) is handed to `questions` and `validate`, and what `validate` says is compared with
-NAME.answer. A command that the program doesn't have is left out. Prints the status, the least processor time and the peak
+A verdict file beside a FILE (FILE.verdicts) is handed to `questions` and `validate`, and what `validate` says is compared with
+FILE.answer. A command that the program doesn't have is left out. Prints the status, the least processor time and the peak
 memory, and ends with status 1 where one is above the limits (4 s and 700 MB, where none are given) or an answer is another.
 """
 import os
@@ -39,21 +39,21 @@ def main():
     most_seconds, most_memory = map(float, sys.argv[4:6] if len(sys.argv) > 5 else (4, 700))
     all_right = True
     commands = [command for command in COMMANDS if has(program, command)]
-    print(f"{'file':24} {'MB':>5} {'command':10} {'status':>6} {'s':>6} {'MB':>6}")
+    print(f"{'file':26} {'MB':>5} {'command':10} {'status':>6} {'s':>6} {'MB':>6}")
     with tempfile.NamedTemporaryFile() as told:
-        for name in sorted(name[:-4] for name in os.listdir(folder) if name.endswith(".jpg")):
+        for name in sorted(name for name in os.listdir(folder) if not name.endswith((".verdicts", ".answer"))):
             path = os.path.join(folder, name)
             judges = [f"{path}.verdicts"] if os.path.exists(f"{path}.verdicts") else []
             for command in commands:
-                words = [program, command, f"{path}.jpg", *(judges if command in JUDGED else [])]
+                words = [program, command, path, *(judges if command in JUDGED else [])]
                 runs = [run(words, told.name if command == "validate" else os.devnull) for _ in range(turns)]
                 seconds, memory, status = min(s for s, _, _ in runs), max(m for _, m, _ in runs), runs[0][2]
                 wrong = "" if seconds <= most_seconds and memory <= most_memory else "  above"
                 if command == "validate" and not right_answer(path, told.name):
                     wrong += "  another answer"
                 all_right = all_right and not wrong
-                size = os.path.getsize(f"{path}.jpg") / 1e6
-                print(f"{name:24} {size:5.1f} {command:10} {status:6} {seconds:6.2f} {memory:6.0f}{wrong}", flush=True)
+                size, shown = os.path.getsize(path) / 1e6, name.rsplit(".", 1)[0]
+                print(f"{shown:26} {size:5.1f} {command:10} {status:6} {seconds:6.2f} {memory:6.0f}{wrong}", flush=True)
     sys.exit(0 if all_right else 1)
 
 
