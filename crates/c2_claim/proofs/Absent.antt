@@ -7,6 +7,7 @@ use Rattle.c2_spec.specs.declared.claim.Claim.{Claim}
 use Rattle.c2_spec.specs.declared.claim.ClaimError.{ClaimError}
 use Rattle.c2_spec.specs.declared.claim.ClaimError.TheVariants.{Cbor, Fields, NoMemory}
 
+-- bytes that are refused for another cause than memory spell no claim
 pub refused_no_claim : (bytes : List ℕ) (e : ClaimError) (c : Claim) → e ≢ NoMemory → ((v : Item) → HasItem bytes v → Agrees (claim_of v) (Err e)) → IsClaim bytes c → ⊥
 refused_no_claim bytes (Cbor e) c differ only h = only h.item h.has
 refused_no_claim bytes (Fields f) c differ only h = let bad = sym h.is ∙ only h.item h.has in cc (bad)

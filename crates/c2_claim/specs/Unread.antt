@@ -4,6 +4,7 @@ use Rattle.c2_spec.specs.declared.cbor.CborError.TheVariants as faults
 use Rattle.c2_spec.specs.declared.claim.ClaimError.{ClaimError}
 use Rattle.c2_spec.specs.declared.claim.ClaimError.TheVariants.{Cbor, NoMemory}
 
+-- what an error of reading CBOR says of a claim
 abbrev pub claim_error : CborError → ClaimError
 claim_error (faults.Short at) = Cbor (faults.Short at)
 claim_error (faults.Reserved at) = Cbor (faults.Reserved at)

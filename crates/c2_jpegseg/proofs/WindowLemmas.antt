@@ -5,7 +5,7 @@ use Rattle.std.specs.declared.option.Option.{Option}
 use Rattle.c2_jpegseg.specs.declared.window.Window.{Window}
 use Rattle.c2_jpegseg.specs.Windows.{Shows}
 
--- a part of a front is a part of the whole
+-- a part of a prefix is a part of the whole
 part_of_front : (items : List ℕ) (used d count : ℕ) → d + count ≤ used → take count (drop d (take used items)) ≡ take count (drop d items)
 part_of_front items used d count le =
     let split : used ≡ d + (used - d) = omega arith in
@@ -27,7 +27,7 @@ shown_byte file items from used pos same low high =
     sym (get_or-take used items (pos - from) 0 inside) ∙ ap (λ (x : List ℕ). get_or x (pos - from) 0) same ∙ get_or-take used (drop from file) (pos - from) 0 inside
     ∙ get_or-drop from file (pos - from) 0 ∙ ap (λ n. get_or file n 0) there
 
--- a front that was filled
+-- a prefix that was filled
 pub filled_front : (file buf rest : List ℕ) (room pos : ℕ) → length buf ≡ room → buf ≡ take (length buf) (drop pos file) → take room (buf ++ rest) ≡ take room (drop pos file)
 filled_front file buf rest room pos len is = take_at buf rest room len ∙ is ∙ ap (λ n. take n (drop pos file)) len
 

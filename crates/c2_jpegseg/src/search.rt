@@ -151,7 +151,7 @@ fn search<S: Source>(alloc: Global, source: &mut S) -> Result<Option<Found>, Med
 /// - `FileTooLarge`: the file has 2^62 bytes or more; `NotMedia`: it doesn't begin with SOI.
 /// - `Truncated`, `BadMarker`, `BadSegment`: a segment's marker or length (ITU-T T.81, B.1.1).
 /// - `TwoStores`, `BadPacket`, `StoreTooLarge`: the packets of a store (ISO/IEC 18477-3).
-/// - `ReadFault`: the source failed; `NoMemory`: memory ran out.
+/// - `ReadFault`: the source failed; `NoMemory`: out of memory.
 #[tactic(auto, using(crate::proofs::Answers::said_is, crate::proofs::Answers::only_said))]
 pub fn locate<S: Source>(alloc: Global, source: &mut S) -> Result<Option<Found>, MediaError>
     // Where the source's bytes are known: what is returned holds, and what holds is returned.

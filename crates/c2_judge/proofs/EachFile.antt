@@ -36,6 +36,7 @@ word_by word v w other true loud e is rest =
     subst (λ x. IsWord word x) same (record { loud = loud; spelled = (bytes_eq-Decides word (0x20 ∷ verdict_name w)).0 e })
 word_by word v w other false loud e is rest = rest is
 
+-- a word that is read is that of a verdict which isn't silence
 word_is : (word : List ℕ) (v : Verdict) → word_said word ≡ Some v → IsWord word v
 word_is word v e =
     word_by word v Approved _ (bytes_eq word (codes " approved")) (λ h. cc (h)) refl e

@@ -108,7 +108,7 @@ pub record Front (bytes : List ℕ) : Type 0 where
   pub is : lines bytes ≡ line ∷ more
   pub stands : (bytes ≡ line) ⊎ ((rest : List ℕ) × (bytes ≡ line ++ 0x0A ∷ rest))
 
--- a byte in front of the first line
+-- a byte before the first line
 longer : (b : ℕ) (bytes : List ℕ) → eqb b 0x0A ≡ false → Front bytes → Front (b ∷ bytes)
 unfolding lines cons_first
 longer b bytes other front = record {
@@ -140,7 +140,7 @@ finds [] (s ∷ others) line more a e = absurd (cc e)
 finds (r ∷ rows) [] line more a e = (r, All-head IsRow r rows a, sym (heads (line_of r) line (map line_of rows) more e))
 finds (r ∷ rows) (s ∷ others) line more a e = finds rows others line more (All-tail IsRow r rows a) (tails (line_of r) (line_of s) (map line_of rows) (map line_of others ++ line ∷ more) e)
 
--- two fronts of rows end at one place, where none of the lines behind them is a row's
+-- two prefixes of rows end at one place, where none of the lines behind them is a row's
 same_place : (rows others : List VerdictRow) (line line' : List ℕ) (more more' : List (List ℕ)) → All IsRow rows → All IsRow others → ((row : VerdictRow) → IsRow row → line ≢ line_of row) → ((row : VerdictRow) → IsRow row → line' ≢ line_of row) → map line_of rows ++ line ∷ more ≡ map line_of others ++ line' ∷ more' → length rows ≡ length others
 same_place [] [] line line' more more' a b bad bad' e = refl
 same_place [] (s ∷ others) line line' more more' a b bad bad' e = absurd (bad s (All-head IsRow s others b) (heads line (line_of s) more (map line_of others ++ line' ∷ more') e))
@@ -219,6 +219,7 @@ only_place file NoMemory reason n h fits = inr refl
 pub says_file : (file : List ℕ) (verdicts : BTreeMap (List ℕ) Verdict) → HasReadRows file (Ok verdicts) → length file ≤ MAX_INPUT_LEN → SaysFile file (λ q. said_at verdicts (question_digest q))
 says_file file verdicts read fits = (read.0, read.1, fits, λ q. ap (λ o. unwrap_or o Silent) (read.2 (question_digest q)))
 
+-- an error of reading a list that isn't too large has its reason
 pub reason_of : (file : List ℕ) (e : ListError) → HasReadRows file (Err e) → length file ≤ MAX_INPUT_LEN → HasListReason file e
 reason_of file (TooLarge n) read fits = absurd read
 reason_of file (BadRow n) read fits = (read, fits)

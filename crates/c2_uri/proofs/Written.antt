@@ -158,6 +158,7 @@ manifest_read m is =
     ∙ ap (λ n. Some (cond (n == length m) (record { manifest = Some m; target = whole }) (record { manifest = Some (before_first is_slash m); target = target_of (after_first is_slash m) }))) place
     ∙ ap (λ b. Some (cond b (record { manifest = Some m; target = whole }) (record { manifest = Some (before_first is_slash m); target = target_of (after_first is_slash m) }))) (eq-eqb (length m) (length m) refl)
 
+-- the path of a URI that can be written is read as that URI
 path_read : (manifest : Option (List ℕ)) (t : PlainTarget) → IsWritable (record { manifest = manifest; target = t }) → uri_of_path (path_text manifest t) ≡ Some (record { manifest = manifest; target = t })
 path_read None whole h = cc (h.target)
 path_read None (assertion label) h = relative_read (assertion label) (λ e. cc (e)) h.target
