@@ -16,13 +16,12 @@ apart (Some t) u os h k = go os h (λ e. differ u k e)
     go [] h n = (n, tt)
     go (p ∷ ps) h n = (h.0, go ps h.1 n)
 
+-- a label that is new among labels is new among those after the first
 new-tail : (u o : Option (List ℕ)) (os : List (Option (List ℕ))) → IsNewLabel u (o ∷ os) → IsNewLabel u os
 new-tail None o os h = tt
 new-tail (Some t) o os h = h.1
 
-new-head : (u o : Option (List ℕ)) (os : List (Option (List ℕ))) → IsNewLabel u (o ∷ os) → IsNewLabel u (o ∷ os)
-new-head u o os h = h
-
+-- labels that are distinct stay so with one more that is new
 pub distinct-push : (os : List (Option (List ℕ))) (u : Option (List ℕ)) → AreDistinctLabels os → IsNewLabel u os → AreDistinctLabels (os ++ u ∷ [])
 distinct-push [] u h k = (lonely u, tt)
   where

@@ -30,6 +30,7 @@ good_or at region = go (box_head_fault at region) refl
 abbrev pub told : List ℕ → Front
 told region = record { header = head_len (tells_wide region); total = told_total region; kind = told_kind region }
 
+-- where the tests of a header pass, its length is from 16 on in XLBox, and else from 8 on
 tests_of : (a b w c d : Bool) → (a && (b || w) && (not w || (c && d))) ≡ true → (w ≡ true → (d ≡ true)) × (w ≡ false → b ≡ true)
 tests_of false b w c d h = absurd (cc (h))
 tests_of true true true true true h = (λ e. refl, λ e. refl)
@@ -41,15 +42,18 @@ tests_of true false true false d h = absurd (cc (h))
 tests_of true true false c d h = (λ e. absurd (cc (e)), λ e. refl)
 tests_of true false false c d h = absurd (cc (h))
 
+-- a header without fault is there, and its box ends within the region
 head_passes : (at : ℕ) (a b : Bool) → cond (not a) (Some (BadHead at)) (cond b (Some (Overrun at)) None) ≡ None → (a ≡ true) × (b ≡ false)
 head_passes at true true h = absurd (cc (h))
 head_passes at true false h = (refl, refl)
 head_passes at false b h = absurd (cc (h))
 
+-- the same by the region's bytes
 good_says : (region : List ℕ) → box_head_fault 0 region ≡ None → (has_head region ≡ true) × (ltb (length region) (told_total region) ≡ false)
 unfolding box_head_fault
 good_says region good = head_passes 0 (has_head region) (ltb (length region) (told_total region)) good
 
+-- a header without fault is read as it states
 pub told_head : (region : List ℕ) → box_head_fault 0 region ≡ None → IsHead region (told region)
 told_head region good = record { good = good; header = refl; total = refl; kind = refl; least = least (tells_wide region) refl; short = short (tells_wide region); inside = ltb-false _ _ (good_says region good).1 }
   where
@@ -64,6 +68,7 @@ told_head region good = record { good = good; header = refl; total = refl; kind 
     short true = omega arith
     short false = omega arith
 
+-- the number that eight bytes spell is below 2^64
 small_8 : (xs : List ℕ) → AreBytes xs → from_be_bytes w64 xs < 2 ^ 64
 small_8 xs h = omega (arith, h 0, h 1, h 2, h 3, h 4, h 5, h 6, h 7)
 
@@ -84,6 +89,7 @@ data LabelSplit (bytes : List ℕ) : Type 0 where
   label_only : AllByRecursion IsLabelByte bytes → LabelSplit bytes
   label_then : (before rest : List ℕ) (byte : ℕ) → bytes ≡ before ++ byte ∷ rest → AllByRecursion IsLabelByte before → (IsLabelByte byte → ⊥) → LabelSplit bytes
 
+-- bytes are all a label's, or there is a first that isn't
 label_split : (bytes : List ℕ) → LabelSplit bytes
 label_split [] = label_only tt
 label_split (x ∷ xs) =
@@ -100,6 +106,7 @@ data LabelOr (bytes : List ℕ) : Type 0 where
   labelled : (label rest : List ℕ) → IsLabel label → bytes ≡ label ++ 0 ∷ rest → LabelOr bytes
   unlabelled : LabelFault bytes → LabelOr bytes
 
+-- bytes begin with a label and its zero byte, or have a fault of the label
 label_or : (bytes : List ℕ) → LabelOr bytes
 label_or bytes = go (label_split bytes)
   where
@@ -112,6 +119,7 @@ label_or bytes = go (label_split bytes)
     go (label_then before rest byte split h other) =
         ⊎_elim (λ zeroed. text before rest (split ∙ ap (λ b. before ++ b ∷ rest) zeroed) h (is_utf8 before) refl) (λ some. unlabelled (LabelFault.control_byte before rest byte split (not_zeros before h) some other)) (cases_eq byte 0)
 
+-- the label that the toggle shows is there, or has a fault
 label_part : (on : Bool) (bytes : List ℕ) → ((on ≡ true) × LabelFault bytes) ⊎ ((label : Option (List ℕ)) × (rest : List ℕ) × IsLabelPart on bytes label rest)
 label_part false bytes = inr (None, bytes, record { shown = refl; legal = tt; split = refl })
 label_part true bytes = go (label_or bytes)
@@ -120,10 +128,12 @@ label_part true bytes = go (label_or bytes)
     go (labelled label rest legal split) = inr (Some label, rest, record { shown = refl; legal = legal; split = split ∙ sym (append_assoc label (0 ∷ []) rest) })
     go (unlabelled fault) = inl (refl, fault)
 
+-- the field of a fixed size that the toggle shows is there, or bytes are missing
 fixed_part : (on : Bool) (size : ℕ) (bytes : List ℕ) → ((on ≡ true) × (length bytes < size)) ⊎ ((value : Option (List ℕ)) × IsFixedPart on size bytes value (drop (cond on size 0) bytes))
 fixed_part false size bytes = inr (None, record { shown = refl; legal = tt; split = refl })
 fixed_part true size bytes = ⊎_elim (λ short. inl (refl, short)) (λ inside. inr (fixed_here true size bytes (drop size bytes) refl inside refl)) (cases_lt (length bytes) size)
 
+-- what is left is the private box that the toggle shows, or isn't
 private_part : (on : Bool) (bytes : List ℕ) → AreBytes bytes → IsNoPrivate on bytes ⊎ ((box : Option PlainBox) × IsPrivate on bytes box)
 private_part false [] all = inr (None, record { shown = refl; legal = tt; split = refl })
 private_part false (x ∷ xs) all = inl (inr (refl, omega arith))
@@ -144,6 +154,7 @@ read_as : Option (List ℕ) → Fields
 read_as None = record { label = None }
 read_as (Some t) = record { label = Some (record { ref_ptr = (0, 0); now = t }) }
 
+-- a label is read as itself
 as_read : (label : Option (List ℕ)) → label ≡ read_label (read_as label)
 unfolding read_as
 as_read None = refl
@@ -154,6 +165,7 @@ pub data FieldsOr (wide : Bool) (payload : List ℕ) : Type 0 where
   described : (d : Description) → d.wide ≡ wide → IsFields d → payload ≡ description_payload d → FieldsOr wide payload
   undescribed : DescriptionFault payload → FieldsOr wide payload
 
+-- the rest of bytes after a prefix is bytes
 pub bytes_back : (all front back : List ℕ) → AreBytes all → all ≡ front ++ back → AreBytes back
 bytes_back all front back h split = subst AreBytes (ap (drop (length front)) split ∙ drop_at front back (length front) refl) (bytes-drop (length front) all h)
 
@@ -170,6 +182,7 @@ with_digest wide payload rest more last label id digest all long small p q r = g
         described (record { wide = wide; uuid = d.uuid; requestable = d.requestable; label = d.label; id = d.id; digest = d.digest; private = d.private }) refl
         (record { uuid = f.legal.uuid; label = f.legal.label; id = f.legal.id; digest = f.legal.digest; private = f.legal.private }) f.bytes
 
+-- once label and ID are read, the rest of the payload is fields or a fault
 with_id : (wide : Bool) (payload rest more : List ℕ) (label id : Option (List ℕ)) → AreBytes more → 17 ≤ length payload → toggle_byte payload < 32 → IsLabelPart (is_set 2 payload) (drop 17 payload) label rest
     → IsFixedPart (is_set 4 payload) 4 rest id more → FieldsOr wide payload
 with_id wide payload rest more label id all long small p q = go (fixed_part (is_set 8 payload) 32 more)
@@ -178,6 +191,7 @@ with_id wide payload rest more label id all long small p q = go (fixed_part (is_
     go (inl f) = undescribed (no_digest payload (drop 17 payload) rest more label id refl p q f.0 f.1)
     go (inr r) = with_digest wide payload rest more (drop (cond (is_set 8 payload) 32 0) more) label id r.0 (bytes-drop (cond (is_set 8 payload) 32 0) more all) long small p q r.1
 
+-- once the label is read, the rest of the payload is fields or a fault
 with_label : (wide : Bool) (payload rest : List ℕ) (label : Option (List ℕ)) → AreBytes rest → 17 ≤ length payload → toggle_byte payload < 32 → IsLabelPart (is_set 2 payload) (drop 17 payload) label rest → FieldsOr wide payload
 with_label wide payload rest label all long small p = go (fixed_part (is_set 4 payload) 4 rest)
   where
@@ -185,6 +199,7 @@ with_label wide payload rest label all long small p = go (fixed_part (is_set 4 p
     go (inl f) = undescribed (no_id payload (drop 17 payload) rest label refl p f.0 f.1)
     go (inr q) = with_id wide payload rest (drop (cond (is_set 4 payload) 4 0) rest) label q.0 (bytes-drop (cond (is_set 4 payload) 4 0) rest all) long small p q.1
 
+-- a payload is the fields of a description, or has a fault
 pub fields_or : (wide : Bool) (payload : List ℕ) → AreBytes payload → FieldsOr wide payload
 fields_or wide payload all = ⊎_elim (λ short. undescribed (DescriptionFault.too_short short))
     (λ long. ⊎_elim (λ small. go long small (label_part (is_set 2 payload) (drop 17 payload))) (λ large. undescribed (DescriptionFault.unknown_toggle large)) (cases_lt (toggle_byte payload) 32))

@@ -39,7 +39,7 @@ new_or (Some t) earlier = go earlier
     go [] = inl tt
     go (o ∷ os) = ⊎_elim (λ same. inr (λ h. h.0 same)) (λ other. ⊎_elim (λ h. inl (other, h)) (λ n. inr (λ h. n h.1)) (go os)) (differ o)
 
--- A tree stands in front of a region, or a test of it fails.
+-- A region begins with a tree, or a test of it fails.
 data TreeOr (earlier : List (Option (List ℕ))) (depth at : ℕ) (region : List ℕ) : Type 0 where
   spelled : (t : Tree) (rest : List ℕ) → IsLegalTree depth t → IsNewLabel (tree_label t) earlier → region ≡ tree_bytes t ++ rest → TreeOr earlier depth at region
   failing : (e : JumbfError) → TreeFault earlier depth at region e → TreeOr earlier depth at region
@@ -53,7 +53,7 @@ data TreesOr (depth at : ℕ) (payload : List ℕ) : Type 0 where
 fewer : (t : Tree) (region rest : List ℕ) → region ≡ tree_bytes t ++ rest → length rest < length region
 fewer t region rest split = let n : length region ≡ length (tree_bytes t) + length rest = ap length split ∙ length-append (tree_bytes t) rest in omega (arith, n, any_least (node t))
 
--- Trees are taken from the front of a payload by a reader of trees.
+-- Trees are taken from the start of a payload by a reader of trees.
 fill : (m n depth at : ℕ) (payload : List ℕ) → ((earlier : List (Option (List ℕ))) (place : ℕ) (region : List ℕ) → length region < n → AreBytes region → TreeOr earlier depth place region)
     → length payload < n → AreBytes payload → (taken : Trees) (rest : List ℕ) → length rest < m → AreLegalTrees depth taken → AreDistinctLabels (tree_labels taken) → payload ≡ trees_bytes taken ++ rest → TreesOr depth at payload
 fill zero n depth at payload reader small all taken rest less legal distinct split = absurd (omega arith)
@@ -148,6 +148,7 @@ tree_or zero earlier depth at region less all = absurd (omega arith)
 tree_or (suc n) earlier depth at region less all = box_or earlier depth at region all
     (λ place rest fewer_bytes bytes. fill (suc (length rest)) n (depth + 1) place rest (λ labels there part l b. tree_or n labels (depth + 1) there part l b) (omega (arith, less, fewer_bytes)) bytes none rest (omega arith) tt tt refl)
 
+-- members below 256 are bytes
 are_bytes : (xs : List ℕ) → AllByRecursion (λ b. b < 256) xs → AreBytes xs
 are_bytes [] h i = lit< tt
 are_bytes (x ∷ xs) h zero = h.0

@@ -11,18 +11,22 @@ use Rattle.c2_spec.proofs.JumbfHeads.{good_at}
 use Rattle.c2_jumbf.specs.declared.front.Front.{Front}
 use Rattle.c2_jumbf.specs.Heads.{IsHead}
 
+-- each member is below 256
 abbrev pub AreBytes : List ℕ → Type 0
 AreBytes xs = (i : ℕ) → get_or xs i 0 < 256
 
+-- a prefix is a shorter prefix and what follows it up to there
 pub take-split : {X : Type 0} (m n : ℕ) (xs : List X) → take (m + n) xs ≡ take m xs ++ take n (drop m xs)
 take-split m n xs = sym (take-append-drop m (take (m + n) xs)) ∙ ap (λ ys. ys ++ drop m (take (m + n) xs)) (take-take m (m + n) xs (omega arith)) ∙ ap (λ ys. take m xs ++ ys) (drop-take m n xs)
 
+-- a prefix of bytes is bytes
 pub bytes-take : (n : ℕ) (xs : List ℕ) → AreBytes xs → AreBytes (take n xs)
 bytes-take zero xs h i = lit< tt
 bytes-take (suc n) [] h i = lit< tt
 bytes-take (suc n) (x ∷ xs) h zero = h 0
 bytes-take (suc n) (x ∷ xs) h (suc i) = bytes-take n xs (λ k. h (suc k)) i
 
+-- a rest of bytes is bytes
 pub bytes-drop : (n : ℕ) (xs : List ℕ) → AreBytes xs → AreBytes (drop n xs)
 bytes-drop n xs h i = rw (get_or-drop n xs i 0) (h (n + i))
 
@@ -30,12 +34,15 @@ bytes-drop n xs h i = rw (get_or-drop n xs i 0) (h (n + i))
 spell_4 : (xs : List ℕ) (at n : ℕ) → AreBytes xs → at + 4 ≤ length xs → n ≡ from_be_bytes w32 (take 4 (drop at xs)) → to_be_bytes w32 n ≡ take 4 (drop at xs)
 spell_4 xs at n h inside e = be_bytes_4 (take 4 (drop at xs)) n (length-take-le 4 (drop at xs) (omega (arith, length-drop at xs))) (bytes-take 4 (drop at xs) (bytes-drop at xs h)) e
 
+-- a number that was read of eight bytes is spelled by them
 spell_8 : (xs : List ℕ) (at n : ℕ) → AreBytes xs → at + 8 ≤ length xs → n ≡ from_be_bytes w64 (take 8 (drop at xs)) → to_be_bytes w64 n ≡ take 8 (drop at xs)
 spell_8 xs at n h inside e = be_bytes_8 (take 8 (drop at xs)) n (length-take-le 8 (drop at xs) (omega (arith, length-drop at xs))) (bytes-take 8 (drop at xs) (bytes-drop at xs h)) e
 
+-- the number that four bytes spell is below 2^32
 pub small_4 : (xs : List ℕ) → AreBytes xs → from_be_bytes w32 xs < 2 ^ 32
 small_4 xs h = omega (arith, h 0, h 1, h 2, h 3)
 
+-- a box is as long as its header and its payload
 pub payload_size : (region : List ℕ) (h : Front) → IsHead region h → length (told_payload region) + h.header ≡ h.total
 payload_size region h k =
     let n : length (take (told_total region) region) ≡ told_total region = length-take-le (told_total region) region (omega (arith, k.total, k.inside)) in
@@ -66,6 +73,7 @@ front_box region h bytes k = ap (λ n. take n region) k.total ∙ sym (take-appe
     heads : take (head_len (tells_wide region)) (take (told_total region) region) ≡ head_bytes (told_kind region) (tells_wide region) (length (told_payload region))
     heads = go (tells_wide region) refl
 
+-- the header of a box of a region below 2^64 bytes can state its length
 pub front_fits : (region : List ℕ) (h : Front) → AreBytes region → length region < 2 ^ 64 → IsHead region h → FitsHead (told_kind region) (tells_wide region) (length (told_payload region))
 front_fits region h bytes small k = record { type = small_4 (take 4 (drop 4 region)) (bytes-take 4 (drop 4 region) (bytes-drop 4 region bytes)); total = go (tells_wide region) refl }
   where
@@ -75,6 +83,7 @@ front_fits region h bytes small k = record { type = small_4 (take 4 (drop 4 regi
         let short : told_total region ≡ from_be_bytes w32 (take 4 region) = ap (λ b. cond b (from_be_bytes w64 (take 8 (drop 8 region))) (from_be_bytes w32 (take 4 region))) e in
         omega (arith, payload_size region h k, k.header ∙ ap head_len e, k.total, short, small_4 (take 4 region) (bytes-take 4 region bytes))
 
+-- a region with a header without fault is its first box and what follows that
 pub front_whole : (region : List ℕ) (h : Front) → AreBytes region → IsHead region h → region ≡ boxed (told_kind region) (tells_wide region) (told_payload region) ++ drop h.total region
 front_whole region h bytes k = sym (take-append-drop h.total region) ∙ ap (λ (x : List ℕ). x ++ drop h.total region) (front_box region h bytes k)
 

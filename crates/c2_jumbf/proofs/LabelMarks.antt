@@ -9,11 +9,13 @@ use Rattle.c2_jumbf.proofs.DistinctLabels.{distinct-push}
 
 -- ---- the labels that are there
 
+-- one more label comes last among those that are there
 pub given-push : (os : List (Option (List ℕ))) (t : List ℕ) → given (os ++ Some t ∷ []) ≡ given os ++ t ∷ []
 given-push [] t = refl
 given-push (None ∷ os) t = given-push os t
 given-push (Some u ∷ os) t = ap (λ (x : List (List ℕ)). u ∷ x) (given-push os t)
 
+-- a box without a label adds none
 pub given-none : (os : List (Option (List ℕ))) → given (os ++ None ∷ []) ≡ given os
 given-none [] = refl
 given-none (None ∷ os) = given-none os
@@ -25,6 +27,7 @@ new_given t [] h = tt
 new_given t (None ∷ os) h = (λ e. cc (e), new_given t os h)
 new_given t (Some u ∷ os) h = (λ e. h.0 (cc (e)), new_given t os h.1)
 
+-- a label that is new is none of those that are there
 given_new : (t : List ℕ) (os : List (Option (List ℕ))) → IsNewLabel (Some t) os → AllByRecursion (λ u. u ≢ t) (given os)
 given_new t [] h = tt
 given_new t (None ∷ os) h = given_new t os h.1
@@ -37,6 +40,7 @@ first_new (Some t) = tt
 
 -- ---- marks that stand for labels
 
+-- the label of a mark
 abbrev label_in : Mark → List ℕ
 label_in m = m.1
 
@@ -47,9 +51,11 @@ pub record Stand (ms : List Mark) (os : List (Option (List ℕ))) (end : ℕ) : 
   pub below : All (λ (m : Mark). m.2 < end) ms
   pub distinct : NoneRepeats ms → AreDistinctLabels os
 
+-- without a mark no label was seen
 pub stand_none : (ms : List Mark) (end : ℕ) → ms ≡ [] → Stand ms [] end
 stand_none ms end e = subst (λ x. Stand x [] end) (sym e) (record { labels = refl; fronts = All-nil _; below = All-nil _; distinct = λ _. tt })
 
+-- what comes before a place comes before a later one
 still_below : (ms : List Mark) (a b : ℕ) → a ≤ b → All (λ (m : Mark). m.2 < a) ms → All (λ (m : Mark). m.2 < b) ms
 still_below ms a b le h = λ k d l. omega (arith, h k d l, le)
 
@@ -58,6 +64,7 @@ apart : (t : List ℕ) (ms : List Mark) → ((x : Mark) → Contains ms x → x.
 apart t [] h = tt
 apart t (x ∷ xs) h = (h x (0, omega arith, refl), apart t xs (λ y c. h y (Contains-append_right (x ∷ []) xs y c)))
 
+-- marks whose labels all differ from one each have another label
 kept_apart : (t : List ℕ) (ms : List Mark) → AllByRecursion (λ u. u ≢ t) (map label_in ms) → AllByRecursion (λ (m : Mark). m.1 ≢ t) ms
 kept_apart t [] h = tt
 kept_apart t (x ∷ xs) h = (h.0, kept_apart t xs h.1)
@@ -127,14 +134,17 @@ module _ (ms : List Mark) (os : List (Option (List ℕ))) (place : ℕ) (s : Sta
 
   -- ---- the same where the box may have no label
 
+  -- where no label is there twice, with one more box, the others are distinct and the new one is new
   pub none_more : (o : Option (List ℕ)) → NoneRepeats (ms ++ own_marks place o) → AreDistinctLabels os × IsNewLabel o os
   none_more None n = (s.distinct (subst NoneRepeats (append-nil ms) n), tt)
   none_more (Some t) n = (s.distinct (none_before t n), new_label t n)
 
+  -- with one more box, the first label that was there before is one of the others or the new one
   pub first_more : (o : Option (List ℕ)) (P : ℕ → Type 0) (p : ℕ) → ((q : ℕ) → IsFirstRepeated ms q → P q) → (AreDistinctLabels os → (IsNewLabel o os → ⊥) → P place) → IsFirstRepeated (ms ++ own_marks place o) p → P p
   first_more None P p before here f = before p (subst (λ x. IsFirstRepeated x p) (append-nil ms) f)
   first_more (Some t) P p before here f = first_among t P p before here f
 
+  -- with one more box, the marks are those of the labels with its own
   pub stand_more : (o : Option (List ℕ)) (end : ℕ) → place < end → Stand (ms ++ own_marks place o) (os ++ o ∷ []) end
   stand_more None end l = record {
     labels = ap (map label_in) (append-nil ms) ∙ s.labels ∙ sym (given-none os);

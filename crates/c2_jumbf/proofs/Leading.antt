@@ -6,15 +6,18 @@ use Rattle.c2_spec.specs.Jumbf.Tree.{description_bytes, head_len, Tree, Trees, l
 use Rattle.c2_spec.specs.Jumbf.Boxes.{AnyBox, node, described, IndexedBox, tree_count, boxes_from, boxes_from_all, boxes_of, box_at, any_label, indices_from, children_of, child_indices, LabelsLead, IsLegalBox, index_after}
 use Rattle.c2_spec.proofs.JumbfChildren.{Chain, chain_of, label_at, distinct_children}
 
+-- a label that differs from each of some labels is at none of their places
 not_among : (label : List ℕ) (os : List (Option (List ℕ))) (n : ℕ) → AllByRecursion (λ o. o ≢ Some label) os → n < length os → get_or os n None ≡ Some label → ⊥
 not_among label [] n h l e = omega (arith, l)
 not_among label (o ∷ os) zero h l e = h.0 e
 not_among label (o ∷ os) (suc n) h l e = not_among label os n h.1 (omega arith) e
 
+-- a label that is new among some labels is at none of their places
 new_among : (label : List ℕ) (o : Option (List ℕ)) (os : List (Option (List ℕ))) (n : ℕ) → IsNewLabel o os → o ≡ Some label → n < length os → get_or os n None ≡ Some label → ⊥
 new_among label None os n h e l k = cc (e)
 new_among label (Some t) os n h e l k = not_among t os n h l (k ∙ sym e)
 
+-- a label is at one place of labels that are distinct
 distinct_at : (label : List ℕ) (os : List (Option (List ℕ))) (m n : ℕ) → AreDistinctLabels os → m < length os → n < length os → get_or os m None ≡ Some label → get_or os n None ≡ Some label → m ≡ n
 distinct_at label [] m n h l k d e = absurd (omega (arith, l))
 distinct_at label (o ∷ os) zero zero h l k d e = refl
@@ -22,6 +25,7 @@ distinct_at label (o ∷ os) zero (suc n) h l k d e = absurd (new_among label o 
 distinct_at label (o ∷ os) (suc m) zero h l k d e = absurd (new_among label o os m h.0 e (omega arith) d)
 distinct_at label (o ∷ os) (suc m) (suc n) h l k d e = ap suc (distinct_at label os m n h.1 (omega arith) (omega arith) d e)
 
+-- the label at a place among the children is the label of that child
 label_of_place : (t : Tree) (cs : List ℕ) (n k : ℕ) → n < length cs → get_or cs n k ≡ k → get_or (map (label_at t) cs) n None ≡ label_at t k
 label_of_place t cs n k l e = get_or-map (label_at t) cs n k None l ∙ ap (label_at t) e
 
@@ -38,11 +42,13 @@ child_once t i label j k l h a b p q =
     other (x ∷ xs) zero d e l = refl
     other (x ∷ xs) (suc n) d e l = other xs n d e (omega arith)
 
+-- what a chain of children meets is a box of the tree
 chain_within : (t : Tree) (end i : ℕ) (cs : List ℕ) (n k : ℕ) → Chain t end i cs → n < length cs → get_or cs n k ≡ k → k < tree_count t
 chain_within t end i [] n k h l e = absurd (omega (arith, l))
 chain_within t end i (c ∷ cs) zero k h l e = omega (arith, sym h.0 ∙ e, h.1.1.0)
 chain_within t end i (c ∷ cs) (suc n) k h l e = chain_within t end (index_after t i) cs n k h.1.1.1.1.1 (omega arith) e
 
+-- a child is a box of the tree
 pub child_within : (t : Tree) (i k : ℕ) → i < tree_count t → Contains (child_indices t i) k → k < tree_count t
 child_within t i k l a = chain_within t (index_after t i) (i + 1) (child_indices t i) a.0 k (chain_of t i l) a.1 a.2
 
@@ -59,12 +65,15 @@ pub record Walked (t : Tree) (start : ℕ) (all : List (List ℕ)) (n at : ℕ) 
   pub down : (j : ℕ) → LabelsLead t at (drop n all) j → LabelsLead t start all j
   pub up : (j : ℕ) → LabelsLead t start all j → LabelsLead t at (drop n all) j
 
+-- at the start no label was followed
 pub walked_start : (t : Tree) (start : ℕ) (all : List (List ℕ)) → start < tree_count t → Walked t start all 0 start
 walked_start t start all l = record { inside = l; down = λ j h. h; up = λ j h. h }
 
+-- from a place on a list begins with the member there
 front_label : (all : List (List ℕ)) (n : ℕ) (label : List ℕ) → n < length all → label ≡ get_or all n label → drop n all ≡ label ∷ drop (n + 1) all
 front_label all n label l e = drop_more all n label l ∙ ap (λ (x : List ℕ). x ∷ drop (n + 1) all) (sym e)
 
+-- with one more label the box is the child with that label
 pub walked_next : (t : Tree) (start : ℕ) (all : List (List ℕ)) (n at k : ℕ) (label : List ℕ) → Walked t start all n at → IsLegalTree 1 t → (n < length all) × (label ≡ get_or all n label)
     → Contains (child_indices t at) k × (any_label (box_at t k).box ≡ Some label) → Walked t start all (n + 1) k
 walked_next t start all n at k label w h turn found =
@@ -77,12 +86,14 @@ walked_next t start all n at k label w h turn found =
           subst (λ m. LabelsLead t m (drop (n + 1) all) j) (child_once t at label a.0 k w.inside h a.1 found.0 a.2 found.1) a.3;
     }
 
+-- where no child has the next label, the path leads nowhere
 pub walked_none : (t : Tree) (start : ℕ) (all : List (List ℕ)) (n at : ℕ) (label : List ℕ) → Walked t start all n at → (n < length all) × (label ≡ get_or all n label)
     → ((k : ℕ) → Contains (child_indices t at) k → any_label (box_at t k).box ≡ Some label → ⊥) → (j : ℕ) → LabelsLead t start all j → ⊥
 walked_none t start all n at label w turn nothing j lead =
     let a : LabelsLead t at (label ∷ drop (n + 1) all) j = subst (λ (x : List (List ℕ)). LabelsLead t at x j) (front_label all n label turn.0 turn.1) (w.up j lead) in
     nothing a.0 a.1 a.2
 
+-- where all labels were followed, the path leads to this box
 pub walked_end : (t : Tree) (start : ℕ) (all : List (List ℕ)) (n at : ℕ) → Walked t start all n at → n ≡ length all → LabelsLead t start all at
 walked_end t start all n at w e = w.down at (subst (λ (x : List (List ℕ)). LabelsLead t at x at) (sym (drop_all n all (omega (arith, e)))) refl)
 

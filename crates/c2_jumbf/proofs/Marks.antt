@@ -15,39 +15,49 @@ use Rattle.c2_jumbf.specs.Labels.{Mark, marks, mark_cmp, mark_at, Repeats, Repea
 
 -- ---- the order of marks
 
+-- one mark comes before another
 abbrev lt : Mark → Mark → Bool
 lt x y = is_lt (mark_cmp x y)
 
+-- the order of marks is total
 pub marks_total : IsTotalOrder mark_cmp
 marks_total = then_total (then_total (on_total (λ (m : Mark). m.0) nat_cmp_total) (on_total (λ (m : Mark). m.1) nat_list_cmp_total)) (on_total (λ (m : Mark). m.2) nat_cmp_total)
 
+-- and it may be sorted by
 marks_weak : IsStrictWeakOrder lt
 marks_weak = ranks_by marks_total (λ (m : Mark). m)
 
+-- what doesn't come before another number by their order is not less than it
 lifted : (o : Ordering) (m n : ℕ) → MatchOrdering o (m < n) (m ≡ n) (n < m) → is_lt o ≡ false → n ≤ m
 lifted Less m n h e = absurd cc
 lifted Equal m n h e = omega arith
 lifted Greater m n h e = omega arith
 
+-- the same by the order of numbers
 not_less : (m n : ℕ) → is_lt (nat_cmp m n) ≡ false → n ≤ m
 not_less m n e = lifted (nat_cmp m n) m n (ranks m n) e
 
+-- what is less than another number comes before it by their order
 lowered : (o : Ordering) (m n : ℕ) → MatchOrdering o (m < n) (m ≡ n) (n < m) → m < n → is_lt o ≡ true
 lowered Less m n h l = refl
 lowered Equal m n h l = let never : ⊥ = omega arith in absurd never
 lowered Greater m n h l = let never : ⊥ = omega arith in absurd never
 
+-- the same by the order of numbers
 less : (m n : ℕ) → m < n → is_lt (nat_cmp m n) ≡ true
 less m n l = lowered (nat_cmp m n) m n (ranks m n) l
 
+-- where two comparisons are equal, the third decides
 tied_first : (o p q : Ordering) → o ≡ Equal → p ≡ Equal → is_lt (ordering_then (ordering_then o p) q) ≡ is_lt q
 tied_first o p q e f = ap (λ x. is_lt (ordering_then (ordering_then x p) q)) e ∙ ap (λ x. is_lt (ordering_then x q)) f
 
+-- a label that repeats another comes after it
 repeats_less : (x y : Mark) → Repeats x y → lt x y ≡ true
 repeats_less x y r =
     tied_first (nat_cmp x.0 y.0) (slice_cmp nat_cmp x.1 y.1) (nat_cmp x.2 y.2)
     (ap (nat_cmp x.0) (sym r.0) ∙ tied_itself nat_cmp_total x.0) (ap (slice_cmp nat_cmp x.1) (sym r.1) ∙ tied_itself nat_list_cmp_total x.1) ∙ less x.2 y.2 r.2
 
+-- of three comparisons that decide neither way the first two are equal
 squeezed : (o p s t : Ordering) → is_lt (ordering_then (ordering_then o p) s) ≡ false → is_lt (ordering_then (ordering_then (ordering_reverse o) (ordering_reverse p)) t) ≡ false → (o ≡ Equal) × (p ≡ Equal) × (is_lt s ≡ false) × (is_lt t ≡ false)
 squeezed Less p s t e f = absurd cc
 squeezed Greater p s t e f = absurd cc
@@ -116,6 +126,7 @@ module _ (ks ms : List Mark) (moved : IsPermutation ks ms) (up : IsSorted mark_c
       let k = repeats_between ms up (b.0 - a.0) a.0 b.0 (omega (arith, far)) b.1 there in
       (k.0, k.1, k.2, omega (arith, k.3, ap (λ u. u.2) b.2))
 
+  -- the least place of a label beside its equal is that of the first that was there before; without one none is
   settles : (r : Option ℕ) → LeastRepeated ms (length ms) r → Settles ks r
   settles None h = λ x y cx cy r. let k = shows x y cx cy r in h k.0 k.1 k.2
   settles (Some place) h = record {
@@ -130,15 +141,19 @@ module _ (ks ms : List Mark) (moved : IsPermutation ks ms) (up : IsSorted mark_c
 
 -- ---- the same of labels that are borrowed
 
+-- a mark as the code keeps it, with its label borrowed
 abbrev pub Lent : Type 0
 Lent = ℕ × Bor (List ℕ) × ℕ
 
+-- the order of such marks
 abbrev pub lent_cmp : Lent → Lent → Ordering
 lent_cmp x y = ordering_then (ordering_then (nat_cmp x.0 y.0) (slice_cmp nat_cmp x.1.now y.1.now)) (nat_cmp x.2 y.2)
 
+-- the mark that it stands for
 abbrev seen_as : Lent → Mark
 seen_as m = (m.0, m.1.now, m.2)
 
+-- borrowed marks in order are marks in order
 pub lent_sorted : (ms : List Lent) → IsSorted lent_cmp ms → IsSorted mark_cmp (marks ms)
 lent_sorted [] h k d lo l = let never : ⊥ = omega (arith, l) in absurd never
 lent_sorted (m ∷ ms) h k d lo l =
@@ -147,11 +162,13 @@ lent_sorted (m ∷ ms) h k d lo l =
     ∙ ap (λ x. lt (seen_as (get_or (m ∷ ms) (k + 1) m)) x) (get_or-map seen_as (m ∷ ms) k m d (omega (arith, long)))
     ∙ h k m lo long
 
+-- the mark at a place is the one that the borrowed one there stands for
 mark_of : (ms : List Lent) (i : ℕ) (d : Lent) → i < length ms → seen_as (get_or ms i d) ≡ mark_at (marks ms) i
 mark_of ms i d l = sym (get_or-map seen_as ms i d (0, [], 0) l)
 
 -- ---- one more mark
 
+-- with one more place that repeats nothing, the least place stays
 pub least_skip : (ms : List Mark) (m n : ℕ) (r : Option ℕ) → n ≡ m + 1 → (RepeatsAt ms m → ⊥) → LeastRepeated ms n r → LeastRepeated ms (n + 1) r
 least_skip ms m n None e not h = λ i l r. elim (ltb (suc i) n) as (λ b. ltb (suc i) n ≡ b → ⊥) [
   | true ↦ λ t. h i (ltb-true (suc i) n t) r
@@ -165,6 +182,7 @@ least_skip ms m n (Some k) e not h = (
   ] refl,
 )
 
+-- with one more place that repeats the one before, the least place is the lesser of the two
 pub least_take : (ms : List Mark) (m n : ℕ) (r : Option ℕ) (k : ℕ) → n ≡ m + 1 → RepeatsAt ms m → k ≡ (mark_at ms (suc m)).2 → LeastRepeated ms n r → LeastRepeated ms (n + 1) (Some (lesser_of r k))
 least_take ms m n None k e here is h = (
   (m, omega (arith, e), here, is),
@@ -187,26 +205,33 @@ least_take ms m n (Some j) k e here is h =
 
 -- ---- what the code does
 
+-- what a test says where it passes
 pub said : (b : Bool) (P : Type 0) → (IsTrue b → P) → b ≡ true → P
 said b P f e = f e
 
+-- what a test says where it fails
 pub unsaid : (b : Bool) (P : Type 0) → (P → IsTrue b) → b ≡ false → P → ⊥
 unsaid b P f e p = let clash : true ≡ false = sym (f p) ∙ e in cc
 
 module _ (ks : List Lent) (n : ℕ) (d : Lent) (r : Option ℕ) (lo : 1 ≤ n) (hi : n < length ks) where
+  -- the place before this one is one less
   one_on : n ≡ suc (n - 1)
   one_on = omega (arith, lo)
 
+  -- the mark before this place
   here_x : seen_as (get_or ks (n - 1) d) ≡ mark_at (marks ks) (n - 1)
   here_x = mark_of ks (n - 1) d (omega (arith, hi))
 
+  -- the mark at this place
   here_y : seen_as (get_or ks n d) ≡ mark_at (marks ks) (suc (n - 1))
   here_y = mark_of ks n d hi ∙ ap (mark_at (marks ks)) one_on
 
+  -- a borrowed mark that repeats the one before makes the least place the lesser of the two
   pub lent_take : (k : ℕ) → Repeats (seen_as (get_or ks (n - 1) d)) (seen_as (get_or ks n d)) → k ≡ (get_or ks n d).2 → LeastRepeated (marks ks) n r → LeastRepeated (marks ks) (n + 1) (Some (lesser_of r k))
   lent_take k rep e h =
       least_take (marks ks) (n - 1) n r k (omega (arith, lo)) (subst (λ m. Repeats (mark_at (marks ks) (n - 1)) m) here_y (subst (λ m. Repeats m (seen_as (get_or ks n d))) here_x rep)) (e ∙ ap (λ m. m.2) here_y) h
 
+  -- a borrowed mark that repeats nothing leaves the least place
   pub lent_skip : (Repeats (seen_as (get_or ks (n - 1) d)) (seen_as (get_or ks n d)) → ⊥) → LeastRepeated (marks ks) n r → LeastRepeated (marks ks) (n + 1) r
   lent_skip not h =
       least_skip (marks ks) (n - 1) n r (omega (arith, lo)) (λ rep. not (subst (λ m. Repeats m (seen_as (get_or ks n d))) (sym here_x) (subst (λ m. Repeats (mark_at (marks ks) (n - 1)) m) (sym here_y) rep))) h

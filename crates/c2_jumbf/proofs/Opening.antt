@@ -22,15 +22,19 @@ payload_is region h k =
     let e : h.total ≡ h.header + (h.total - h.header) = omega (arith, k.least) in
     sym (drop-take h.header (h.total - h.header) region) ∙ ap (λ n. drop h.header (take n region)) (sym e) ∙ ap (λ n. drop n (take h.total region)) k.header ∙ ap (λ n. drop (head_len (tells_wide region)) (take n region)) k.total
 
+-- the payload is as long as the box without its header
 pub payload_length : (region : List ℕ) (h : Front) → IsHead region h → length (take (h.total - h.header) (drop h.header region)) ≡ h.total - h.header
 payload_length region h k = length-take-le (h.total - h.header) (drop h.header region) (omega (arith, length-drop h.header region, k.inside, k.least))
 
+-- a header of type `jumb` at an allowed depth is that of a superbox
 superbox : (region : List ℕ) (h : Front) (depth : ℕ) → IsHead region h → h.kind ≡ JUMB → depth ≤ 16 → IsSuperbox depth region
 superbox region h depth k kind deep = record { head = k.good; kind = sym k.kind ∙ kind; deep = deep }
 
+-- a superbox at a greater depth is too deep
 pub open_deep : (region : List ℕ) (h : Front) (depth at : ℕ) (earlier : List (Option (List ℕ))) → IsHead region h → h.kind ≡ JUMB → 16 < depth → TreeFault earlier depth at region (TooDeep at)
 open_deep region h depth at earlier k kind deep = TreeFault.too_deep (good_at 0 at region k.good) (sym k.kind ∙ kind) deep
 
+-- a superbox with an empty payload has no description
 pub open_empty : (region : List ℕ) (h : Front) (depth at : ℕ) (earlier : List (Option (List ℕ))) → IsHead region h → h.kind ≡ JUMB → depth ≤ 16 → length (take (h.total - h.header) (drop h.header region)) ≡ 0 → TreeFault earlier depth at region (NoDescription at)
 open_empty region h depth at earlier k kind deep none = TreeFault.empty (superbox region h depth k kind deep) (nil (told_payload region) (ap length (sym (payload_is region h k)) ∙ none))
   where
@@ -38,6 +42,7 @@ open_empty region h depth at earlier k kind deep none = TreeFault.empty (superbo
     nil [] e = refl
     nil (x ∷ xs) e = absurd (omega arith)
 
+-- where the header of the first box inside has a fault, that is the fault
 pub open_head : (region : List ℕ) (h : Front) (depth at place : ℕ) (earlier : List (Option (List ℕ))) (e : JumbfError) → IsHead region h → h.kind ≡ JUMB → depth ≤ 16 → 0 < length (take (h.total - h.header) (drop h.header region))
     → place ≡ at + h.header → box_head_fault place (take (h.total - h.header) (drop h.header region)) ≡ Some e → TreeFault earlier depth at region e
 open_head region h depth at place earlier e k kind deep some where_is fails =
@@ -45,12 +50,14 @@ open_head region h depth at place earlier e k kind deep some where_is fails =
     TreeFault.child_head (superbox region h depth k kind deep) (omega (arith, some, same))
     (ap (λ n. box_head_fault (at + n) (told_payload region)) (sym k.header) ∙ ap (λ n. box_head_fault n (told_payload region)) (sym where_is) ∙ ap (box_head_fault place) (sym (payload_is region h k)) ∙ fails)
 
+-- a first box of another type than `jumd` is no description
 pub open_kind : (region : List ℕ) (h own : Front) (depth at : ℕ) (earlier : List (Option (List ℕ))) → IsHead region h → h.kind ≡ JUMB → depth ≤ 16 → IsHead (take (h.total - h.header) (drop h.header region)) own → own.kind ≢ JUMD
     → TreeFault earlier depth at region (NoDescription at)
 open_kind region h own depth at earlier k kind deep first other =
     let f : IsHead (told_payload region) own = subst (λ (x : List ℕ). IsHead x own) (payload_is region h k) first in
     TreeFault.no_description (superbox region h depth k kind deep) (good_at 0 at (told_payload region) f.good) (λ e. other (f.kind ∙ e))
 
+-- where the first box has a fault of its description, that is the fault
 pub open_fields : (region : List ℕ) (h own : Front) (depth at place : ℕ) (earlier : List (Option (List ℕ))) → IsHead region h → h.kind ≡ JUMB → depth ≤ 16 → IsHead (take (h.total - h.header) (drop h.header region)) own → own.kind ≡ JUMD
     → place ≡ at + h.header → DescriptionFault (take (own.total - own.header) (drop own.header (take (h.total - h.header) (drop h.header region)))) → TreeFault earlier depth at region (BadDescription place)
 open_fields region h own depth at place earlier k kind deep first named where_is none =
@@ -69,6 +76,7 @@ pub record IsRead (region : List ℕ) (h own : Front) (f : Fields) : Type 0 wher
   pub label : description.label ≡ read_label f
   pub wide : head_len description.wide ≡ own.header
 
+-- a description whose fields were read is the one that the superbox begins with
 pub is_read : (region : List ℕ) (h own : Front) (f : Fields) → AreBytes region → length region < 2 ^ 64 → IsHead region h → IsHead (take (h.total - h.header) (drop h.header region)) own → own.kind ≡ JUMD
     → HasFields (take (own.total - own.header) (drop own.header (take (h.total - h.header) (drop h.header region)))) f → IsRead region h own f
 is_read region h own f bytes small k first named has = record { description = d; legal = legal; size = size; inside = inside; bytes = spelled_front; label = has.label; wide = sym first.header }

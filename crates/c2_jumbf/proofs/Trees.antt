@@ -18,24 +18,29 @@ pub push_tree : Trees → Tree → Trees
 push_tree none t = more t none
 push_tree (more s ts) t = more s (push_tree ts t)
 
+-- one more tree adds its bytes at the end
 pub spelled-push : (ts : Trees) (t : Tree) → trees_bytes (push_tree ts t) ≡ trees_bytes ts ++ tree_bytes t
 unfolding push_tree
 spelled-push none t = append-nil (tree_bytes t)
 spelled-push (more s ts) t = ap (λ (x : List ℕ). tree_bytes s ++ x) (spelled-push ts t) ∙ sym (append_assoc (tree_bytes s) (trees_bytes ts) (tree_bytes t))
 
+-- one more tree adds its label at the end
 pub labels-push : (ts : Trees) (t : Tree) → tree_labels (push_tree ts t) ≡ tree_labels ts ++ tree_label t ∷ []
 unfolding push_tree
 labels-push none t = refl
 labels-push (more s ts) t = ap (λ (x : List (Option (List ℕ))). tree_label s ∷ x) (labels-push ts t)
 
+-- legal trees stay so with one more legal tree
 pub legal-push : (depth : ℕ) (ts : Trees) (t : Tree) → AreLegalTrees depth ts → IsLegalTree depth t → AreLegalTrees depth (push_tree ts t)
 unfolding push_tree
 legal-push depth none t h k = (k, tt)
 legal-push depth (more s ts) t h k = (h.0, legal-push depth ts t h.1 k)
 
+-- trees have as many records as boxes
 pub length-rows_all : (ts : Trees) (at depth i : ℕ) → length (rows_all at depth i ts) ≡ trees_count ts
 length-rows_all ts at depth i = length-map (boxes_from_all at depth i ts) row_of ∙ length-boxes_all ts at depth i
 
+-- one more tree adds its boxes at the end
 boxes-push : (ts : Trees) (t : Tree) (at depth i : ℕ) → boxes_from_all at depth i (push_tree ts t) ≡ boxes_from_all at depth i ts ++ boxes_from (at + length (trees_bytes ts)) depth (i + trees_count ts) t
 unfolding push_tree
 boxes-push none t at depth i = let a : at ≡ at + 0 = omega arith in let b : i ≡ i + 0 = omega arith in append-nil (boxes_from at depth i t) ∙ ap (λ n. boxes_from n depth i t) a ∙ ap (λ n. boxes_from (at + 0) depth n t) b
@@ -47,6 +52,7 @@ boxes-push (more s ts) t at depth i =
     ∙ ap (λ n. boxes_from_all (at + length (tree_bytes s)) depth (i + tree_count s) ts ++ boxes_from (at + length (tree_bytes s ++ trees_bytes ts)) depth n t) b)
     ∙ sym (append_assoc (boxes_from at depth i s) (boxes_from_all (at + length (tree_bytes s)) depth (i + tree_count s) ts) (boxes_from (at + length (tree_bytes s ++ trees_bytes ts)) depth (i + (tree_count s + trees_count ts)) t))
 
+-- one more tree adds its records at the end
 rows-push : (ts : Trees) (t : Tree) (at depth i : ℕ) → rows_all at depth i (push_tree ts t) ≡ rows_all at depth i ts ++ rows (at + length (trees_bytes ts)) depth (i + trees_count ts) t
 rows-push ts t at depth i = ap (map row_of) (boxes-push ts t at depth i) ∙ map-append row_of (boxes_from_all at depth i ts) (boxes_from (at + length (trees_bytes ts)) depth (i + trees_count ts) t)
 
@@ -61,9 +67,11 @@ pub record Filled (depth at : ℕ) (payload : List ℕ) (from : ℕ) (ms : List 
   pub twice : (p : ℕ) → IsFirstRepeated ms p → ChildFault depth at payload (DuplicateLabel p)
   pub added : new ≡ old ++ rows_all at depth (length old) trees
 
+-- without a mark no label was there before
 none_twice : {P : Type 0} (ms : List Mark) (p : ℕ) → ms ≡ [] → IsFirstRepeated ms p → P
 none_twice ms p e f = let l : length ms ≡ 0 = ap length e in absurd (omega (arith, l, f.has_later.1))
 
+-- at the start of a payload there is no tree
 pub filled_none : (depth at : ℕ) (payload : List ℕ) (ms : List Mark) (old : List Row) → ms ≡ [] → Filled depth at payload 0 ms old old
 filled_none depth at payload ms old e = record {
   trees = none;
@@ -100,6 +108,7 @@ twice_here depth at payload from ms next old new label p f some marked duplicate
     (λ distinct old_label. fault_here depth at payload from ms old new (DuplicateLabel (at + from)) f some distinct (duplicate (tree_labels f.trees) old_label))
     (subst (λ x. IsFirstRepeated x p) marked first)
 
+-- with one more tree the payload is filled up to that tree's end
 pub filled_more : (depth at : ℕ) (payload : List ℕ) (from total : ℕ) (ms next : List Mark) (old new newer : List Row) → (f : Filled depth at payload from ms old new) → from < length payload → 0 < total → total ≤ length (drop from payload)
     → IsTreeAt depth (at + from) (drop from payload) total ms next new newer → Filled depth at payload (from + total) next old newer
 filled_more depth at payload from total ms next old new newer f some least fits t =
@@ -124,6 +133,7 @@ filled_more depth at payload from total ms next old new newer f some least fits 
           ∙ ap (λ (x : List Row). old ++ x) (sym (rows-push f.trees t.tree at depth (length old)));
     }
 
+-- a payload that is filled to its end, with no label twice, is trees
 pub filled_all : (depth at : ℕ) (payload : List ℕ) (from : ℕ) (ms : List Mark) (old new : List Row) → Filled depth at payload from ms old new → length payload ≤ from → NoneRepeats ms → AreTreesIn depth at payload old new
 filled_all depth at payload from ms old new f all none_again = record {
   trees = f.trees;
@@ -140,6 +150,7 @@ filled_fault depth at payload from ms next old new e f some x none_again =
     let d = none_more ms (tree_labels f.trees) (at + from) f.stand x.label (subst NoneRepeats x.marked none_again) in
     fault_here depth at payload from ms old new e f some d.0 (x.inside (tree_labels f.trees) d.1)
 
+-- where a fault follows, a label that was there before is told in its place
 filled_twice : (depth at : ℕ) (payload : List ℕ) (from : ℕ) (ms next : List Mark) (old new : List Row) (e : JumbfError) (p : ℕ) → Filled depth at payload from ms old new → from < length payload
     → FaultAt depth (at + from) (drop from payload) ms next e → IsFirstRepeated next p → ChildFault depth at payload (DuplicateLabel p)
 filled_twice depth at payload from ms next old new e p f some x first = twice_here depth at payload from ms next old new x.label p f some x.marked x.duplicate first

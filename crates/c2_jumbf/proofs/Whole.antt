@@ -14,6 +14,7 @@ use Rattle.c2_jumbf.specs.Flat.{rows, rows_all, IsTreeAt, AreTreesIn, ChildFault
 use Rattle.c2_jumbf.proofs.HeadLaws.{AreBytes, front_fits, front_whole}
 use Rattle.c2_jumbf.proofs.Trees.{length-rows_all}
 
+-- the length that a header states is that of the tree there
 total_size : (region : List ℕ) (h : Front) (t : Tree) → IsHead region h → region ≡ tree_bytes t ++ drop h.total region → h.total ≡ length (tree_bytes t)
 total_size region h t k e =
     let sizes : length region ≡ length (tree_bytes t) + length (drop h.total region) = ap length e ∙ length-append (tree_bytes t) (drop h.total region) in

@@ -6,6 +6,7 @@ use Rattle.c2_spec.specs.Jumbf.Tree.{description_payload, description_bytes}
 use Rattle.c2_spec.specs.Jumbf.Writing.{fresh_description, fresh_super}
 use Rattle.c2_spec.proofs.JumbfParts.{desc_split}
 
+-- the payload of a new description has 18 bytes and the label
 payload_size : (uuid label : List ℕ) → length uuid ≡ 16 → length (description_payload (fresh_description uuid label)) ≡ 18 + length label
 payload_size uuid label n =
     let a : length (description_payload (fresh_description uuid label)) ≡ length uuid + suc (length ((label ++ 0 ∷ []) ++ ([] ++ ([] ++ [])))) = ap length (desc_split (fresh_description uuid label)) ∙ length-append uuid (3 ∷ ((label ++ 0 ∷ []) ++ ([] ++ ([] ++ [])))) in
@@ -13,11 +14,13 @@ payload_size uuid label n =
     let d : length (label ++ 0 ∷ []) ≡ length label + 1 = length-append label (0 ∷ []) in
     omega (arith, a, b, d, n)
 
+-- the parts of a new superbox, one after the other, are its header, its description and its contents
 joined : (total own : ℕ) (uuid label contents : List ℕ)
     → (((((((to_be_bytes w32 total ++ to_be_bytes w32 JUMB) ++ to_be_bytes w32 own) ++ to_be_bytes w32 JUMD) ++ uuid) ++ 3 ∷ []) ++ label) ++ 0 ∷ []) ++ contents
     ≡ (to_be_bytes w32 total ++ to_be_bytes w32 JUMB) ++ (((to_be_bytes w32 own ++ to_be_bytes w32 JUMD) ++ description_payload (fresh_description uuid label)) ++ contents)
 joined total own uuid label contents = simp append_assoc
 
+-- those parts are the bytes of a new superbox
 pub super_bytes : (total own : ℕ) (uuid label contents : List ℕ) → length uuid ≡ 16 → own ≡ 26 + length label → total ≡ 34 + length label + length contents
     → (((((((to_be_bytes w32 total ++ to_be_bytes w32 JUMB) ++ to_be_bytes w32 own) ++ to_be_bytes w32 JUMD) ++ uuid) ++ 3 ∷ []) ++ label) ++ 0 ∷ []) ++ contents ≡ fresh_super uuid label contents
 super_bytes total own uuid label contents n o t =

@@ -3,6 +3,7 @@ use Rattle.std.specs.Prelude.{◌≡◌, ℕ, List, Option, Some, None}
 use Rattle.c2_spec.specs.Jumbf.Tree.{Description, IsDescription, description_payload, leaf, super}
 use Rattle.c2_spec.specs.Jumbf.Boxes.{AnyBox, node, described}
 
+-- the description of a superbox
 abbrev pub any_description : AnyBox → Option Description
 any_description (node (leaf b)) = None
 any_description (node (super wide d boxes)) = Some d

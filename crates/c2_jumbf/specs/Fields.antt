@@ -14,16 +14,19 @@ text_of t = option_map (λ x. x.now) t
 abbrev pub read_label : Fields → Option (List ℕ)
 read_label f = text_of f.label
 
+-- a payload is that of a description with the label that was read
 pub record HasFields (payload : List ℕ) (f : Fields) : Type 0 where
   pub description : Description
   pub legal : IsFields description
   pub bytes : payload ≡ description_payload description
   pub label : description.label ≡ read_label f
 
+-- the bytes are a label, a zero byte and a rest
 pub record HasLabel (bytes label rest : List ℕ) : Type 0 where
   pub legal : IsLabel label
   pub split : bytes ≡ label ++ 0 ∷ rest
 
+-- the bytes are the private box that the toggle shows, or nothing
 pub record IsPrivate (on : Bool) (bytes : List ℕ) (box : Option PlainBox) : Type 0 where
   pub shown : is_some box ≡ on
   pub legal : IfSome box IsPlainBox

@@ -17,6 +17,7 @@ row_of b = record { place = b.place; total = length (any_bytes b.box); after = b
 abbrev pub rows : ℕ → ℕ → ℕ → Tree → List Row
 rows at depth i t = map row_of (boxes_from at depth i t)
 
+-- the same of trees side by side
 abbrev pub rows_all : ℕ → ℕ → ℕ → Trees → List Row
 rows_all at depth i ts = map row_of (boxes_from_all at depth i ts)
 
@@ -30,7 +31,7 @@ pub record IsTreeAt (depth at : ℕ) (region : List ℕ) (total : ℕ) (before a
   pub duplicate : (earlier : List (Option (List ℕ))) → (IsNewLabel (tree_label tree) earlier → ⊥) → TreeFault earlier depth at region (DuplicateLabel at)
   pub added : new ≡ old ++ rows at depth (length old) tree
 
--- A box at the front of a region has a fault. Where its label was read before, that is added, and an earlier sibling's
+-- The box that a region begins with has a fault. Where its label was read before, that is added, and an earlier sibling's
 -- label that is the same comes first.
 pub record FaultAt (depth at : ℕ) (region : List ℕ) (before after : List Mark) (fault : JumbfError) : Type 0 where
   pub label : Option (List ℕ)
@@ -46,7 +47,7 @@ pub record AreTreesIn (depth at : ℕ) (payload : List ℕ) (old new : List Row)
   pub bytes : payload ≡ trees_bytes trees
   pub added : new ≡ old ++ rows_all at depth (length old) trees
 
--- Legal trees stand in front of a rest of the payload that begins with a fault.
+-- Legal trees, and after them a rest of the payload that begins with a fault.
 pub record ChildFault (depth at : ℕ) (payload : List ℕ) (fault : JumbfError) : Type 0 where
   pub trees : Trees
   pub rest : List ℕ

@@ -19,6 +19,7 @@ Mark = ℕ × List ℕ × ℕ
 abbrev pub marks : List (ℕ × Bor (List ℕ) × ℕ) → List Mark
 marks ms = map (λ m. (m.0, m.1.now, m.2)) ms
 
+-- the marks of the siblings so far
 abbrev pub marked : Siblings → List Mark
 marked s = marks s.marks.items
 
@@ -35,6 +36,7 @@ own_marks place (Some t) = (front_of t, t, place) ∷ []
 abbrev pub mark_cmp : Mark → Mark → Ordering
 mark_cmp x y = ordering_then (ordering_then (nat_cmp x.0 y.0) (slice_cmp nat_cmp x.1 y.1)) (nat_cmp x.2 y.2)
 
+-- the mark at a place
 abbrev pub mark_at : List Mark → ℕ → Mark
 mark_at ms i = slice_index_or ms i (0, [], 0)
 
@@ -42,6 +44,7 @@ mark_at ms i = slice_index_or ms i (0, [], 0)
 abbrev pub Repeats : Mark → Mark → Type 0
 Repeats x y = (x.0 ≡ y.0) × (x.1 ≡ y.1) × (x.2 < y.2)
 
+-- the mark after a place repeats the one there
 abbrev pub RepeatsAt : List Mark → ℕ → Type 0
 RepeatsAt ms i = Repeats (mark_at ms i) (mark_at ms (suc i))
 
@@ -50,6 +53,7 @@ abbrev pub LeastRepeated : List Mark → ℕ → Option ℕ → Type 0
 LeastRepeated ms n None = (i : ℕ) → suc i < n → RepeatsAt ms i → ⊥
 LeastRepeated ms n (Some j) = ((i : ℕ) × (suc i < n) × RepeatsAt ms i × (j ≡ (mark_at ms (suc i)).2)) × ((i : ℕ) → suc i < n → RepeatsAt ms i → j ≤ (mark_at ms (suc i)).2)
 
+-- the lesser of two places, of which the first may be absent
 abbrev pub lesser_of : Option ℕ → ℕ → ℕ
 lesser_of None n = n
 lesser_of (Some m) n = min m n

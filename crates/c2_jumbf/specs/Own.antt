@@ -10,6 +10,7 @@ use Rattle.c2_spec.specs.declared.kinds.TheConstants.{JUMD}
 abbrev pub behind_head : List ℕ → Front → List ℕ
 behind_head region h = take (h.total - h.header) (drop h.header region)
 
+-- the first box inside a superbox is this description
 pub record IsOwn (region : List ℕ) (h : Front) (own : Own) : Type 0 where
   pub front : IsHead (behind_head region h) own.head
   pub kind : own.head.kind ≡ JUMD

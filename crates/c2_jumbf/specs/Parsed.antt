@@ -9,10 +9,12 @@ use Rattle.c2_spec.proofs.JumbfOneTree.{spells_once}
 use Rattle.c2_spec.proofs.JumbfCode.{spells_prop}
 use Rattle.c2_jumbf.specs.Flat.{rows}
 
+-- a record can be told from every other
 row_code : Coded Row
 row_code = code_by (ℕ × (ℕ × (ℕ × (ℕ × ℕ)))) (coded× coded_ℕ (coded× coded_ℕ (coded× coded_ℕ (coded× coded_ℕ coded_ℕ)))) (λ r. (r.place, (r.total, (r.after, (r.header, r.depth)))))
     (λ p. record { place = p.0; total = p.1.0; after = p.1.1.0; header = p.1.1.1.0; depth = p.1.1.1.1 }) (λ _. refl)
 
+-- that two lists of records are equal has one proof
 rows_set : (x y : List Row) → IsProp (x ≡ y)
 rows_set x y = Coded-set (coded_list row_code) x y
 
@@ -22,6 +24,7 @@ pub record IsParsed (bytes : List ℕ) (all : List Row) : Type 0 where
   pub spells : SpellsTree bytes tree
   pub rows_are : all ≡ rows 0 1 0 tree
 
+-- that bytes and records are those of a tree has one proof
 pub parsed_prop : (bytes : List ℕ) (all : List Row) → IsProp (IsParsed bytes all)
 parsed_prop bytes all p q =
     let same : p.tree ≡ q.tree = spells_once bytes p.tree q.tree p.spells q.spells in

@@ -159,6 +159,36 @@ fn other_lists_are_refused_at_their_places(rt: HostRuntime) -> Result<(), Fail> 
     Ok(())
 }
 
+// The children of FALLING_TWICE are at 35, 70, 105 and 140, each with its toggles 32 bytes and its label 33 bytes further.
+#[test]
+fn an_equal_label_comes_before_later_faults_and_after_earlier_ones(
+    rt: HostRuntime,
+) -> Result<(), Fail> {
+    let mut earlier = FALLING_TWICE;
+    earlier[102] = 0x83;
+    let mut two_pairs = FALLING_TWICE;
+    two_pairs[138] = 0x61;
+    let mut later = Vec::from_slice(rt.alloc(), &FALLING_TWICE)?;
+    later.extend_from_slice(&[0, 0, 0, 4])?;
+    assert!(rt; later.len() == 179);
+    later[3] = 0xB3;
+    let mut inside = Vec::from_slice(rt.alloc(), &later)?;
+    assert!(rt; inside.len() == 179);
+    inside[143] = 0x27;
+    for (bytes, want) in [
+        (&earlier[..], JumbfError::BadDescription(78)),
+        (&two_pairs[..], JumbfError::DuplicateLabel(105)),
+        (&later[..], JumbfError::DuplicateLabel(140)),
+        (&inside[..], JumbfError::DuplicateLabel(140)),
+    ] {
+        match parse(rt.alloc(), bytes) {
+            Err(fault) => assert_eq!(rt; fault, want),
+            Ok(_) => assert!(rt; false),
+        }
+    }
+    Ok(())
+}
+
 // Superboxes without labels, one inside the other.
 fn nested(alloc: Global, levels: u8) -> Result<Vec<u8>, Fail> {
     let mut bytes = Vec::new(alloc);
