@@ -9,6 +9,7 @@ use Rattle.std.proofs.lemmas.Cmp.{nat_list_cmp_total}
 use Rattle.c2_spec.specs.Cbor.Item.{Item, Pairs, no_pairs, pair}
 use Rattle.c2_spec.specs.Cbor.Deterministic.{preferred, sorted, insert_pair, sorted_pairs, each_sorted, pairs_with, NoneBelow, KeysRise}
 
+-- the order of keys by their bytes
 abbrev cmp : List ℕ → List ℕ → Ordering
 cmp = slice_cmp nat_cmp
 
@@ -87,7 +88,7 @@ none_with b c (pair k v ps) e h = elim (bytes_eq (preferred k) b) as (λ t. byte
 not_itself : (a : List ℕ) → cmp a a ≡ Less → ⊥
 not_itself a e = not_below a a e e
 
--- a pair in front of greater ones might stand at their end
+-- a pair before greater ones might stand at their end
 with_first : (b : List ℕ) (k v l w : Item) (ps : Pairs) → cmp (preferred k) (preferred l) ≡ Less → NoneBelow (preferred l) ps → pairs_with b (pair k v (pair l w ps)) ≡ then_pairs (pairs_with b (pair l w ps)) (pairs_with b (pair k v no_pairs))
 with_first b k v l w ps e h = elim (bytes_eq (preferred k) b) as (λ t. bytes_eq (preferred k) b ≡ t → cond t (pair k v (pairs_with b (pair l w ps))) (pairs_with b (pair l w ps)) ≡ then_pairs (pairs_with b (pair l w ps)) (cond t (pair k v no_pairs) no_pairs)) [
   | true ↦ λ f.

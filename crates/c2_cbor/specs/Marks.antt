@@ -64,6 +64,7 @@ Mark = ℕ × List ℕ × ℕ
 abbrev pub mark_of : ℕ × Bor (List ℕ) × ℕ → Mark
 mark_of m = (m.0, m.1.now, m.2)
 
+-- the marks whose keys are lent
 abbrev pub marks : List (ℕ × Bor (List ℕ) × ℕ) → List Mark
 marks ms = map mark_of ms
 
@@ -86,6 +87,7 @@ pub record IsKeyOrder (ks : List (List ℕ)) (ms : List Mark) : Type 0 where
 
 -- ---- equal keys
 
+-- the mark at a place
 abbrev pub mark_at : List Mark → ℕ → Mark
 mark_at ms i = slice_index_or ms i (0, [], 0)
 

@@ -55,7 +55,7 @@ fn agreeing(first: &[u8], key: &[u8], most: usize) -> usize
     most
 }
 
-// How many bytes from the front all keys share.
+// How many first bytes all keys share.
 fn shared_len(bytes: &[u8], lens: &[usize]) -> usize
     ensures { (ks : List (List ℕ)) → StandIn ks bytes.now lens.now → SharesFront result ks }
 {
