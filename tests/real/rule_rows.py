@@ -10,7 +10,23 @@ import sys
 
 import jumbf
 from drafts import ACTIONS, ALL_EXCLUDED, NO_DIGEST, Assertion, BmffHash, DataHash, Ingredient, Jpeg, Manifest, exclusion, reference
-from make_store import NULL, UNDEFINED, array, box, claim_box, data, item, mapping, sign1, signature_box, superbox, text, uint
+from make_store import (
+    NULL,
+    UNDEFINED,
+    array,
+    box,
+    claim_box,
+    data,
+    item,
+    mapping,
+    open_map,
+    sign1,
+    signature_box,
+    superbox,
+    tag,
+    text,
+    uint,
+)
 from manifests import Manifest as Read
 from manifests import manifests_of
 from media import media_of
@@ -96,6 +112,10 @@ def valid_rows():
     yield "a claim without an algorithm, and a binding without one", valid(1, 1), [with_(Manifest("m", DataHash(None)), claim_alg=None)]
     own = note(alg="sha256")
     binding = with_(DataHash("sha256"), alg="sha256")
+    spelled = {"claim_generator_info": open_map(("name", text("a tool"))), "dc:title": NULL, "gathered_assertions": NULL, "alg": NULL}
+    yield "a claim with other fields, an open map and nulls", valid(1, 2), one(note(), claim_fields=spelled)
+    stamped = lambda _: tag(18, sign1(unprotected=mapping(("sigTst", mapping(("tstTokens", array()))), ("pad", data(b"\0")))))
+    yield "a time stamp in the message's header", valid(1, 1), one(change_message=stamped)
     yield "the references' own algorithm holds", valid(1, 2), [with_(Manifest("m", own, binding), claim_alg="sha512")]
     yield "no exclusions but null", "failing assertion.dataHash.mismatch " + URL + "m" + HASH, [
         Manifest("m", with_(DataHash(), ranges=[], more=[("exclusions", NULL)], change=without_exclusions))

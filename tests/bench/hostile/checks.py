@@ -11,7 +11,24 @@ import random
 import sys
 
 sys.path.insert(0, os.path.join(os.path.dirname(os.path.abspath(__file__)), "..", "..", "real"))
-from make_store import array, assertions, box, claim_box, data, hashed_uri, item, jpeg, manifest, mapping, sign1, signature_box, store, superbox, text, uint
+from make_store import (
+    array,
+    assertions,
+    box,
+    claim_box,
+    data,
+    hashed_uri,
+    item,
+    jpeg,
+    manifest,
+    mapping,
+    sign1,
+    signature_box,
+    store,
+    superbox,
+    text,
+    uint,
+)
 from manifests import Manifest, manifests_of
 import jumbf
 
@@ -19,7 +36,6 @@ MOST = 33_554_432
 LETTERS = "0123456789abcdefghijklmnopqrstuvwxyz"
 MESSAGE = signature_box(item(sign1()))
 SIGNED = hashlib.sha256(MESSAGE[8:]).digest()
-CLAIM = "self#jumbf=/c2pa/m/c2pa.claim.v2"
 
 
 def digest(contents):
@@ -73,6 +89,7 @@ class Store:
     def file(self, label="m", boxes=(), entries=(), redactions=(), extra=()):
         """The file around the store, with an active manifest, whose binding is right."""
         boxes, entries = list(boxes), list(entries)
+        self.length = 0
         for length in 0, None:
             length = self.length if length is None else length
             bound = assertion("c2pa.hash.data", data_hash(2, length, digest(b"\xff\xd8\xff\xd9")))
@@ -81,10 +98,6 @@ class Store:
             self.length = len(contents) - 4
             self.manifests.pop()
         return contents
-
-
-def left(given, used):
-    return max(0, given - used)
 
 
 def one_child(count):
@@ -196,7 +209,25 @@ def exclusions(count):
     yield "exclusions", contents, "failing unsupported.tooManyExclusions self#jumbf=/c2pa/m/c2pa.assertions/c2pa.hash.data"
 
 
-GROUPS = one_child, many_children, chain, entries, redactions, redactions_elsewhere, exclusions
+def labels_alike(count):
+    """Long labels that begin alike: of assertions, and of 1,000 manifests, each named by two others."""
+    number, beginning = count(16_000), "x" * 900
+    boxes = {at: assertion(beginning + short(at), b"\xa0") for at in range(number)}
+    order = random.Random(7).sample(range(number), number)
+    claimed = [listed(beginning + short(at), boxes[at]) for at in order]
+    answer = "valid manifests={} assertions={} covered=4 outside=0"
+    yield "labels_alike", Store().file("m", boxes.values(), claimed), answer.format(1, number + 1)
+    made, beginning, number = Store(), "x" * 6_000, count(1_000)
+    for at in range(number):
+        named = [beginning + short(other) for other in range(max(0, at - 2), at)]
+        labels = [f"c2pa.ingredient.v3__{n}" for n in range(len(named))]
+        boxes = [assertion(label, ingredient(name, made.digests[name])) for label, name in zip(labels, named)]
+        last = at == number - 1
+        contents = (made.file if last else made.add_bound)(beginning + short(at), boxes, map(listed, labels, boxes))
+    yield "manifests_alike", contents, answer.format(number, number + max(0, 2 * number - 3))
+
+
+GROUPS = one_child, many_children, chain, entries, labels_alike, redactions, redactions_elsewhere, exclusions
 
 
 def verdicts_on(contents):
