@@ -1,4 +1,5 @@
 pub mod Messages
+pub mod TakenLaws
 pub mod Existing
 pub mod Unique
 pub mod ParsingLemmas

@@ -4,6 +4,7 @@
 #![tactic(auto)]
 
 mod asking;
+mod laws;
 mod message;
 mod read;
 #[cfg(test)]
@@ -11,4 +12,5 @@ mod tests;
 
 pub use asking::question;
 pub use c2_spec::{Sign1, SignError};
+pub use laws::each_item_is_a_message_or_not;
 pub use read::read_sign1;

@@ -1,8 +1,7 @@
-use Rattle.c2_reading.proofs.Existing.{each_list, never_both}
 use Rattle.c2_reading.proofs.laws.each_list_is_an_item_or_not.Goals as goal
 
 pub returns-clause-some : goal.returns-clause-some
-returns-clause-some c = each_list
+returns-clause-some c s h = c.each_list_is_an_item_or_not.ensures.some s h.bytes h.short
 
 pub returns-clause-one : goal.returns-clause-one
-returns-clause-one c = never_both
+returns-clause-one c s v e h has unread = c.each_list_is_an_item_or_not.ensures.one s h.bytes h.short v e has unread

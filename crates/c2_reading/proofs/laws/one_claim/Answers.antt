@@ -2,4 +2,4 @@ use Rattle.c2_reading.proofs.Unique.{one_claim}
 use Rattle.c2_reading.proofs.laws.one_claim.Goals as goal
 
 pub returns : goal.returns
-returns c = one_claim
+returns c = one_claim c.one_item.ensures

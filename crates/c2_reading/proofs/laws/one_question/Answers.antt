@@ -2,4 +2,4 @@ use Rattle.c2_reading.proofs.Unique.{one_question}
 use Rattle.c2_reading.proofs.laws.one_question.Goals as goal
 
 pub returns : goal.returns
-returns c = one_question
+returns c = one_question c.one_item.ensures

@@ -2,10 +2,10 @@ use Rattle.c2_reading.proofs.OneReading.{one_reading, one_list_of_readings, one_
 use Rattle.c2_reading.proofs.laws.one_reading.Goals as goal
 
 pub returns-clause-manifest : goal.returns-clause-manifest
-returns-clause-manifest c = one_reading
+returns-clause-manifest c = one_reading c.one_item.ensures
 
 pub returns-clause-manifests : goal.returns-clause-manifests
-returns-clause-manifests c = one_list_of_readings
+returns-clause-manifests c = one_list_of_readings c.one_item.ensures
 
 pub returns-clause-store : goal.returns-clause-store
-returns-clause-store c = one_store
+returns-clause-store c = one_store c.one_item.ensures
