@@ -1,4 +1,4 @@
--- For private clauses: what is found out of the manifests that ingredients name.
+-- What is found out of the manifests that ingredients name.
 use Rattle.std.specs.Prelude.{◌≡◌, ℕ, Bool, List, Option, Some, slice_get, option_map}
 use Rattle.c2_spec.specs.declared.digest.Alg.{Alg}
 use Rattle.c2_spec.specs.declared.digest.Alg.TheVariants.{Sha256}

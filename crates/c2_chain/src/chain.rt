@@ -12,10 +12,12 @@ ghost use Rattle.c2_rules.specs.Readings.{AreReadings, question_in};
 ghost use Rattle.c2_rules.specs.Rules.{claim_tests};
 ghost use Rattle.c2_rules.specs.Tests.{first_failing};
 ghost use Rattle.c2_chain.specs.Checked.{HasPanel};
+ghost use Rattle.c2_chain.specs.Facts.{AreFacts};
 
 use crate::asking::{ChainError, own_question};
+use crate::facts::{Facts, facts_of_children};
 use crate::indices::{child_in, ingredient_in};
-use crate::manifest::check_alone;
+use crate::manifest::{check_alone, check_place};
 use c2_base::{NoMemory, Question};
 use c2_hash::Hashing;
 use c2_judge::Judge;
@@ -189,6 +191,50 @@ pub fn check_manifest<H: Hashing>(
         (λ r. first_failing (claim_tests r) ≢ None → judges.new ≡ judges.old) }
 {
     check_alone(alloc, hashing, all(chain), i, judges)
+}
+
+/// What is found out, once, of all manifests that are a child of some manifest: whether they are touched, and the digests
+/// of their contents and of the contents of their signature boxes. With it `check_known` hashes no manifest again.
+pub fn child_facts<H: Hashing>(
+    alloc: Global,
+    hashing: &H,
+    chain: &Chain<'_>,
+) -> Result<Facts, NoMemory>
+    ensures { IfOk result (λ facts. AreFacts H.digest_of chain.now.readings facts) }
+{
+    let facts = facts_of_children(alloc, hashing, all(chain))?;
+    Ok(facts)
+}
+
+/// The same as `check_manifest`, where it was found out before what is asked of children.
+pub fn check_known<H: Hashing>(
+    alloc: Global,
+    hashing: &H,
+    chain: &Chain<'_>,
+    facts: &Facts,
+    i: usize,
+    judges: &mut Vec<Box<dyn Judge>>,
+) -> Result<Option<Failing>, ChainError>
+    requires inside { i < length chain.now.readings }
+    requires known { AreFacts H.digest_of chain.now.readings facts.now }
+    ensures answer { let said = panel_says (map (λ j. says j) judges.old.items) in
+        let rs = chain.now.readings in
+        let tests = tests_of (judged_tests H.digest_of said) rs i (slice_get rs i) in
+        IfOk result (λ found. found ≡ first_failing tests) }
+    ensures panel { let old = judges_of (λ j. says j) (λ j. asked_times j) (λ j. judge_faults j)
+        judges.old.items in
+        let new = judges_of (λ j. says j) (λ j. asked_times j) (λ j. judge_faults j)
+        judges.new.items in
+        HasPanel (questions_of (slice_get chain.now.readings i)) old new result }
+    ensures leaves { let old = judges_of (λ j. says j) (λ j. asked_times j) (λ j. judge_faults j)
+        judges.old.items in
+        let new = judges_of (λ j. says j) (λ j. asked_times j) (λ j. judge_faults j)
+        judges.new.items in
+        LeavesJudges old new result }
+    ensures quiet { IfSome (slice_get chain.now.readings i)
+        (λ r. first_failing (claim_tests r) ≢ None → judges.new ≡ judges.old) }
+{
+    check_place(alloc, hashing, all(chain), facts, i, judges)
 }
 
 /// The ingredient in the box with tree index `at`. Some exactly where that box stands in the assertion store of a

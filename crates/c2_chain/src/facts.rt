@@ -8,7 +8,7 @@ ghost use Rattle.c2_chain.specs.Facts.{fact_of, AreFacts};
 
 use c2_base::NoMemory;
 use c2_hash::{Alg, Digest, Hashing, digest_of};
-use c2_reading::{Kept, ReadManifests, children, is_touched, manifests};
+use c2_reading::{Kept, ReadManifests, children, is_touched, manifests, reaches};
 use std::alloc::Global;
 use std::marker::Model;
 
@@ -26,6 +26,21 @@ impl Model for Fact {
     ghost Value = { ChildFact };
 
     ghost view = { λ f. record { touched = f.touched; whole = f.whole; signed = f.signed } };
+}
+
+/// What was found out of manifests, each at its place; of some nothing was.
+#[derive(Drop)]
+pub struct Facts {
+    found: Vec<Option<Fact>>,
+}
+
+impl Model for Facts {
+    ghost use Rattle.std.specs.Prelude.{List, Option};
+    ghost use Rattle.c2_chain.specs.Facts.{ChildFact};
+
+    ghost Value = { List (Option ChildFact) };
+
+    ghost view = { λ f. f.found.items };
 }
 
 /// The digest of a manifest's contents.
@@ -83,40 +98,89 @@ fn some_fact<H: Hashing>(
     None
 }
 
-/// Whether a place is among these.
-fn is_among(places: &[usize], m: usize) -> bool {
-    places.iter().any(|c| *c == m)
-}
-
-/// What is found out of the manifests at these places.
+/// What is found out of the manifests at these marks.
 fn find_facts<H: Hashing>(
     alloc: Global,
     hashing: &H,
     all: &ReadManifests<'_>,
-    places: &[usize],
-) -> Result<Vec<Option<Fact>>, NoMemory>
-    ensures { IfOk result (λ v. AreFacts H.digest_of all.now v.items) }
+    wanted: &[bool],
+) -> Result<Facts, NoMemory>
+    ensures { IfOk result (λ facts. AreFacts H.digest_of all.now facts) }
 {
-    let mut facts = Vec::new(alloc);
+    let mut found = Vec::new(alloc);
     for m in 0..manifests(all).len() {
-        let fact = some_fact(hashing, all, m, is_among(places, m));
-        facts.push(fact)?;
+        let fact = some_fact(hashing, all, m, is_marked(wanted, m));
+        found.push(fact)?;
     }
-    Ok(facts)
+    Ok(Facts { found })
+}
+
+/// Whether a place is marked.
+fn is_marked(marks: &[bool], m: usize) -> bool {
+    match marks.get(m) {
+        Some(mark) => *mark,
+        None => false,
+    }
+}
+
+/// Marks at these places, of so many.
+fn marks_at(alloc: Global, count: usize, places: &[usize]) -> Result<Vec<bool>, NoMemory> {
+    let mut marks = vec![in alloc; false; count]?;
+    for place in places {
+        if *place < marks.len() {
+            marks[*place] = true;
+        }
+    }
+    Ok(marks)
 }
 
 /// What is found out of the children of manifest `i`.
-pub fn child_facts<H: Hashing>(
+pub fn facts_below<H: Hashing>(
     alloc: Global,
     hashing: &H,
     all: &ReadManifests<'_>,
     i: usize,
-) -> Result<Vec<Option<Fact>>, NoMemory>
+) -> Result<Facts, NoMemory>
     requires { i < length all.now }
-    ensures { IfOk result (λ v. AreFacts H.digest_of all.now v.items) }
+    ensures { IfOk result (λ facts. AreFacts H.digest_of all.now facts) }
 {
     let places = children(alloc, manifests(all), i)?;
-    let facts = find_facts(alloc, hashing, all, places.as_slice())?;
+    let wanted = marks_at(alloc, manifests(all).len(), places.as_slice())?;
+    let facts = find_facts(alloc, hashing, all, wanted.as_slice())?;
+    Ok(facts)
+}
+
+/// Whether a manifest is a child: it is reached from another by one step or more, the last of which names it.
+fn is_child(all: &ReadManifests<'_>, m: usize) -> bool
+    requires { m < length all.now }
+{
+    for n in 0..manifests(all).len() {
+        if reaches(all, n, m) {
+            return true;
+        }
+    }
+    false
+}
+
+/// Marks at the manifests that are children.
+fn child_marks(alloc: Global, all: &ReadManifests<'_>) -> Result<Vec<bool>, NoMemory> {
+    let mut marks = Vec::new(alloc);
+    for m in 0..manifests(all).len() {
+        marks.push(is_child(all, m))?;
+    }
+    Ok(marks)
+}
+
+/// What is found out of all manifests that are children.
+pub fn facts_of_children<H: Hashing>(
+    alloc: Global,
+    hashing: &H,
+    all: &ReadManifests<'_>,
+) -> Result<Facts, NoMemory>
+    ensures { IfOk result (λ facts. AreFacts H.digest_of all.now facts) }
+{
+    let wanted = child_marks(alloc, all)?;
+    let facts = find_facts(alloc, hashing, all, wanted.as_slice())?;
     Ok(facts)
 }
 
@@ -132,10 +196,10 @@ fn same_fact(fact: &Fact) -> Fact
 }
 
 /// What is known of the manifest at a place, where that was found out.
-fn known_fact(facts: &[Option<Fact>], m: usize) -> Option<Fact>
+fn known_fact(facts: &Facts, m: usize) -> Option<Fact>
     ensures { result ≡ option_and_then (λ o. o) (slice_get facts.now m) }
 {
-    match facts.get(m) {
+    match facts.found.get(m) {
         Some(found) => match found {
             Some(fact) => Some(same_fact(fact)),
             None => None,
@@ -145,12 +209,7 @@ fn known_fact(facts: &[Option<Fact>], m: usize) -> Option<Fact>
 }
 
 /// What is found out of the manifest at a place, now or before.
-pub fn fact_at<H: Hashing>(
-    hashing: &H,
-    all: &ReadManifests<'_>,
-    facts: &[Option<Fact>],
-    m: usize,
-) -> Fact
+pub fn fact_at<H: Hashing>(hashing: &H, all: &ReadManifests<'_>, facts: &Facts, m: usize) -> Fact
     requires inside { m < length all.now }
     requires known { AreFacts H.digest_of all.now facts.now }
     ensures { IfSome (slice_get all.now m)

@@ -9,7 +9,7 @@ ghost use Rattle.c2_rules.specs.Tests.{each, first_failing};
 ghost use Rattle.c2_chain.specs.Facts.{fact_of, AreFacts};
 
 use crate::digests::{has_known_digest, is_known};
-use crate::facts::{Fact, fact_at};
+use crate::facts::{Fact, Facts, fact_at};
 use crate::uris::{at_assertion, at_box};
 use c2_assertion::{Kind, kind};
 use c2_base::NoMemory;
@@ -110,7 +110,7 @@ fn check_named<H: Hashing>(
     alloc: Global,
     hashing: &H,
     chain: &ReadManifests<'_>,
-    facts: &[Option<Fact>],
+    facts: &Facts,
     i: usize,
     own: &Kept<'_>,
     name: Option<&str>,
@@ -142,7 +142,7 @@ fn check_reading<H: Hashing>(
     alloc: Global,
     hashing: &H,
     chain: &ReadManifests<'_>,
-    facts: &[Option<Fact>],
+    facts: &Facts,
     i: usize,
     own: &Kept<'_>,
     name: Option<&str>,
@@ -181,7 +181,7 @@ fn check_ingredient<H: Hashing>(
     alloc: Global,
     hashing: &H,
     chain: &ReadManifests<'_>,
-    facts: &[Option<Fact>],
+    facts: &Facts,
     i: usize,
     own: &Kept<'_>,
     b: &KeptBox<'_>,
@@ -203,7 +203,7 @@ pub fn check_ingredients<H: Hashing>(
     alloc: Global,
     hashing: &H,
     chain: &ReadManifests<'_>,
-    facts: &[Option<Fact>],
+    facts: &Facts,
     i: usize,
     own: &Kept<'_>,
     boxes: &[KeptBox<'_>],

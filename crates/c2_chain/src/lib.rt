@@ -35,9 +35,10 @@ pub use c2_reading::{
     labels_of_a_store_differ, one_claim, one_list_of_claims, one_question, one_reading,
 };
 pub use chain::{
-    Chain, check_manifest, child_of, claim_of, ingredient_of, manifest_count, of_store,
-    question_of, reached, reaches, redacted, touched,
+    Chain, check_known, check_manifest, child_facts, child_of, claim_of, ingredient_of,
+    manifest_count, of_store, question_of, reached, reaches, redacted, touched,
 };
 pub use digests::alg_name;
 pub use entries::box_with;
+pub use facts::Facts;
 pub use redactions::label_kind;

@@ -15,7 +15,7 @@ use crate::bindings::check_bindings;
 use crate::boxes::check_boxes;
 use crate::claims::check_claim;
 use crate::entries::check_entries;
-use crate::facts::{Fact, child_facts};
+use crate::facts::{Facts, facts_below};
 use crate::forms::check_forms;
 use crate::ingredients::check_ingredients;
 use crate::redactions::check_own_redactions;
@@ -32,7 +32,7 @@ fn check_own_ingredients<H: Hashing>(
     alloc: Global,
     hashing: &H,
     chain: &ReadManifests<'_>,
-    facts: &[Option<Fact>],
+    facts: &Facts,
     i: usize,
     own: &Kept<'_>,
 ) -> Result<Option<Failing>, NoMemory>
@@ -156,7 +156,7 @@ fn check_part<H: Hashing>(
     alloc: Global,
     hashing: &H,
     chain: &ReadManifests<'_>,
-    facts: &[Option<Fact>],
+    facts: &Facts,
     i: usize,
     own: &Kept<'_>,
 ) -> Result<Option<Failing>, NoMemory>
@@ -179,7 +179,7 @@ fn check_judged<H: Hashing>(
     alloc: Global,
     hashing: &H,
     chain: &ReadManifests<'_>,
-    facts: &[Option<Fact>],
+    facts: &Facts,
     i: usize,
     own: &Kept<'_>,
     verdict: Option<Verdict>,
@@ -206,7 +206,7 @@ fn check_asked<H: Hashing>(
     alloc: Global,
     hashing: &H,
     chain: &ReadManifests<'_>,
-    facts: &[Option<Fact>],
+    facts: &Facts,
     i: usize,
     own: &Kept<'_>,
     judges: &mut Vec<Box<dyn Judge>>,
@@ -250,7 +250,7 @@ fn check_own<H: Hashing>(
     alloc: Global,
     hashing: &H,
     chain: &ReadManifests<'_>,
-    facts: &[Option<Fact>],
+    facts: &Facts,
     i: usize,
     own: &Kept<'_>,
     judges: &mut Vec<Box<dyn Judge>>,
@@ -285,11 +285,11 @@ fn check_own<H: Hashing>(
 }
 
 /// The first rule of the manifest at `i` that fails. Where a rule before the verdict fails, no judge is asked.
-fn check_place<H: Hashing>(
+pub fn check_place<H: Hashing>(
     alloc: Global,
     hashing: &H,
     chain: &ReadManifests<'_>,
-    facts: &[Option<Fact>],
+    facts: &Facts,
     i: usize,
     judges: &mut Vec<Box<dyn Judge>>,
 ) -> Result<Option<Failing>, ChainError>
@@ -354,9 +354,9 @@ pub fn check_alone<H: Hashing>(
     ensures quiet { IfSome (slice_get chain.now i)
         (λ r. first_failing (rules.claim_tests r) ≢ None → judges.new ≡ judges.old) }
 {
-    let facts = match child_facts(alloc, hashing, chain, i) {
+    let facts = match facts_below(alloc, hashing, chain, i) {
         Ok(facts) => facts,
         Err(_) => return Err(ChainError::NoMemory),
     };
-    check_place(alloc, hashing, chain, facts.as_slice(), i, judges)
+    check_place(alloc, hashing, chain, &facts, i, judges)
 }

@@ -4,6 +4,6 @@ use Rattle.c2_chain.proofs.facts.find_facts.Given as goal
 
 abbrev pub invariant-loop-m : goal.invariant-loop-m
 invariant-loop-m g l = record {
-  count : length l.facts.items ≡ l.m;
-  right : AreFacts g.H.Hashing.digest_of l.all l.facts.items;
+  count : length l.found.items ≡ l.m;
+  right : AreFacts g.H.Hashing.digest_of l.all l.found.items;
 }
