@@ -1,13 +1,17 @@
 #!/usr/bin/env python3
 """Puts stores into films and pictures in BMFF files, and compares what c2 says of them with store.py.
 
-    films.py C2 DIRECTORY      reads the files of DIRECTORY, writes further ones beside them, and runs every reading command of C2
+    films.py C2 DIRECTORY [CHANGES]      reads the files of DIRECTORY, writes further ones beside them, and runs every reading
+                                         command of C2; and so many times on each that is changed at random
 
 A file without a store must be `none`, or NotMedia where it doesn't begin with a box `ftyp`; what a file with a store must be is
-said beside each variant. A judge approves all questions. The status is 1 where C2 differs.
+said beside each variant. A judge approves all questions. The status is 1 where C2 differs; a changed file at which it does is kept
+in the current directory as differs-N.
 """
 
 import os
+import random
+import shutil
 import subprocess
 import sys
 
@@ -16,7 +20,8 @@ from chance_stores import questions_in
 from drafts import ACTIONS, ALL_EXCLUDED, Assertion, Bmff, BmffHash, DataHash, Manifest, exclusion
 from locate import Refused
 from make_store import array, mapping, uint
-from media import root_boxes
+from media import children_of, root_boxes
+from vary import varied
 
 LABEL = "urn:c2pa:11111111-2222-4333-8444-555555555555"
 
@@ -68,7 +73,8 @@ class Run:
         self.program, self.directory = program, directory
         self.failures = self.refusals = self.runs = 0
 
-    def compare(self, name, expected):
+    def compare(self, name, expected=""):
+        """Runs every command on a file; `validate` must begin as it is expected."""
         path = os.path.join(self.directory, name)
         with open(path, "rb") as file:
             identities = questions_in(file.read())
@@ -87,6 +93,29 @@ class Run:
                 print(f"  store.py {computed[1]} {computed[0][:300]}" + (f"\n  expected {expected}" if wrong else ""))
 
 
+    def compare_changed(self, chance, contents, count):
+        """The same on changes of a file, half of them at the header of a box."""
+        places = [box.start for box in all_boxes(contents)]
+        path = os.path.join(self.directory, "changed")
+        for _ in range(count):
+            at = chance.choice(places) if chance.random() < 0.5 else chance.randrange(len(contents))
+            write(path, contents[:at] + varied(chance, contents[at : at + 24]) + contents[at + 24 :])
+            before = self.failures
+            self.compare("changed")
+            if self.failures > before:
+                shutil.copy(path, f"differs-{self.failures}")
+
+
+def all_boxes(contents):
+    """The root boxes of a file, and the boxes in those that paths enter."""
+    pending, found = root_boxes(contents), []
+    while pending:
+        box = pending.pop()
+        found.append(box)
+        pending += children_of(contents, box)
+    return found
+
+
 def write(path, contents):
     with open(path, "wb") as file:
         file.write(contents)
@@ -99,6 +128,7 @@ def read(path):
 
 def main():
     program, directory = os.path.abspath(sys.argv[1]), sys.argv[2]
+    changes, chance = int(sys.argv[3]) if len(sys.argv) > 3 else 0, random.Random(1)
     run, files, variant_count = Run(program, directory), sorted(os.listdir(directory)), 0
     for name in files:
         data = read(os.path.join(directory, name))
@@ -115,6 +145,8 @@ def main():
             variant_count += 1
             write(os.path.join(directory, f"{base}+{variant}{kind}"), contents)
             run.compare(f"{base}+{variant}{kind}", expected)
+            if expected.startswith("valid "):
+                run.compare_changed(chance, contents, changes)
     print(f"{len(files)} files, {variant_count} made of them, {run.runs} runs, {run.failures} failures")
     sys.exit(run.failures > 0)
 
