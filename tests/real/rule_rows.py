@@ -27,8 +27,8 @@ from make_store import (
     text,
     uint,
 )
+from manifests import RELATIONSHIPS, manifests_of
 from manifests import Manifest as Read
-from manifests import manifests_of
 from media import media_of
 from store import report
 
@@ -109,7 +109,8 @@ def valid_rows():
     yield "gathered assertions", valid(1, 2), one(note(), gathered=1)
     absolute = "self#jumbf=/c2pa/m/c2pa.assertions/test.note"
     yield "an entry by an absolute URI", valid(1, 2), one(note(url=absolute))
-    yield "a claim without an algorithm, and a binding without one", valid(1, 1), [with_(Manifest("m", DataHash(None)), claim_alg=None)]
+    neither = [with_(Manifest("m", DataHash(None)), claim_alg=None)]
+    yield "a claim without an algorithm, and a binding without one", valid(1, 1), neither
     own = note(alg="sha256")
     binding = with_(DataHash("sha256"), alg="sha256")
     spelled = {"claim_generator_info": open_map(("name", text("a tool"))), "dc:title": NULL, "gathered_assertions": NULL, "alg": NULL}
@@ -129,7 +130,7 @@ def valid_rows():
     yield "an older manifest with another hash", valid(2, 3), [Manifest("d", note("c2pa.hash.boxes")), *one(Ingredient("d"))]
     yield "three ingredients", valid(2, 5), [
         old(),
-        *one(*(Ingredient("d", word, label=f"c2pa.ingredient.v3__{n}") for n, word in enumerate(("parentOf", "componentOf", "inputTo")))),
+        *one(*(Ingredient("d", word, label=f"c2pa.ingredient.v3__{n}") for n, word in enumerate(RELATIONSHIPS))),
     ]
     yield "an update as an ingredient", valid(3, 4), [
         old(),
@@ -204,7 +205,8 @@ def verdict_rows():
     codes = "claimSignature.mismatch", "signingCredential.untrusted", "signingCredential.invalid", "profile.verdict.missing"
     for (signature, word), code in zip(REFUSED.items(), codes):
         yield f"the judge says {word}", failing(code, "m" + SIGNATURE), one(signature=signature)
-        yield f"the judge says {word} of an older manifest", failing(code, "d" + SIGNATURE), pair(Ingredient("d"), below=old(signature=signature))
+        older = pair(Ingredient("d"), below=old(signature=signature))
+        yield f"the judge says {word} of an older manifest", failing(code, "d" + SIGNATURE), older
 
 
 def child_rows():
@@ -217,7 +219,8 @@ def child_rows():
     without = old(change_signatures=lambda _: [])
     yield "no signature to be named", wrong, pair(Ingredient("d"), below=without)
     absent, redaction = old(note(is_there=False)), [f"{URL}d{STORE}/test.note"]
-    yield "a touched manifest without claimSignature", wrong, pair(Ingredient("d", is_signed=False), below=absent, redactions=redaction)
+    unsigned = pair(Ingredient("d", is_signed=False), below=absent, redactions=redaction)
+    yield "a touched manifest without claimSignature", wrong, unsigned
     mismatch = failing("ingredient.manifest.mismatch", "m" + INGREDIENT)
     yield "another digest of the manifest", mismatch, pair(with_(Ingredient("d"), hashes=[NO_DIGEST, None]))
     touched = with_(Ingredient("d"), hashes=[NO_DIGEST, None])
@@ -242,7 +245,8 @@ def entry_rows():
     twice = reference(f"self#jumbf=/c2pa/m{STORE}/test.note", NO_DIGEST)
     yield "two entries with one label", wrong, one(note(), extra_entries=[twice])
     yield "cloud data", failing("unsupported.cloudData", "m" + STORE + "/c2pa.cloud-data"), one(note("c2pa.cloud-data"))
-    yield "cloud data with a number", failing("unsupported.cloudData", "m" + STORE + "/c2pa.cloud-data__2"), one(note("c2pa.cloud-data__2"))
+    numbered = one(note("c2pa.cloud-data__2"))
+    yield "cloud data with a number", failing("unsupported.cloudData", "m" + STORE + "/c2pa.cloud-data__2"), numbered
     yield "an entry's algorithm", failing("algorithm.unsupported", "m" + STORE + "/test.note"), one(note(alg="SHA256"))
     yield "an empty name of an algorithm", failing("algorithm.unsupported", "m" + STORE + "/test.note"), one(note(alg=""))
     there = redacting(f"{URL}d{STORE}/test.note", below=old(note()))
@@ -293,16 +297,19 @@ def redaction_rows():
 
 def hash_rows():
     yield "another hash besides", failing("unsupported.hashKind", "m" + STORE + "/c2pa.hash.boxes"), one(note("c2pa.hash.boxes"))
-    yield "another hash alone", failing("unsupported.hashKind", "m" + STORE + "/c2pa.hash.bmff"), [Manifest("m", note("c2pa.hash.bmff"))]
+    alone = [Manifest("m", note("c2pa.hash.bmff"))]
+    yield "another hash alone", failing("unsupported.hashKind", "m" + STORE + "/c2pa.hash.bmff"), alone
     yield "no hash", failing("claim.hardBindings.missing", "m" + CLAIM), [Manifest("m", note())]
-    yield "no hash in an older manifest", failing("claim.hardBindings.missing", "d" + CLAIM), [Manifest("d", note()), *one(Ingredient("d"))]
+    older = [Manifest("d", note()), *one(Ingredient("d"))]
+    yield "no hash in an older manifest", failing("claim.hardBindings.missing", "d" + CLAIM), older
     numbered = one(DataHash(label="c2pa.hash.data__1"))
     yield "two data hashes", failing("assertion.multipleHardBindings", "m" + HASH), numbered
     both = [Manifest("m", DataHash(), BmffHash(ALL_EXCLUDED))]
     yield "a data hash and a BMFF hash", failing("assertion.multipleHardBindings", "m" + STORE + "/c2pa.hash.bmff.v2"), both
-    parents = pair(*(Ingredient("d", "parentOf", label=f"c2pa.ingredient.v3__{n}") for n in (1, 2)))
+    two = [Ingredient("d", "parentOf", label=f"c2pa.ingredient.v3__{n}") for n in (1, 2)]
+    parents = pair(*two)
     yield "two parents", failing("manifest.multipleParents", "m"), parents
-    older = [old(), old(*(Ingredient("d", "parentOf", label=f"c2pa.ingredient.v3__{n}") for n in (1, 2)), label="e"), *one(Ingredient("e"))]
+    older = [old(), old(*two, label="e"), *one(Ingredient("e"))]
     yield "two parents of an older manifest", failing("manifest.multipleParents", "e"), older
 
 
@@ -318,8 +325,8 @@ def update_rows():
     yield "an update of a component", wrong, updated(Ingredient("d"))
     yield "an update with two ingredients", wrong, updated(parent, Ingredient("d", label="c2pa.ingredient.v3__1"))
     yield "an update whose ingredient can't be read", wrong, updated(with_(Ingredient("d"), given=b"\xff"))
-    other = updated(parent, note("c2pa.ingredient"))
-    yield "an update with an older ingredient besides", failing("unsupported.ingredientVersion", "u" + STORE + "/c2pa.ingredient"), other
+    other, version = updated(parent, note("c2pa.ingredient")), "unsupported.ingredientVersion"
+    yield "an update with an older ingredient besides", failing(version, "u" + STORE + "/c2pa.ingredient"), other
 
 
 def ingredient_rows():
@@ -330,7 +337,7 @@ def ingredient_rows():
     yield "an ingredient of JSON", failing("assertion.cbor.invalid", "m" + INGREDIENT), one(with_(Ingredient("d"), content=b"json"))
     form = failing("profile.ingredient.form", "m" + INGREDIENT)
     parent = ("relationship", text("parentOf"))
-    good = reference("self#jumbf=/c2pa/d", NO_DIGEST)
+    good, signature = (reference(f"self#jumbf=/c2pa/d{more}", NO_DIGEST) for more in ("", "/c2pa.signature"))
     named = lambda manifest, *more: mapping(parent, ("activeManifest", manifest), *(("claimSignature", it) for it in more))
     for what, encoded in (
         ("a list", array()),
@@ -345,7 +352,7 @@ def ingredient_rows():
         ("whose claimSignature is relative", named(good, reference("self#jumbf=c2pa.signature", NO_DIGEST))),
         ("whose claimSignature is the manifest", named(good, good)),
         ("whose claimSignature is a number", named(good, uint(1))),
-        ("with a claimSignature alone", mapping(parent, ("claimSignature", reference("self#jumbf=/c2pa/d/c2pa.signature", NO_DIGEST)))),
+        ("with a claimSignature alone", mapping(parent, ("claimSignature", signature))),
     ):
         yield f"an ingredient {what}", form, [old(), *given(encoded)]
     nulls = mapping(parent, ("activeManifest", NULL), ("claimSignature", NULL))
@@ -363,14 +370,15 @@ def binding_rows():
     form = failing("profile.hash.form", place)
     yield "a binding that is no CBOR", failing("assertion.cbor.invalid", place), hashed(given=b"\xa1")
     yield "a binding of JSON", failing("assertion.cbor.invalid", place), hashed(content=b"json")
+    excluding = lambda *pairs: mapping(("hash", data(b"")), ("exclusions", array(mapping(*pairs))))
     for what, encoded in (
         ("a list", array()),
         ("without a hash", mapping()),
         ("with a text as its hash", mapping(("hash", text("")))),
         ("with a number as its algorithm", mapping(("hash", data(b"")), ("alg", uint(1)))),
         ("whose exclusions are a map", mapping(("hash", data(b"")), ("exclusions", mapping()))),
-        ("whose exclusion has no length", mapping(("hash", data(b"")), ("exclusions", array(mapping(("start", uint(1))))))),
-        ("whose exclusion is negative", mapping(("hash", data(b"")), ("exclusions", array(mapping(("start", b"\x20"), ("length", uint(0))))))),
+        ("whose exclusion has no length", excluding(("start", uint(1)))),
+        ("whose exclusion is negative", excluding(("start", b"\x20"), ("length", uint(0)))),
     ):
         yield f"a data hash {what}", form, hashed(given=encoded)
     yield "1,025 exclusions", failing("unsupported.tooManyExclusions", place), hashed(ranges=[(0, 0)] * 1_025)

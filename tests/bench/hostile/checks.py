@@ -109,7 +109,8 @@ def one_child(count):
         labels = [f"c2pa.ingredient.v3__{at}" for at in range(number)]
         encoded = ingredient("d", made.digests["d"], signed)
         boxes = [assertion(label, encoded) for label in labels]
-        yield name, made.file("m", boxes, map(listed, labels, boxes)), f"valid manifests=2 assertions={number + 2} covered=4 outside=0"
+        answer = f"valid manifests=2 assertions={number + 2} covered=4 outside=0"
+        yield name, made.file("m", boxes, map(listed, labels, boxes)), answer
 
 
 def many_children(count):
@@ -152,7 +153,8 @@ def entries(count):
     """200,000 entries with their boxes, in an order of their own; and the last of them with another digest."""
     number = count(200_000)
     order = list(range(number))
-    for name, is_shuffled, is_wrong in ("entries_rising", False, False), ("entries_shuffled", True, False), ("entries_wrong_at_end", True, True):
+    cases = ("entries_rising", False, False), ("entries_shuffled", True, False), ("entries_wrong_at_end", True, True)
+    for name, is_shuffled, is_wrong in cases:
         if is_shuffled:
             random.Random(5).shuffle(order)
         boxes = [assertion(short(at), b"\xa0") for at in range(number)]
@@ -202,7 +204,8 @@ def exclusions(count):
     """The binding's item with as many exclusions as fit."""
     number = count(1_400_000)
     claimed = "c2pa.hash.data"
-    bound = assertion(claimed, mapping(("hash", data(b"")), ("exclusions", array(*[mapping(("start", b"\0"), ("length", b"\0"))] * number))))
+    one = mapping(("start", b"\0"), ("length", b"\0"))
+    bound = assertion(claimed, mapping(("hash", data(b"")), ("exclusions", array(*[one] * number))))
     made = Store()
     made.add("m", [bound], [listed(claimed, bound)])
     contents = jpeg(store(*made.manifests))
