@@ -144,7 +144,7 @@ pub fn facts_below<H: Hashing>(
     requires { i < length all.now }
     ensures { IfOk result (λ facts. AreFacts H.digest_of all.now facts) }
 {
-    let places = children(alloc, manifests(all), i)?;
+    let places = children(alloc, all, i)?;
     let wanted = marks_at(alloc, manifests(all).len(), places.as_slice())?;
     let facts = find_facts(alloc, hashing, all, wanted.as_slice())?;
     Ok(facts)

@@ -85,7 +85,7 @@ pub fn child_in(store: &Store, all: &ReadManifests<'_>, at: usize) -> Option<usi
         return None;
     };
     match box_at(all, &place) {
-        Some(b) => child_of(manifests(all), place.manifest, b),
+        Some(b) => child_of(all, place.manifest, b),
         None => None,
     }
 }

@@ -9,3 +9,5 @@ pub mod Labels
 pub mod OneReading
 pub mod ReadClaims
 pub mod SomeReading
+pub mod NamedLemmas
+pub mod RedactLemmas

@@ -1,5 +1,5 @@
 -- Rows that are made from the first manifest up say what is reached.
-use Rattle.std.proofs.Common.{◌≡◌, ◌⊎◌, inl, inr, ℕ, zero, suc, ◌+◌, ◌<◌, ◌≤◌, nat_eq, Bool, false, ◌||◌, List, [], ◌∷◌, ◌++◌, length, map, Contains, slice_index_or, slice_get, get_or, Option, Some, option_map, refl, sym, ap, ap₂, ◌∙◌, subst, arith}
+use Rattle.std.proofs.Common.{◌≡◌, ◌⊎◌, inl, inr, ℕ, zero, suc, ◌+◌, ◌<◌, nat_eq, Bool, false, ◌||◌, List, [], ◌∷◌, ◌++◌, length, map, Contains, slice_index_or, slice_get, get_or, Option, Some, option_map, refl, sym, ap, ap₂, ◌∙◌, subst, arith}
 use Rattle.std.specs.List.{list_any, range_with_len}
 use Rattle.c2_rules.specs.Chains.{children, reaches, reaches_within}
 use Rattle.c2_rules.specs.Readings.{Reading, claim_in}
@@ -7,7 +7,7 @@ use Rattle.c2_spec.specs.declared.claim.Claim.{Claim}
 use Rattle.std.proofs.lemmas.Option.{slice_get-map, slice_get-get_or}
 use Rattle.c2_rules.proofs.ListLemmas.{contains_head, contains_tail}
 use Rattle.c2_rules.proofs.ReachLemmas.{child_is}
-use Rattle.c2_reading.specs.Rows.{bit, is_below, row_bits, AreRowsBelow}
+use Rattle.c2_reading.specs.Rows.{bit, row_bits, AreRowsBelow}
 
 any_same : (f g : ℕ → Bool) (xs : List ℕ) → ((x : ℕ) → Contains xs x → f x ≡ g x) → list_any f xs ≡ list_any g xs
 any_same f g [] same = refl
@@ -68,7 +68,7 @@ one_up : (n k : ℕ) → (n < k) ⊎ (n ≡ k) → (suc n < suc k) ⊎ (suc n �
 one_up n k (inl lt) = inl (omega arith)
 one_up n k (inr e) = inr (ap suc e)
 
-earlier_or_last : (n k : ℕ) → n < k + 1 → (n < k) ⊎ (n ≡ k)
+pub earlier_or_last : (n k : ℕ) → n < k + 1 → (n < k) ⊎ (n ≡ k)
 earlier_or_last zero zero lt = inr refl
 earlier_or_last zero (suc k) lt = inl (omega arith)
 earlier_or_last (suc n) zero lt = absurd (omega arith)

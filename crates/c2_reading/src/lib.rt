@@ -7,13 +7,15 @@
 mod chain;
 mod keeping;
 mod kept;
+mod labelled;
 mod laws;
 mod places;
 mod reading;
+mod redacted;
 mod rows;
 
 pub use chain::{
-    ReadManifests, entry_label, is_active, is_reached, is_redacted, is_touched, manifests,
+    ReadManifests, child_of, children, is_active, is_reached, is_redacted, is_touched, manifests,
     place_of, reaches, read_claim_at, read_manifests,
 };
 pub use kept::{Kept, KeptBox, StoreBox, box_label, boxes, ingredient, is_own, is_update, label};
@@ -22,4 +24,5 @@ pub use laws::{
     each_manifest_has_a_claim_or_not, each_manifest_has_a_question_or_not, each_store_is_read,
     labels_of_a_store_differ, one_claim, one_list_of_claims, one_question, one_reading,
 };
-pub use places::{child_of, children, named};
+pub use places::named;
+pub use redacted::entry_label;

@@ -5,19 +5,13 @@ ghost use Rattle.c2_rules.specs.Chains as form;
 ghost use Rattle.c2_rules.specs.Readings as readings;
 ghost use Rattle.c2_rules.specs.declared.parsed.Parsed.TheVariants.{Value};
 
-use crate::kept::{Kept, KeptBox, boxes, ingredient, label};
+use crate::kept::{KeptBox, boxes, ingredient};
+use crate::labelled::{Manifests, kept, place_among};
 use c2_base::NoMemory;
 use c2_rules::Parsed;
 use c2_spec::Ingredient;
 use c2_uri::{Target, parse};
 use std::alloc::Global;
-
-/// The place of the manifest with this label.
-pub fn place_among(kept: &[Kept<'_>], name: &str) -> Option<usize>
-    ensures { result ≡ form.place_of kept.now name.now }
-{
-    kept.iter().position(|k| label(k) == name)
-}
 
 /// The label of the manifest that a URI names as a whole.
 pub fn named(url: &str) -> Option<&str>
@@ -33,35 +27,35 @@ pub fn named(url: &str) -> Option<&str>
 }
 
 /// The place of the manifest with this label, where it stands before place `n`.
-fn place_before(kept: &[Kept<'_>], n: usize, name: &str) -> Option<usize>
-    ensures { result ≡ form.place_before n (form.place_of kept.now name.now) }
+fn place_before(all: &Manifests<'_>, n: usize, name: &str) -> Option<usize>
+    ensures { result ≡ form.place_before n (form.place_of all.now name.now) }
 {
-    match place_among(kept, name) {
+    match place_among(all, name) {
         Some(m) => { if m < n { Some(m) } else { None } }
         None => None,
     }
 }
 
 /// The place of the child that an ingredient of the manifest at `n` names.
-fn child_named(kept: &[Kept<'_>], n: usize, g: &Ingredient) -> Option<usize>
+fn child_named(all: &Manifests<'_>, n: usize, g: &Ingredient) -> Option<usize>
     ensures { result ≡ form.place_before n
-        (option_and_then (form.place_of kept.now) (form.named_by (Some g.now))) }
+        (option_and_then (form.place_of all.now) (form.named_by (Some g.now))) }
 {
     let Some(manifest) = &g.manifest else {
         return None;
     };
     match named(manifest.url.as_str()) {
-        Some(name) => place_before(kept, n, name),
+        Some(name) => place_before(all, n, name),
         None => None,
     }
 }
 
 /// The place of the child that this box of the manifest at `n` names.
-pub fn child_of(kept: &[Kept<'_>], n: usize, b: &KeptBox<'_>) -> Option<usize>
-    ensures { result ≡ form.child_of kept.now n b.now }
+pub fn child_among(all: &Manifests<'_>, n: usize, b: &KeptBox<'_>) -> Option<usize>
+    ensures { result ≡ form.child_of all.now n b.now }
 {
     match ingredient(b) {
-        Parsed::Value(g) => child_named(kept, n, g),
+        Parsed::Value(g) => child_named(all, n, g),
         _ => None,
     }
 }
@@ -69,24 +63,24 @@ pub fn child_of(kept: &[Kept<'_>], n: usize, b: &KeptBox<'_>) -> Option<usize>
 /// The places of the children that these boxes of the manifest at `n` name.
 fn children_of(
     alloc: Global,
-    kept: &[Kept<'_>],
+    all: &Manifests<'_>,
     n: usize,
     boxes: &[KeptBox<'_>],
 ) -> Result<Vec<usize>, NoMemory>
-    ensures { IfOk result (λ v. v.items ≡ filter_map (form.child_of kept.now n) boxes.now) }
+    ensures { IfOk result (λ v. v.items ≡ filter_map (form.child_of all.now n) boxes.now) }
 {
     let found = boxes
         .iter()
-        .filter_map(|b| child_of(kept, n, b))
+        .filter_map(|b| child_among(all, n, b))
         .collect(alloc)?;
     Ok(found)
 }
 
 /// The places of the children of the manifest at `n`, box by box.
-pub fn children(alloc: Global, kept: &[Kept<'_>], n: usize) -> Result<Vec<usize>, NoMemory>
-    requires { n < length kept.now }
-    ensures { IfOk result (λ v. v.items ≡ form.children kept.now n) }
+pub fn children_among(alloc: Global, all: &Manifests<'_>, n: usize) -> Result<Vec<usize>, NoMemory>
+    requires { n < length all.now }
+    ensures { IfOk result (λ v. v.items ≡ form.children all.now n) }
 {
-    let found = children_of(alloc, kept, n, boxes(&kept[n]))?;
+    let found = children_of(alloc, all, n, boxes(&kept(all)[n]))?;
     Ok(found)
 }

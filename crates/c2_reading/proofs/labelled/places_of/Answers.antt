@@ -1,0 +1,9 @@
+use Rattle.std.proofs.Common.{ℕ, subst, take, arith, ◌≡◌, length}
+use Rattle.c2_lookup.specs.Places.{ArePlaces}
+use Rattle.c2_reading.proofs.NamedLemmas.{labels_of, all_placed}
+use Rattle.c2_reading.proofs.labelled.places_of.Goals as goal
+
+pub returns : goal.returns
+returns c =
+    let end : c.loop-i.i ≡ length c.args.kept.now = omega (arith, c.loop-i-test.false, c.loop-i.auto.i-end) in
+    all_placed c.args.kept.now c.loop-i.places (subst (λ (n : ℕ). ArePlaces (labels_of (take n c.args.kept.now)) c.loop-i.places) end c.loop-i.invariant)

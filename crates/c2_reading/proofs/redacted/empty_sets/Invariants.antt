@@ -1,0 +1,5 @@
+use Rattle.c2_reading.specs.Redacted.{AreNone}
+use Rattle.c2_reading.proofs.redacted.empty_sets.Given as goal
+
+abbrev pub invariant-loop-k : goal.invariant-loop-k
+invariant-loop-k l = AreNone l.k l.sets.items

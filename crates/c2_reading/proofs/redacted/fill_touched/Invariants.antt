@@ -1,0 +1,5 @@
+use Rattle.c2_reading.specs.Redacted.{AreTouchedBelow}
+use Rattle.c2_reading.proofs.redacted.fill_touched.Given as goal
+
+abbrev pub invariant-loop-m : goal.invariant-loop-m
+invariant-loop-m l = AreTouchedBelow l.all l.m l.touched.items
