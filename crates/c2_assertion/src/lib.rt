@@ -4,6 +4,7 @@
 //! Their forms stand in `C2pa.Assertion` and `Cbor.Fields` of c2_spec.
 #![tactic(auto)]
 
+mod bmff_hash;
 mod data_hash;
 mod ingredient;
 mod kinds;
@@ -12,6 +13,7 @@ mod tests;
 pub mod types;
 
 pub use c2_spec::{DataHash, FieldError, Ingredient, Kind, Relationship};
+pub use bmff_hash::{BmffHash, read_bmff_hash};
 pub use data_hash::read_data_hash;
 pub use ingredient::read_ingredient;
 pub use kinds::kind;

@@ -2,6 +2,8 @@ mod BoxThere
 mod FoundLemmas
 mod HeaderLemmas
 mod PartLemmas
+mod PathLemmas
+mod Pieces
 mod RowLemmas
 mod SearchLemmas
 mod WalkLemmas

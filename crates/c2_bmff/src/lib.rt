@@ -3,14 +3,18 @@
 //! What a box, a list of root boxes, a store and a refusal are stands in `c2_spec`, modules `Bmff.Boxes` and `Bmff.Store`.
 #![tactic(auto)]
 
+mod exclusion;
 mod header;
 mod laws;
+mod paths;
 mod provenance;
 mod roots;
 #[cfg(test)]
 mod tests;
 
+pub use exclusion::{ByteTests, Exclusion, Exclusions};
 pub use header::{BoxHead, HeadError, head};
 pub use laws::{a_bmff_file_comes_to_one_thing, a_file_has_one_list_of_roots};
+pub use paths::{Path, Segment, read_path};
 pub use provenance::locate;
 pub use roots::{RootBox, Roots, read_roots};

@@ -1,0 +1,5 @@
+use Rattle.c2_bmff.proofs.Pieces.{strip_is}
+use Rattle.c2_bmff.proofs.paths.strip.Goals as goal
+
+pub returns : goal.returns
+returns c = strip_is _ _ _ c.strip_prefix.ensures.cases

@@ -1,0 +1,14 @@
+-- For private clauses: numbers in the brackets of a path.
+use Rattle.std.specs.Prelude.{ℕ, List, Bool, not, ◌&&◌, ◌==◌, get_or, nat_le, if◌then◌else◌, Option, Some, None}
+use Rattle.std.specs.Char.{is_ascii_digit}
+use Rattle.std.specs.List.{list_all}
+use Rattle.std.specs.Str.Parse.{digits_value}
+use Rattle.c2_spec.specs.Bmff.Paths.{most_nth}
+
+-- the number that these digits write, where it may stand in brackets
+abbrev pub number_of_digits : List ℕ → Option ℕ
+number_of_digits digits =
+    if list_all is_ascii_digit digits && not (get_or digits 0 0x30 == 0x30)
+    && nat_le 1 (digits_value 10 digits) && nat_le (digits_value 10 digits) most_nth
+    then Some (digits_value 10 digits)
+    else None
