@@ -12,8 +12,8 @@ mod kinds;
 mod tests;
 pub mod types;
 
-pub use c2_spec::{DataHash, FieldError, Ingredient, Kind, Relationship};
 pub use bmff_hash::{BmffHash, read_bmff_hash};
+pub use c2_spec::{DataHash, FieldError, Ingredient, Kind, Relationship};
 pub use data_hash::read_data_hash;
 pub use ingredient::read_ingredient;
 pub use kinds::kind;

@@ -1,4 +1,5 @@
 mod BoxThere
+mod ChildLemmas
 mod FoundLemmas
 mod HeaderLemmas
 mod PartLemmas

@@ -1,4 +1,5 @@
 pub mod Causes
+pub mod Children
 pub mod Exclusions
 pub mod Headers
 pub mod Heads

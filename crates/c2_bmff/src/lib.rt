@@ -3,6 +3,7 @@
 //! What a box, a list of root boxes, a store and a refusal are stands in `c2_spec`, modules `Bmff.Boxes` and `Bmff.Store`.
 #![tactic(auto)]
 
+mod children;
 mod exclusion;
 mod header;
 mod laws;

@@ -164,8 +164,8 @@ pub fn read_path(alloc: Global, text: &str) -> Result<Option<Path>, NoMemory>
 
 // The types of the boxes that a path enters.
 const ENTERED: [[u8; 4]; 11] = [
-    *b"moov", *b"trak", *b"edts", *b"mdia", *b"minf", *b"dinf", *b"stbl", *b"mvex", *b"moof", *b"traf",
-    *b"mfra",
+    *b"moov", *b"trak", *b"edts", *b"mdia", *b"minf", *b"dinf", *b"stbl", *b"mvex", *b"moof",
+    *b"traf", *b"mfra",
 ];
 
 /// Whether a path enters boxes of this type. Takes no memory.

@@ -114,7 +114,7 @@ fn is_bmff<S: Source>(source: &mut S, size: u64) -> Result<bool, Failed>
 }
 
 // Keeps the box of this header, which begins at `start`.
-fn keep(rows: &mut Vec<RootBox>, start: u64, head: BoxHead) -> Result<(), NoMemory>
+pub(crate) fn keep(rows: &mut Vec<RootBox>, start: u64, head: BoxHead) -> Result<(), NoMemory>
     ensures { OnOk result (rows.new.items ≡ rows.old.items ++ row_at start head ∷ []) }
 {
     let kind = head.kind;

@@ -1,0 +1,7 @@
+use Rattle.std.proofs.Common.{◌≡◌, drop}
+use Rattle.c2_spec.specs.Bmff.Hash.{any_item, has_other_test}
+use Rattle.c2_spec.specs.Cbor.View.{items_view}
+use Rattle.c2_assertion.proofs.bmff_hash.any_other_test.Given as goal
+
+abbrev pub invariant-loop-item : goal.invariant-loop-item
+invariant-loop-item l = any_item has_other_test (items_view (drop l.item-index l.items)) ≡ any_item has_other_test (items_view l.items)

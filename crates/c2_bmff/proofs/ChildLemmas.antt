@@ -1,0 +1,227 @@
+-- The boxes inside another, one at a time; and the siblings that a step matches.
+use Rattle.std.proofs.Common.{◌≡◌, ℕ, zero, suc, ◌+◌, ◌-◌, ◌<◌, ◌≤◌, Bool, true, false, not, cond, ◌&&◌, ◌==◌, List, [], ◌∷◌, ◌++◌, length, get_or, take, drop, map, is_some, Option, Some, None, option_map, refl, sym, ap, ap₂, ◌∙◌, subst, arith, append_assoc, append-nil}
+use Rattle.std.specs.Prelude.{filter}
+use Rattle.std.specs.Prelude.{All}
+use Rattle.std.specs.List.{flat_map, AllByRecursion}
+use Rattle.std.proofs.lemmas.Grind.{flat_map-append}
+use Rattle.std.proofs.lemmas.List.Elements.{All-from_recursion, recursion_from_All}
+use Rattle.std.specs.Str.{bytes_eq}
+use Rattle.std.proofs.lemmas.Bool.{ne_eqb}
+use Rattle.std.proofs.lemmas.Bool.Decides.{nat_tests}
+use Rattle.std.proofs.lemmas.List.{length-drop, length-take-le, drop-take, drop-drop, drop_all, drop_more, take_more}
+use Rattle.c2_spec.specs.Bmff.Boxes.{box_fault, stated_size, stated_len, stated_kind, stated_header_len}
+use Rattle.c2_spec.specs.Bmff.Paths.{PathStep, is_entered, nth_of}
+use Rattle.c2_spec.specs.Cbor.Fields.{joined}
+use Rattle.c2_base.specs.declared.media.MediaError.{MediaError}
+use Rattle.c2_bmff.specs.Children.{ChildWalk, IsChildHead, child_row, child_rows, go_on, is_child, kids, matched_in, on_rows, or_none, row_matched, wants}
+use Rattle.c2_bmff.specs.Heads.{IsHead, media_error}
+use Rattle.c2_bmff.specs.Headers.{IsHeader, header_fault}
+use Rattle.c2_bmff.specs.Provenance.{payload_at}
+use Rattle.c2_bmff.specs.Roots.{row_at}
+use Rattle.c2_bmff.specs.declared.header.BoxHead.{BoxHead}
+use Rattle.c2_bmff.specs.declared.header.HeadError.{HeadError}
+use Rattle.c2_bmff.specs.declared.roots.RootBox.{RootBox}
+use Rattle.c2_bmff.proofs.HeaderLemmas.{head_of, fault_of, same_take}
+
+-- a header that runs to the end is no child's
+pub open_head : (rest bytes : List ℕ) (left : ℕ) (h : BoxHead) → bytes ≡ take 16 rest → left ≡ length rest → IsHeader left bytes h → h.to_end ≡ true → is_child rest ≡ false
+open_head rest bytes left h e l is end =
+    let head : IsHead 0 rest h = head_of 0 rest bytes left h e l is in
+    ap (λ t. not (is_some (box_fault 0 rest)) && not t) (sym head.to_end ∙ end) ∙ go (not (is_some (box_fault 0 rest)))
+  where
+    go : (t : Bool) → (t && false) ≡ false
+    go true = refl
+    go false = refl
+
+-- nor is a header that fails
+pub bad_head : (rest bytes : List ℕ) (left : ℕ) (e : HeadError) → bytes ≡ take 16 rest → left ≡ length rest → header_fault left bytes ≡ Some e → is_child rest ≡ false
+bad_head rest bytes left e b l fails = ap (λ f. not (is_some f) && not (stated_size rest == 0)) (fault_of 0 rest bytes left e b l fails)
+
+-- ---- the walk
+
+-- one box and those after it
+child_here : (n at : ℕ) (rest : List ℕ) → 0 < length rest → length rest ≤ n → child_rows n at rest ≡ cond (is_child rest) (joined (Some (child_row at rest)) (child_rows (n - 1) (at + stated_len rest) (drop (stated_len rest) rest))) None
+child_here n at [] some few = absurd (omega arith)
+child_here zero at (x ∷ xs) some few = absurd (omega arith)
+child_here (suc n) at (x ∷ xs) some few = let e : n ≡ suc n - 1 = omega arith in ap (λ (m : ℕ). cond (is_child (x ∷ xs)) (joined (Some (child_row at (x ∷ xs))) (child_rows m (at + stated_len (x ∷ xs)) (drop (stated_len (x ∷ xs)) (x ∷ xs)))) None) e
+
+-- no more boxes
+child_end : (n at : ℕ) → child_rows n at [] ≡ Some []
+child_end zero at = refl
+child_end (suc n) at = refl
+
+-- one more row before the others
+onto : (rows : List RootBox) (r : RootBox) (more : Option (List RootBox)) → option_map (λ (xs : List RootBox). rows ++ xs) (joined (Some r) more) ≡ option_map (λ (xs : List RootBox). (rows ++ r ∷ []) ++ xs) more
+onto rows r None = refl
+onto rows r (Some xs) = ap Some (sym (append_assoc rows (r ∷ []) xs))
+
+-- what is left of a payload
+pub rest_is : (file : List ℕ) (base len done : ℕ) → done ≤ len → drop done (take len (drop base file)) ≡ take (len - done) (drop (base + done) file)
+rest_is file base len done inside =
+    let e : len ≡ done + (len - done) = omega (arith, inside) in
+    ap (λ n. drop done (take n (drop base file))) e ∙ drop-take done (len - done) (drop base file) ∙ ap (take (len - done)) (drop-drop done base file)
+
+-- the row of a child's header
+child_row_is : (at : ℕ) (rest : List ℕ) (h : BoxHead) → IsHead 0 rest h → h.to_end ≡ false → row_at at h ≡ child_row at rest
+child_row_is at rest h is end =
+    ap (λ (n : ℕ). row n h.header h.kind h.to_end) is.length ∙ ap (λ (n : ℕ). row (stated_len rest) n h.kind h.to_end) is.header
+    ∙ ap (λ (k : List ℕ). row (stated_len rest) (stated_header_len rest) k h.to_end) is.kind ∙ ap (λ (t : Bool). row (stated_len rest) (stated_header_len rest) (stated_kind rest) t) end
+  where
+    row : ℕ → ℕ → List ℕ → Bool → RootBox
+    row n m k e = record { start = at; length = n; header = m; kind = k; to_end = e }
+
+-- a header that is a child's
+child_is : (rest : List ℕ) (h : BoxHead) → IsHead 0 rest h → h.to_end ≡ false → is_child rest ≡ true
+child_is rest h is end = ap (λ f. not (is_some f) && not (stated_size rest == 0)) is.good ∙ ap not (sym is.to_end ∙ end)
+
+-- a list that isn't there stays away
+pub walk_none : (file : List ℕ) (parent : RootBox) (done : ℕ) (rows : List RootBox) (rest : List ℕ) → ChildWalk file parent done rows → drop done (payload_at file parent) ≡ rest → 0 < length rest → is_child rest ≡ false → kids file parent ≡ []
+walk_none file parent done rows rest w same some bad =
+    let here = child_here w.most (parent.start + parent.header + done) rest some (subst (λ (xs : List ℕ). length xs ≤ w.most) same w.enough) ∙ ap (λ t. cond t (joined (Some (child_row (parent.start + parent.header + done) rest)) (child_rows (w.most - 1) (parent.start + parent.header + done + stated_len rest) (drop (stated_len rest) rest))) None) bad in
+    w.are ∙ ap (λ (xs : List ℕ). or_none (option_map (λ (more : List RootBox). rows ++ more) (child_rows w.most (parent.start + parent.header + done) xs))) same ∙ ap (λ (m : Option (List RootBox)). or_none (option_map (λ (more : List RootBox). rows ++ more) m)) here
+
+-- past one more box
+pub walk_more : (file : List ℕ) (parent : RootBox) (done : ℕ) (rows : List RootBox) (rest : List ℕ) (h : BoxHead) → ChildWalk file parent done rows → drop done (payload_at file parent) ≡ rest → 0 < length rest → IsHead 0 rest h → h.to_end ≡ false → 1 ≤ h.length → ChildWalk file parent (done + h.length) (rows ++ row_at (parent.start + parent.header + done) h ∷ [])
+walk_more file parent done rows rest h w same some is end least =
+    let few : length rest ≤ w.most = subst (λ (xs : List ℕ). length xs ≤ w.most) same w.enough in
+    let at : ℕ = parent.start + parent.header + done in
+    let next : drop (stated_len rest) rest ≡ drop (done + h.length) (payload_at file parent) = ap (λ n. drop n rest) (sym is.length) ∙ ap (drop h.length) (sym same) ∙ drop-drop h.length done (payload_at file parent) in
+    let place : at + stated_len rest ≡ parent.start + parent.header + (done + h.length) = let e : at + h.length ≡ parent.start + parent.header + (done + h.length) = omega arith in ap (λ n. at + n) (sym is.length) ∙ e in
+    let here : child_rows w.most at rest ≡ joined (Some (row_at at h)) (child_rows (w.most - 1) (parent.start + parent.header + (done + h.length)) (drop (done + h.length) (payload_at file parent))) =
+    child_here w.most at rest some few
+    ∙ ap (λ t. cond t (joined (Some (child_row at rest)) (child_rows (w.most - 1) (at + stated_len rest) (drop (stated_len rest) rest))) None) (child_is rest h is end)
+    ∙ ap (λ (r : RootBox). joined (Some r) (child_rows (w.most - 1) (at + stated_len rest) (drop (stated_len rest) rest))) (sym (child_row_is at rest h is end))
+    ∙ ap₂ (λ (n : ℕ) (xs : List ℕ). joined (Some (row_at at h)) (child_rows (w.most - 1) n xs)) place next in
+    record {
+      most = w.most - 1;
+      enough = let l : length (drop (stated_len rest) rest) ≡ length rest - h.length = length-drop (stated_len rest) rest ∙ ap (λ n. length rest - n) (sym is.length) in omega (arith, ap length (sym next), l, few, some, least);
+      are =
+          w.are ∙ ap (λ (xs : List ℕ). or_none (option_map (λ (more : List RootBox). rows ++ more) (child_rows w.most at xs))) same
+          ∙ ap (λ (m : Option (List RootBox)). or_none (option_map (λ (more : List RootBox). rows ++ more) m)) here
+          ∙ ap or_none (onto rows (row_at at h) (child_rows (w.most - 1) (parent.start + parent.header + (done + h.length)) (drop (done + h.length) (payload_at file parent))));
+    }
+
+-- before the first box
+pub walk_start : (file : List ℕ) (parent : RootBox) → ChildWalk file parent 0 []
+walk_start file parent = record {
+  most = length (payload_at file parent);
+  enough = omega arith;
+  are =
+      let e : parent.start + parent.header ≡ parent.start + parent.header + 0 = omega arith in
+      ap (λ n. or_none (child_rows (length (payload_at file parent)) n (payload_at file parent))) e ∙ ap or_none (same (child_rows (length (payload_at file parent)) (parent.start + parent.header + 0) (payload_at file parent)));
+}
+  where
+    same : (m : Option (List RootBox)) → m ≡ option_map (λ (more : List RootBox). [] ++ more) m
+    same None = refl
+    same (Some xs) = refl
+
+-- after the last
+pub walk_end : (file : List ℕ) (parent : RootBox) (done : ℕ) (rows : List RootBox) → ChildWalk file parent done rows → length (payload_at file parent) ≤ done → rows ≡ kids file parent
+walk_end file parent done rows w end =
+    sym (w.are ∙ ap (λ (xs : List ℕ). or_none (option_map (λ (more : List RootBox). rows ++ more) (child_rows w.most (parent.start + parent.header + done) xs))) (drop_all done (payload_at file parent) end)
+    ∙ ap (λ (m : Option (List RootBox)). or_none (option_map (λ (more : List RootBox). rows ++ more) m)) (child_end w.most (parent.start + parent.header + done)) ∙ append-nil rows)
+
+-- ---- siblings
+
+-- equal numbers stay equal one later
+eqb_suc : (n m : ℕ) → (suc n == suc m) ≡ (n == m)
+eqb_suc n m = grind (arith, nat_tests)
+
+-- one more sibling of the type
+nth_more : (nth : Option ℕ) (xs : List RootBox) (x : RootBox) → nth_of nth (xs ++ x ∷ []) ≡ nth_of nth xs ++ cond (wants nth (length xs)) (x ∷ []) []
+nth_more None xs x = refl
+nth_more (Some k) xs x = go (k - 1) xs
+  where
+    go : (n : ℕ) (xs : List RootBox) → take 1 (drop n (xs ++ x ∷ [])) ≡ take 1 (drop n xs) ++ cond (n == length xs) (x ∷ []) []
+    go zero [] = refl
+    go zero (y ∷ ys) = ap (λ t. y ∷ cond t (x ∷ []) []) (sym (ne_eqb 0 (suc (length ys)) (λ e. omega (arith, e))))
+    go (suc n) [] = ap (take 1) (drop_all n [] (omega arith)) ∙ ap (λ t. cond t (x ∷ []) []) (sym (ne_eqb (suc n) 0 (λ e. omega (arith, e))))
+    go (suc n) (y ∷ ys) = go n ys ∙ ap (λ t. take 1 (drop n ys) ++ cond t (x ∷ []) []) (sym (eqb_suc n (length ys)))
+
+-- a payload has its length
+pub payload_len : (file : List ℕ) (r : RootBox) → r.start + r.length ≤ length file → r.header ≤ r.length → length (payload_at file r) ≡ r.length - r.header
+payload_len file r inside ordered = length-take-le (r.length - r.header) (drop (r.start + r.header) file) (omega (arith, length-drop (r.start + r.header) file, inside, ordered))
+
+-- ---- paths
+
+-- what all rows have, those that pass have
+all_filter : (P : RootBox → Type 0) (p : RootBox → Bool) (xs : List RootBox) → AllByRecursion P xs → AllByRecursion P (filter p xs)
+all_filter P p [] h = tt
+all_filter P p (x ∷ xs) h = go (p x) (all_filter P p xs h.1)
+  where
+    go : (b : Bool) → AllByRecursion P (filter p xs) → AllByRecursion P (cond b (x ∷ filter p xs) (filter p xs))
+    go true rest = (h.0, rest)
+    go false rest = rest
+
+-- and the first after some
+all_one : (P : RootBox → Type 0) (n : ℕ) (xs : List RootBox) → AllByRecursion P xs → AllByRecursion P (take 1 (drop n xs))
+all_one P zero [] h = tt
+all_one P zero (x ∷ xs) h = (h.0, tt)
+all_one P (suc n) [] h = subst (λ (ys : List RootBox). AllByRecursion P (take 1 ys)) (sym (drop_all (suc n) [] (omega arith))) tt
+all_one P (suc n) (x ∷ xs) h = all_one P n xs h.1
+
+-- those that a step matches
+pub all_matched : (P : RootBox → Type 0) (step : PathStep) (xs : List RootBox) → All P xs → All P (row_matched step xs)
+all_matched P step xs h = All-from_recursion P (row_matched step xs) (go step.nth)
+  where
+    passing : AllByRecursion P (filter (λ (r : RootBox). bytes_eq r.kind step.kind) xs)
+    passing = all_filter P (λ (r : RootBox). bytes_eq r.kind step.kind) xs (recursion_from_All P xs h)
+
+    go : (nth : Option ℕ) → AllByRecursion P (nth_of nth (filter (λ (r : RootBox). bytes_eq r.kind step.kind) xs))
+    go None = passing
+    go (Some k) = all_one P (k - 1) (filter (λ (r : RootBox). bytes_eq r.kind step.kind) xs) passing
+
+-- lists of lists of lists
+flat_twice : (f g : RootBox → List RootBox) (xs : List RootBox) → flat_map (λ (x : RootBox). flat_map g (f x)) xs ≡ flat_map g (flat_map f xs)
+flat_twice f g [] = refl
+flat_twice f g (x ∷ xs) = ap (λ (ys : List RootBox). flat_map g (f x) ++ ys) (flat_twice f g xs) ∙ sym (flat_map-append g (f x) (flat_map f xs))
+
+-- nothing of each is nothing
+abbrev nothing : RootBox → List RootBox
+nothing r = []
+
+flat_none : (xs : List RootBox) → flat_map nothing xs ≡ []
+flat_none [] = refl
+flat_none (x ∷ xs) = flat_none xs
+
+-- the first step
+pub path_start : (file : List ℕ) (siblings : List RootBox) (step : PathStep) (steps : List PathStep) → on_rows file siblings (step ∷ steps) ≡ go_on file step steps (row_matched step siblings)
+path_start file siblings step [] = refl
+path_start file siblings step (next ∷ steps) = refl
+
+-- the next step, among the children
+pub path_next : (file : List ℕ) (step next : PathStep) (steps : List PathStep) (found : List RootBox) → is_entered step.kind ≡ true → go_on file step (next ∷ steps) found ≡ go_on file next steps (flat_map (matched_in file next) found)
+path_next file step next steps found enters =
+    ap (λ t. cond t (flat_map (λ (p : RootBox). on_rows file (kids file p) (next ∷ steps)) found) []) enters ∙ go steps
+  where
+    go : (steps : List PathStep) → flat_map (λ (p : RootBox). on_rows file (kids file p) (next ∷ steps)) found ≡ go_on file next steps (flat_map (matched_in file next) found)
+    go [] = refl
+    go (n ∷ ns) = by (is_entered next.kind)
+      where
+        by : (t : Bool) → flat_map (λ (p : RootBox). cond t (flat_map (λ (q : RootBox). on_rows file (kids file q) (n ∷ ns)) (matched_in file next p)) []) found ≡ cond t (flat_map (λ (q : RootBox). on_rows file (kids file q) (n ∷ ns)) (flat_map (matched_in file next) found)) []
+        by true = flat_twice (matched_in file next) (λ (q : RootBox). on_rows file (kids file q) (n ∷ ns)) found
+        by false = flat_none found
+
+-- a step that enters nothing
+pub path_stops : (file : List ℕ) (step : PathStep) (rest : List PathStep) (found : List RootBox) → 0 < length rest → is_entered step.kind ≡ false → go_on file step rest found ≡ []
+path_stops file step [] found some other = absurd (omega arith)
+path_stops file step (next ∷ steps) found some other = ap (λ t. cond t (flat_map (λ (p : RootBox). on_rows file (kids file p) (next ∷ steps)) found) []) other
+
+-- ---- loops
+
+-- a row of nothing
+abbrev pub no_row : RootBox
+no_row = record { start = 0; length = 0; header = 0; kind = []; to_end = false }
+
+-- what the next row gives
+pub flat_next : (f : RootBox → List RootBox) (rows : List RootBox) (i : ℕ) → i < length rows → flat_map f (take i rows) ++ f (get_or rows i no_row) ≡ flat_map f (take (i + 1) rows)
+flat_next f rows i inside = sym (ap (flat_map f) (take_more rows i no_row inside) ∙ flat_map-append f (take i rows) (get_or rows i no_row ∷ []) ∙ ap (λ (xs : List RootBox). flat_map f (take i rows) ++ xs) (append-nil (f (get_or rows i no_row))))
+
+-- the steps from one on
+pub steps_from : (path : List PathStep) (i : ℕ) (step : PathStep) → i < length path → step ≡ get_or path i step → drop i path ≡ step ∷ drop (i + 1) path
+steps_from path i step inside is = drop_more path i step inside ∙ ap (λ (s : PathStep). s ∷ drop (i + 1) path) (sym is)
+
+-- a list that isn't empty
+pub not_empty : (n : ℕ) → (n == 0) ≡ false → 0 < n
+not_empty zero e = absurd (cc (e))
+not_empty (suc n) e = omega arith

@@ -1,0 +1,18 @@
+use Rattle.std.proofs.Common.{◌≡◌, ◌-◌, ◌≤◌}
+use Rattle.std.specs.Prelude.{All}
+use Rattle.std.specs.Option.{ForSome}
+use Rattle.c2_base.specs.Source.{StaysSource}
+use Rattle.c2_bmff.specs.Children.{ChildWalk, IsRowWithin}
+use Rattle.c2_bmff.proofs.children.children.Given as goal
+
+abbrev pub invariant-boxes : goal.invariant-boxes
+invariant-boxes g l = record {
+  inside : l.done ≤ l.len;
+  stays : StaysSource g.S.Source.len g.S.Source.known g.S.Source.faults l.initial.source l.source;
+  count : g.S.Source.faults l.source ≡ g.S.Source.faults l.initial.source;
+  within : All (IsRowWithin (g.S.Source.len l.initial.source)) l.rows.items;
+  walked : ForSome (g.S.Source.known l.initial.source) (λ file. ChildWalk file l.fn.parent l.done l.rows.items);
+}
+
+abbrev pub decreases-boxes : goal.decreases-boxes
+decreases-boxes g l = l.len - l.done

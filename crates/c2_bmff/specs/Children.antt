@@ -1,0 +1,98 @@
+-- For private clauses: the rows of the boxes inside another, and of the boxes on a path.
+use Rattle.std.specs.Prelude.{◌≡◌, ℕ, zero, suc, ◌+◌, ◌-◌, ◌≤◌, ⊤, Bool, true, false, not, ◌&&◌, ◌==◌, is_some, List, [], ◌∷◌, ◌++◌, length, take, drop, filter, Option, Some, None, option_map, if◌then◌else◌}
+use Rattle.std.specs.List.{flat_map}
+use Rattle.std.specs.Str.{bytes_eq}
+use Rattle.c2_spec.specs.Bmff.Boxes.{Box, IsSizedBox, box_bytes, box_fault, stated_size, stated_len, stated_kind, stated_header_len}
+use Rattle.c2_spec.specs.Bmff.Paths.{PathStep, is_entered, nth_of}
+use Rattle.c2_spec.specs.Cbor.Fields.{joined}
+use Rattle.c2_bmff.specs.Heads.{IsHead}
+use Rattle.c2_bmff.specs.Provenance.{payload_at}
+use Rattle.c2_bmff.specs.declared.header.BoxHead.{BoxHead}
+use Rattle.c2_bmff.specs.declared.roots.RootBox.{RootBox}
+
+-- a box that says its size stands at the front of these bytes
+abbrev pub is_child : List ℕ → Bool
+is_child rest = not (is_some (box_fault 0 rest)) && not (stated_size rest == 0)
+
+-- its row, where it begins at this place
+abbrev pub child_row : ℕ → List ℕ → RootBox
+child_row at rest = record {
+  start = at;
+  length = stated_len rest;
+  header = stated_header_len rest;
+  kind = stated_kind rest;
+  to_end = false;
+}
+
+-- the rows of the boxes that fill these bytes, which begin at this place, where so many boxes are enough; None where none fill them
+abbrev pub child_rows : ℕ → ℕ → List ℕ → Option (List RootBox)
+child_rows n at [] = Some []
+child_rows zero at (x ∷ xs) = None
+child_rows (suc n) at (x ∷ xs) =
+    if is_child (x ∷ xs)
+    then joined (Some (child_row at (x ∷ xs)))
+    (child_rows n (at + stated_len (x ∷ xs)) (drop (stated_len (x ∷ xs)) (x ∷ xs)))
+    else None
+
+-- these rows, and none where there is no list
+abbrev pub or_none : Option (List RootBox) → List RootBox
+or_none None = []
+or_none (Some rows) = rows
+
+-- the rows of the children of the box of this row
+abbrev pub kids : List ℕ → RootBox → List RootBox
+kids file r = or_none (child_rows (length (payload_at file r)) (r.start + r.header) (payload_at file r))
+
+-- How far the walk over them came: after `done` bytes of the payload there are these rows.
+pub record ChildWalk (file : List ℕ) (parent : RootBox) (done : ℕ) (rows : List RootBox) : Type 0 where
+  pub most : ℕ
+  pub enough : length (drop done (payload_at file parent)) ≤ most
+  pub are : kids file parent
+      ≡ or_none (option_map (λ (more : List RootBox). rows ++ more)
+      (child_rows most (parent.start + parent.header + done) (drop done (payload_at file parent))))
+
+-- what is told of the box at the front of these bytes, where one stands there that says its size
+abbrev pub IsChildHead : List ℕ → Option BoxHead → Type 0
+IsChildHead rest None = is_child rest ≡ false
+IsChildHead rest (Some h) = IsHead 0 rest h × (h.to_end ≡ false)
+
+-- it ends in `left` bytes
+abbrev pub IsHeadWithin : ℕ → BoxHead → Type 0
+IsHeadWithin left h = (8 ≤ h.length) × (h.length ≤ left) × (h.header ≤ h.length)
+
+-- the box of a row ends in a source of `len` bytes, and has its header in it
+abbrev pub IsRowWithin : ℕ → RootBox → Type 0
+IsRowWithin len r = (r.start + r.length ≤ len) × (r.header ≤ r.length)
+
+-- ---- paths
+
+-- a step with this number takes the sibling of its type before which so many others stand
+abbrev pub wants : Option ℕ → ℕ → Bool
+wants None seen = true
+wants (Some k) seen = k - 1 == seen
+
+-- the rows that a step matches among these siblings
+abbrev pub row_matched : PathStep → List RootBox → List RootBox
+row_matched step siblings =
+    nth_of step.nth (filter (λ (r : RootBox). bytes_eq r.kind step.kind) siblings)
+
+-- those that it matches among the children of this row
+abbrev pub matched_in : List ℕ → PathStep → RootBox → List RootBox
+matched_in file step r = row_matched step (kids file r)
+
+-- the rows on a path below these siblings
+abbrev pub on_rows : List ℕ → List RootBox → List PathStep → List RootBox
+on_rows file siblings [] = []
+on_rows file siblings (step ∷ []) = row_matched step siblings
+on_rows file siblings (step ∷ next ∷ steps) =
+    if is_entered step.kind
+    then flat_map (λ (p : RootBox). on_rows file (kids file p) (next ∷ steps)) (row_matched step siblings)
+    else []
+
+-- the rows on the rest of a path, where these are the rows that its steps up to this one match
+abbrev pub go_on : List ℕ → PathStep → List PathStep → List RootBox → List RootBox
+go_on file step [] found = found
+go_on file step (next ∷ steps) found =
+    if is_entered step.kind
+    then flat_map (λ (p : RootBox). on_rows file (kids file p) (next ∷ steps)) found
+    else []
