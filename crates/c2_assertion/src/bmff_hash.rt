@@ -232,7 +232,8 @@ fn any_other_test(items: &[Cbor]) -> bool
 
 // Whether one of the exclusions has such a test.
 fn tests_otherwise(item: &Cbor) -> bool
-    ensures { result ≡ form.any_of form.has_other_test (field_of (codes "exclusions") (view item.now)) }
+    ensures { result
+        ≡ form.any_of form.has_other_test (field_of (codes "exclusions") (view item.now)) }
 {
     match field(item, "exclusions") {
         Some(Cbor::List(items)) => any_other_test(items),

@@ -29,7 +29,7 @@ are_bytes xs h = go xs (recursion_from_All (λ b. b < 2 ^ 8) xs h)
     go (x ∷ xs) h (suc i) = go xs h.1 i
 
 -- so are the first of them
-bytes-take : (n : ℕ) (xs : List ℕ) → AreBytes xs → AreBytes (take n xs)
+pub bytes-take : (n : ℕ) (xs : List ℕ) → AreBytes xs → AreBytes (take n xs)
 bytes-take zero xs h i = lit< tt
 bytes-take (suc n) [] h i = lit< tt
 bytes-take (suc n) (x ∷ xs) h zero = h 0

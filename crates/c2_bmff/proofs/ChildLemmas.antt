@@ -1,5 +1,5 @@
 -- The boxes inside another, one at a time; and the siblings that a step matches.
-use Rattle.std.proofs.Common.{◌≡◌, ℕ, zero, suc, ◌+◌, ◌-◌, ◌<◌, ◌≤◌, Bool, true, false, not, cond, ◌&&◌, ◌==◌, List, [], ◌∷◌, ◌++◌, length, get_or, take, drop, map, is_some, Option, Some, None, option_map, refl, sym, ap, ap₂, ◌∙◌, subst, arith, append_assoc, append-nil}
+use Rattle.std.proofs.Common.{◌≡◌, ℕ, zero, suc, ◌+◌, ◌-◌, ◌<◌, ◌≤◌, Bool, true, false, not, cond, ◌&&◌, ◌==◌, List, [], ◌∷◌, ◌++◌, length, get_or, take, drop, is_some, Option, Some, None, option_map, refl, sym, ap, ap₂, ◌∙◌, subst, arith, append_assoc, append-nil}
 use Rattle.std.specs.Prelude.{filter}
 use Rattle.std.specs.Prelude.{All}
 use Rattle.std.specs.List.{flat_map, AllByRecursion}
@@ -12,16 +12,15 @@ use Rattle.std.proofs.lemmas.List.{length-drop, length-take-le, drop-take, drop-
 use Rattle.c2_spec.specs.Bmff.Boxes.{box_fault, stated_size, stated_len, stated_kind, stated_header_len}
 use Rattle.c2_spec.specs.Bmff.Paths.{PathStep, is_entered, nth_of}
 use Rattle.c2_spec.specs.Cbor.Fields.{joined}
-use Rattle.c2_base.specs.declared.media.MediaError.{MediaError}
-use Rattle.c2_bmff.specs.Children.{ChildWalk, IsChildHead, child_row, child_rows, go_on, is_child, kids, matched_in, on_rows, or_none, row_matched, wants}
-use Rattle.c2_bmff.specs.Heads.{IsHead, media_error}
+use Rattle.c2_bmff.specs.Children.{ChildWalk, child_row, child_rows, go_on, is_child, kids, matched_in, on_rows, or_none, row_matched, wants}
+use Rattle.c2_bmff.specs.Heads.{IsHead}
 use Rattle.c2_bmff.specs.Headers.{IsHeader, header_fault}
 use Rattle.c2_bmff.specs.Provenance.{payload_at}
 use Rattle.c2_bmff.specs.Roots.{row_at}
 use Rattle.c2_bmff.specs.declared.header.BoxHead.{BoxHead}
 use Rattle.c2_bmff.specs.declared.header.HeadError.{HeadError}
 use Rattle.c2_bmff.specs.declared.roots.RootBox.{RootBox}
-use Rattle.c2_bmff.proofs.HeaderLemmas.{head_of, fault_of, same_take}
+use Rattle.c2_bmff.proofs.HeaderLemmas.{head_of, fault_of}
 
 -- a header that runs to the end is no child's
 pub open_head : (rest bytes : List ℕ) (left : ℕ) (h : BoxHead) → bytes ≡ take 16 rest → left ≡ length rest → IsHeader left bytes h → h.to_end ≡ true → is_child rest ≡ false
@@ -40,13 +39,13 @@ bad_head rest bytes left e b l fails = ap (λ f. not (is_some f) && not (stated_
 -- ---- the walk
 
 -- one box and those after it
-child_here : (n at : ℕ) (rest : List ℕ) → 0 < length rest → length rest ≤ n → child_rows n at rest ≡ cond (is_child rest) (joined (Some (child_row at rest)) (child_rows (n - 1) (at + stated_len rest) (drop (stated_len rest) rest))) None
+pub child_here : (n at : ℕ) (rest : List ℕ) → 0 < length rest → length rest ≤ n → child_rows n at rest ≡ cond (is_child rest) (joined (Some (child_row at rest)) (child_rows (n - 1) (at + stated_len rest) (drop (stated_len rest) rest))) None
 child_here n at [] some few = absurd (omega arith)
 child_here zero at (x ∷ xs) some few = absurd (omega arith)
 child_here (suc n) at (x ∷ xs) some few = let e : n ≡ suc n - 1 = omega arith in ap (λ (m : ℕ). cond (is_child (x ∷ xs)) (joined (Some (child_row at (x ∷ xs))) (child_rows m (at + stated_len (x ∷ xs)) (drop (stated_len (x ∷ xs)) (x ∷ xs)))) None) e
 
 -- no more boxes
-child_end : (n at : ℕ) → child_rows n at [] ≡ Some []
+pub child_end : (n at : ℕ) → child_rows n at [] ≡ Some []
 child_end zero at = refl
 child_end (suc n) at = refl
 
@@ -145,7 +144,7 @@ payload_len file r inside ordered = length-take-le (r.length - r.header) (drop (
 -- ---- paths
 
 -- what all rows have, those that pass have
-all_filter : (P : RootBox → Type 0) (p : RootBox → Bool) (xs : List RootBox) → AllByRecursion P xs → AllByRecursion P (filter p xs)
+pub all_filter : {A : Type 0} (P : A → Type 0) (p : A → Bool) (xs : List A) → AllByRecursion P xs → AllByRecursion P (filter p xs)
 all_filter P p [] h = tt
 all_filter P p (x ∷ xs) h = go (p x) (all_filter P p xs h.1)
   where
@@ -154,10 +153,10 @@ all_filter P p (x ∷ xs) h = go (p x) (all_filter P p xs h.1)
     go false rest = rest
 
 -- and the first after some
-all_one : (P : RootBox → Type 0) (n : ℕ) (xs : List RootBox) → AllByRecursion P xs → AllByRecursion P (take 1 (drop n xs))
+pub all_one : {A : Type 0} (P : A → Type 0) (n : ℕ) (xs : List A) → AllByRecursion P xs → AllByRecursion P (take 1 (drop n xs))
 all_one P zero [] h = tt
 all_one P zero (x ∷ xs) h = (h.0, tt)
-all_one P (suc n) [] h = subst (λ (ys : List RootBox). AllByRecursion P (take 1 ys)) (sym (drop_all (suc n) [] (omega arith))) tt
+all_one {A} P (suc n) [] h = subst (λ (ys : List A). AllByRecursion P (take 1 ys)) (sym (drop_all (suc n) [] (omega arith))) tt
 all_one P (suc n) (x ∷ xs) h = all_one P n xs h.1
 
 -- those that a step matches

@@ -2,9 +2,12 @@ mod BoxThere
 mod ChildLemmas
 mod FoundLemmas
 mod HeaderLemmas
+mod MarkLemmas
+mod MatchLemmas
 mod PartLemmas
 mod PathLemmas
 mod Pieces
 mod RowLemmas
 mod SearchLemmas
+mod StandLemmas
 mod WalkLemmas

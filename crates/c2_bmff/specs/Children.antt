@@ -1,8 +1,8 @@
 -- For private clauses: the rows of the boxes inside another, and of the boxes on a path.
-use Rattle.std.specs.Prelude.{◌≡◌, ℕ, zero, suc, ◌+◌, ◌-◌, ◌≤◌, ⊤, Bool, true, false, not, ◌&&◌, ◌==◌, is_some, List, [], ◌∷◌, ◌++◌, length, take, drop, filter, Option, Some, None, option_map, if◌then◌else◌}
+use Rattle.std.specs.Prelude.{◌≡◌, ℕ, zero, suc, ◌+◌, ◌-◌, ◌≤◌, Bool, true, false, not, ◌&&◌, ◌==◌, is_some, List, [], ◌∷◌, ◌++◌, length, drop, filter, Option, Some, None, option_map, if◌then◌else◌}
 use Rattle.std.specs.List.{flat_map}
 use Rattle.std.specs.Str.{bytes_eq}
-use Rattle.c2_spec.specs.Bmff.Boxes.{Box, IsSizedBox, box_bytes, box_fault, stated_size, stated_len, stated_kind, stated_header_len}
+use Rattle.c2_spec.specs.Bmff.Boxes.{box_fault, stated_size, stated_len, stated_kind, stated_header_len}
 use Rattle.c2_spec.specs.Bmff.Paths.{PathStep, is_entered, nth_of}
 use Rattle.c2_spec.specs.Cbor.Fields.{joined}
 use Rattle.c2_bmff.specs.Heads.{IsHead}

@@ -3,6 +3,8 @@ pub mod Children
 pub mod Exclusions
 pub mod Headers
 pub mod Heads
+pub mod Marks
+pub mod Matched
 pub mod PathTexts
 pub mod Provenance
 pub mod Roots

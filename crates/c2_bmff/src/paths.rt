@@ -136,7 +136,8 @@ fn strip<'a>(piece: &str, text: &'a str) -> Option<&'a str>
 
 // The steps of these texts, which slashes part.
 fn segments_of(alloc: Global, parts: &str) -> Result<Option<Vec<Segment>>, NoMemory>
-    ensures { IfOk result (λ found. option_map (λ v. v.items) found ≡ each_step (slice_split is_slash parts.now)) }
+    ensures { IfOk result (λ found.
+        option_map (λ v. v.items) found ≡ each_step (slice_split is_slash parts.now)) }
 {
     let mut segments = Vec::new(alloc);
     for part in parts.split('/') {

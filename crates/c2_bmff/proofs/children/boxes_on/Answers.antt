@@ -1,11 +1,11 @@
-use Rattle.std.proofs.Common.{◌≡◌, ◌∙◌, ◌+◌, ◌-◌, ◌<◌, ◌≤◌, ℕ, true, get_or, List, [], ◌∷◌, ◌++◌, length, refl, take, drop, subst, sym, ap, ap₂, arith}
+use Rattle.std.proofs.Common.{◌≡◌, ◌∙◌, ◌+◌, ◌-◌, ◌<◌, ℕ, true, get_or, List, ◌++◌, length, refl, take, drop, subst, sym, ap, arith}
 use Rattle.std.specs.Prelude.{All}
 use Rattle.std.specs.List.{flat_map}
 use Rattle.std.proofs.lemmas.List.{length-drop, take_all}
 use Rattle.c2_spec.specs.Bmff.Paths.{PathStep, is_entered}
 use Rattle.c2_bmff.specs.Children.{IsRowWithin, go_on, matched_in, on_rows, row_matched}
 use Rattle.c2_bmff.specs.declared.roots.RootBox.{RootBox}
-use Rattle.c2_bmff.proofs.ChildLemmas.{all_matched, not_empty, steps_from, path_start, path_next, path_stops}
+use Rattle.c2_bmff.proofs.ChildLemmas.{all_matched, not_empty, steps_from, path_start, path_next}
 use Rattle.c2_bmff.proofs.children.boxes_on.Goals as goal
 
 pub loop-next-init : goal.loop-next-init

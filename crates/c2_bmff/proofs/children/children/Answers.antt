@@ -1,8 +1,8 @@
-use Rattle.std.proofs.Common.{◌≡◌, ◌∙◌, ◌+◌, ◌-◌, ◌<◌, ◌≤◌, ℕ, List, [], ◌∷◌, ◌++◌, None, Some, length, take, drop, subst, sym, ap, arith}
+use Rattle.std.proofs.Common.{◌≡◌, ◌∙◌, ◌+◌, ◌-◌, ◌<◌, length, take, drop, subst, sym, ap, arith}
 use Rattle.std.specs.Prelude.{All, IfSome}
 use Rattle.std.specs.declared.option.Option.{Option}
 use Rattle.c2_bmff.specs.declared.header.BoxHead.{BoxHead}
-use Rattle.std.proofs.lemmas.List.{length-drop, length-take-le}
+use Rattle.std.proofs.lemmas.List.{length-drop}
 use Rattle.std.proofs.lemmas.List.Elements.{All-push}
 use Rattle.c2_bmff.specs.Children.{ChildWalk, IsChildHead, IsHeadWithin, IsRowWithin}
 use Rattle.c2_bmff.specs.Provenance.{payload_at}

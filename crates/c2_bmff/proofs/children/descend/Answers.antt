@@ -1,12 +1,9 @@
-use Rattle.std.proofs.Common.{◌≡◌, ◌∙◌, ◌+◌, ◌≤◌, ℕ, List, [], ◌∷◌, ◌++◌, take, subst, sym, ap, ap₂, arith}
-use Rattle.std.specs.Prelude.{All, slice_index_or}
-use Rattle.std.specs.List.{flat_map}
-use Rattle.std.proofs.lemmas.Grind.{flat_map-append}
-use Rattle.std.proofs.lemmas.List.{append-nil, take_more}
+use Rattle.std.proofs.Common.{◌≡◌, ◌∙◌, ℕ, List, ◌++◌, subst, sym, ap, ap₂, arith}
+use Rattle.std.specs.Prelude.{All}
 use Rattle.std.proofs.lemmas.List.Elements.{All-append}
 use Rattle.c2_bmff.specs.Children.{IsRowWithin, matched_in, row_matched}
 use Rattle.c2_bmff.specs.declared.roots.RootBox.{RootBox}
-use Rattle.c2_bmff.proofs.ChildLemmas.{all_matched, no_row, flat_next}
+use Rattle.c2_bmff.proofs.ChildLemmas.{all_matched, flat_next}
 use Rattle.c2_bmff.proofs.children.descend.Goals as goal
 
 pub loop-parent-preserved : goal.loop-parent-preserved

@@ -1,4 +1,4 @@
-use Rattle.std.proofs.Common.{◌≡◌, ◌∙◌, ◌-◌, option_map, Some, ℕ, length, sym, ap, refl, arith}
+use Rattle.std.proofs.Common.{◌∙◌, ◌-◌, option_map, Some, length, sym, ap, refl}
 use Rattle.c2_bmff.proofs.PathLemmas.{nth_between, two_or_more}
 use Rattle.c2_bmff.proofs.paths.nth_in.Goals as goal
 

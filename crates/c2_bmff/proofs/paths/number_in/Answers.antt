@@ -1,5 +1,5 @@
-use Rattle.std.proofs.Common.{◌≡◌, ℕ, ◌+◌, ◌*◌, ◌∙◌, sym, ap, arith, rules}
-use Rattle.c2_bmff.proofs.PathLemmas.{next_value, next_digit, not_digits, leading_zero, too_great, all_digits}
+use Rattle.std.proofs.Common.{◌+◌, ◌*◌, ◌∙◌, sym, ap, arith, rules}
+use Rattle.c2_bmff.proofs.PathLemmas.{next_value, next_digit, too_great, all_digits}
 use Rattle.c2_bmff.proofs.paths.number_in.Goals as goal
 
 pub returns-then-value-gt-MOST_NTH : goal.returns-then-value-gt-MOST_NTH

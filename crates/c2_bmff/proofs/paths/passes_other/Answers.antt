@@ -1,4 +1,4 @@
-use Rattle.std.proofs.Common.{◌≡◌, ◌-◌, ◌∙◌, ◌≤◌, length, take, drop, get_or, cond, true, false, sym, ap, arith}
+use Rattle.std.proofs.Common.{◌≡◌, ◌-◌, ◌∙◌, length, take, drop, cond, true, false, sym, ap, arith}
 use Rattle.std.proofs.lemmas.List.{length-drop, take_all}
 use Rattle.c2_spec.specs.Bmff.Paths.{PathStep, enters_other, is_entered}
 use Rattle.c2_bmff.proofs.PathLemmas.{enters_next, enters_end}

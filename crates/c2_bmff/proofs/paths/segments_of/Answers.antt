@@ -1,11 +1,10 @@
-use Rattle.std.proofs.Common.{◌≡◌, ◌∙◌, ◌+◌, ℕ, Some, List, ◌∷◌, [], ◌++◌, length, drop, sym, ap, arith, lit<, subst}
+use Rattle.std.proofs.Common.{◌∙◌, length, sym, ap, arith, lit<}
 use Rattle.std.specs.List.{slice_split}
 use Rattle.std.proofs.lemmas.Iterator.Consumers.{YieldsList-turn, YieldsList-end}
 use Rattle.std.proofs.lemmas.Iterator.Splits.{YieldsList-from_str_split}
 use Rattle.std.proofs.lemmas.List.{length_push}
-use Rattle.c2_spec.proofs.CborEach.{after}
 use Rattle.c2_spec.specs.C2pa.Uri.{is_slash}
-use Rattle.c2_spec.specs.Bmff.Paths.{PathStep, each_step, step_of}
+use Rattle.c2_spec.specs.Bmff.Paths.{step_of}
 use Rattle.c2_bmff.proofs.PathLemmas.{step_next, step_none, steps_all}
 use Rattle.c2_bmff.proofs.paths.segments_of.Goals as goal
 

@@ -1,0 +1,18 @@
+use Rattle.std.proofs.Common.{◌∙◌, ◌||◌, sym, ap₂, arith}
+use Rattle.std.proofs.Common.{Bool}
+use Rattle.c2_spec.specs.Cover.{is_excluded}
+use Rattle.c2_bmff.specs.Marks.{in_row_part}
+use Rattle.c2_bmff.proofs.MarkLemmas.{any_more, no_range}
+use Rattle.c2_bmff.proofs.marking.add_parts.Goals as goal
+
+pub loop-part-preserved : goal.loop-part-preserved
+loop-part-preserved c =
+    let before = c.loop-part.invariant in
+    let call = c.in_ok-add_range.ensures in
+    let k = c.loop-part.part-index in
+    record {
+      same = λ i.
+          call.same i ∙ ap₂ (λ (a b : Bool). a || b) (before.same i) (c.part_in.ensures.holds i)
+          ∙ sym (any_more (in_row_part i c.args.row) c.args.parts.now k no_range (is_excluded c.args.ranges.now.items i) c.loop-part-test.true);
+      within = λ n old fits. call.within n (before.within n old fits) (omega (arith, c.part_in.ensures.within, fits));
+    }

@@ -1,0 +1,12 @@
+use Rattle.std.proofs.Common.{◌≡◌, ◌||◌, ◌+◌, ◌≤◌, ℕ, take}
+use Rattle.std.specs.Prelude.{All}
+use Rattle.std.specs.List.{list_any}
+use Rattle.c2_spec.specs.Cover.{is_excluded}
+use Rattle.c2_bmff.specs.Marks.{IsRangeWithin, in_row_part}
+use Rattle.c2_bmff.proofs.marking.add_parts.Given as goal
+
+abbrev pub invariant-loop-part : goal.invariant-loop-part
+invariant-loop-part l = record {
+  same : (i : ℕ) → is_excluded l.ranges.items i ≡ (is_excluded l.initial.ranges.items i || list_any (in_row_part i l.row) (take l.part-index l.parts));
+  within : (n : ℕ) → All (IsRangeWithin n) l.initial.ranges.items → l.row.start + l.row.length ≤ n → All (IsRangeWithin n) l.ranges.items;
+}

@@ -1,0 +1,14 @@
+use Rattle.std.proofs.Common.{◌∙◌, ◌||◌, List, Bool, sym, ap}
+use Rattle.std.specs.declared.option.Option.{Option}
+use Rattle.std.specs.List.{list_any}
+use Rattle.c2_base.specs.declared.values.Range.{Range}
+use Rattle.c2_spec.specs.Cover.{is_excluded}
+use Rattle.c2_bmff.specs.Marks.{in_row_part, in_row_subset}
+use Rattle.c2_bmff.proofs.MarkLemmas.{parts_are}
+use Rattle.c2_bmff.proofs.marking.add_subset.Goals as goal
+
+pub returns-clause-same : goal.returns-clause-same
+returns-clause-same c i =
+    c.in_ok-add_parts.ensures.same i
+    ∙ ap (λ (b : Bool). is_excluded c.args.ranges.now.items i || b)
+    (ap (list_any (in_row_part i c.args.row)) c.as_slice.ensures ∙ parts_are i c.args.row c.in-Some.parts ∙ ap (λ (s : Option (List Range)). in_row_subset i c.args.row s) (sym c.in-Some.is))

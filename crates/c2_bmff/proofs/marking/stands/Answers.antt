@@ -1,0 +1,33 @@
+use Rattle.std.proofs.Common.{◌≡◌, ◌∙◌, ◌+◌, ◌-◌, ◌&&◌, true, false, ℕ, List, length, take, drop, sym, ap, arith}
+use Rattle.std.specs.Prelude.{bytes_eq}
+use Rattle.std.proofs.lemmas.List.{length-drop, take_all}
+use Rattle.c2_bmff.specs.Marks.{stands_at}
+use Rattle.c2_bmff.proofs.MarkLemmas.{stands_split}
+use Rattle.c2_bmff.proofs.marking.stands.Goals as goal
+
+pub returns-then-not-is_same-clause-stands : goal.returns-then-not-is_same-clause-stands
+returns-then-not-is_same-clause-stands g c file known =
+    let len : length file ≡ g.S.Source.len c.args.source.now = g.met.S.Source.known_len c.args.source.now file known in
+    let n = c.min-count.result in
+    let rest : List ℕ = c.pieces.rest.now in
+    let split = stands_split file c.pieces.at rest n (omega (arith, c.min-count.ensures)) (omega (arith, len, c.requires.inside, c.pieces.invariant.inside)) in
+    let front : bytes_eq (take n (drop c.pieces.at file)) (take n rest) ≡ false = ap (λ (xs : List ℕ). bytes_eq xs (take n rest)) (sym (c.in_ok-fill_first.ensures.filled file (c.pieces.invariant.stays.same_bytes ∙ known))) ∙ sym c.is_same.ensures ∙ c.if-not-is_same.true in
+    sym (c.pieces.invariant.same file known ∙ split ∙ ap (λ b. b && stands_at file (c.pieces.at + n) (drop n rest)) front)
+
+pub pieces-preserved : goal.pieces-preserved
+pieces-preserved g c =
+    let before = c.pieces.invariant in
+    let call = c.in_ok-fill_first.ensures in
+    let n = c.min-count.result in
+    let rest : List ℕ = c.pieces.rest.now in
+    let tail : take (length rest - n) (drop n rest) ≡ drop n rest = take_all (length rest - n) (drop n rest) (omega (arith, length-drop n rest)) in
+    record {
+      inside = omega (arith, ap length tail, length-drop n rest, c.min-count.ensures, before.inside);
+      stays = record { same_len = call.stays.same_len ∙ before.stays.same_len; same_bytes = call.stays.same_bytes ∙ before.stays.same_bytes; later = omega (arith, call.stays.later, before.stays.later) };
+      count = call.cause.ok ∙ before.count;
+      same = λ file known.
+          let len : length file ≡ g.S.Source.len c.args.source.now = g.met.S.Source.known_len c.args.source.now file known in
+          let split = stands_split file c.pieces.at rest n (omega (arith, c.min-count.ensures)) (omega (arith, len, c.requires.inside, before.inside)) in
+          let front : bytes_eq (take n (drop c.pieces.at file)) (take n rest) ≡ true = ap (λ (xs : List ℕ). bytes_eq xs (take n rest)) (sym (call.filled file (before.stays.same_bytes ∙ known))) ∙ sym c.is_same.ensures ∙ c.if-not-is_same.false in
+          before.same file known ∙ split ∙ ap (λ b. b && stands_at file (c.pieces.at + n) (drop n rest)) front ∙ ap (stands_at file (c.pieces.at + n)) (sym tail);
+    }

@@ -1,0 +1,16 @@
+use Rattle.std.proofs.Common.{◌≡◌, ◌+◌, ◌≤◌, length}
+use Rattle.std.specs.Option.{ForSome}
+use Rattle.c2_base.specs.Source.{StaysSource}
+use Rattle.c2_bmff.specs.Marks.{stands_at}
+use Rattle.c2_bmff.proofs.marking.stands.Given as goal
+
+abbrev pub invariant-pieces : goal.invariant-pieces
+invariant-pieces g l = record {
+  inside : l.at + length l.rest ≤ l.pos + length l.value;
+  stays : StaysSource g.S.Source.len g.S.Source.known g.S.Source.faults l.initial.source l.source;
+  count : g.S.Source.faults l.source ≡ g.S.Source.faults l.initial.source;
+  same : ForSome (g.S.Source.known l.initial.source) (λ file. stands_at file l.pos l.value ≡ stands_at file l.at l.rest);
+}
+
+abbrev pub decreases-pieces : goal.decreases-pieces
+decreases-pieces g l = length l.rest

@@ -1,0 +1,251 @@
+// The positions that an exclusion excludes.
+ghost use Rattle.std.specs.Prelude.{◌≡◌, ◌||◌, ◌&&◌, ◌+◌, ◌-◌, ◌<◌, ◌≤◌, ◌^◌, ℕ, map, All, OnOk, IfOk, IfErr, length, take, bytes_eq};
+ghost use Rattle.std.specs.List.{list_all, list_any};
+ghost use Rattle.std.specs.Option.{ForSome};
+ghost use Rattle.c2_base.specs.Causes.{HasCause};
+ghost use Rattle.c2_base.specs.Source.{StaysSource};
+ghost use Rattle.c2_spec.specs.Cover.{holds, is_excluded};
+ghost use Rattle.c2_bmff.specs.Causes.{IsCaused, OrOutside};
+ghost use Rattle.c2_bmff.specs.Children.{IsRowWithin};
+ghost use Rattle.c2_bmff.specs.Exclusions.{byte_test};
+ghost use Rattle.c2_bmff.specs.Marks.{IsRangeWithin, has_length, holds_test, in_row_part, in_row_subset, marks, stands_at, takes};
+
+use crate::exclusion::Exclusion;
+use crate::roots::{RootBox, fill_first};
+use c2_base::{Blob, Failed, MediaError, NoMemory, Range, Ranges, Source};
+use std::alloc::Global;
+
+// Whether the first `count` bytes are the same.
+fn is_same(bytes: &[u8], value: &[u8], count: usize) -> bool
+    requires bytes { count ≤ length bytes.now }
+    requires value { count ≤ length value.now }
+    ensures { result ≡ bytes_eq (take count bytes.now) (take count value.now) }
+{
+    bytes[..count] == value[..count]
+}
+
+// Whether these bytes stand at `pos`.
+fn stands<S: Source>(source: &mut S, pos: u64, value: &[u8]) -> Result<bool, Failed>
+    requires inside { pos + length value.now ≤ S.len source.old }
+    ensures stands { IfOk result
+        (λ b. ForSome (S.known source.old) (λ file. b ≡ stands_at file pos value.now)) }
+    ensures stays { StaysSource S.len S.known S.faults source.old source.new }
+    ensures cause { HasCause (S.faults source.old) (S.faults source.new) result }
+{
+    let mut bytes = [0; 64];
+    let mut rest = value;
+    let mut at = pos;
+    'pieces: while rest.len() > 0 {
+        let count = rest.len().min(64);
+        fill_first(source, at, &mut bytes, count)?;
+        if !is_same(&bytes, rest, count) {
+            return Ok(false);
+        }
+        rest = &rest[count..];
+        at += count as u64;
+    }
+    Ok(true)
+}
+
+// Whether a byte test holds of the box of this row.
+fn meets<S: Source>(source: &mut S, row: RootBox, test: &(u64, Blob)) -> Result<bool, Failed>
+    requires inside { IsRowWithin (S.len source.old) row }
+    ensures meets { IfOk result
+        (λ b. ForSome (S.known source.old) (λ file. b ≡ holds_test file row (byte_test test.now))) }
+    ensures stays { StaysSource S.len S.known S.faults source.old source.new }
+    ensures cause { HasCause (S.faults source.old) (S.faults source.new) result }
+{
+    let offset = test.0;
+    let value = test.1.as_slice();
+    if offset > row.length || value.len() as u64 > row.length - offset {
+        return Ok(false);
+    }
+    stands(source, row.start + offset, value)
+}
+
+// Whether all byte tests hold of the box of this row.
+fn meets_all<S: Source>(source: &mut S, row: RootBox, tests: &[(u64, Blob)]) -> Result<bool, Failed>
+    requires inside { IsRowWithin (S.len source.old) row }
+    ensures meets { IfOk result (λ b. ForSome (S.known source.old) (λ file.
+        b ≡ list_all (holds_test file row) (map byte_test tests.now))) }
+    ensures stays { StaysSource S.len S.known S.faults source.old source.new }
+    ensures cause { HasCause (S.faults source.old) (S.faults source.new) result }
+{
+    for test in tests {
+        if !meets(source, row, test)? {
+            return Ok(false);
+        }
+    }
+    Ok(true)
+}
+
+// Whether the box of this row has the stated length, where one is stated.
+fn is_sized(length: Option<u64>, row: RootBox) -> bool
+    ensures { result ≡ has_length length row }
+{
+    match length {
+        Some(n) => row.length == n,
+        None => true,
+    }
+}
+
+// Whether the exclusion takes the box of this row.
+fn takes_row<S: Source>(source: &mut S, entry: &Exclusion, row: RootBox) -> Result<bool, Failed>
+    requires inside { IsRowWithin (S.len source.old) row }
+    ensures takes { IfOk result
+        (λ b. ForSome (S.known source.old) (λ file. b ≡ takes file entry.now row)) }
+    ensures stays { StaysSource S.len S.known S.faults source.old source.new }
+    ensures cause { HasCause (S.faults source.old) (S.faults source.new) result }
+{
+    if !is_sized(entry.length, row) {
+        return Ok(false);
+    }
+    meets_all(source, row, entry.tests.as_slice())
+}
+
+// Adds a range, to the last of the others where it begins in that or at its end.
+fn add_range(ranges: &mut Vec<Range>, range: Range) -> Result<(), NoMemory>
+    requires fits { range.start + range.length < 2 ^ 64 }
+    requires fit { All (IsRangeWithin (2 ^ 64 - 1)) ranges.old.items }
+    ensures same { OnOk result ((i : ℕ) → is_excluded ranges.new.items i
+        ≡ (is_excluded ranges.old.items i || holds i range)) }
+    ensures within { OnOk result ((n : ℕ) → All (IsRangeWithin n) ranges.old.items
+        → IsRangeWithin n range → All (IsRangeWithin n) ranges.new.items) }
+{
+    if range.length == 0 {
+        return Ok(());
+    }
+    let Some(last) = ranges.pop() else {
+        ranges.push(range)?;
+        return Ok(());
+    };
+    if range.start < last.start || range.start - last.start > last.length {
+        ranges.push(last)?;
+        ranges.push(range)?;
+        return Ok(());
+    }
+    let length = last.length.max(range.start - last.start + range.length);
+    ranges.push(Range {
+        start: last.start,
+        length,
+    })?;
+    Ok(())
+}
+
+// A part of the box of this row, cut at the box's end.
+fn part_in(row: RootBox, part: Range) -> Range
+    requires fits { row.start + row.length < 2 ^ 64 }
+    ensures holds { (i : ℕ) → holds i result ≡ in_row_part i row part }
+    ensures within { result.start + result.length ≤ row.start + row.length }
+{
+    if part.start >= row.length {
+        return Range {
+            start: row.start,
+            length: 0,
+        };
+    }
+    let room = row.length - part.start;
+    let length = if part.length == 0 {
+        room
+    } else {
+        part.length.min(room)
+    };
+    Range {
+        start: row.start + part.start,
+        length,
+    }
+}
+
+// Adds these parts of the box of this row.
+fn add_parts(ranges: &mut Vec<Range>, row: RootBox, parts: &[Range]) -> Result<(), NoMemory>
+    requires fits { row.start + row.length < 2 ^ 64 }
+    requires fit { All (IsRangeWithin (2 ^ 64 - 1)) ranges.old.items }
+    ensures same { OnOk result ((i : ℕ) → is_excluded ranges.new.items i
+        ≡ (is_excluded ranges.old.items i || list_any (in_row_part i row) parts.now)) }
+    ensures within { OnOk result ((n : ℕ) → All (IsRangeWithin n) ranges.old.items
+        → row.start + row.length ≤ n → All (IsRangeWithin n) ranges.new.items) }
+{
+    for part in parts {
+        add_range(ranges, part_in(row, *part))?;
+    }
+    Ok(())
+}
+
+// Adds the subset of the box of this row, or all of it where there is none.
+fn add_subset(
+    ranges: &mut Vec<Range>,
+    row: RootBox,
+    subset: &Option<Ranges>,
+) -> Result<(), NoMemory>
+    requires fits { row.start + row.length < 2 ^ 64 }
+    requires fit { All (IsRangeWithin (2 ^ 64 - 1)) ranges.old.items }
+    ensures same { OnOk result ((i : ℕ) → is_excluded ranges.new.items i
+        ≡ (is_excluded ranges.old.items i || in_row_subset i row subset.now)) }
+    ensures within { OnOk result ((n : ℕ) → All (IsRangeWithin n) ranges.old.items
+        → row.start + row.length ≤ n → All (IsRangeWithin n) ranges.new.items) }
+{
+    let Some(parts) = subset else {
+        add_range(
+            ranges,
+            Range {
+                start: row.start,
+                length: row.length,
+            },
+        )?;
+        return Ok(());
+    };
+    add_parts(ranges, row, parts.as_slice())?;
+    Ok(())
+}
+
+// Adds the positions that the exclusion excludes through the box of this row.
+fn mark_row<S: Source>(
+    source: &mut S,
+    entry: &Exclusion,
+    row: RootBox,
+    ranges: &mut Vec<Range>,
+) -> Result<(), MediaError>
+    requires inside { IsRowWithin (S.len source.old) row }
+    requires within { All (IsRangeWithin (S.len source.old)) ranges.old.items }
+    ensures same { OnOk result (ForSome (S.known source.old) (λ file.
+        (i : ℕ) → is_excluded ranges.new.items i
+        ≡ (is_excluded ranges.old.items i || marks file entry.now i row))) }
+    ensures within { OnOk result (All (IsRangeWithin (S.len source.old)) ranges.new.items) }
+    ensures stays { StaysSource S.len S.known S.faults source.old source.new }
+    ensures count { OnOk result (S.faults source.new ≡ S.faults source.old) }
+    ensures cause { IfErr result (IsCaused (S.faults source.old) (S.faults source.new)) }
+    ensures outside { IfErr result (λ e. OrOutside e ⊥) }
+{
+    if !takes_row(source, entry, row)? {
+        return Ok(());
+    }
+    add_subset(ranges, row, &entry.subset)?;
+    Ok(())
+}
+
+/// Adds the positions that the exclusion excludes through the boxes of these rows.
+pub(crate) fn mark<S: Source>(
+    source: &mut S,
+    entry: &Exclusion,
+    rows: &[RootBox],
+    ranges: &mut Vec<Range>,
+) -> Result<(), MediaError>
+    requires inside { All (IsRowWithin (S.len source.old)) rows.now }
+    requires within { All (IsRangeWithin (S.len source.old)) ranges.old.items }
+    ensures same { OnOk result (ForSome (S.known source.old) (λ file.
+        (i : ℕ) → is_excluded ranges.new.items i
+        ≡ (is_excluded ranges.old.items i || list_any (marks file entry.now i) rows.now))) }
+    ensures within { OnOk result (All (IsRangeWithin (S.len source.old)) ranges.new.items) }
+    ensures stays { StaysSource S.len S.known S.faults source.old source.new }
+    ensures count { OnOk result (S.faults source.new ≡ S.faults source.old) }
+    ensures cause { IfErr result (IsCaused (S.faults source.old) (S.faults source.new)) }
+    ensures outside { IfErr result (λ e. OrOutside e ⊥) }
+{
+    for row in rows {
+        match mark_row(source, entry, *row, ranges) {
+            Ok(()) => {}
+            Err(error) => return Err(error),
+        }
+    }
+    Ok(())
+}

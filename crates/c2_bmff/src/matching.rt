@@ -1,0 +1,46 @@
+// The positions that the boxes on a path exclude.
+ghost use Rattle.std.specs.Prelude.{◌≡◌, ◌↔◌, ◌+◌, ◌<◌, ◌≤◌, true, ℕ, List, All, OnOk, IfOk, IfErr};
+ghost use Rattle.std.specs.Option.{ForSome};
+ghost use Rattle.c2_base.specs.Source.{StaysSource};
+ghost use Rattle.c2_bmff.specs.Causes.{IsCaused, OrOutside};
+ghost use Rattle.c2_bmff.specs.Marks.{IsRangeWithin};
+ghost use Rattle.c2_bmff.specs.Matched.{AreExcluded};
+ghost use Rattle.c2_bmff.specs.Roots.{FillSource};
+
+use crate::children::boxes_on;
+use crate::exclusion::Exclusion;
+use crate::marking::mark;
+use crate::roots::Roots;
+use c2_base::{MediaError, Ranges, Source};
+use std::alloc::Global;
+
+/// The ranges that an exclusion of a BMFF hash excludes, of the file with these root boxes (C2PA Technical Specification 2.x,
+/// "BMFF-based hash"): the boxes on its path that have the stated length and meet the byte tests, or their subset.
+///
+/// The ranges may overlap. [`MediaError::ReadFault`] comes only where the source failed, [`MediaError::NoMemory`] where memory ran
+/// out, and no other error comes.
+pub fn match_path<S: Source>(
+    alloc: Global,
+    source: &mut S,
+    roots: &Roots,
+    entry: &Exclusion,
+) -> Result<Ranges, MediaError>
+    requires fill { FillSource (S.len source.old) 0 roots.now }
+    ensures excluded { IfOk result (λ ranges. ForSome (S.known source.old) (λ file.
+        AreExcluded file roots.now entry.now ranges)) }
+    ensures within { IfOk result (All (IsRangeWithin (S.len source.old))) }
+    ensures stays { StaysSource S.len S.known S.faults source.old source.new }
+    ensures count { OnOk result (S.faults source.new ≡ S.faults source.old) }
+    ensures cause { IfErr result (IsCaused (S.faults source.old) (S.faults source.new)) }
+    ensures outside { IfErr result (λ e. OrOutside e ⊥) }
+{
+    let mut ranges = Vec::new(alloc);
+    let rows = match boxes_on(alloc, source, roots.as_slice(), entry.path.segments()) {
+        Ok(rows) => rows,
+        Err(error) => return Err(error),
+    };
+    match mark(source, entry, &rows, &mut ranges) {
+        Ok(()) => Ok(Ranges::from_list(ranges)),
+        Err(error) => Err(error),
+    }
+}
