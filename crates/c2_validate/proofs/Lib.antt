@@ -1,1 +1,9 @@
+mod BoundLemmas
+mod ChainLemmas
+mod CheckLemmas
+mod CountLemmas
+mod EachCheck
+mod OneCheck
 mod Reading
+mod StoreLemmas
+mod TopLemmas

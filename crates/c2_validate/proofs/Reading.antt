@@ -14,7 +14,6 @@ use Rattle.c2_spec.specs.declared.reason.Refusal.{Refusal}
 use Rattle.c2_spec.specs.declared.store.ManifestBoxes.{ManifestBoxes}
 use Rattle.c2_spec.specs.declared.store.StoreError.{StoreError}
 use Rattle.c2_spec.specs.declared.store.StoreError.TheVariants as store
-use Rattle.c2_rules.specs.Opened.{IsManifestStore}
 use Rattle.c2_validate.specs.Opened.{IsRead}
 use Rattle.c2_validate.specs.declared.types.StoreRead.TheVariants.{Here, Refused}
 

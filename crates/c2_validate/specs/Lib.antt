@@ -1,1 +1,4 @@
+pub mod Checks
+pub mod Counts
 pub mod Opened
+pub mod Validation

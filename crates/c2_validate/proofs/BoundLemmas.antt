@@ -1,0 +1,286 @@
+-- The binding of a manifest: which of its entries it is, and what was found of it.
+use Rattle.std.proofs.Common.{◌≡◌, ◌⊎◌, inl, inr, ℕ, ◌+◌, ◌<◌, ◌≤◌, Bool, true, false, cond, not, List, [], ◌∷◌, ◌++◌, length, drop, drop_of_length-le, get_or, filter, filter_map, bytes_eq, Option, Some, None, Result, Ok, Err, IfOk, IsErr, is_some, is_none, slice_get, option_and_then, refl, sym, ap, ◌∙◌, subst}
+use Rattle.std.specs.List.{cons_option}
+use Rattle.std.specs.Option.{option_or}
+use Rattle.std.proofs.lemmas.List.{drop_more}
+use Rattle.std.proofs.lemmas.List.Elements.{filter_map-append}
+use Rattle.c2_base.specs.declared.values.Range.{Range}
+use Rattle.c2_spec.specs.C2pa.Assertion.{data_hash_of}
+use Rattle.c2_spec.specs.C2pa.Manifest.{Manifest}
+use Rattle.c2_spec.specs.Cbor.Item.{Item}
+use Rattle.c2_spec.specs.Cbor.Spelling.{Spells}
+use Rattle.c2_spec.specs.Cover.{bad_range, excluded_positions}
+use Rattle.c2_spec.specs.Digest.{alg_named}
+use Rattle.c2_spec.specs.declared.assertion.DataHash.{DataHash}
+use Rattle.c2_spec.specs.declared.assertion.FieldError.{FieldError}
+use Rattle.c2_spec.specs.declared.assertion.FieldError.TheVariants as field
+use Rattle.c2_spec.specs.declared.assertion.Kind.{Kind}
+use Rattle.c2_spec.specs.declared.assertion.Kind.TheVariants as kinds
+use Rattle.c2_spec.specs.declared.cbor.Ref.{Ref}
+use Rattle.c2_spec.specs.declared.claim.Claim.{Claim}
+use Rattle.c2_spec.specs.declared.digest.Alg.{Alg}
+use Rattle.c2_cover.specs.Covers.{Covered, IsCoverOf, excluded_of, text_of}
+use Rattle.c2_cover.specs.Refused.{IsCause}
+use Rattle.c2_cover.specs.declared.cover.CoverError.{CoverError}
+use Rattle.c2_cover.specs.declared.cover.CoverError.TheVariants as cover_error
+use Rattle.c2_rules.specs.Binding.{Binding, Media, IsItemOf, HasBinding, IsBinding, IsBmffBinding, IsLabelledBinding, binding_label, binding_payload, binding_value, bound_tests, bound_to_tests, mismatch_code, field_code, jpeg_refusal, data_binding}
+use Rattle.c2_rules.specs.Chains.{entry_label, label_in}
+use Rattle.c2_rules.specs.CheckList as list
+use Rattle.c2_rules.specs.Ingredients.{assertion_uri}
+use Rattle.c2_rules.specs.Readings.{ReadBox, Reading, entries_of, value_in}
+use Rattle.c2_rules.specs.Rules.{label_kind, is_binding, box_with, alg_in, has_digest_by, manifest_uri}
+use Rattle.c2_rules.specs.Tests.{Test, test, first_failing}
+use Rattle.c2_rules.specs.declared.answer.Failing.{Failing}
+use Rattle.c2_rules.specs.declared.code.Code.{Code}
+use Rattle.c2_rules.specs.declared.code.Code.TheVariants as code
+use Rattle.c2_rules.specs.declared.parsed.Parsed.{Parsed}
+use Rattle.c2_rules.specs.declared.parsed.Parsed.TheVariants.{Value}
+use Rattle.c2_validate.specs.Checks.{binding_entry, item_with, data_binding_of, IsFoundBy, IsBoundBy, IsBoundAs, after_alg_tests, is_bmff_kind, media_of}
+use Rattle.c2_validate.specs.declared.bound.Bound.{Bound}
+use Rattle.c2_validate.specs.declared.types.Container.{Container}
+use Rattle.c2_validate.specs.declared.types.Container.TheVariants.{Jpeg}
+use Rattle.c2_validate.specs.declared.bound.Bound.TheVariants.{Fails, Covers}
+
+-- ---- the first binding of some entries
+
+-- the first of what is kept, where nothing is kept of the first places
+pub first_found : {X Y : Type 0} (h : X → Option Y) (xs : List X) (k : ℕ) (x : X) (o : Option Y) (y : Y) → k < length xs → x ≡ get_or xs k x → slice_get (filter_map h xs) 0 ≡ slice_get (filter_map h (drop k xs)) 0 → o ≡ h x → o ≡ Some y
+    → Some y ≡ slice_get (filter_map h xs) 0
+first_found h xs k x o y lt at so_far is some =
+    let step : filter_map h (drop k xs) ≡ cons_option (h x) (filter_map h (drop (k + 1) xs)) = ap (filter_map h) (drop_more xs k x lt) ∙ ap (λ z. cons_option (h z) (filter_map h (drop (k + 1) xs))) (sym at) in
+    let here : h x ≡ Some y = sym is ∙ some in
+    sym (so_far ∙ ap (λ zs. slice_get zs 0) (step ∙ ap (λ z. cons_option z (filter_map h (drop (k + 1) xs))) here))
+
+pub first_passed : {X Y : Type 0} (h : X → Option Y) (xs : List X) (k : ℕ) (x : X) (o : Option Y) → k < length xs → x ≡ get_or xs k x → slice_get (filter_map h xs) 0 ≡ slice_get (filter_map h (drop k xs)) 0 → o ≡ h x → o ≡ None
+    → slice_get (filter_map h xs) 0 ≡ slice_get (filter_map h (drop (k + 1) xs)) 0
+first_passed h xs k x o lt at so_far is none =
+    let step : filter_map h (drop k xs) ≡ cons_option (h x) (filter_map h (drop (k + 1) xs)) = ap (filter_map h) (drop_more xs k x lt) ∙ ap (λ z. cons_option (h z) (filter_map h (drop (k + 1) xs))) (sym at) in
+    let here : h x ≡ None = sym is ∙ none in
+    so_far ∙ ap (λ zs. slice_get zs 0) (step ∙ ap (λ z. cons_option z (filter_map h (drop (k + 1) xs))) here)
+
+pub first_none : {X Y : Type 0} (h : X → Option Y) (xs : List X) (k : ℕ) → length xs ≤ k → slice_get (filter_map h xs) 0 ≡ slice_get (filter_map h (drop k xs)) 0 → None ≡ slice_get (filter_map h xs) 0
+first_none h xs k past so_far = sym (so_far ∙ ap (λ ys. slice_get (filter_map h ys) 0) (drop_of_length-le xs past))
+
+-- the entries of bindings are those of the labels that are bindings
+kept : (m : Manifest) (es : List Ref) → filter (λ (l : List ℕ). is_binding (label_kind l)) (filter_map (entry_label m) es) ≡ filter_map (binding_entry m) es
+kept m [] = refl
+kept m (e ∷ es) = by (entry_label m e) ∙ ap (cons_option (binding_entry m e)) (kept m es)
+  where
+    one : (l : List ℕ) (b : Bool) (ls : List (List ℕ)) → cond b (l ∷ ls) ls ≡ cons_option (cond b (Some l) None) ls
+    one l true ls = refl
+    one l false ls = refl
+
+    by : (o : Option (List ℕ)) → filter (λ (l : List ℕ). is_binding (label_kind l)) (cons_option o (filter_map (entry_label m) es))
+        ≡ cons_option (option_and_then (λ (l : List ℕ). cond (is_binding (label_kind l)) (Some l) None) o) (filter (λ (l : List ℕ). is_binding (label_kind l)) (filter_map (entry_label m) es))
+    by None = refl
+    by (Some l) = one l (is_binding (label_kind l)) (filter (λ (l : List ℕ). is_binding (label_kind l)) (filter_map (entry_label m) es))
+
+first_of : {Y : Type 0} (xs ys : List Y) → slice_get (xs ++ ys) 0 ≡ option_or (slice_get xs 0) (slice_get ys 0)
+first_of [] ys = refl
+first_of (x ∷ xs) ys = refl
+
+label_of : (r : Reading) (c : Claim) → r.claim ≡ Value c → binding_label r ≡ option_or (slice_get (filter_map (binding_entry r.manifest) c.created) 0) (slice_get (filter_map (binding_entry r.manifest) c.gathered) 0)
+label_of r c is =
+    ap (λ (p : Parsed Claim). slice_get (filter (λ (l : List ℕ). is_binding (label_kind l)) (filter_map (entry_label r.manifest) (entries_of (value_in p)))) 0) is
+    ∙ ap (λ zs. slice_get zs 0) (kept r.manifest (c.created ++ c.gathered) ∙ filter_map-append (binding_entry r.manifest) c.created c.gathered)
+    ∙ first_of (filter_map (binding_entry r.manifest) c.created) (filter_map (binding_entry r.manifest) c.gathered)
+
+pub label_first : (r : Reading) (c : Claim) (o : Option (List ℕ)) (l : List ℕ) → r.claim ≡ Value c → o ≡ slice_get (filter_map (binding_entry r.manifest) c.created) 0 → o ≡ Some l → Some l ≡ binding_label r
+label_first r c o l is first some = sym (label_of r c is ∙ ap (λ x. option_or x (slice_get (filter_map (binding_entry r.manifest) c.gathered) 0)) (sym first ∙ some))
+
+pub label_second : (r : Reading) (c : Claim) (o p : Option (List ℕ)) → r.claim ≡ Value c → o ≡ slice_get (filter_map (binding_entry r.manifest) c.created) 0 → o ≡ None → p ≡ slice_get (filter_map (binding_entry r.manifest) c.gathered) 0 → p ≡ binding_label r
+label_second r c o p is first none second = second ∙ sym (label_of r c is ∙ ap (λ x. option_or x (slice_get (filter_map (binding_entry r.manifest) c.gathered) 0)) (sym first ∙ none))
+
+-- ---- what was found
+
+found_same : (ts us : List Test) (xs ys : List ℕ) (b : Bound) → first_failing ts ≡ first_failing us → xs ≡ ys → IsFoundBy ts xs b → IsFoundBy us ys b
+found_same ts us xs ys (Fails f) same excluded h = h ∙ same
+found_same ts us xs ys (Covers c) same excluded h = (h.0 ∙ same, sym excluded ∙ h.1)
+
+pub found_as : {E : Type 0} (r : Result Bound E) (ts us : List Test) (xs ys : List ℕ) → first_failing ts ≡ first_failing us → xs ≡ ys → IfOk r (IsFoundBy ts xs) → IfOk r (IsFoundBy us ys)
+found_as (Ok b) ts us xs ys same excluded h = found_same ts us xs ys b same excluded h
+found_as (Err e) ts us xs ys same excluded h = tt
+
+-- a test fails, and what is found says so
+pub found_fails : {E : Type 0} (r : Result Bound E) (ts : List Test) (xs : List ℕ) (f : Failing) → Some f ≡ first_failing ts → IfOk r (λ found. found ≡ Fails f) → IfOk r (IsFoundBy ts xs)
+found_fails (Ok b) ts xs f fails h = subst (IsFoundBy ts xs) (sym h) fails
+found_fails (Err e) ts xs f fails h = tt
+
+-- ---- a data hash
+
+-- the digest is another, or the same
+pub digest_same : (named here text : List ℕ) (c : Code) (uri : List ℕ) (cover : Covered) (b : Bool) → b ≡ bytes_eq here named → b ≡ true → here ≡ text → IsFoundBy (test (not (bytes_eq text named)) c uri ∷ []) (excluded_of cover) (Covers cover)
+digest_same named here text c uri cover b is agrees same =
+    (sym (ap (λ (t : Bool). first_failing (test (not t) c uri ∷ [])) (ap (λ (x : List ℕ). bytes_eq x named) (sym same) ∙ sym is ∙ agrees)), refl)
+
+pub digest_other : {E : Type 0} (named here text : List ℕ) (c k : Code) (uri : List ℕ) (cover : Covered) (b : Bool) (r : Result Bound E) → b ≡ bytes_eq here named → b ≡ false → here ≡ text → k ≡ c
+    → IfOk r (λ found. found ≡ Fails (record { code = k; uri = uri })) → IfOk r (IsFoundBy (test (not (bytes_eq text named)) c uri ∷ []) (excluded_of cover))
+digest_other {E} named here text c k uri cover b r is differs same coded h =
+    found_fails r (test (not (bytes_eq text named)) c uri ∷ []) (excluded_of cover) (record { code = c; uri = uri })
+    (sym (ap (λ (t : Bool). first_failing (test (not t) c uri ∷ [])) (ap (λ (x : List ℕ). bytes_eq x named) (sym same) ∙ sym is ∙ differs)))
+    (subst (λ (x : Code). IfOk r (λ found. found ≡ Fails (record { code = x; uri = uri }))) coded h)
+
+-- the ranges are in order: the digest is left
+left : {E : Type 0} (hash : Alg → List ℕ → List ℕ) (alg : Alg) (kind : Kind) (uri : List ℕ) (d : DataHash) (file : List ℕ) (size : ℕ) (c : Covered) (r : Result Bound E) → length file ≡ size → IsCoverOf size d.exclusions c → bad_range size d.exclusions ≡ None
+    → IfOk r (IsFoundBy (test (not (bytes_eq (hash alg (text_of c file)) d.hash)) (mismatch_code kind) uri ∷ []) (excluded_of c))
+    → IfOk r (IsFoundBy (after_alg_tests hash alg kind uri (data_binding_of file d)) (data_binding_of file d).excluded)
+left {E} hash alg kind uri d file size c r long cover fit h =
+    let b = data_binding_of file d in
+    let ordered : b.in_order ≡ true = ap (λ n. is_none (bad_range n d.exclusions)) long ∙ ap is_none fit in
+    let text : text_of c file ≡ b.text = cover.text file in
+    let excluded : excluded_of c ≡ b.excluded = cover.excluded ∙ ap (excluded_positions d.exclusions) (sym long) in
+    found_as r (test (not (bytes_eq (hash alg (text_of c file)) d.hash)) (mismatch_code kind) uri ∷ []) (after_alg_tests hash alg kind uri b) (excluded_of c) b.excluded
+    (ap (λ t. first_failing (test (not (bytes_eq (hash alg t) d.hash)) (mismatch_code kind) uri ∷ [])) text
+    ∙ sym (ap (λ (t : Bool). first_failing (test (not t) code.ProfileHashForm uri ∷ test (not (bytes_eq (hash alg b.text) b.hash)) (mismatch_code kind) uri ∷ [])) ordered)) excluded h
+
+pub digest_left : {E : Type 0} (hash : Alg → List ℕ → List ℕ) (alg : Alg) (kind : Kind) (uri : List ℕ) (d : DataHash) (ranges : List Range) (named : List ℕ) (file : List ℕ) (size len : ℕ) (c : Covered) (r : Result Bound E) → ranges ≡ d.exclusions → named ≡ d.hash
+    → length file ≡ len → size ≡ len → IsCoverOf size ranges c → bad_range size ranges ≡ None
+    → IfOk r (IsFoundBy (test (not (bytes_eq (hash alg (text_of c file)) named)) (mismatch_code kind) uri ∷ []) (excluded_of c))
+    → IfOk r (IsFoundBy (after_alg_tests hash alg kind uri (data_binding_of file d)) (data_binding_of file d).excluded)
+digest_left {E} hash alg kind uri d ranges named file size len c r same hashed long sized cover fit h =
+    left hash alg kind uri d file size c r (long ∙ sym sized) (subst (λ (x : List Range). IsCoverOf size x c) same cover) (subst (λ (x : List Range). bad_range size x ≡ None) same fit)
+    (subst (λ (x : List ℕ). IfOk r (IsFoundBy (test (not (bytes_eq (hash alg (text_of c file)) x)) (mismatch_code kind) uri ∷ []) (excluded_of c))) hashed h)
+
+-- a range is refused
+refused_at : {E : Type 0} (hash : Alg → List ℕ → List ℕ) (alg : Alg) (kind : Kind) (uri : List ℕ) (d : DataHash) (file : List ℕ) (size i : ℕ) (r : Result Bound E) → length file ≡ size → bad_range size d.exclusions ≡ Some i
+    → IfOk r (λ found. found ≡ Fails (record { code = code.ProfileHashForm; uri = uri })) → IfOk r (IsFoundBy (after_alg_tests hash alg kind uri (data_binding_of file d)) (data_binding_of file d).excluded)
+refused_at {E} hash alg kind uri d file size i r long bad h =
+    let b = data_binding_of file d in
+    let disordered : b.in_order ≡ false = ap (λ n. is_none (bad_range n d.exclusions)) long ∙ ap is_none bad in
+    found_fails r (after_alg_tests hash alg kind uri b) b.excluded (record { code = code.ProfileHashForm; uri = uri })
+    (sym (ap (λ (t : Bool). first_failing (test (not t) code.ProfileHashForm uri ∷ test (not (bytes_eq (hash alg b.text) b.hash)) (mismatch_code kind) uri ∷ [])) disordered)) h
+
+pub range_refused : {E : Type 0} (hash : Alg → List ℕ → List ℕ) (alg : Alg) (kind : Kind) (uri : List ℕ) (d : DataHash) (ranges : List Range) (file : List ℕ) (size len : ℕ) (e : CoverError) (r : Result Bound E) → ranges ≡ d.exclusions → length file ≡ len → size ≡ len
+    → IsCause size ranges e → (e ≡ cover_error.NoMemory → IsErr r) → IfOk r (λ found. found ≡ Fails (record { code = code.ProfileHashForm; uri = uri }))
+    → IfOk r (IsFoundBy (after_alg_tests hash alg kind uri (data_binding_of file d)) (data_binding_of file d).excluded)
+range_refused hash alg kind uri d ranges file size len e (Err x) same long sized cause memory h = tt
+range_refused {E} hash alg kind uri d ranges file size len (cover_error.BadRange i) (Ok b) same long sized cause memory h =
+    refused_at {E = E} hash alg kind uri d file size i (Ok b) (long ∙ sym sized) (subst (λ (x : List Range). bad_range size x ≡ Some i) same cause) h
+range_refused hash alg kind uri d ranges file size len cover_error.NoMemory (Ok b) same long sized cause memory h = absurd (let no = memory refl in cc (no))
+
+-- the rules on a binding, by its algorithm
+abbrev by_alg : (hash : Alg → List ℕ → List ℕ) (uri : List ℕ) (kind : Kind) (b : Binding) → Option Alg → List Test
+by_alg hash uri kind b alg =
+    test (not (is_some alg)) code.AlgorithmUnsupported uri ∷ test (not b.in_order) code.ProfileHashForm uri ∷ test (not (has_digest_by hash alg b.text b.hash)) (mismatch_code kind) uri ∷ []
+
+pub alg_known : {E : Type 0} (hash : Alg → List ℕ → List ℕ) (r : Reading) (uri : List ℕ) (kind : Kind) (b : Binding) (alg : Alg) (o : Option Alg) (result : Result Bound E) → o ≡ alg_named (alg_in r b.alg) → o ≡ Some alg
+    → IfOk result (IsFoundBy (after_alg_tests hash alg kind uri b) b.excluded) → IfOk result (IsBoundBy hash r uri kind (Ok b))
+alg_known {E} hash r uri kind b alg o result is some h =
+    found_as result (after_alg_tests hash alg kind uri b) (bound_tests hash r uri kind (Ok b)) b.excluded b.excluded
+    (sym (ap (λ (x : Option Alg). first_failing (by_alg hash uri kind b x)) (sym is ∙ some))) refl h
+
+pub alg_unknown : {E : Type 0} (hash : Alg → List ℕ → List ℕ) (r : Reading) (uri : List ℕ) (kind : Kind) (b : Binding) (o : Option Alg) (result : Result Bound E) → o ≡ alg_named (alg_in r b.alg) → o ≡ None
+    → IfOk result (λ found. found ≡ Fails (record { code = code.AlgorithmUnsupported; uri = uri })) → IfOk result (IsBoundBy hash r uri kind (Ok b))
+alg_unknown {E} hash r uri kind b o result is none h =
+    found_fails result (bound_tests hash r uri kind (Ok b)) b.excluded (record { code = code.AlgorithmUnsupported; uri = uri })
+    (sym (ap (λ (x : Option Alg). first_failing (by_alg hash uri kind b x)) (sym is ∙ none))) h
+
+-- a field is refused
+pub field_refused : {E : Type 0} (hash : Alg → List ℕ → List ℕ) (r : Reading) (uri : List ℕ) (kind : Kind) (file : List ℕ) (v : Item) (e : FieldError) (result : Result Bound E) → (e ≡ field.NoMemory) ⊎ (data_hash_of v ≡ Err e) → (e ≡ field.NoMemory → IsErr result)
+    → IfOk result (λ found. found ≡ Fails (record { code = field_code e; uri = uri })) → IfOk result (IsBoundBy hash r uri kind (data_binding file (data_hash_of v)))
+field_refused hash r uri kind file v e (Err x) cause memory h = tt
+field_refused hash r uri kind file v e (Ok b) (inl out) memory h = absurd (let no = memory out in cc (no))
+field_refused hash r uri kind file v e (Ok b) (inr is) memory h =
+    subst (λ (d : Result DataHash FieldError). IsBoundBy hash r uri kind (data_binding file d) b) (sym is) (subst (IsBoundBy hash r uri kind (Err e)) (sym h) refl)
+
+-- a data hash was read
+pub data_read : {E : Type 0} (hash : Alg → List ℕ → List ℕ) (r : Reading) (uri : List ℕ) (kind : Kind) (file : List ℕ) (v : Item) (d : DataHash) (result : Result Bound E) → data_hash_of v ≡ Ok d
+    → IfOk result (IsBoundBy hash r uri kind (Ok (data_binding_of file d))) → IfOk result (IsBoundBy hash r uri kind (data_binding file (data_hash_of v)))
+data_read {E} hash r uri kind file v d result is h = subst (λ (x : Result DataHash FieldError). IfOk result (IsBoundBy hash r uri kind (data_binding file x))) (sym is) h
+
+-- ---- an item
+
+pub bmff_item : (media : Media) (kind : Kind) (v : Item) (b : Result Binding FieldError) → is_bmff_kind kind ≡ true → IsBinding media kind v b → IsBmffBinding media.container (length media.bytes) v b
+bmff_item media kinds.BmffHash v b is h = h
+bmff_item media kinds.DataHash v b is h = absurd (cc (is))
+bmff_item media kinds.OtherHash v b is h = absurd (cc (is))
+bmff_item media kinds.Ingredient v b is h = absurd (cc (is))
+bmff_item media kinds.IngredientOther v b is h = absurd (cc (is))
+bmff_item media kinds.Actions v b is h = absurd (cc (is))
+bmff_item media kinds.Cloud v b is h = absurd (cc (is))
+bmff_item media kinds.Ordinary v b is h = absurd (cc (is))
+
+pub data_item : (media : Media) (kind : Kind) (v : Item) (b : Result Binding FieldError) → is_bmff_kind kind ≡ false → IsBinding media kind v b → b ≡ data_binding media.bytes (data_hash_of v)
+data_item media kinds.BmffHash v b is h = absurd (cc (is))
+data_item media kinds.DataHash v b is h = h
+data_item media kinds.OtherHash v b is h = h
+data_item media kinds.Ingredient v b is h = h
+data_item media kinds.IngredientOther v b is h = h
+data_item media kinds.Actions v b is h = h
+data_item media kinds.Cloud v b is h = h
+data_item media kinds.Ordinary v b is h = h
+
+-- a BMFF hash in a JPEG
+pub in_jpeg : {E : Type 0} (hash : Alg → List ℕ → List ℕ) (file : List ℕ) (r : Reading) (uri : List ℕ) (kind : Kind) (c : Container) (v : Item) (e : FieldError) (b : Result Binding FieldError) (result : Result Bound E) → is_bmff_kind kind ≡ true → e ≡ jpeg_refusal v
+    → IfOk result (λ found. found ≡ Fails (record { code = field_code e; uri = uri })) → IsBinding (media_of file c) kind v b → IfOk result (IsBoundBy hash r uri kind b)
+in_jpeg {E} hash file r uri kind Jpeg v e b result bmff refused h is =
+    let same : b ≡ Err e = bmff_item (media_of file Jpeg) kind v b bmff is ∙ ap Err (sym refused) in
+    subst (λ (x : Result Binding FieldError). IfOk result (IsBoundBy hash r uri kind x)) (sym same) (found_fails result (bound_tests hash r uri kind (Err e)) [] (record { code = field_code e; uri = uri }) refl h)
+
+-- the kind that was told
+pub kind_named : {E : Type 0} (hash : Alg → List ℕ → List ℕ) (r : Reading) (uri : List ℕ) (k l : Kind) (b : Result Binding FieldError) (result : Result Bound E) → k ≡ l → IfOk result (IsBoundBy hash r uri k b) → IfOk result (IsBoundBy hash r uri l b)
+kind_named {E} hash r uri k l b result same h = subst (λ (x : Kind). IfOk result (IsBoundBy hash r uri x b)) same h
+
+-- a data hash, or another kind
+pub in_data : {E : Type 0} (hash : Alg → List ℕ → List ℕ) (file : List ℕ) (r : Reading) (uri : List ℕ) (kind : Kind) (c : Container) (v : Item) (b : Result Binding FieldError) (result : Result Bound E) → is_bmff_kind kind ≡ false
+    → IfOk result (IsBoundBy hash r uri kind (data_binding file (data_hash_of v))) → IsBinding (media_of file c) kind v b → IfOk result (IsBoundBy hash r uri kind b)
+in_data {E} hash file r uri kind c v b result other h is = subst (λ (x : Result Binding FieldError). IfOk result (IsBoundBy hash r uri kind x)) (sym (data_item (media_of file c) kind v b other is)) h
+
+-- ---- the binding of a manifest
+
+abbrev BoundTo : (hash : Alg → List ℕ → List ℕ) → Reading → Option (Result Binding FieldError) → Option (List ℕ) → Bound → Type 0
+BoundTo hash r b label found = IsFoundBy (bound_to_tests hash r b label) (list.excluded_of (binding_value b)) found
+
+payload_is : (r : Reading) (label : List ℕ) → binding_label r ≡ Some label → binding_payload r ≡ item_with r label
+payload_is r label is = ap (λ (o : Option (List ℕ)). option_and_then (λ (b : ReadBox). b.boxed.item) (option_and_then (box_with r) o)) is
+
+-- bytes spell one item at most
+abbrev pub OneItem : Type 0
+OneItem = (v w : Item) (s : List ℕ) → Spells v s → Spells w s → v ≡ w
+
+one_item_of : OneItem → (o : Option (List ℕ)) (a b : Option Item) → IsItemOf o a → IsItemOf o b → a ≡ b
+one_item_of one None None None p q = refl
+one_item_of one None None (Some w) p q = absurd q
+one_item_of one None (Some v) b p q = absurd p
+one_item_of one (Some s) None None p q = refl
+one_item_of one (Some s) None (Some w) p q = absurd (p w q)
+one_item_of one (Some s) (Some v) None p q = absurd (q v p)
+one_item_of one (Some s) (Some v) (Some w) p q = ap Some (one v w s p.spelled q.spelled)
+
+-- the item that was read is that of the binding
+same_item : OneItem → (media : Media) (r : Reading) (label : List ℕ) (payload : Option (List ℕ)) (item : Option Item) (b : Option (Result Binding FieldError)) → binding_label r ≡ Some label → payload ≡ item_with r label → IsItemOf payload item
+    → HasBinding media r b → IsLabelledBinding media (Some label) item b
+same_item one_item media r label payload item b is same read has =
+    let there : IsItemOf (binding_payload r) item = subst (λ (o : Option (List ℕ)). IsItemOf o item) (same ∙ sym (payload_is r label is)) read in
+    let one : has.item ≡ item = one_item_of one_item (binding_payload r) has.item item has.is_item there in
+    subst (λ (o : Option (List ℕ)). IsLabelledBinding media o item b) is (subst (λ (v : Option Item). IsLabelledBinding media (binding_label r) v b) one has.is)
+
+by_label : {E : Type 0} (hash : Alg → List ℕ → List ℕ) (r : Reading) (label : List ℕ) (b : Option (Result Binding FieldError)) (result : Result Bound E) → binding_label r ≡ Some label → IfOk result (BoundTo hash r b (Some label)) → IfOk result (IsBoundAs hash r b)
+by_label {E} hash r label b result is h = subst (λ (o : Option (List ℕ)). IfOk result (BoundTo hash r b o)) (sym is) h
+
+pub bound_item : {E : Type 0} → OneItem → (hash : Alg → List ℕ → List ℕ) (media : Media) (r : Reading) (label : List ℕ) (payload : Option (List ℕ)) (o : Option Item) (v : Item) (b : Option (Result Binding FieldError)) (result : Result Bound E)
+    → binding_label r ≡ Some label → payload ≡ item_with r label → IsItemOf payload o → o ≡ Some v
+    → ((x : Result Binding FieldError) → IsBinding media (label_kind label) v x → IfOk result (IsBoundBy hash r (assertion_uri (label_in r) label) (label_kind label) x))
+    → HasBinding media r b → IfOk result (IsBoundAs hash r b)
+bound_item {E} one_item hash media r label payload o v b result is same read some h has =
+    by_label hash r label b result is (by b (same_item one_item media r label payload (Some v) b is same (subst (λ (x : Option Item). IsItemOf payload x) some read) has))
+  where
+    by : (p : Option (Result Binding FieldError)) → IsLabelledBinding media (Some label) (Some v) p → IfOk result (BoundTo hash r p (Some label))
+    by None k = absurd k
+    by (Some x) k = h x k
+
+pub bound_no_item : {E : Type 0} → OneItem → (hash : Alg → List ℕ → List ℕ) (media : Media) (r : Reading) (label : List ℕ) (payload : Option (List ℕ)) (o : Option Item) (b : Option (Result Binding FieldError)) (result : Result Bound E)
+    → binding_label r ≡ Some label → payload ≡ item_with r label → IsItemOf payload o → o ≡ None
+    → IfOk result (λ found. found ≡ Fails (record { code = code.AssertionCborInvalid; uri = assertion_uri (label_in r) label }))
+    → HasBinding media r b → IfOk result (IsBoundAs hash r b)
+bound_no_item {E} one_item hash media r label payload o b result is same read none h has =
+    let nothing : b ≡ None = same_item one_item media r label payload None b is same (subst (λ (x : Option Item). IsItemOf payload x) none read) has in
+    by_label hash r label b result is
+    (subst (λ (p : Option (Result Binding FieldError)). IfOk result (BoundTo hash r p (Some label))) (sym nothing)
+    (found_fails result (bound_to_tests hash r None (Some label)) [] (record { code = code.AssertionCborInvalid; uri = assertion_uri (label_in r) label }) refl h))
+
+pub unbound : {E : Type 0} (hash : Alg → List ℕ → List ℕ) (r : Reading) (o : Option (List ℕ)) (b : Option (Result Binding FieldError)) (result : Result Bound E) → o ≡ None → o ≡ binding_label r
+    → IfOk result (λ found. found ≡ Fails (record { code = code.AssertionCborInvalid; uri = manifest_uri r })) → IfOk result (IsBoundAs hash r b)
+unbound {E} hash r o b result none is h =
+    subst (λ (x : Option (List ℕ)). IfOk result (BoundTo hash r b x)) (sym none ∙ is)
+    (found_fails result (bound_to_tests hash r b None) (list.excluded_of (binding_value b)) (record { code = code.AssertionCborInvalid; uri = manifest_uri r }) refl h)
