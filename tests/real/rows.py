@@ -1,8 +1,9 @@
 #!/usr/bin/env python3
 """Small stores and what c2 must say of each, computed by store.py.
 
-    rows.py write              writes the tables of crates/c2_tests: a comment line that says what a row shows, then the store
-                               in hex, ` => `, and status and line of `show`, or of `questions` without verdict files
+    rows.py write [COMMAND..]  writes the tables of crates/c2_tests, those that are there or those of the commands: a comment line
+                               that says what a row shows, then the store in hex, ` => `, and status and line of `show`, of
+                               `questions` without verdict files, or of `validate` with a judge who approves every question
     rows.py check              fails where a table there isn't the one that would be written
     rows.py files DIRECTORY    writes a JPEG around each of these stores and of those of rule_rows.py, and the verdicts on the latter
 """
@@ -16,9 +17,32 @@ import rule_rows
 import show_rows
 from drafts import Jpeg
 from make_store import jpeg
+from media import media_of
 from store import report
 
-ROWS = {"show": show_rows.rows, "questions": question_rows.rows}
+# the bytes of a store above which it is left out of the tables
+LONGEST = 5_000
+
+
+class Approving(dict):
+    """A judge who approves every question."""
+
+    def __missing__(self, identity):
+        return "approved"
+
+    def __contains__(self, identity):
+        return True
+
+
+def checked_rows():
+    """The stores of rule_rows.py that no judge refuses, and that aren't long."""
+    for what, _, drafts in rule_rows.rows():
+        contents = media_of(Jpeg().file(drafts)).store
+        if len(contents) <= LONGEST and not any(draft.signature in rule_rows.REFUSED for draft in drafts):
+            yield what, contents
+
+
+ROWS = {"show": show_rows.rows, "questions": question_rows.rows, "validate": checked_rows}
 
 
 # What a source text of Rust can't have as it is, or shouldn't.
@@ -28,7 +52,7 @@ NOT_PLAIN = ("\x7f", "\u2028", "\u2029")
 def rows_of(command):
     """The rows of a command: two lines each, what it shows and the row. A report of several lines has ` / ` between them."""
     for what, contents in ROWS[command]():
-        line, status = report(command, jpeg(contents))
+        line, status = report(command, jpeg(contents), [Approving()] if command == "validate" else [])
         line = line.replace("\n", " / ")
         yield f"# {what}\n{contents.hex()} => {status} {line}\n"
 
@@ -58,20 +82,22 @@ def module(command):
     return path, text
 
 
-def write_modules():
-    for command in ROWS:
+def write_modules(commands):
+    for command in commands or ROWS:
         path, text = module(command)
-        path.write_text(text, encoding="utf-8")
+        if commands or path.exists():
+            path.write_text(text, encoding="utf-8")
 
 
 def check_modules():
-    """The names of modules whose table isn't the one that would be written."""
-    return [path.name for path, text in map(module, ROWS) if path.read_text(encoding="utf-8") != text]
+    """The names of modules whose table isn't the one that would be written; those that aren't there yet are left out."""
+    modules = [(path, text) for path, text in map(module, ROWS) if path.exists()]
+    return [path.name for path, text in modules if path.read_text(encoding="utf-8") != text]
 
 
 def write_files(directory):
-    for command, rows in ROWS.items():
-        for number, (_, contents) in enumerate(rows(), 1):
+    for command in "show", "questions":
+        for number, (_, contents) in enumerate(ROWS[command](), 1):
             write_file(directory, f"row-{command}-{number:03}.jpg", jpeg(contents))
     verdicts = {}
     for number, (_, _, drafts) in enumerate(rule_rows.rows(), 1):
@@ -88,11 +114,11 @@ def write_file(directory, name, contents):
 
 
 def main():
-    command, *directory = sys.argv[1:]
+    command, *more = sys.argv[1:]
     if command == "files":
-        write_files(*directory)
+        write_files(*more)
     elif command == "write":
-        write_modules()
+        write_modules(more)
     elif command == "check":
         wrong = check_modules()
         for name in wrong:
