@@ -28,6 +28,7 @@ class Film:
 
     def __init__(self, exclusions):
         self.exclusions, self.boxes, self.covered, self.at, self.count = exclusions, [], hashlib.sha256(), len(FTYP), 0
+        self.refusal = None
 
     def add(self, contents, covered):
         if covered is not None:
@@ -43,8 +44,8 @@ class Film:
         store = write(drafts, Written(0, 0, self.covered.digest()))
         question = Read(store, manifests_of(jumbf.read(store))[0]).question()
         outside = self.at - self.count
-        answer = f"valid manifests=1 assertions=1 covered={self.count} outside={outside}\n"
-        return media.around(store), f"{question} approved\n".encode(), answer.encode()
+        answer = self.refusal or f"valid manifests=1 assertions=1 covered={self.count} outside={outside}"
+        return media.around(store), f"{question} approved\n".encode(), f"{answer}\n".encode()
 
 
 def tested(path, offset, value):
@@ -133,6 +134,40 @@ def deep(count):
     yield "deep_counted", film
 
 
+def many_tests(count):
+    """One exclusion with as many tests and parts as fit, over as many root boxes as there may be."""
+    number, many = count(MOST_ROOTS) - 2, count(1_000_000)
+
+    def with_roots(one, kept):
+        film = Film([one])
+        for _ in range(number):
+            film.add(FREE, kept)
+        return film
+
+    tests = lambda offset, value: array(*[mapping(("offset", uint(offset)), ("value", data(value)))] * many)
+    yield "empty_values", with_roots(exclusion("/free", ("data", tests(0, b""))), None)
+    yield "equal_values", with_roots(exclusion("/free", ("data", tests(4, b"f"))), None)
+    yield "empty_values_behind", with_roots(exclusion("/free", ("data", tests(9, b""))), FREE)
+    falling = [mapping(("offset", uint(at, 4)), ("length", uint(1))) for at in range(many, -1, -2)]
+    yield "falling_parts", with_roots(exclusion("/free", ("subset", array(*falling))), FREE[1::2])
+    one = count(16_000_000)
+    film = Film([exclusion("/free", ("subset", array(*falling)))])
+    film.add(box(b"free", bytes(one)), kept_of(box(b"free", bytes(one)), many))
+    yield "falling_parts_of_one", film
+
+
+def kept_of(contents, many):
+    """A box less its bytes at even offsets up to `many`."""
+    return contents[1 : many + 1 : 2] + contents[many + 1 :]
+
+
+def many_exclusions(count):
+    """As many exclusions as fit."""
+    film = Film([exclusion("/free")] * count(2_200_000))
+    film.refusal = "failing unsupported.tooManyExclusions self#jumbf=/c2pa/m/c2pa.assertions/c2pa.hash.bmff.v2"
+    yield "many_exclusions", film
+
+
 def long_values(count):
     """Byte tests with long values that hold but for the last byte."""
     length = 32_000
@@ -146,7 +181,7 @@ def long_values(count):
 def main():
     directory, scale = sys.argv[1], float(sys.argv[2]) if len(sys.argv) > 2 else 100
     os.makedirs(directory, exist_ok=True)
-    for group in roots, children, deep, long_values:
+    for group in roots, children, deep, many_tests, many_exclusions, long_values:
         for name, film in group(lambda number: max(4, int(number * scale / 100))):
             if sys.argv[3:] and name not in sys.argv[3:]:
                 continue
