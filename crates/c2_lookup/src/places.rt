@@ -29,6 +29,7 @@ pub fn first_place(places: &Places<'_>, label: &str) -> Option<usize>
     places.first.get(label).copied()
 }
 
+/// Keeps this place of a label, in the stead of the one that it had.
 fn keep<'t>(places: &mut Places<'t>, label: &'t str, place: usize) -> Result<(), NoMemory>
     ensures { OnOk result
         ((other : List ℕ) → kept_place places.new other
