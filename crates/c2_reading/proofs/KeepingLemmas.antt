@@ -15,15 +15,18 @@ use Rattle.c2_rules.specs.Readings.{Reading, ReadBox, IsReadBox, IsReading, AreR
 use Rattle.c2_rules.specs.declared.parsed.Parsed.{Parsed}
 use Rattle.c2_reading.specs.Keeping.{manifest_of}
 
+-- the boxes in what a list of boxes is read as are the boxes of that list
 same_boxes : (bs : List Superbox) (rs : List ReadBox) → AllZip IsReadBox bs rs → map (λ (b : ReadBox). b.boxed) rs ≡ bs
 same_boxes [] [] h = refl
 same_boxes [] (r ∷ rs) h = absurd h
 same_boxes (b ∷ bs) [] h = absurd h
 same_boxes (b ∷ bs) (r ∷ rs) h = ap₂ (λ (x : Superbox) (xs : List Superbox). x ∷ xs) h.0.same (same_boxes bs rs h.1)
 
+-- a manifest of these parts, written short
 abbrev made : Option (List ℕ) → List ℕ → Bool → List Superbox → Option Superbox → List Superbox → Manifest
 made label contents is_update claims signature assertions = record { label = label; contents = contents; is_update = is_update; claims = claims; signature = signature; assertions = assertions }
 
+-- what is kept of a manifest's label, contents, boxes, claim and message is a reading of the manifest at these indices
 pub kept_is : (t : Tree) (whole : ℕ) (is_update : Bool) (claims : List ℕ) (signature : Option ℕ) (assertions : List ℕ) (label : Option (List ℕ)) (contents : List ℕ) (cs : List Superbox) (sign : Option Superbox) (claim : Parsed Claim) (message : Option SignParts)
     (bs : List ReadBox) → label ≡ any_label (box_at t whole).box → contents ≡ any_contents (box_at t whole).box → cs ≡ map (superbox_at t) claims → sign ≡ option_map (superbox_at t) signature
     → AllZip IsReadBox (map (superbox_at t) assertions) bs → IsParsed claim_of (claim_bytes cs) claim → IsMessageOf (option_and_then (λ (b : Superbox). b.item) sign) message
@@ -40,9 +43,11 @@ kept_is t whole is_update claims signature assertions label contents cs sign cla
 
 -- ---- the manifests of a store
 
+-- a manifest's indices that are all empty, to name a place past the end
 abbrev no_boxes : ManifestBoxes
 no_boxes = record { whole = 0; is_update = false; claims = []; signature = None; assertions = [] }
 
+-- a reading of the manifest of a place's five indices is a reading of the manifest at that place, if one is there
 pub kept_there : (t : Tree) (o : Option ManifestBoxes) (whole : ℕ) (is_update : Bool) (claims : List ℕ) (signature : Option ℕ) (assertions : List ℕ) (r : Reading) → Some whole ≡ option_map (λ (m : ManifestBoxes). m.whole) o
     → Some is_update ≡ option_map (λ (m : ManifestBoxes). m.is_update) o → Some claims ≡ option_map (λ (m : ManifestBoxes). m.claims) o → Some signature ≡ option_map (λ (m : ManifestBoxes). m.signature) o
     → Some assertions ≡ option_map (λ (m : ManifestBoxes). m.assertions) o → IsReading (manifest_of t whole is_update claims signature assertions) r → IfSome o (λ m. IsReading (manifest_at t m) r)
@@ -54,14 +59,17 @@ kept_there t (Some m) whole is_update claims signature assertions r at_whole at_
     (subst (λ (x : Bool). IsReading (manifest_of t m.whole x claims signature assertions) r) (same_Some is_update m.is_update at_update)
     (subst (λ (x : ℕ). IsReading (manifest_of t x is_update claims signature assertions) r) (same_Some whole m.whole at_whole) h))))
 
+-- readings of a store's first `k` manifests and a reading of the next are readings of the first `k + 1`
 pub kept_more : (t : Tree) (s : List ManifestBoxes) (k : ℕ) (old new : List Reading) (r : Reading) → k < length s → AllZip IsReading (map (manifest_at t) (take k s)) old → new ≡ old ++ r ∷ []
     → IfSome (slice_get s k) (λ m. IsReading (manifest_at t m) r) → AllZip IsReading (map (manifest_at t) (take (k + 1) s)) new
 kept_more t s k old new r lt so_far is one =
     zip_more IsReading (manifest_at t) s k no_boxes old new r lt so_far is (subst (λ (o : Option ManifestBoxes). IfSome o (λ m. IsReading (manifest_at t m) r)) (slice_get-get_or s k no_boxes lt) one)
 
+-- readings of as many manifests as a store has, or more, are readings of all its manifests
 pub kept_all : (t : Tree) (s : List ManifestBoxes) (k : ℕ) (old : List Reading) → IsStoreOf t s → length s ≤ k → AllZip IsReading (map (manifest_at t) (take k s)) old → AreReadings (manifests_of t) old
 kept_all t s k old store le so_far = subst (λ (x : List ManifestBoxes). AllZip IsReading (map (manifest_at t) x) old) store.same (zip_all IsReading (manifest_at t) s k old le so_far)
 
+-- where a manifest of a store has a signature box, its index is one of a box of the tree
 pub some_inside : (t : Tree) (s : List ManifestBoxes) (i : ℕ) (o : Option ℕ) → IsStoreOf t s → Some o ≡ option_map (λ (m : ManifestBoxes). m.signature) (slice_get s i) → IfSome o (λ k. k < tree_count t)
 some_inside t s i None store at = tt
 some_inside t s i (Some j) store at = signature_inside t s i j store at

@@ -101,6 +101,7 @@ pub fn read_message(alloc: Global, bytes: &[u8]) -> Result<Option<Sign1>, NoMemo
     }
 }
 
+/// Whether a box has a label of ingredients.
 fn is_ingredient(b: &StoreBox<'_>) -> bool
     ensures { result ≡ ingredients.is_ingredient b.now }
 {

@@ -259,6 +259,7 @@ fn lists_redacted(all: &Redacting<'_>, m: usize, own: &Kept<'_>, entries: &[Ref]
     })
 }
 
+/// Whether the claim of this manifest, at place `m`, lists a label that is redacted there.
 fn touches(all: &Redacting<'_>, m: usize, own: &Kept<'_>) -> bool
     requires { m < length all.now }
     ensures { result ≡ form.lists_redacted all.now m (Some own.now) }

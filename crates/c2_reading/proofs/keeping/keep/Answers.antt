@@ -6,6 +6,7 @@ use Rattle.c2_rules.specs.Readings.{IsParsed}
 use Rattle.c2_reading.proofs.KeepingLemmas.{kept_is}
 use Rattle.c2_reading.proofs.keeping.keep.Goals as goal
 
+-- what is kept of a manifest is a reading of it
 pub returns : goal.returns
 returns c =
     kept_is c.args.tree.now c.args.whole c.args.is_update c.args.claims.now c.args.signature c.args.assertions.now (option_map (λ x. x.now) c.label_of-name.result) c.contents-bytes.result.now c.in_ok-claim_boxes.claim_boxes.items c.some_box-signature_box.result

@@ -3,6 +3,7 @@ use Rattle.c2_lookup.specs.Places.{ArePlaces}
 use Rattle.c2_reading.proofs.NamedLemmas.{labels_of, all_placed}
 use Rattle.c2_reading.proofs.labelled.places_of.Goals as goal
 
+-- at the end, of each label the place of the manifest with it is kept, and of others none
 pub returns : goal.returns
 returns c =
     let end : c.loop-i.i ≡ length c.args.kept.now = omega (arith, c.loop-i-test.false, c.loop-i.auto.i-end) in

@@ -1,6 +1,7 @@
 use Rattle.c2_reading.proofs.Existing.{each_manifest}
 use Rattle.c2_reading.proofs.laws.each_manifest_has_a_claim_or_not.Goals as goal
 
+-- a manifest of bytes that a program can hold has a claim, or none
 pub returns : goal.returns
 returns c = each_manifest (record {
   one_item = c.one_item.ensures;

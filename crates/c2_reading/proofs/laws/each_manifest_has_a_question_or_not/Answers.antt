@@ -1,6 +1,7 @@
 use Rattle.c2_reading.proofs.Messages.{each_question}
 use Rattle.c2_reading.proofs.laws.each_manifest_has_a_question_or_not.Goals as goal
 
+-- a manifest of bytes that a program can hold has a question, or none
 pub returns : goal.returns
 returns c = each_question (record {
   one_item = c.one_item.ensures;
