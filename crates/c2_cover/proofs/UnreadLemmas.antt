@@ -61,6 +61,7 @@ slices from from' n buf buf' =
 abbrev pub pending : ℕ → ℕ → Pending
 pending from to = record { from = from; to = to }
 
+-- where the shorter pending piece is empty and such a text has ended, the lengths agree just when what is unread does
 pub ended_at : (p q : Pending) (buf buf' : List ℕ) (r r' : Reading) (file file' : List ℕ) → Lies p (length buf) → Lies q (length buf') → min (p.to - p.from) (q.to - q.from) ≡ 0 → (p.from ≡ p.to → rest_of r file ≡ []) → (q.from ≡ q.to → rest_of r' file' ≡ []) → eqb (p.to - p.from) (q.to - q.from) ≡ bytes_eq (unread p buf r file) (unread q buf' r' file')
 ended_at p q buf buf' r r' file file' l m e f g =
     let a : length (take (p.to - p.from) (drop p.from buf)) ≡ p.to - p.from = prefix_len p.from p.to (p.to - p.from) buf l.inside l.ordered (omega arith) in

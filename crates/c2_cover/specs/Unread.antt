@@ -13,6 +13,7 @@ pub record Lies (p : Pending) (len : ℕ) : Type 0 where
 abbrev pub unread : Pending → List ℕ → Reading → List ℕ → List ℕ
 unread p buf r file = take (p.to - p.from) (drop p.from buf) ++ rest_of r file
 
+-- how many these are: those that are pending, and those that the reader has left
 abbrev pub unread_len : Pending → Reading → ℕ
 unread_len p r = (p.to - p.from) + left_of r
 
