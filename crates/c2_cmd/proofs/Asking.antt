@@ -9,7 +9,8 @@ use Rattle.c2_spec.specs.Judges.Panel.{verdicts, panel_size, Counted, MovedBelow
 use Rattle.c2_rules.proofs.AskingLemmas.{asked_one}
 use Rattle.c2_rules.specs.Asking.{HaveAskedPrefix}
 use Rattle.c2_cmd.specs.CommandLine.{reading_roles, reads_media}
-use Rattle.c2_cmd.specs.Outcome.{Inputs, Asks, AsksOfMedia, CommandAsks, inputs, uses_media}
+use Rattle.c2_rules.specs.Validated.{AreQuestions}
+use Rattle.c2_cmd.specs.Outcome.{Inputs, Asks, CommandAsks, inputs, uses_media}
 use Rattle.c2_cmd.specs.declared.types.Command.{Command}
 use Rattle.c2_cmd.specs.declared.types.Command.TheVariants as command
 use Rattle.c2_cmd.specs.declared.types.Roles.{Roles}
@@ -19,19 +20,12 @@ abbrev pub OneList : Type 0
 OneList = (roles : Option Roles) (i : Inputs) (ps qs : List Question) → Asks roles i ps → Asks roles i qs → ps ≡ qs
 
 -- a file has one list of questions
-pub one_of_file : OneList → (file : List ℕ) (said : Question → Verdict) (ps qs : List Question) → AsksOfMedia file ps → AsksOfMedia file qs → ps ≡ qs
+pub one_of_file : OneList → (file : List ℕ) (said : Question → Verdict) (ps qs : List Question) → AreQuestions file ps → AreQuestions file qs → ps ≡ qs
 one_of_file law file said ps qs h k = law (Some (reading_roles command.Questions)) (record { media = file; second = []; third = []; said = said; hash = λ (alg : Alg) (bytes : List ℕ). bytes }) ps qs h k
-
-no_question : (q : Question) (qs : List Question) → [] ≡ q ∷ qs → ⊥
-no_question q qs e = cc (e)
-
--- so that there is a question
-pub some_asked : OneList → (file : List ℕ) (said : Question → Verdict) (q : Question) → AsksOfMedia file (q ∷ []) → AsksOfMedia file [] → ⊥
-some_asked law file said q this none = no_question q [] (one_of_file law file said [] (q ∷ []) none this)
 
 -- where the bytes of the media are known, what a call of `questions` asks is what its file asks
 pub known_file : (said : Question → Verdict) (hash : Alg → List ℕ → List ℕ) (known : Option (List ℕ)) (found : Option Roles) (roles : Roles) (qs : List Question) → found ≡ Some roles → is_some roles.media ≡ reads_media roles.command → roles.command ≡ command.Questions → (uses_media found ≡ true → IsSome known)
-    → Asks found (inputs known None None said hash) qs → (file : List ℕ) × (known ≡ Some file) × AsksOfMedia file qs
+    → Asks found (inputs known None None said hash) qs → (file : List ℕ) × (known ≡ Some file) × AreQuestions file qs
 known_file said hash None found roles qs is media questions tells asks = absurd (false≢true (tells (ap uses_media is ∙ media ∙ ap reads_media questions)))
 known_file said hash (Some file) found roles qs is media questions tells asks =
     let i = inputs (Some file) None None said hash in

@@ -1,6 +1,7 @@
+mod Asked
 mod Asking
 mod Delivering
-mod Ingredients
+mod Lines
 mod Listing
 mod Naming
 mod OneOutcome

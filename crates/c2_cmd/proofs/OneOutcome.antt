@@ -12,12 +12,12 @@ use Rattle.c2_spec.specs.Jumbf.Faults.{JumbfFault}
 use Rattle.c2_spec.specs.Jumbf.Tree.{Tree, SpellsTree}
 use Rattle.c2_spec.specs.Located.{Opening, Located, refused, absent, here, refused_by}
 use Rattle.c2_spec.specs.Reason.{boxes_refusal, manifests_refusal}
-use Rattle.c2_rules.specs.Claims.{HaveClaims, active_of}
-use Rattle.c2_rules.specs.Ingredients.{first_ingredient}
+use Rattle.c2_rules.specs.CheckList.{questions}
+use Rattle.c2_rules.specs.Claims.{HaveClaims}
 use Rattle.c2_rules.specs.Opened.{Opens, IsBoxTree, IsManifestTree, IsManifestStore, IsBoxed, IsOpened}
-use Rattle.c2_rules.specs.Questions.{HasQuestion, IsQuestionOf}
-use Rattle.c2_cmd.specs.Outcome.{Outcome, Inputs, Reports, IsOutcome, IsCommandOutcome, IsDigested, IsListing, IsShown, IsQuestioned, IsAskedUnless, Asks, CommandAsks, AsksUnless, AsksOfTree, AsksOfOpened, shown, verdict_line, reports, one_or_none}
-use Rattle.c2_cmd.specs.declared.types.Answer.TheVariants as answer
+use Rattle.c2_rules.specs.Readings.{Reading, AreReadings}
+use Rattle.c2_rules.specs.Validated.{OpenedAsks}
+use Rattle.c2_cmd.specs.Outcome.{Outcome, Inputs, Reports, IsOutcome, IsCommandOutcome, IsDigested, IsListing, IsShown, IsQuestioned, Asks, CommandAsks, shown, questioned}
 use Rattle.c2_cmd.specs.declared.types.Command.{Command}
 use Rattle.c2_cmd.specs.declared.types.Command.TheVariants as command
 use Rattle.c2_cmd.specs.declared.types.Roles.{Roles}
@@ -29,7 +29,7 @@ pub record Laws : Type 0 where
   pub tree : (bytes : List ℕ) (t u : Tree) → SpellsTree bytes t → SpellsTree bytes u → t ≡ u
   pub fault : (bytes : List ℕ) (e f : JumbfError) → JumbfFault bytes e → JumbfFault bytes f → e ≡ f
   pub claims : (ms : List Manifest) (cs ds : List (Option Claim)) → HaveClaims ms cs → HaveClaims ms ds → cs ≡ ds
-  pub question : (m : Manifest) (q r : Question) → HasQuestion m q → HasQuestion m r → q ≡ r
+  pub readings : (ms : List Manifest) (rs ss : List Reading) → AreReadings ms rs → AreReadings ms ss → rs ≡ ss
 
 -- where the first value is one, and so is each that follows from it, the second is one
 one_after : {A B : Type 0} (First : A → Type 0) (Next : A → B → Type 0) → ((a b : A) → First a → First b → a ≡ b) → ((a : A) (x y : B) → Next a x → Next a y → x ≡ y) → (x y : B) → (a : A) × First a × Next a x → (b : A) × First b × Next b y → x ≡ y
@@ -91,22 +91,8 @@ one_report Is once (here start len a) x y h k = once start len a x y h k
 one_shown : Laws → (t : Tree) (x y : Outcome) → IsShown t x → IsShown t y → x ≡ y
 one_shown laws t x y h k = one_after (HaveClaims (manifests_of t)) (λ claims e. e ≡ shown t claims) (laws.claims (manifests_of t)) (λ claims a b p q. p ∙ sym q) x y h k
 
-same_question : Laws → (m : Manifest) (a b : Option Question) → IsQuestionOf m a → IsQuestionOf m b → a ≡ b
-same_question laws m None None p q = refl
-same_question laws m None (Some b) p q = absurd (p b q)
-same_question laws m (Some a) None p q = absurd (q a p)
-same_question laws m (Some a) (Some b) p q = ap Some (laws.question m a b p q)
-
-one_asked : Laws → (said : Question → Verdict) (m : Manifest) (o : Option (List ℕ)) (x y : Outcome) → IsAskedUnless said m o x → IsAskedUnless said m o y → x ≡ y
-one_asked laws said m (Some label) x y h k = h ∙ sym k
-one_asked laws said m None x y h k = one_after (IsQuestionOf m) (λ found e. e ≡ reports answer.Done (verdict_line said m found)) (same_question laws m) (λ found a b p q. p ∙ sym q) x y h k
-
-one_active : (t : Tree) (m n : Manifest) → active_of (manifests_of t) ≡ Some m → active_of (manifests_of t) ≡ Some n → m ≡ n
-one_active t m n p q = one_some m n (sym p ∙ q)
-
 one_questioned : Laws → (said : Question → Verdict) (t : Tree) (x y : Outcome) → IsQuestioned said t x → IsQuestioned said t y → x ≡ y
-one_questioned laws said t x y h k =
-    one_after (λ (m : Manifest). active_of (manifests_of t) ≡ Some m) (λ (m : Manifest) (e : Outcome). IsAskedUnless said m (first_ingredient m) e) (one_active t) (λ (m : Manifest). one_asked laws said m (first_ingredient m)) x y h k
+one_questioned laws said t x y h k = one_after (AreReadings (manifests_of t)) (λ rs e. e ≡ questioned said rs) (laws.readings (manifests_of t)) (λ rs a b p q. p ∙ sym q) x y h k
 
 one_media : Laws → (P : Tree → Outcome → Type 0) → ((t : Tree) (x y : Outcome) → P t x → P t y → x ≡ y) → (file : List ℕ) (x y : Outcome) → (what : Opening Tree) × IsOpened file what × Reports (λ start len t e. P t e) what x → (what : Opening Tree) × IsOpened file what × Reports (λ start len t e. P t e) what y → x ≡ y
 one_media laws P once file x y h k = one_after (IsOpened file) (Reports (λ start len t e. P t e)) (one_opened laws file) (one_report (λ start len t e. P t e) (λ start len t. once t)) x y h k
@@ -124,15 +110,10 @@ one_outcome laws (Some roles) i x y h k = one_command laws roles.command roles i
 
 -- ---- questions
 
-one_unless : Laws → (m : Manifest) (o : Option (List ℕ)) (ps qs : List Question) → AsksUnless m o ps → AsksUnless m o qs → ps ≡ qs
-one_unless laws m (Some label) ps qs h k = h ∙ sym k
-one_unless laws m None ps qs h k = one_after (IsQuestionOf m) (λ found l. l ≡ one_or_none found) (same_question laws m) (λ found a b p q. p ∙ sym q) ps qs h k
+one_of_tree : Laws → (t : Tree) (ps qs : List Question) → (rs : List Reading) × AreReadings (manifests_of t) rs × (ps ≡ questions rs) → (rs : List Reading) × AreReadings (manifests_of t) rs × (qs ≡ questions rs) → ps ≡ qs
+one_of_tree laws t ps qs h k = one_after (AreReadings (manifests_of t)) (λ rs l. l ≡ questions rs) (laws.readings (manifests_of t)) (λ rs a b p q. p ∙ sym q) ps qs h k
 
-one_of_tree : Laws → (t : Tree) (ps qs : List Question) → AsksOfTree t ps → AsksOfTree t qs → ps ≡ qs
-one_of_tree laws t ps qs h k =
-    one_after (λ (m : Manifest). active_of (manifests_of t) ≡ Some m) (λ (m : Manifest) (l : List Question). AsksUnless m (first_ingredient m) l) (one_active t) (λ (m : Manifest). one_unless laws m (first_ingredient m)) ps qs h k
-
-one_of_opened : Laws → (what : Opening Tree) (ps qs : List Question) → AsksOfOpened what ps → AsksOfOpened what qs → ps ≡ qs
+one_of_opened : Laws → (what : Opening Tree) (ps qs : List Question) → OpenedAsks questions what ps → OpenedAsks questions what qs → ps ≡ qs
 one_of_opened laws (refused reason number) ps qs h k = h ∙ sym k
 one_of_opened laws absent ps qs h k = h ∙ sym k
 one_of_opened laws (here start len t) ps qs h k = one_of_tree laws t ps qs h k
@@ -141,7 +122,7 @@ one_asks : Laws → (c : Command) (i : Inputs) (ps qs : List Question) → Comma
 one_asks laws command.Digest i ps qs h k = h ∙ sym k
 one_asks laws command.List i ps qs h k = h ∙ sym k
 one_asks laws command.Show i ps qs h k = h ∙ sym k
-one_asks laws command.Questions i ps qs h k = one_after (IsOpened i.media) AsksOfOpened (one_opened laws i.media) (one_of_opened laws) ps qs h k
+one_asks laws command.Questions i ps qs h k = one_after (IsOpened i.media) (OpenedAsks questions) (one_opened laws i.media) (one_of_opened laws) ps qs h k
 
 pub one_list : Laws → (roles : Option Roles) (i : Inputs) (ps qs : List Question) → Asks roles i ps → Asks roles i qs → ps ≡ qs
 one_list laws None i ps qs h k = h ∙ sym k

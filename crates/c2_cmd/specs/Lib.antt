@@ -1,4 +1,3 @@
-pub mod Active
 pub mod Outcome
 pub mod Reply
 pub mod Run

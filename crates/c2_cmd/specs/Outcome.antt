@@ -1,5 +1,6 @@
 -- The outcome of a run: a relation between the roles of its words, what it is handed, and its outcome.
-use Rattle.std.specs.Prelude.{◌≡◌, ℕ, ◌+◌, Bool, false, List, [], ◌∷◌, ◌++◌, take, drop, codes, is_some, unwrap_or, Some, None}
+use Rattle.std.specs.Prelude.{◌≡◌, ℕ, ◌+◌, Bool, false, List, [], ◌++◌, take, drop, is_some, unwrap_or, Some, None}
+use Rattle.std.specs.List.{flat_map}
 use Rattle.std.specs.declared.option.Option.{Option}
 use Rattle.c2_base.specs.declared.values.Question.{Question}
 use Rattle.c2_spec.specs.declared.digest.Alg.{Alg}
@@ -8,15 +9,16 @@ use Rattle.c2_spec.specs.declared.panel.Verdict.{Verdict}
 use Rattle.c2_spec.specs.Located.{Opening, Located, refused, absent, here}
 use Rattle.c2_spec.specs.Jpeg.Store.{IsLocated}
 use Rattle.c2_spec.specs.Jumbf.Tree.{Tree}
-use Rattle.c2_spec.specs.C2pa.Manifest.{Manifest, manifests_of}
+use Rattle.c2_spec.specs.C2pa.Manifest.{manifests_of}
 use Rattle.c2_spec.specs.Judges.Question.{question_digest}
 use Rattle.c2_spec.specs.declared.claim.Claim.{Claim}
-use Rattle.c2_rules.specs.Claims.{HaveClaims, active_of}
-use Rattle.c2_rules.specs.Ingredients.{first_ingredient, assertion_uri, label_text}
-use Rattle.c2_rules.specs.Questions.{IsQuestionOf}
+use Rattle.c2_rules.specs.CheckList.{Asked, all_asked}
+use Rattle.c2_rules.specs.Claims.{HaveClaims}
 use Rattle.c2_rules.specs.Opened.{IsBoxed, IsOpened}
+use Rattle.c2_rules.specs.Readings.{Reading, AreReadings}
+use Rattle.c2_rules.specs.Validated.{AreQuestions}
 use Rattle.c2_texts.specs.Show.{show_line}
-use Rattle.c2_texts.specs.Texts.{usage_line, refused_line, none_line, digest_line, listing, failing_line, question_line, no_question_line}
+use Rattle.c2_texts.specs.Texts.{usage_line, refused_line, none_line, digest_line, listing, question_line, no_question_line}
 use Rattle.c2_cmd.specs.declared.types.Answer.{Answer}
 use Rattle.c2_cmd.specs.declared.types.Answer.TheVariants as answer
 use Rattle.c2_cmd.specs.declared.types.Command.{Command}
@@ -79,28 +81,29 @@ IsListOutcome file expected = (what : Opening Tree) × IsBoxed file what × Repo
 abbrev pub IsMediaOutcome : (Tree → Outcome → Type 0) → List ℕ → Outcome → Type 0
 IsMediaOutcome IsExpected file expected = (what : Opening Tree) × IsOpened file what × Reports (λ start len t e. IsExpected t e) what expected
 
--- the outcome of `show` over the box tree of a store, of which it looks at the manifests and their claims alone
+-- the outcome of `show` over the box tree of a store whose manifests have these claims
 abbrev pub shown : Tree → List (Option Claim) → Outcome
-shown t claims =
-    reports answer.Done
-    (show_line (record { manifests = manifests_of t; claims = claims; readings = []; boxes = [] }))
+shown t claims = reports answer.Done (show_line (manifests_of t) claims)
 
 abbrev pub IsShown : Tree → Outcome → Type 0
 IsShown t expected = (claims : List (Option Claim)) × HaveClaims (manifests_of t) claims × (expected ≡ shown t claims)
 
--- the line of a manifest with this question, or with none
-abbrev pub verdict_line : (Question → Verdict) → Manifest → Option Question → List ℕ
-verdict_line said m None = no_question_line (label_text m)
-verdict_line said m (Some q) = question_line (question_digest q) (label_text m) (said q)
+-- the line of the manifest with this label: its question and what the panel says of it, or that it has none
+abbrev pub verdict_line : (Question → Verdict) → List ℕ → Option Question → List ℕ
+verdict_line said label None = no_question_line label
+verdict_line said label (Some q) = question_line (question_digest q) label (said q)
 
--- Ingredients are no part of `questions` yet: a manifest whose assertion store has the box of one isn't asked of.
-abbrev pub IsAskedUnless : (Question → Verdict) → Manifest → Option (List ℕ) → Outcome → Type 0
-IsAskedUnless said m (Some label) expected = expected ≡ reports answer.Refused (failing_line (codes "unsupported.ingredient") (assertion_uri (label_text m) label))
-IsAskedUnless said m None expected = (found : Option Question) × IsQuestionOf m found × (expected ≡ reports answer.Done (verdict_line said m found))
+-- the lines of these manifests
+abbrev pub verdict_lines : (Question → Verdict) → List Asked → List ℕ
+verdict_lines said asked = flat_map (λ (a : Asked). verdict_line said a.label a.question) asked
 
--- the outcome of `questions` over the box tree of a store: the question of the active manifest
+-- `questions` where the manifests of a store are read so: a line for each reached manifest, the last first
+abbrev pub questioned : (Question → Verdict) → List Reading → Outcome
+questioned said rs = reports answer.Done (verdict_lines said (all_asked rs))
+
+-- the outcome of `questions` over the box tree of a store
 abbrev pub IsQuestioned : (Question → Verdict) → Tree → Outcome → Type 0
-IsQuestioned said t expected = (m : Manifest) × (active_of (manifests_of t) ≡ Some m) × IsAskedUnless said m (first_ingredient m) expected
+IsQuestioned said t expected = (rs : List Reading) × AreReadings (manifests_of t) rs × (expected ≡ questioned said rs)
 
 -- the outcome of a command with these roles
 abbrev pub IsCommandOutcome : Command → Roles → Inputs → Outcome → Type 0
@@ -123,35 +126,12 @@ abbrev pub uses_judges : Option Roles → Bool
 uses_judges None = false
 uses_judges (Some roles) = asks_judges roles.command
 
--- one question, or none
-abbrev pub one_or_none : Option Question → List Question
-one_or_none None = []
-one_or_none (Some q) = q ∷ []
-
--- the judges are asked these questions of a manifest that has this ingredient
-abbrev pub AsksUnless : Manifest → Option (List ℕ) → List Question → Type 0
-AsksUnless m (Some label) qs = qs ≡ []
-AsksUnless m None qs = (found : Option Question) × IsQuestionOf m found × (qs ≡ one_or_none found)
-
--- over the box tree of a store
-abbrev pub AsksOfTree : Tree → List Question → Type 0
-AsksOfTree t qs = (m : Manifest) × (active_of (manifests_of t) ≡ Some m) × AsksUnless m (first_ingredient m) qs
-
--- over a file that is opened as this, and over a file
-abbrev pub AsksOfOpened : Opening Tree → List Question → Type 0
-AsksOfOpened (refused reason number) qs = qs ≡ []
-AsksOfOpened absent qs = qs ≡ []
-AsksOfOpened (here start len t) qs = AsksOfTree t qs
-
-abbrev pub AsksOfMedia : List ℕ → List Question → Type 0
-AsksOfMedia file qs = (what : Opening Tree) × IsOpened file what × AsksOfOpened what qs
-
 -- the judges are asked these questions, in this order, by a command, and by words with these roles
 abbrev pub CommandAsks : Command → Inputs → List Question → Type 0
 CommandAsks command.Digest i qs = qs ≡ []
 CommandAsks command.List i qs = qs ≡ []
 CommandAsks command.Show i qs = qs ≡ []
-CommandAsks command.Questions i qs = AsksOfMedia i.media qs
+CommandAsks command.Questions i qs = AreQuestions i.media qs
 
 abbrev pub Asks : Option Roles → Inputs → List Question → Type 0
 Asks None i qs = qs ≡ []

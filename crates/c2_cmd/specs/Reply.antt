@@ -1,22 +1,28 @@
 -- For private clauses: replies in memory.
-use Rattle.std.specs.Prelude.{◌≡◌, ◌≢◌, ℕ, ◌+◌, ◌≤◌, List, [], ◌∷◌, string_bytes, Result, Ok, Err, ⊤}
+use Rattle.std.specs.Prelude.{◌≡◌, ◌≢◌, ℕ, ◌+◌, ◌≤◌, List, [], ◌++◌, string_bytes, Result, Ok, Err, ⊤}
 use Rattle.std.specs.declared.option.Option.{Option}
-use Rattle.std.specs.Option.{ForSome}
+use Rattle.std.specs.List.{flat_map}
+use Rattle.std.specs.Option.{ForSome, option_to_list}
 use Rattle.c2_base.specs.Causes.{Rose}
 use Rattle.c2_base.specs.declared.media.Found.{Found}
 use Rattle.c2_base.specs.declared.values.Question.{Question}
 use Rattle.c2_spec.specs.declared.panel.Verdict.{Verdict}
+use Rattle.c2_spec.specs.C2pa.Manifest.{IsStoreOf, manifests_of}
 use Rattle.c2_spec.specs.Jpeg.Store.{IsLocated}
 use Rattle.c2_spec.specs.Judges.Panel.{Judges, SomeRose}
-use Rattle.c2_spec.specs.Judges.Question.{question_digest}
 use Rattle.c2_spec.specs.Jumbf.Tree.{Tree}
 use Rattle.c2_spec.specs.Located.{Opening, Located, refused, absent, here}
 use Rattle.c2_rules.specs.Asking.{HaveAsked, HaveAskedPrefix, HaveFailed}
+use Rattle.c2_spec.specs.declared.store.ManifestBoxes.{ManifestBoxes}
+use Rattle.c2_rules.specs.CheckList.{Asked, questions}
+use Rattle.c2_rules.specs.Claims.{Chained}
 use Rattle.c2_rules.specs.Opened.{IsBoxTree, IsManifestStore}
-use Rattle.c2_texts.specs.Texts.{question_line, refused_line, none_line}
+use Rattle.c2_rules.specs.Readings.{Reading, AreReadings}
+use Rattle.c2_rules.specs.Validated.{AreQuestions, OpenedAsks}
+use Rattle.c2_texts.specs.Texts.{refused_line, none_line}
 use Rattle.c2_validate.specs.declared.error.ValidateError.{ValidateError}
 use Rattle.c2_validate.specs.declared.error.ValidateError.TheVariants as error
-use Rattle.c2_cmd.specs.Outcome.{Outcome, reports, Reports, IsListing, IsMediaOutcome, IsQuestioned, AsksOfMedia, AsksOfOpened, AsksOfTree}
+use Rattle.c2_cmd.specs.Outcome.{Outcome, reports, Reports, IsListing, IsMediaOutcome, IsQuestioned, verdict_lines}
 use Rattle.c2_cmd.specs.declared.open.Stored.{Stored}
 use Rattle.c2_cmd.specs.declared.open.Stored.TheVariants as stored
 use Rattle.c2_cmd.specs.declared.prepare.Prepared.{Prepared}
@@ -98,25 +104,37 @@ ListsStore f reply = (what : Opening Tree) × IsBoxTree f.start f.length f.store
 
 -- ---- questions
 
--- the outcome where the panel is asked this question of the manifest with this label
-abbrev pub asked_outcome : List ℕ → Question → (Question → Verdict) → Outcome
-asked_outcome label q said = reports answer.Done (question_line (question_digest q) label (said q))
+-- the questions of these manifests
+abbrev pub questions_in : List Asked → List Question
+questions_in asked = flat_map (λ (a : Asked). option_to_list a.question) asked
 
--- `questions` is prepared: there is nothing to ask, and this is the reply whatever the judges say; or this question is to be
--- asked of the manifest with this label
+-- the outcome where these manifests are asked of
+abbrev pub asked_outcome : List Asked → (Question → Verdict) → Outcome
+asked_outcome asked said = reports answer.Done (verdict_lines said asked)
+
+-- the boxes and the chain of the manifests of this box tree
+pub record IsChainOf (t : Tree) (s : List ManifestBoxes) (c : Chained) : Type 0 where
+  pub store : IsStoreOf t s
+  pub manifests : c.manifests ≡ manifests_of t
+  pub reads : AreReadings (manifests_of t) c.readings
+
+-- `questions` is prepared: this is the reply whatever the judges say, and nothing is asked; or these manifests are to be asked of
 abbrev pub Prepares : (List Question → Type 0) → ((Question → Verdict) → Outcome → Type 0) → Prepared → Type 0
 Prepares AreAsked IsExpected (prepared.Reply reply) = AreAsked [] × ((said : Question → Verdict) → IsExpected said (outcome_of reply))
-Prepares AreAsked IsExpected (prepared.Ask label q) = AreAsked (q ∷ []) × ((said : Question → Verdict) → IsExpected said (asked_outcome (string_bytes label) q said))
+Prepares AreAsked IsExpected (prepared.Ask asked) = AreAsked (questions_in asked.items) × ((said : Question → Verdict) → IsExpected said (asked_outcome asked.items said))
 
 -- over a file, over a store that was found, and over the box tree of a store
 abbrev pub PreparesMedia : List ℕ → Prepared → Type 0
-PreparesMedia file = Prepares (AsksOfMedia file) (λ said. IsMediaOutcome (IsQuestioned said) file)
+PreparesMedia file = Prepares (AreQuestions file) (λ said. IsMediaOutcome (IsQuestioned said) file)
 
 abbrev pub AsksOfFound : Found → List Question → Type 0
-AsksOfFound f qs = (what : Opening Tree) × IsManifestStore f.start f.length f.store what × AsksOfOpened what qs
+AsksOfFound f qs = (what : Opening Tree) × IsManifestStore f.start f.length f.store what × OpenedAsks questions what qs
 
 abbrev pub PreparesFound : Found → Prepared → Type 0
 PreparesFound f = Prepares (AsksOfFound f) (λ said. IsFoundOutcome (IsQuestioned said) f)
+
+abbrev pub AsksOfTree : Tree → List Question → Type 0
+AsksOfTree t qs = (rs : List Reading) × AreReadings (manifests_of t) rs × (qs ≡ questions rs)
 
 abbrev pub PreparesTree : Tree → Prepared → Type 0
 PreparesTree t = Prepares (AsksOfTree t) (λ said. IsQuestioned said t)
@@ -124,7 +142,7 @@ PreparesTree t = Prepares (AsksOfTree t) (λ said. IsQuestioned said t)
 -- a reply answers no words that fit no command
 abbrev pub HasNoUsage : Prepared → Type 0
 HasNoUsage (prepared.Reply reply) = reply.answer ≢ answer.Usage
-HasNoUsage (prepared.Ask label q) = ⊤
+HasNoUsage (prepared.Ask asked) = ⊤
 
 -- which judges were asked these questions, and who failed, by the result of a call
 abbrev pub AskedFor : {T : Type 0} → List Question → Judges → Judges → Result T Fault → Type 0
@@ -136,3 +154,9 @@ AskedFor qs old new (Err Memory) = HaveAskedPrefix old.said qs old.asked new.ask
 -- the judges were asked the questions of which this holds
 abbrev pub AskedThose : {T : Type 0} → (List Question → Type 0) → Judges → Judges → Result T Fault → Type 0
 AskedThose AreQuestions old new result = (qs : List Question) → AreQuestions qs → AskedFor qs old new result
+
+-- of these questions those before the rest were asked
+pub record AsksSoFar (said : List (Question → Verdict)) (all rest : List Question) (before now : List ℕ) : Type 0 where
+  pub front : List Question
+  pub split : all ≡ front ++ rest
+  pub asked : HaveAsked said front before now

@@ -4,7 +4,7 @@ ghost use Rattle.c2_base.specs.declared.values.Question.{Question};
 ghost use Rattle.c2_cmd.specs.Outcome.{Asks, Inputs, IsOutcome, Outcome};
 ghost use Rattle.c2_cmd.specs.declared.types.Roles.{Roles as AnyRoles};
 
-use c2_chain::{one_list_of_claims, one_question};
+use c2_chain::{one_list_of_claims, one_reading};
 use c2_jpegseg::each_file_is_located;
 use c2_jumbf::each_list_is_a_tree_or_not;
 
@@ -18,5 +18,5 @@ pub fn one_outcome()
     each_file_is_located();
     each_list_is_a_tree_or_not();
     one_list_of_claims();
-    one_question();
+    one_reading();
 }

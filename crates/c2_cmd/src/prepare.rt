@@ -1,28 +1,51 @@
 // What `questions` asks, before anybody is asked.
-ghost use Rattle.std.specs.Prelude.{◌≡◌, ◌<◌, ◌+◌, length, All, IfOk, IfErr, OnOk, None, codes, string_bytes};
-ghost use Rattle.std.specs.Option.{ForSome, option_map};
+ghost use Rattle.std.specs.Prelude.{◌≡◌, ◌<◌, ◌++◌, length, IfOk, IfErr, OnOk, [], ◌∷◌, slice_get};
+ghost use Rattle.std.specs.Option.{ForSome};
 ghost use Rattle.c2_base.specs.Source.{StaysSource};
 ghost use Rattle.c2_spec.specs.C2pa.Manifest.{IsStoreOf};
-ghost use Rattle.c2_spec.specs.Jumbf.Boxes.{tree_count};
-ghost use Rattle.c2_rules.specs.Ingredients.{assertion_uri, is_ingredient_label};
-ghost use Rattle.c2_texts.specs.Texts as form;
-ghost use Rattle.c2_cmd.specs.Active.{IsActiveManifest, first_label};
-ghost use Rattle.c2_cmd.specs.Outcome.{reports};
-ghost use Rattle.c2_cmd.specs.Reply.{IsMediaCause, PreparesMedia, PreparesFound, PreparesTree, HasNoUsage, outcome_of};
+ghost use Rattle.c2_rules.specs.CheckList as form;
+ghost use Rattle.c2_cmd.specs.Reply.{HasNoUsage, IsChainOf, IsMediaCause, PreparesFound, PreparesMedia, PreparesTree};
 
 use crate::open::{Stored, open};
 use crate::replies::refused_reply;
 use crate::reply::{Fault, Reply};
-use crate::types::Answer;
-use c2_assertion::{Kind, kind};
-use c2_base::{Found, Question, Source};
-use c2_chain::{of_store, question_of};
-use c2_jumbf::{Tree, label_of};
-use c2_store::{Store, assertions, label, manifest_count};
-use c2_texts::{failing_line, no_question_line};
+use c2_base::{Found, NoMemory, Question, Source, Text};
+use c2_chain::{Chain, manifest_count, of_store, question_of, reached};
+use c2_jumbf::Tree;
+use c2_store::{Store, label};
 use c2_validate::read_store;
 use c2_validate::types::StoreRead;
 use std::alloc::Global;
+use std::marker::Model;
+
+/// A manifest that is asked of: its label, and its question where it has one.
+#[derive(Drop)]
+pub struct Asked {
+    label: Text,
+    question: Option<Question>,
+}
+
+impl Model for Asked {
+    ghost use Rattle.c2_rules.specs.CheckList as form;
+
+    ghost Value = { form.Asked };
+
+    ghost view = { λ a. record { label = a.label; question = a.question } };
+}
+
+/// The label of a manifest that is asked of.
+pub fn asked_label(asked: &Asked) -> &str
+    ensures { result.now ≡ asked.now.label }
+{
+    asked.label.as_str()
+}
+
+/// Its question.
+pub fn asked_question(asked: &Asked) -> &Option<Question>
+    ensures { result.now ≡ asked.now.question }
+{
+    &asked.question
+}
 
 /// What `questions` asks.
 #[derive(Drop)]
@@ -30,8 +53,8 @@ pub enum Prepared {
     /// Nothing: this is the reply.
     Reply(Reply),
 
-    /// This question, of the manifest with this label.
-    Ask(String, Question),
+    /// The questions of these manifests, in order, for a line each.
+    Ask(Vec<Asked>),
 }
 
 /// What `questions` asks of a media file.
@@ -62,112 +85,70 @@ fn prepare_found(alloc: Global, found: &Found) -> Result<Prepared, Fault>
     }
 }
 
-// What is asked over the manifests of a store: the question of the active one, unless it has the box of an ingredient.
+// What is asked over the manifests of a store.
 fn prepare_store(alloc: Global, tree: &Tree<'_>, store: &Store) -> Result<Prepared, Fault>
     requires { IsStoreOf tree.now store.now }
     ensures prepared { IfOk result (PreparesTree tree.now) }
     ensures words { IfOk result HasNoUsage }
     ensures memory { IfErr result (λ e. e ≡ Fault.Memory) }
 {
-    let active = active_manifest(tree, store);
-    if let Some(ingredient) = ingredient_in(tree, active.assertions) {
-        let reply = unsupported_ingredient(alloc, active.label, ingredient)?;
-        return Ok(Prepared::Reply(reply));
-    }
-    prepare_active(alloc, tree, store, &active)
+    let chain = of_store(alloc, tree, store)?;
+    let asked = all_asked(alloc, tree, store, &chain)?;
+    Ok(Prepared::Ask(asked))
 }
 
-// The active manifest: its index, its label, and the boxes of its assertion store.
-#[derive(Clone, Copy, Debug)]
-struct ActiveManifest<'t> {
-    index: usize,
-    label: &'t str,
-    assertions: &'t [usize],
-}
-
-// The active manifest of a store, the last.
-fn active_manifest<'t>(tree: &'t Tree<'_>, store: &'t Store) -> ActiveManifest<'t>
-    requires { IsStoreOf tree.now store.now }
-    ensures { IsActiveManifest tree.now store.now result }
-{
-    let index = last_index(tree, store);
-    ActiveManifest {
-        index,
-        label: label(tree, store, index),
-        assertions: assertions(store, index),
-    }
-}
-
-// The index of the last manifest. A store has one.
-fn last_index(_tree: &Tree<'_>, store: &Store) -> usize
-    requires { IsStoreOf _tree.now store.now }
-    ensures { result + 1 ≡ length store.now }
-{
-    manifest_count(store) - 1
-}
-
-// What is asked of the active manifest, which has no box of an ingredient.
-fn prepare_active(
+// The reached manifests, the last first.
+fn all_asked(
     alloc: Global,
     tree: &Tree<'_>,
     store: &Store,
-    active: &ActiveManifest<'_>,
-) -> Result<Prepared, Fault>
-    requires same { IsStoreOf tree.now store.now }
-    requires active { IsActiveManifest tree.now store.now active.now }
-    requires none { first_label tree.now active.now.assertions.now ≡ None }
-    ensures prepared { IfOk result (PreparesTree tree.now) }
-    ensures words { IfOk result HasNoUsage }
-    ensures memory { IfErr result (λ e. e ≡ Fault.Memory) }
+    chain: &Chain<'_>,
+) -> Result<Vec<Asked>, NoMemory>
+    requires { IsChainOf tree.now store.now chain.now }
+    ensures { IfOk result (λ asked. asked.items ≡ form.all_asked chain.now.readings) }
 {
-    let chain = of_store(alloc, tree, store)?;
-    match question_of(alloc, &chain, active.index)? {
-        Some(question) => {
-            let label = String::from_str(alloc, active.label)?;
-            Ok(Prepared::Ask(label, question))
-        }
-        None => Ok(Prepared::Reply(Reply {
-            answer: Answer::Done,
-            text: no_question_line(alloc, active.label)?,
-        })),
+    let mut asked = Vec::new(alloc);
+    for i in (0..manifest_count(chain)).rev() {
+        push_asked(alloc, &mut asked, tree, store, chain, i)?;
     }
+    Ok(asked)
 }
 
-// The label of the first of these boxes that is one of an ingredient.
-#[tactic(auto, using(crate::proofs::Ingredients::first_here, crate::proofs::Ingredients::first_next, crate::proofs::Ingredients::first_none))]
-fn ingredient_in<'t>(tree: &'t Tree<'_>, boxes: &[usize]) -> Option<&'t str>
-    requires { All (λ i. i < tree_count tree.now) boxes.now }
-    ensures { option_map (λ label. label.now) result ≡ first_label tree.now boxes.now }
+// Appends the manifest at place `i`, where it is reached.
+fn push_asked(
+    alloc: Global,
+    asked: &mut Vec<Asked>,
+    tree: &Tree<'_>,
+    store: &Store,
+    chain: &Chain<'_>,
+    i: usize,
+) -> Result<(), NoMemory>
+    requires chain { IsChainOf tree.now store.now chain.now }
+    requires inside { i < length chain.now.manifests }
+    ensures { let here = form.asked_at chain.now.readings i in
+        OnOk result (asked.new.items ≡ asked.old.items ++ here) }
 {
-    for i in boxes {
-        let label = label_of(tree, *i);
-        if is_ingredient(label) {
-            return label;
-        }
+    if reached(chain, i) {
+        let one = asked_of(alloc, tree, store, chain, i)?;
+        asked.push(one)?;
     }
-    None
+    Ok(())
 }
 
-// Whether a box with this label, or with none, is one of an ingredient.
-fn is_ingredient(label: Option<&str>) -> bool
-    ensures { result ≡ is_ingredient_label (option_map (λ text. text.now) label.entry) }
+// The manifest at place `i`, as it is asked of.
+fn asked_of(
+    alloc: Global,
+    tree: &Tree<'_>,
+    store: &Store,
+    chain: &Chain<'_>,
+    i: usize,
+) -> Result<Asked, NoMemory>
+    requires chain { IsChainOf tree.now store.now chain.now }
+    requires inside { i < length chain.now.manifests }
+    ensures { IfOk result
+        (λ one. form.asked_of (slice_get chain.now.readings i) ≡ one ∷ []) }
 {
-    match label {
-        Some(label) => matches!(kind(label), Kind::Ingredient),
-        None => false,
-    }
-}
-
-// The reply where a manifest has the box of an ingredient.
-fn unsupported_ingredient(alloc: Global, name: &str, ingredient: &str) -> Result<Reply, Fault>
-    ensures reply { let uri = assertion_uri name.now ingredient.now in
-        let line = form.failing_line (codes "unsupported.ingredient") uri in
-        IfOk result (λ reply. outcome_of reply ≡ reports Answer.Refused line) }
-    ensures memory { IfErr result (λ e. e ≡ Fault.Memory) }
-{
-    let uri = format!(in alloc; "self#jumbf=/c2pa/{name}/c2pa.assertions/{ingredient}")?;
-    Ok(Reply {
-        answer: Answer::Refused,
-        text: failing_line(alloc, "unsupported.ingredient", uri.as_str())?,
-    })
+    let question = question_of(alloc, chain, i)?;
+    let label = Text::copied(alloc, label(tree, store, i))?;
+    Ok(Asked { label, question })
 }

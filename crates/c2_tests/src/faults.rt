@@ -1,6 +1,7 @@
 // Runs in which a source or the report fails at each call in turn.
 use crate::files::{ONE_MANIFEST, ONE_PACKET, ONE_PACKET_DIGEST, SIGNED, words};
-use crate::tables::in_jpeg;
+use crate::questions_rows::ROWS;
+use crate::tables::{in_jpeg, row_of};
 use c2_base::{Blob, MemSink, MemSource, SureSource};
 use c2_cmd::run;
 use c2_cmd::types::Status;
@@ -11,7 +12,7 @@ use std::process::Abort;
 use std::test::Fail;
 
 // The most calls that a command makes of the media here.
-const MOST_CALLS: u64 = 500;
+const MOST_CALLS: u64 = 2_000;
 
 #[test]
 fn each_failing_read_is_told(rt: HostRuntime) -> Result<(), Fail> {
@@ -86,7 +87,7 @@ fn reads_fail(
     let given = words(alloc, &[command, "P"])?;
     for fail_at in 1..MOST_CALLS {
         let mut media = MemSource::new(Blob::copied(alloc, file)?, 7, fail_at);
-        let mut report = MemSink::with_room(alloc, 200, 0)?;
+        let mut report = MemSink::with_room(alloc, 1000, 0)?;
         let mut judges: Vec<Box<dyn Judge>> = Vec::new(alloc);
         judges.push(Box::new(alloc, FixedJudge::new(Verdict::Approved, 0))?)?;
         let status = run(alloc, &Sha, &given, &mut media, &mut report, &mut judges);
@@ -114,7 +115,10 @@ fn no_judge_is_asked_after_a_failing_read(rt: HostRuntime) -> Result<(), Fail> {
     reads_fail(&rt, alloc, "show", &ONE_MANIFEST, SHOWN, 0)?;
     let store = hex::decode(alloc, SIGNED)?;
     let file = in_jpeg(alloc, store.as_slice(), 63_984)?;
-    reads_fail(&rt, alloc, "questions", file.as_slice(), APPROVED, 1)
+    reads_fail(&rt, alloc, "questions", file.as_slice(), APPROVED, 1)?;
+    let (file, approved) = shared_manifest(alloc)?;
+    let (file, approved) = (file.as_slice(), approved.as_str());
+    reads_fail(&rt, alloc, "questions", file, approved, 4)
 }
 
 // Lets the report of a run fail at its append, at its finish and where it is full. A judge was asked so often.
@@ -128,9 +132,9 @@ fn writes_fail(
 ) -> Result<(), Fail> {
     let given = words(alloc, &[command, "P"])?;
     let rows: [(usize, u64, usize, Status); 6] = [
-        (200, 1, 0, Status::OutputFault),
-        (200, 2, known.len(), Status::OutputFault),
-        (200, 3, known.len(), Status::Done),
+        (1000, 1, 0, Status::OutputFault),
+        (1000, 2, known.len(), Status::OutputFault),
+        (1000, 3, known.len(), Status::Done),
         (0, 0, 0, Status::OutputFault),
         (30, 0, 30, Status::OutputFault),
         (70, 0, 70, Status::OutputFault),
@@ -158,5 +162,53 @@ fn judges_are_asked_before_a_failing_write(rt: HostRuntime) -> Result<(), Fail> 
     writes_fail(&rt, alloc, "show", &ONE_MANIFEST, SHOWN, 0)?;
     let store = hex::decode(alloc, SIGNED)?;
     let file = in_jpeg(alloc, store.as_slice(), 63_984)?;
-    writes_fail(&rt, alloc, "questions", file.as_slice(), APPROVED, 1)
+    writes_fail(&rt, alloc, "questions", file.as_slice(), APPROVED, 1)?;
+    let (file, approved) = shared_manifest(alloc)?;
+    let (file, approved) = (file.as_slice(), approved.as_str());
+    writes_fail(&rt, alloc, "questions", file, approved, 4)
+}
+
+// A JPEG with four manifests, of which the last names two that both name the first; and what `questions` says of it where a
+// judge approves.
+fn shared_manifest(alloc: Global) -> Result<(Vec<u8>, String), Fail> {
+    let (hex, silent) = row_of(ROWS, "# a manifest that two name is asked about once");
+    let store = hex::decode(alloc, hex)?;
+    let file = in_jpeg(alloc, store.as_slice(), 63_984)?;
+    let mut approved = String::new(alloc);
+    for line in silent.strip_prefix("0 ").unwrap_or(silent).split(" / ") {
+        approved.push_str(line.strip_suffix("silent").unwrap_or(line))?;
+        approved.push_str("approved\n")?;
+    }
+    Ok((file, approved))
+}
+
+#[test]
+fn judges_fail_at_each_ask_in_turn(rt: HostRuntime) -> Result<(), Fail> {
+    let alloc = rt.alloc();
+    let given = words(alloc, &["questions", "P", "V", "W"])?;
+    let (file, approved) = shared_manifest(alloc)?;
+    for fail_at in 1..6 {
+        let mut media = SureSource::new(Blob::copied(alloc, file.as_slice())?);
+        let mut report = MemSink::with_room(alloc, 1000, 0)?;
+        let mut judges: Vec<Box<dyn Judge>> = Vec::new(alloc);
+        judges.push(Box::new(alloc, FixedJudge::new(Verdict::Silent, 0))?)?;
+        judges.push(Box::new(alloc, FixedJudge::new(Verdict::Approved, fail_at))?)?;
+        judges.push(Box::new(alloc, FixedJudge::new(Verdict::Invalid, 0))?)?;
+        let status = run(alloc, &Sha, &given, &mut media, &mut report, &mut judges);
+        let fails = fail_at < 5;
+        let want = if fails {
+            Status::JudgeFault
+        } else {
+            Status::Done
+        };
+        let known = if fails { "" } else { approved.as_str() };
+        assert_eq!(rt; status, want, "at ask {fail_at}");
+        assert_eq!(rt; report.bytes(), known.as_bytes(), "at ask {fail_at}");
+        assert_eq!(rt; report.finished(), !fails, "at ask {fail_at}");
+        assert_eq!(rt; judges.len(), 3);
+        assert_eq!(rt; judges[0].asked(), fail_at.min(4));
+        assert_eq!(rt; judges[1].asked(), fail_at.min(4));
+        assert_eq!(rt; judges[2].asked(), 0);
+    }
+    Ok(())
 }

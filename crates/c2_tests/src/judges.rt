@@ -91,10 +91,6 @@ fn judges_are_asked_until_one_is_not_silent(rt: HostRuntime) -> Result<(), Fail>
     Ok(())
 }
 
-// A store in hex of a manifest labelled `m` with an ingredient of version 3, a claim and the box of its signature.
-const WITH_INGREDIENT: &str =
-    "000001796a756d620000001e6a756d646332706100110010800000aa00389b71036332706100000001536a756d620000001b6a756d6463326d6100110010800000aa00389b71036d000000006e6a756d62000000296a756d646332617300110010800000aa00389b7103633270612e617373657274696f6e73000000003d6a756d620000002c6a756d6463626f7200110010800000aa00389b7103633270612e696e6772656469656e742e7633000000000963626f72a00000007e6a756d62000000276a756d646332636c00110010800000aa00389b7103633270612e636c61696d2e7632000000004f63626f72a36a696e7374616e636549446169697369676e6174757265781973656c66236a756d62663d633270612e7369676e617475726572637265617465645f617373657274696f6e7380000000446a756d62000000286a756d646332637300110010800000aa00389b7103633270612e7369676e6174757265000000001463626f728443a10126a0f6445a5a5a5a";
-
 #[test]
 fn no_judge_is_asked_where_there_is_no_question(rt: HostRuntime) -> Result<(), Fail> {
     let alloc = rt.alloc();
@@ -115,17 +111,6 @@ fn no_judge_is_asked_where_there_is_no_question(rt: HostRuntime) -> Result<(), F
     asks(&rt, alloc, &[], &mut judges, refused, Status::Refused)?;
     let picture = [0xFF, 0xD8, 0xFF, 0xD9];
     asks(&rt, alloc, &picture, &mut judges, "none\n", Status::NoStore)?;
-    let file = jpeg_of(alloc, WITH_INGREDIENT)?;
-    let failing =
-        "failing unsupported.ingredient self#jumbf=/c2pa/m/c2pa.assertions/c2pa.ingredient.v3\n";
-    asks(
-        &rt,
-        alloc,
-        file.as_slice(),
-        &mut judges,
-        failing,
-        Status::Refused,
-    )?;
     assert_eq!(rt; judges.len(), 1);
     assert_eq!(rt; judges[0].asked(), 0);
     Ok(())

@@ -43,8 +43,8 @@ fn push_packet(file: &mut Vec<u8>, number: u32, header: &[u8], piece: &[u8]) -> 
 
 /// Runs a command over a JPEG around each store of a table, and compares status and line.
 ///
-/// A row is a store in hex, ` => `, and the status and the line that a command comes to; other lines say what the next row
-/// shows. So many rows has the table.
+/// A row is a store in hex, ` => `, and the status and the lines that a command comes to, with ` / ` between the lines; other
+/// lines say what the next row shows. So many rows has the table.
 pub fn rows_come_to(
     rt: &impl Abort,
     alloc: Global,
@@ -64,7 +64,19 @@ pub fn rows_come_to(
     Ok(())
 }
 
-// Runs a command over a store in one packet and in several, which are read in pieces of 65,536 and of 7 bytes.
+/// The row of a table behind a line that says what it shows: the store in hex, and status and lines.
+pub fn row_of(table: &'static str, what: &str) -> (&'static str, &'static str) {
+    let mut found = false;
+    for row in table.lines() {
+        if found {
+            return row.split_once(" => ").unwrap_or(("", ""));
+        }
+        found = row == what;
+    }
+    ("", "")
+}
+
+// Runs a command over a store in one packet, read in pieces of 1, of 7 and of 65,536 bytes, and in several packets.
 fn store_comes_to(
     rt: &impl Abort,
     alloc: Global,
@@ -74,12 +86,11 @@ fn store_comes_to(
 ) -> Result<(), Fail> {
     let store = hex::decode(alloc, hex)?;
     let file = in_jpeg(alloc, store.as_slice(), 63_984)?;
-    let media = MemSource::new(Blob::copied(alloc, file.as_slice())?, 7, 0);
-    let got = said_of(alloc, given, media)?;
-    assert_eq!(rt; got.as_str(), known, "in pieces: {hex}");
-    let media = MemSource::new(Blob::from_vec(file), 65_536, 0);
-    let got = said_of(alloc, given, media)?;
-    assert_eq!(rt; got.as_str(), known, "in one packet: {hex}");
+    for most in [1, 7, 65_536] {
+        let media = MemSource::new(Blob::copied(alloc, file.as_slice())?, most, 0);
+        let got = said_of(alloc, given, media)?;
+        assert_eq!(rt; got.as_str(), known, "in pieces of {most}: {hex}");
+    }
     let file = in_jpeg(alloc, store.as_slice(), 50)?;
     let media = MemSource::new(Blob::from_vec(file), 65_536, 0);
     let got = said_of(alloc, given, media)?;
@@ -87,7 +98,7 @@ fn store_comes_to(
     Ok(())
 }
 
-// The status of a run without judges and its report, which is one line.
+// The status of a run without judges and its report, with ` / ` between its lines.
 fn said_of(alloc: Global, given: &Vec<String>, mut media: MemSource) -> Result<String, Fail> {
     let mut sink = MemSink::with_room(alloc, 1000, 0)?;
     let mut judges: Vec<Box<dyn Judge>> = Vec::new(alloc);
@@ -95,11 +106,26 @@ fn said_of(alloc: Global, given: &Vec<String>, mut media: MemSource) -> Result<S
     let code = status.code();
     let mut known = format!(in alloc; "{code} ")?;
     match str::from_utf8(sink.bytes()) {
-        Ok(report) => known.push_str(report.strip_suffix('\n').unwrap_or("no line"))?,
+        Ok(report) => push_lines(&mut known, report)?,
         Err(_) => known.push_str("no text")?,
     }
     if !sink.finished() {
         known.push_str(", not finished")?;
     }
     Ok(known)
+}
+
+// Appends the lines of a report with ` / ` between them.
+fn push_lines(known: &mut String, report: &str) -> Result<(), Fail> {
+    let Some(lines) = report.strip_suffix('\n') else {
+        known.push_str("no line")?;
+        return Ok(());
+    };
+    for (number, line) in lines.split('\n').enumerate() {
+        if number > 0 {
+            known.push_str(" / ")?;
+        }
+        known.push_str(line)?;
+    }
+    Ok(())
 }

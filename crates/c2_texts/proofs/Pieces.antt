@@ -13,7 +13,7 @@ use Rattle.c2_spec.specs.C2pa.Manifest.{Manifest, superbox_at, manifest_at, mani
 use Rattle.c2_spec.specs.declared.cbor.Ref.{Ref}
 use Rattle.c2_spec.specs.declared.claim.Claim.{Claim}
 use Rattle.c2_spec.specs.declared.store.ManifestBoxes.{ManifestBoxes}
-use Rattle.c2_rules.specs.Claims.{Chained, active_of}
+use Rattle.c2_rules.specs.Claims.{active_of}
 use Rattle.c2_texts.specs.Items.{items_inside}
 use Rattle.c2_texts.specs.Show.{text_or_null, entry_data, claim_data, claim_or_null, box_data, manifest_data, manifests_data, active_data, show_line}
 
@@ -126,11 +126,11 @@ manifest_more t s ms cs i c old behind new w later stores are claims comma is so
 
 -- ---- the line
 
-pub line_written : (s : Chained) (o0 o1 o2 o3 o4 : List ℕ) → o0 ≡ [] → o1 ≡ o0 ++ (codes "{\"active\":" ++ compact_text (active_data (active_of s.manifests)))
-    → o2 ≡ o1 ++ codes ",\"manifests\":[" → o3 ≡ o2 ++ items_inside false (manifests_data s.manifests s.claims) → o4 ≡ o3 ++ codes "]}\n" → o4 ≡ show_line s
+pub line_written : (ms : List Manifest) (claims : List (Option Claim)) (o0 o1 o2 o3 o4 : List ℕ) → o0 ≡ [] → o1 ≡ o0 ++ (codes "{\"active\":" ++ compact_text (active_data (active_of ms)))
+    → o2 ≡ o1 ++ codes ",\"manifests\":[" → o3 ≡ o2 ++ items_inside false (manifests_data ms claims) → o4 ≡ o3 ++ codes "]}\n" → o4 ≡ show_line ms claims
 unfolding serde_json_on_literals
-line_written s o0 o1 o2 o3 o4 z a b c d =
-    let ds = manifests_data s.manifests s.claims in
-    let active = compact_text (active_data (active_of s.manifests)) in
+line_written ms claims o0 o1 o2 o3 o4 z a b c d =
+    let ds = manifests_data ms claims in
+    let active = compact_text (active_data (active_of ms)) in
     let ends = items_end false ds in
     simp (d, c, b, a, z, ends, append_assoc) refl

@@ -9,7 +9,7 @@ use Rattle.serde_json.specs.Written.{compact_text}
 use Rattle.c2_spec.specs.C2pa.Manifest.{Manifest, Superbox}
 use Rattle.c2_spec.specs.declared.cbor.Ref.{Ref}
 use Rattle.c2_spec.specs.declared.claim.Claim.{Claim}
-use Rattle.c2_rules.specs.Claims.{Chained, active_of}
+use Rattle.c2_rules.specs.Claims.{active_of}
 use Rattle.c2_texts.specs.Texts.{line}
 
 -- a text that may be missing
@@ -67,9 +67,10 @@ abbrev pub active_data : Option Manifest → Data
 active_data None = null
 active_data (Some m) = label_data m
 
--- all manifests in box order, and which is active
-abbrev pub store_data : Chained → Data
-store_data s = object (member (codes "active") (active_data (active_of s.manifests)) (member (codes "manifests") (array (items_of (manifests_data s.manifests s.claims))) no_members))
+-- all manifests in box order, each with its claim, and which is active
+abbrev pub store_data : List Manifest → List (Option Claim) → Data
+store_data ms claims = object (member (codes "active") (active_data (active_of ms)) (member (codes "manifests") (array (items_of (manifests_data ms claims))) no_members))
 
-abbrev pub show_line : Chained → List ℕ
-show_line s = line (compact_text (store_data s))
+-- the line of `show`
+abbrev pub show_line : List Manifest → List (Option Claim) → List ℕ
+show_line ms claims = line (compact_text (store_data ms claims))

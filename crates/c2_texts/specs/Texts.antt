@@ -8,6 +8,9 @@ use Rattle.c2_spec.specs.Reason.{reason_name}
 use Rattle.c2_spec.specs.Jumbf.Tree.{Tree}
 use Rattle.c2_spec.specs.Judges.Panel.{verdict_name}
 use Rattle.c2_spec.specs.declared.panel.Verdict.{Verdict}
+use Rattle.c2_rules.specs.Codes.{code_name}
+use Rattle.c2_rules.specs.declared.answer.Failing.{Failing}
+use Rattle.c2_rules.specs.declared.answer.Summary.{Summary}
 use Rattle.c2_spec.specs.Jumbf.Boxes.{IndexedBox, boxes_of, any_bytes, any_kind, any_label}
 
 -- a line of text ends with a line feed
@@ -38,8 +41,17 @@ abbrev pub printable : List ℕ → List ℕ
 printable text = map printable_byte text
 
 -- a rule that fails: its code, and the URI of the box
-abbrev pub failing_line : List ℕ → List ℕ → List ℕ
-failing_line code uri = line (codes "failing " ++ code ++ codes " " ++ printable uri)
+abbrev pub failing_line : Failing → List ℕ
+failing_line f = line (codes "failing " ++ code_name f.code ++ codes " " ++ printable f.uri)
+
+-- a file whose rules all hold, by what is counted of it
+abbrev pub valid_line : Summary → List ℕ
+valid_line s =
+    line
+    (codes "valid manifests=" ++ decimal s.manifests
+    ++ codes " assertions=" ++ decimal s.assertions
+    ++ codes " covered=" ++ decimal s.covered
+    ++ codes " outside=" ++ decimal s.outside)
 
 -- what the panel says of the question of the manifest with this label: the question's id, the label and the verdict
 abbrev pub question_line : List ℕ → List ℕ → Verdict → List ℕ

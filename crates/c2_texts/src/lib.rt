@@ -16,7 +16,8 @@ mod tests;
 mod tree;
 
 pub use lines::{
-    digest_line, failing_line, no_question_line, none_line, question_line, refused_line, usage_line,
+    digest_line, failing_line, no_question_line, none_line, question_line, refused_line,
+    usage_line, valid_line,
 };
 pub use show::show_line;
 pub use tree::listing;

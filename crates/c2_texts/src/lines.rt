@@ -3,7 +3,8 @@ ghost use Rattle.std.specs.Prelude.{◌≡◌, IfOk, string_bytes};
 ghost use Rattle.c2_texts.specs.Texts as form;
 
 use crate::control::printable;
-use crate::names::{reason_name, verdict_name};
+use crate::names::{code_name, reason_name, verdict_name};
+use c2_rules::{Failing, Summary};
 use c2_spec::{Reason, Verdict};
 use std::alloc::{AllocError, Global};
 
@@ -48,11 +49,28 @@ pub fn digest_line(
 }
 
 /// The line of a rule that fails: its code, and the URI of the box, with `?` for control bytes.
-pub fn failing_line(alloc: Global, code: &str, uri: &str) -> Result<String, AllocError>
-    ensures { IfOk result (λ text. string_bytes text ≡ form.failing_line code.now uri.now) }
+pub fn failing_line(alloc: Global, failing: &Failing) -> Result<String, AllocError>
+    ensures { IfOk result (λ text. string_bytes text ≡ form.failing_line failing.now) }
 {
-    let uri = printable(alloc, uri)?;
+    let code = code_name(failing.code);
+    let uri = printable(alloc, failing.uri.as_str())?;
     let text = format!(in alloc; "failing {code} {uri}\n")?;
+    Ok(text)
+}
+
+/// The line of a file whose rules all hold.
+pub fn valid_line(alloc: Global, summary: Summary) -> Result<String, AllocError>
+    ensures { IfOk result (λ text. string_bytes text ≡ form.valid_line summary) }
+{
+    let Summary {
+        manifests,
+        assertions,
+        covered,
+        outside,
+    } = summary;
+    let text = format!(in alloc;
+        "valid manifests={manifests} assertions={assertions} covered={covered} outside={outside}\n"
+    )?;
     Ok(text)
 }
 

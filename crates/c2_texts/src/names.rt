@@ -1,8 +1,10 @@
-// The words that reports print for refusals and verdicts.
+// The words that reports print for refusals, verdicts and rules that fail.
 ghost use Rattle.std.specs.Prelude.{◌≡◌};
 ghost use Rattle.c2_spec.specs.Judges.Panel as panel_form;
 ghost use Rattle.c2_spec.specs.Reason as reason_form;
+ghost use Rattle.c2_rules.specs.Codes as code_form;
 
+use c2_rules::Code;
 use c2_spec::{Reason, Verdict};
 
 /// The name of a refusal.
@@ -46,5 +48,58 @@ pub fn verdict_name(verdict: Verdict) -> &'static str
         Verdict::Untrusted => "untrusted",
         Verdict::Invalid => "invalid",
         Verdict::Silent => "silent",
+    }
+}
+
+/// The spelling of the code of a rule that fails.
+pub fn code_name(code: Code) -> &'static str
+    ensures { result.now ≡ code_form.code_name code }
+{
+    match code {
+        Code::UnsupportedUpdateActive => "unsupported.updateActive",
+        Code::ClaimMissing => "claim.missing",
+        Code::ClaimMultiple => "claim.multiple",
+        Code::UnsupportedClaimVersion => "unsupported.claimVersion",
+        Code::ClaimCborInvalid => "claim.cbor.invalid",
+        Code::ProfileClaimFields => "profile.claim.fields",
+        Code::ClaimSignatureMissing => "claimSignature.missing",
+        Code::ProfileSignatureForm => "profile.signature.form",
+        Code::ClaimSignatureMismatch => "claimSignature.mismatch",
+        Code::SigningCredentialUntrusted => "signingCredential.untrusted",
+        Code::SigningCredentialInvalid => "signingCredential.invalid",
+        Code::ProfileVerdictMissing => "profile.verdict.missing",
+        Code::AlgorithmUnsupported => "algorithm.unsupported",
+        Code::ProfileIngredientSignature => "profile.ingredient.signature",
+        Code::IngredientManifestMismatch => "ingredient.manifest.mismatch",
+        Code::ProfileAssertionUri => "profile.assertion.uri",
+        Code::UnsupportedCloudData => "unsupported.cloudData",
+        Code::AssertionNotRedacted => "assertion.notRedacted",
+        Code::AssertionMissing => "assertion.missing",
+        Code::AssertionHashedUriMismatch => "assertion.hashedURI.mismatch",
+        Code::AssertionUndeclared => "assertion.undeclared",
+        Code::ProfileRedactionUri => "profile.redaction.uri",
+        Code::AssertionSelfRedacted => "assertion.selfRedacted",
+        Code::AssertionActionRedacted => "assertion.action.redacted",
+        Code::ProfileRedactionBinding => "profile.redaction.binding",
+        Code::UnsupportedRedactIngredient => "unsupported.redactIngredient",
+        Code::UnsupportedHashKind => "unsupported.hashKind",
+        Code::ClaimHardBindingsMissing => "claim.hardBindings.missing",
+        Code::AssertionMultipleHardBindings => "assertion.multipleHardBindings",
+        Code::ManifestMultipleParents => "manifest.multipleParents",
+        Code::ManifestUpdateInvalid => "manifest.update.invalid",
+        Code::ManifestUpdateWrongParents => "manifest.update.wrongParents",
+        Code::UnsupportedIngredientVersion => "unsupported.ingredientVersion",
+        Code::AssertionCborInvalid => "assertion.cbor.invalid",
+        Code::ProfileIngredientForm => "profile.ingredient.form",
+        Code::IngredientManifestMissing => "ingredient.manifest.missing",
+        Code::UnsupportedIngredientOrder => "unsupported.ingredientOrder",
+        Code::UnsupportedMerkle => "unsupported.merkle",
+        Code::ProfileHashForm => "profile.hash.form",
+        Code::UnsupportedTooManyExclusions => "unsupported.tooManyExclusions",
+        Code::UnsupportedExclusionTest => "unsupported.exclusionTest",
+        Code::UnsupportedExclusionPath => "unsupported.exclusionPath",
+        Code::AssertionDataHashMismatch => "assertion.dataHash.mismatch",
+        Code::AssertionBmffHashMismatch => "assertion.bmffHash.mismatch",
+        Code::ProfileRedactionTarget => "profile.redaction.target",
     }
 }

@@ -59,7 +59,8 @@ pub fn show_line(
 ) -> Result<String, AllocError>
     requires same { IsStoreOf tree.now store.now }
     requires manifests { chain.now.manifests ≡ manifests_of tree.now }
-    ensures { IfOk result (λ text. string_bytes text ≡ form.show_line chain.now) }
+    ensures { let line = form.show_line chain.now.manifests chain.now.claims in
+        IfOk result (λ text. string_bytes text ≡ line) }
 {
     let mut text = String::new(alloc);
     let active = active_value(alloc, tree, store)?;

@@ -2,10 +2,12 @@
 
 use crate::{
     digest_line, failing_line, listing, no_question_line, none_line, question_line, refused_line,
-    show_line, usage_line,
+    show_line, usage_line, valid_line,
 };
+use c2_base::Text;
 use c2_chain::of_store;
 use c2_jumbf::parse;
+use c2_rules::{Code, Failing, Summary};
 use c2_spec::{Reason, Verdict};
 use c2_store::of_tree;
 use std::alloc::Global;
@@ -89,11 +91,18 @@ fn plain_lines_are_these(rt: HostRuntime) -> Result<(), Fail> {
     text.push_str(none_line(alloc)?.as_str())?;
     text.push_str(refused_line(alloc, Reason::BadHead, u64::MAX)?.as_str())?;
     text.push_str(digest_line(alloc, 2, 50, &[0x0A, 0xBC])?.as_str())?;
-    text.push_str(failing_line(
-        alloc,
-        "claim.missing",
-        "self#jumbf=/c2pa/\u{1f}a é\u{7f}€",
-    )?.as_str())?;
+    let failing = Failing {
+        code: Code::ClaimMissing,
+        uri: Text::copied(alloc, "self#jumbf=/c2pa/\u{1f}a é\u{7f}€")?,
+    };
+    text.push_str(failing_line(alloc, &failing)?.as_str())?;
+    let summary = Summary {
+        manifests: 1,
+        assertions: 20,
+        covered: u64::MAX,
+        outside: 0,
+    };
+    text.push_str(valid_line(alloc, summary)?.as_str())?;
     text.push_str(question_line(alloc, &[0xFF, 0x00], "m\n", Verdict::Silent)?.as_str())?;
     text.push_str(no_question_line(alloc, "m\tn")?.as_str())?;
     assert_eq!(rt; text.as_str(), PLAIN);
@@ -105,6 +114,7 @@ none
 refused BadHead 18446744073709551615
 2 50 0abc
 failing claim.missing self#jumbf=/c2pa/?a é?€
+valid manifests=1 assertions=20 covered=18446744073709551615 outside=0
 ff00 m? silent
 - m?n none
 ";

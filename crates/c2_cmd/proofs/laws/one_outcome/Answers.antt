@@ -8,7 +8,7 @@ returns-clause-outcome c = one_outcome (record {
   tree = c.each_list_is_a_tree_or_not.ensures.one_tree;
   fault = c.each_list_is_a_tree_or_not.ensures.one_fault;
   claims = c.one_list_of_claims.ensures;
-  question = c.one_question.ensures;
+  readings = c.one_reading.ensures.manifests;
 })
 
 pub returns-clause-questions : goal.returns-clause-questions
@@ -18,5 +18,5 @@ returns-clause-questions c = one_list (record {
   tree = c.each_list_is_a_tree_or_not.ensures.one_tree;
   fault = c.each_list_is_a_tree_or_not.ensures.one_fault;
   claims = c.one_list_of_claims.ensures;
-  question = c.one_question.ensures;
+  readings = c.one_reading.ensures.manifests;
 })

@@ -1,0 +1,10 @@
+use Rattle.std.proofs.Common.{◌≡◌, ◌≤◌, ◌++◌, length}
+use Rattle.c2_rules.specs.CheckList.{all_asked, asked_at}
+use Rattle.c2_rules.specs.Tests.{downward}
+use Rattle.c2_cmd.proofs.prepare.all_asked.Given as goal
+
+abbrev pub invariant-loop-i : goal.invariant-loop-i
+invariant-loop-i l = record {
+  within : l.i ≤ length l.chain.manifests;
+  so_far : all_asked l.chain.readings ≡ l.asked.items ++ downward (asked_at l.chain.readings) l.i;
+}

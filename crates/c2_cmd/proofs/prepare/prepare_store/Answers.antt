@@ -1,0 +1,6 @@
+use Rattle.c2_cmd.proofs.Preparing.{prepares_asked}
+use Rattle.c2_cmd.proofs.prepare.prepare_store.Goals as goal
+
+pub returns-clause-prepared : goal.returns-clause-prepared
+returns-clause-prepared c =
+    prepares_asked c.args.tree.now c.in_ok-chain.chain.readings _ c.in_ok-chain.ensures.reads c.in_ok-asked.ensures

@@ -1,0 +1,5 @@
+use Rattle.std.proofs.Common.{append_assoc}
+use Rattle.c2_texts.proofs.lines.valid_line.Goals as goal
+
+pub returns : goal.returns
+returns c = simp append_assoc c.in_ok-text.ensures.ok
