@@ -11,5 +11,5 @@ fn stores_are_shown(rt: HostRuntime) -> Result<(), Fail> {
 
 #[test]
 fn stores_are_asked_about(rt: HostRuntime) -> Result<(), Fail> {
-    rows_come_to(&rt, rt.alloc(), "questions", questions_rows::ROWS, 106)
+    rows_come_to(&rt, rt.alloc(), "questions", questions_rows::ROWS, 105)
 }
