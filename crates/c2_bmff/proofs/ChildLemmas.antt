@@ -19,7 +19,7 @@ use Rattle.c2_bmff.specs.Provenance.{payload_at}
 use Rattle.c2_bmff.specs.Roots.{row_at}
 use Rattle.c2_bmff.specs.declared.header.BoxHead.{BoxHead}
 use Rattle.c2_bmff.specs.declared.header.HeadError.{HeadError}
-use Rattle.c2_bmff.specs.declared.roots.RootBox.{RootBox}
+use Rattle.c2_bmff.specs.declared.root_boxes.RootBox.{RootBox}
 use Rattle.c2_bmff.proofs.HeaderLemmas.{head_of, fault_of}
 
 -- a header that runs to the end is no child's

@@ -14,7 +14,7 @@ use Rattle.c2_bmff.specs.Roots.{FillSource}
 use Rattle.c2_bmff.specs.Search.{FailsBy, Finds, Searched, StepsBy}
 use Rattle.c2_bmff.specs.declared.provenance.Part.{Part}
 use Rattle.c2_bmff.specs.declared.provenance.Part.TheVariants as part
-use Rattle.c2_bmff.specs.declared.roots.RootBox.{RootBox}
+use Rattle.c2_bmff.specs.declared.root_boxes.RootBox.{RootBox}
 use Rattle.c2_bmff.proofs.SearchLemmas.{Holder, tests, faults, other_by, other_fault, holds_by, fails_by, pass_more, pass_none}
 
 -- the part of a `uuid` box, by its tests

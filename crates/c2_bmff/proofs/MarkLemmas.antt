@@ -5,7 +5,7 @@ use Rattle.std.specs.List.{list_any}
 use Rattle.std.proofs.lemmas.List.{length-drop, length-take-le, drop-drop, take-append-drop, take_more, take-take, drop-take}
 use Rattle.c2_base.specs.declared.values.Range.{Range}
 use Rattle.c2_bmff.specs.Marks.{in_row, in_row_part, stands_at}
-use Rattle.c2_bmff.specs.declared.roots.RootBox.{RootBox}
+use Rattle.c2_bmff.specs.declared.root_boxes.RootBox.{RootBox}
 use Rattle.c2_spec.specs.Bmff.Hash.{in_part}
 
 and_join : (a b c : Bool) → (a && (b && c)) ≡ ((a && b) && c)

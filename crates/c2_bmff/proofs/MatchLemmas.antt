@@ -14,7 +14,7 @@ use Rattle.c2_spec.proofs.BmffOneList.{first_box, other_boxes}
 use Rattle.c2_bmff.specs.Children.{IsRowWithin, kids, on_rows, row_matched}
 use Rattle.c2_bmff.specs.Marks.{excludes_row, has_length, holds_test, in_row, in_row_subset, marks, stands_at, takes}
 use Rattle.c2_bmff.specs.Roots.{FillSource, row_of, rows_of}
-use Rattle.c2_bmff.specs.declared.roots.RootBox.{RootBox}
+use Rattle.c2_bmff.specs.declared.root_boxes.RootBox.{RootBox}
 use Rattle.c2_bmff.proofs.BoxThere.{AreBytes}
 use Rattle.c2_bmff.proofs.ChildLemmas.{all_filter, all_one}
 use Rattle.c2_bmff.proofs.FoundLemmas.{fill_end}

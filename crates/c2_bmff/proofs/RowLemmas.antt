@@ -10,7 +10,7 @@ use Rattle.c2_spec.specs.Bmff.Store.{ProvenanceFault}
 use Rattle.c2_bmff.specs.Provenance.{payload_at, payload_part}
 use Rattle.c2_bmff.specs.Roots.{AreRootsOf, FillSource, row_of, rows_of}
 use Rattle.c2_bmff.specs.Search.{FailsBy, IsStoreOr, Searched, SearchedTo, StepsBy}
-use Rattle.c2_bmff.specs.declared.roots.RootBox.{RootBox}
+use Rattle.c2_bmff.specs.declared.root_boxes.RootBox.{RootBox}
 use Rattle.c2_bmff.proofs.FoundLemmas.{fill_end, searched_fails, searched_none, searched_not, searched_uuid}
 use Rattle.c2_bmff.proofs.SearchLemmas.{BoxAt, box_at, payload_is}
 use Rattle.c2_bmff.proofs.WalkLemmas.{length-rows}

@@ -15,7 +15,7 @@ use Rattle.c2_bmff.specs.Roots.{row_of}
 use Rattle.c2_bmff.specs.Search.{FailsBy}
 use Rattle.c2_bmff.specs.declared.provenance.Part.{Part}
 use Rattle.c2_bmff.specs.declared.provenance.Part.TheVariants as part
-use Rattle.c2_bmff.specs.declared.roots.RootBox.{RootBox}
+use Rattle.c2_bmff.specs.declared.root_boxes.RootBox.{RootBox}
 use Rattle.c2_bmff.proofs.WalkLemmas.{bytes_size, header_size}
 
 -- ---- the box of a row

@@ -10,7 +10,7 @@ use Rattle.c2_spec.proofs.BmffPassing.{box_passes}
 use Rattle.c2_bmff.specs.Children.{child_row, child_rows, is_child, kids, or_none}
 use Rattle.c2_bmff.specs.Provenance.{payload_at}
 use Rattle.c2_bmff.specs.Roots.{BeginsWith, row_of}
-use Rattle.c2_bmff.specs.declared.roots.RootBox.{RootBox}
+use Rattle.c2_bmff.specs.declared.root_boxes.RootBox.{RootBox}
 use Rattle.c2_base.specs.declared.media.MediaError.{MediaError}
 use Rattle.c2_bmff.proofs.ChildLemmas.{child_end, child_here}
 use Rattle.c2_bmff.proofs.BoxThere.{AreBytes, bytes-drop, bytes-take, box_there}

@@ -15,7 +15,7 @@ use Rattle.c2_bmff.specs.Causes.{OrOutside}
 use Rattle.c2_bmff.specs.Heads.{IsHead}
 use Rattle.c2_bmff.specs.Roots.{AreRootsOf, BeginsWith, FillSource, Walks, row_at, row_of, rows_of}
 use Rattle.c2_bmff.specs.declared.header.BoxHead.{BoxHead}
-use Rattle.c2_bmff.specs.declared.roots.RootBox.{RootBox}
+use Rattle.c2_bmff.specs.declared.root_boxes.RootBox.{RootBox}
 use Rattle.c2_bmff.proofs.BoxThere.{AreBytes, bytes-drop, box_there}
 
 -- a header has its length

@@ -8,7 +8,7 @@ use Rattle.c2_spec.specs.Cbor.Fields.{joined}
 use Rattle.c2_bmff.specs.Heads.{IsHead}
 use Rattle.c2_bmff.specs.Provenance.{payload_at}
 use Rattle.c2_bmff.specs.declared.header.BoxHead.{BoxHead}
-use Rattle.c2_bmff.specs.declared.roots.RootBox.{RootBox}
+use Rattle.c2_bmff.specs.declared.root_boxes.RootBox.{RootBox}
 
 -- a box that says its size stands at the front of these bytes
 abbrev pub is_child : List ℕ → Bool

@@ -5,7 +5,7 @@ use Rattle.std.specs.Str.{bytes_eq}
 use Rattle.c2_base.specs.declared.values.Range.{Range}
 use Rattle.c2_spec.specs.Bmff.Hash.{ByteTest, Exclusion, in_part, in_subset}
 use Rattle.c2_bmff.specs.Children.{on_rows}
-use Rattle.c2_bmff.specs.declared.roots.RootBox.{RootBox}
+use Rattle.c2_bmff.specs.declared.root_boxes.RootBox.{RootBox}
 
 -- these bytes stand at a place of the file
 abbrev pub stands_at : List ℕ → ℕ → List ℕ → Bool

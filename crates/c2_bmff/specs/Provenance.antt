@@ -5,7 +5,7 @@ use Rattle.std.specs.Str.{bytes_eq}
 use Rattle.c2_spec.specs.Bmff.Store.{c2pa_user_type, is_version_zero, is_for_manifest, has_store_box, store_len, most_store_bytes}
 use Rattle.c2_bmff.specs.declared.provenance.Part.{Part}
 use Rattle.c2_bmff.specs.declared.provenance.Part.TheVariants as part
-use Rattle.c2_bmff.specs.declared.roots.RootBox.{RootBox}
+use Rattle.c2_bmff.specs.declared.root_boxes.RootBox.{RootBox}
 
 -- what a `uuid` box with this payload is, where a store was found before or not
 unfoldable pub payload_part : Bool → List ℕ → Part

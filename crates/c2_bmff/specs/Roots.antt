@@ -8,7 +8,7 @@ use Rattle.c2_spec.specs.Bmff.Paths.{PlacedBox, placed_from}
 use Rattle.c2_spec.specs.Bmff.Store.{FirstBmffFault}
 use Rattle.c2_bmff.specs.Causes.{OrOutside}
 use Rattle.c2_bmff.specs.declared.header.BoxHead.{BoxHead}
-use Rattle.c2_bmff.specs.declared.roots.RootBox.{RootBox}
+use Rattle.c2_bmff.specs.declared.root_boxes.RootBox.{RootBox}
 
 -- what is kept of a box that stands in a file
 abbrev pub row_of : PlacedBox → RootBox

@@ -12,7 +12,7 @@ use Rattle.c2_bmff.specs.Causes.{OrOutside}
 use Rattle.c2_bmff.specs.Roots.{rows_of}
 use Rattle.c2_bmff.specs.declared.provenance.Part.{Part}
 use Rattle.c2_bmff.specs.declared.provenance.Part.TheVariants as part
-use Rattle.c2_bmff.specs.declared.roots.RootBox.{RootBox}
+use Rattle.c2_bmff.specs.declared.root_boxes.RootBox.{RootBox}
 
 -- the file's store in its range, none, or the first test of its C2PA boxes that fails, unless the source failed or memory ran out
 abbrev pub IsStoreOr : List ℕ → Result (Option Found) MediaError → Type 0

@@ -9,7 +9,7 @@ ghost use Rattle.c2_bmff.specs.Children.{IsChildHead, IsHeadWithin, IsRowWithin,
 
 use crate::header::{self, BoxHead};
 use crate::paths::{Segment, enters};
-use crate::roots::{RootBox, fill_first, keep};
+use crate::root_boxes::{RootBox, fill_first, keep};
 use c2_base::{Failed, MediaError, NoMemory, Source};
 use std::alloc::Global;
 

@@ -11,9 +11,11 @@ mod marking;
 mod matching;
 mod paths;
 mod provenance;
-mod roots;
+mod reading;
+mod root_boxes;
 #[cfg(test)]
 mod tests;
+pub mod types;
 
 pub use exclusion::{ByteTests, Exclusion, Exclusions};
 pub use header::{BoxHead, HeadError, head};
@@ -21,4 +23,5 @@ pub use laws::{a_bmff_file_comes_to_one_thing, a_file_has_one_list_of_roots};
 pub use matching::match_path;
 pub use paths::{Path, Segment, read_path};
 pub use provenance::locate;
-pub use roots::{RootBox, Roots, read_roots};
+pub use reading::roots;
+pub use root_boxes::RootBox;

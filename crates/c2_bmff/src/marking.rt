@@ -11,7 +11,7 @@ ghost use Rattle.c2_bmff.specs.Exclusions.{byte_test};
 ghost use Rattle.c2_bmff.specs.Marks.{IsRangeWithin, has_length, holds_test, in_row_part, in_row_subset, marks, stands_at, takes};
 
 use crate::exclusion::Exclusion;
-use crate::roots::{RootBox, fill_first};
+use crate::root_boxes::{RootBox, fill_first};
 use c2_base::{Blob, Failed, MediaError, NoMemory, Range, Ranges, Source};
 use std::alloc::Global;
 

@@ -10,7 +10,7 @@ ghost use Rattle.c2_bmff.specs.Roots.{FillSource};
 use crate::children::boxes_on;
 use crate::exclusion::Exclusion;
 use crate::marking::mark;
-use crate::roots::Roots;
+use crate::root_boxes::Roots;
 use c2_base::{MediaError, Ranges, Source};
 use std::alloc::Global;
 

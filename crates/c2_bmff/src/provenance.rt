@@ -10,7 +10,7 @@ ghost use Rattle.c2_base.specs.declared.limits.TheConstants.{MAX_STORE_LEN};
 ghost use Rattle.c2_bmff.specs.Search.{FailsBy, IsFoundWithin, IsPartWithin, IsStoreOr, StepsBy, SearchedTo};
 
 use crate::header::{UUID, u32_at, u64_at};
-use crate::roots::{RootBox, Roots, fill_first};
+use crate::root_boxes::{RootBox, Roots, fill_first};
 use c2_base::limits::MAX_STORE_LEN;
 use c2_base::{Blob, Failed, Found, MediaError, Source, fill_at};
 use std::alloc::Global;

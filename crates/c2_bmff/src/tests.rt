@@ -1,5 +1,5 @@
 // Worked files of boxes: values from ISO/IEC 14496-12 by hand.
-use crate::{HeadError, RootBox, head, locate, read_roots};
+use crate::{HeadError, RootBox, head, locate, roots};
 use c2_base::{Blob, MediaError, MemSource, VastSource};
 use std::alloc::Global;
 use std::process::Abort;
@@ -25,7 +25,7 @@ const FTYP: RootBox = RootBox {
     to_end: false,
 };
 
-// What `read_roots` answers of these bytes, over a source that gives `most` bytes a call.
+// What `roots` answers of these bytes, over a source that gives `most` bytes a call.
 fn rows_of(
     rt: &impl Abort,
     alloc: Global,
@@ -34,11 +34,11 @@ fn rows_of(
 ) -> Result<(), Fail> {
     for most in [1, 7, 65_536] {
         let mut source = MemSource::new(Blob::copied(alloc, bytes)?, usize::max(1, most), 0);
-        match read_roots(alloc, &mut source) {
-            Ok(roots) => {
-                assert!(rt; roots.as_slice().len() == 2);
-                assert!(rt; roots.as_slice()[0] == FTYP);
-                assert!(rt; Ok(roots.as_slice()[1]) == want);
+        match roots(alloc, &mut source) {
+            Ok(boxes) => {
+                assert!(rt; boxes.as_slice().len() == 2);
+                assert!(rt; boxes.as_slice()[0] == FTYP);
+                assert!(rt; Ok(boxes.as_slice()[1]) == want);
             }
             Err(error) => assert!(rt; Err(error) == want),
         }
@@ -92,7 +92,7 @@ fn the_first_test_that_fails_is_told(rt: HostRuntime) -> Result<(), Fail> {
     fifteen[31] = 15;
     rows_of(&rt, alloc, &fifteen, Err(MediaError::BadBox(16)))?;
     let mut vast = VastSource::new(Blob::copied(alloc, &TWO)?, 1 << 62);
-    assert!(rt; read_roots(alloc, &mut vast).err() == Some(MediaError::FileTooLarge(1 << 62)));
+    assert!(rt; roots(alloc, &mut vast).err() == Some(MediaError::FileTooLarge(1 << 62)));
     Ok(())
 }
 
@@ -122,10 +122,10 @@ fn located(
 ) -> Result<(), Fail> {
     for most in [1, 7, 65_536] {
         let mut source = MemSource::new(Blob::copied(alloc, bytes)?, usize::max(1, most), 0);
-        let Ok(roots) = read_roots(alloc, &mut source) else {
+        let Ok(boxes) = roots(alloc, &mut source) else {
             return Ok(assert!(rt; false));
         };
-        match (locate(alloc, &mut source, &roots), want) {
+        match (locate(alloc, &mut source, &boxes), want) {
             (Ok(Some(found)), Ok(Some((start, length, store)))) => {
                 assert!(rt; found.start == start);
                 assert!(rt; found.length == length);
@@ -178,11 +178,11 @@ fn the_first_box_that_fails_is_told(rt: HostRuntime) -> Result<(), Fail> {
     large[61] = 2;
     large[64] = 1;
     let mut vast = VastSource::new(Blob::copied(alloc, &large)?, 0x0300_003F + 16);
-    let Ok(roots) = read_roots(alloc, &mut vast) else {
+    let Ok(boxes) = roots(alloc, &mut vast) else {
         return Ok(assert!(rt; false));
     };
     assert!(rt;
-        locate(alloc, &mut vast, &roots).err() == Some(MediaError::StoreTooLarge(0x0200_0001))
+        locate(alloc, &mut vast, &boxes).err() == Some(MediaError::StoreTooLarge(0x0200_0001))
     );
     Ok(())
 }

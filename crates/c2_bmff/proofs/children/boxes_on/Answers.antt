@@ -4,7 +4,7 @@ use Rattle.std.specs.List.{flat_map}
 use Rattle.std.proofs.lemmas.List.{length-drop, take_all}
 use Rattle.c2_spec.specs.Bmff.Paths.{PathStep, is_entered}
 use Rattle.c2_bmff.specs.Children.{IsRowWithin, go_on, matched_in, on_rows, row_matched}
-use Rattle.c2_bmff.specs.declared.roots.RootBox.{RootBox}
+use Rattle.c2_bmff.specs.declared.root_boxes.RootBox.{RootBox}
 use Rattle.c2_bmff.proofs.ChildLemmas.{all_matched, not_empty, steps_from, path_start, path_next}
 use Rattle.c2_bmff.proofs.children.boxes_on.Goals as goal
 

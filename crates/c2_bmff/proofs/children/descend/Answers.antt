@@ -2,7 +2,7 @@ use Rattle.std.proofs.Common.{◌≡◌, ◌∙◌, ℕ, List, ◌++◌, subst, 
 use Rattle.std.specs.Prelude.{All}
 use Rattle.std.proofs.lemmas.List.Elements.{All-append}
 use Rattle.c2_bmff.specs.Children.{IsRowWithin, matched_in, row_matched}
-use Rattle.c2_bmff.specs.declared.roots.RootBox.{RootBox}
+use Rattle.c2_bmff.specs.declared.root_boxes.RootBox.{RootBox}
 use Rattle.c2_bmff.proofs.ChildLemmas.{all_matched, flat_next}
 use Rattle.c2_bmff.proofs.children.descend.Goals as goal
 

@@ -4,7 +4,7 @@ use Rattle.std.specs.List.{list_any}
 use Rattle.std.proofs.lemmas.List.{take_all}
 use Rattle.c2_spec.specs.Cover.{is_excluded}
 use Rattle.c2_bmff.specs.Marks.{IsRangeWithin, marks}
-use Rattle.c2_bmff.specs.declared.roots.RootBox.{RootBox}
+use Rattle.c2_bmff.specs.declared.root_boxes.RootBox.{RootBox}
 use Rattle.c2_bmff.proofs.ChildLemmas.{no_row}
 use Rattle.c2_bmff.proofs.MarkLemmas.{any_more}
 use Rattle.c2_bmff.proofs.marking.mark.Goals as goal

@@ -3,7 +3,7 @@ use Rattle.std.specs.Prelude.{IfSome, slice_index_or}
 use Rattle.std.proofs.Math.Seq.{drop-cons}
 use Rattle.c2_bmff.specs.Roots.{FillSource}
 use Rattle.c2_bmff.specs.Search.{IsFoundWithin}
-use Rattle.c2_bmff.specs.declared.roots.RootBox.{RootBox}
+use Rattle.c2_bmff.specs.declared.root_boxes.RootBox.{RootBox}
 use Rattle.c2_bmff.proofs.WalkLemmas.{outside_map}
 use Rattle.c2_bmff.proofs.RowLemmas.{NextRow, next_row, row_fails, row_not, row_uuid, rows_end, rows_start}
 use Rattle.c2_bmff.proofs.provenance.search.Goals as goal

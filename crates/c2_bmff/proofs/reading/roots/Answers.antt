@@ -2,7 +2,7 @@ use Rattle.std.proofs.Common.{◌≡◌, ◌∙◌, length, subst, sym, arith}
 use Rattle.c2_base.specs.declared.media.MediaError.TheVariants.{FileTooLarge}
 use Rattle.c2_spec.specs.Bmff.Store.{FirstBmffFault, too_large, not_media, root}
 use Rattle.c2_bmff.proofs.WalkLemmas.{outside_map}
-use Rattle.c2_bmff.proofs.roots.read_roots.Goals as goal
+use Rattle.c2_bmff.proofs.reading.roots.Goals as goal
 
 pub returns-then-size-ge-FILE_LEN_LIMIT-clause-refused : goal.returns-then-size-ge-FILE_LEN_LIMIT-clause-refused
 returns-then-size-ge-FILE_LEN_LIMIT-clause-refused g c file known =

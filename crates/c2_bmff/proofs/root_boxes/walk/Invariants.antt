@@ -3,7 +3,7 @@ use Rattle.std.specs.Option.{ForSome}
 use Rattle.c2_base.specs.Source.{StaysSource}
 use Rattle.c2_spec.specs.Bmff.Boxes.{most_roots}
 use Rattle.c2_bmff.specs.Roots.{FillSource, Walks}
-use Rattle.c2_bmff.proofs.roots.walk.Given as goal
+use Rattle.c2_bmff.proofs.root_boxes.walk.Given as goal
 
 abbrev pub invariant-boxes : goal.invariant-boxes
 invariant-boxes g l = record {

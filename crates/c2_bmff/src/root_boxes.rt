@@ -36,12 +36,12 @@ pub struct RootBox {
 /// The root boxes of a BMFF file, in order.
 #[derive(Debug, Drop)]
 pub struct Roots {
-    rows: Vec<RootBox>,
+    pub(crate) rows: Vec<RootBox>,
 }
 
 impl Model for Roots {
     ghost use Rattle.std.specs.Prelude.{List};
-    ghost use Rattle.c2_bmff.specs.declared.roots.RootBox.{RootBox};
+    ghost use Rattle.c2_bmff.specs.declared.root_boxes.RootBox.{RootBox};
 
     ghost Value = { List RootBox };
 
@@ -98,7 +98,7 @@ fn head_at<S: Source>(source: &mut S, at: u64, size: u64) -> Result<BoxHead, Med
 }
 
 // Whether the file has the type `ftyp` in its bytes 4 to 7.
-fn is_bmff<S: Source>(source: &mut S, size: u64) -> Result<bool, Failed>
+pub(crate) fn is_bmff<S: Source>(source: &mut S, size: u64) -> Result<bool, Failed>
     requires size { size ≡ S.len source.old }
     ensures stays { StaysSource S.len S.known S.faults source.old source.new }
     ensures cause { HasCause (S.faults source.old) (S.faults source.new) result }
@@ -129,7 +129,11 @@ pub(crate) fn keep(rows: &mut Vec<RootBox>, start: u64, head: BoxHead) -> Result
 }
 
 // The walk over the root boxes of a file of `size` bytes.
-fn walk<S: Source>(alloc: Global, source: &mut S, size: u64) -> Result<Vec<RootBox>, MediaError>
+pub(crate) fn walk<S: Source>(
+    alloc: Global,
+    source: &mut S,
+    size: u64,
+) -> Result<Vec<RootBox>, MediaError>
     requires size { size ≡ S.len source.old }
     requires bounded { size < 2 ^ 62 }
     requires begins { ForSome (S.known source.old) (λ file. begins_bmff file ≡ true) }
@@ -156,34 +160,4 @@ fn walk<S: Source>(alloc: Global, source: &mut S, size: u64) -> Result<Vec<RootB
         at += head.length;
     }
     Ok(rows)
-}
-
-/// The root boxes of a BMFF file (ISO/IEC 14496-12, 4.2), from its first byte to its last.
-///
-/// The errors are the first test that fails: [`MediaError::FileTooLarge`], [`MediaError::NotMedia`], then by boxes in order
-/// [`MediaError::TooManyBoxes`], [`MediaError::Truncated`] and [`MediaError::BadBox`]. [`MediaError::ReadFault`] comes only where the
-/// source failed, [`MediaError::NoMemory`] where memory ran out.
-pub fn read_roots<S: Source>(alloc: Global, source: &mut S) -> Result<Roots, MediaError>
-    ensures found { IfOk result
-        (λ roots. ForSome (S.known source.old) (λ file. AreRootsOf file roots)) }
-    ensures refused { IfErr result
-        (λ e. ForSome (S.known source.old) (λ file. OrOutside e (FirstBmffFault file e))) }
-    ensures fill { IfOk result (FillSource (S.len source.old) 0) }
-    ensures small { OnOk result (S.len source.old < 2 ^ 62) }
-    ensures stays { StaysSource S.len S.known S.faults source.old source.new }
-    ensures count { OnOk result (S.faults source.new ≡ S.faults source.old) }
-    ensures cause { IfErr result (IsCaused (S.faults source.old) (S.faults source.new)) }
-{
-    let size = source.size()?;
-    if size >= FILE_LEN_LIMIT {
-        return Err(MediaError::FileTooLarge(size));
-    }
-    if !is_bmff(source, size)? {
-        return Err(MediaError::NotMedia);
-    }
-    // A `match`: the proof follows the error itself.
-    match walk(alloc, source, size) {
-        Ok(rows) => Ok(Roots { rows }),
-        Err(error) => Err(error),
-    }
 }

@@ -3,7 +3,7 @@ use Rattle.std.proofs.lemmas.List.{length-drop}
 use Rattle.c2_base.specs.declared.media.MediaError.TheVariants.{Truncated}
 use Rattle.c2_bmff.specs.Heads.{media_error}
 use Rattle.c2_bmff.proofs.HeaderLemmas.{head_of, fault_of, same_take}
-use Rattle.c2_bmff.proofs.roots.head_at.Goals as goal
+use Rattle.c2_bmff.proofs.root_boxes.head_at.Goals as goal
 
 pub returns-in-Ok-clause-read : goal.returns-in-Ok-clause-read
 returns-in-Ok-clause-read g c file known =

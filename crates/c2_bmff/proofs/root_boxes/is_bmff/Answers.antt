@@ -1,6 +1,6 @@
 use Rattle.std.proofs.Common.{◌≡◌, length, arith, sym, ◌∙◌}
 use Rattle.c2_bmff.proofs.WalkLemmas.{short_begins}
-use Rattle.c2_bmff.proofs.roots.is_bmff.Goals as goal
+use Rattle.c2_bmff.proofs.root_boxes.is_bmff.Goals as goal
 
 pub returns-then-size-lt8-clause-begins : goal.returns-then-size-lt8-clause-begins
 returns-then-size-lt8-clause-begins g c file known =

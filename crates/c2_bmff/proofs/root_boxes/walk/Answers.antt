@@ -4,7 +4,7 @@ use Rattle.c2_spec.specs.Bmff.Boxes.{most_roots}
 use Rattle.c2_bmff.specs.Roots.{FillSource, Walks, row_at}
 use Rattle.c2_bmff.proofs.BoxThere.{are_bytes}
 use Rattle.c2_bmff.proofs.WalkLemmas.{fill_more, many_fault, outside_map, room_fault, walks_end, walks_fault, walks_more, walks_start}
-use Rattle.c2_bmff.proofs.roots.walk.Goals as goal
+use Rattle.c2_bmff.proofs.root_boxes.walk.Goals as goal
 
 pub boxes-init : goal.boxes-init
 boxes-init g c =
