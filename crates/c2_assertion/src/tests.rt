@@ -1,6 +1,7 @@
 //! Items that another encoder made, field by field, and labels of each kind.
 
-use crate::{kind, read_data_hash, read_ingredient};
+use crate::{kind, read_bmff_hash, read_data_hash, read_ingredient};
+use c2_bmff::Exclusion;
 use c2_cbor::{Ref, decode_whole};
 use std::alloc::{AllocError, Global};
 use std::test::Fail;
@@ -92,6 +93,35 @@ a36c72656c6174696f6e7368697068706172656e744f666e6163746976654d616e6966657374a263
 a36c72656c6174696f6e7368697068706172656e744f666e6163746976654d616e6966657374a26375726c7273656c66236a756d62663d2f633270612f6d646861736841aa6e636c61696d5369676e6174757265a36375726c782173656c66236a756d62663d2f633270612f6e2f633270612e7369676e6174757265646861736841bb63616c6766736861323536 => Form
 a36c72656c6174696f6e7368697068706172656e744f666e6163746976654d616e6966657374a26375726c7273656c66236a756d62663d2f633270612f6d646861736841aa6e636c61696d5369676e6174757265a36375726c782173656c66236a756d62663d2f633270612f6d2f633270612e7369676e61747572656468617368f663616c6766736861323536 => Form
 a36c72656c6174696f6e7368697068706172656e744f666e6163746976654d616e6966657374a26375726c7273656c66236a756d62663d2f633270612f6d646861736841aa6e636c61696d5369676e6174757265a36375726c782073656c66236a756d62663d2f633270612f6d2f633270612e636c61696d2e7632646861736841bb63616c6766736861323536 => Form"#;
+
+// The item in hex, and what it is: of each exclusion the steps of its path, its length, how many byte tests and how many parts;
+// algorithm and digest; or the refusal.
+const BMFF_HASHES: &str = r#"a264686173684201026a6578636c7573696f6e7380 => [] - 0102
+a364686173684201026a6578636c7573696f6e7381a1657870617468652f6674797063616c6766736861323536 => [1/-/0/-] sha256 0102
+a364686173684201026a6578636c7573696f6e7381a56578706174686d2f6d6f6f762f7472616b5b325d666c656e67746809646461746181a2666f6666736574086576616c756541416673756273657482a2666f666673657408666c656e67746800a2666f666673657400666c656e67746801646d6f726501646e616d656178 => [2/9/1/2] - 0102
+a264686173684201026a6578636c7573696f6e7382a4657870617468652f66747970666c656e677468f66464617461f666737562736574f6a2657870617468652f6d667261646461746180 => [1/-/0/-,1/-/0/-] - 0102
+a26468617368420102666d65726b6c6580 => Merkle
+a36468617368420102666d65726b6c65f66a6578636c7573696f6e7380 => [] - 0102
+a16468617368420102 => Form
+a264686173684201026a6578636c7573696f6e73f6 => Form
+a16a6578636c7573696f6e7380 => Form
+80 => Form
+a264686173684201026a6578636c7573696f6e738101 => Form
+a264686173684201026a6578636c7573696f6e7381a0 => Form
+a264686173684201026a6578636c7573696f6e7381a1657870617468452f66747970 => Form
+a264686173684201026a6578636c7573696f6e7381a16578706174686466747970 => Form
+a264686173684201026a6578636c7573696f6e7381a2657870617468652f66747970666c656e67746820 => Form
+a264686173684201026a6578636c7573696f6e7381a2657870617468652f667479706464617461a0 => Form
+a264686173684201026a6578636c7573696f6e7381a2657870617468652f66747970646461746181a1666f666673657401 => Form
+a264686173684201026a6578636c7573696f6e7381a2657870617468652f66747970646461746181a16576616c756540 => Form
+a264686173684201026a6578636c7573696f6e7381a2657870617468652f667479706673756273657480 => Form
+a264686173684201026a6578636c7573696f6e7381a2657870617468652f667479706673756273657481a1666f666673657401 => Form
+a364686173684201026a6578636c7573696f6e738063616c6701 => Form
+a264686173684201026a6578636c7573696f6e7381a2657870617468652f667479706776657273696f6e01 => Test
+a264686173684201026a6578636c7573696f6e7381a2657870617468652f6674797065666c61677340 => Test
+a264686173684201026a6578636c7573696f6e7382a2657870617468652f6674797065657861637401a16578706174686a2f6d6461742f66726565 => Test
+a264686173684201026a6578636c7573696f6e7382a1657870617468652f66747970a16578706174686a2f6d6461742f66726565 => Path
+a264686173684201026a6578636c7573696f6e7381a16578706174686f2f6d6f6f762f7472616b2f66726565 => [3/-/0/-] - 0102"#;
 
 // A label and its kind.
 const KINDS: &str = "c2pa.hash.data => DataHash
@@ -213,6 +243,64 @@ fn ingredient(alloc: Global, hex: &str) -> Result<String, AllocError> {
         }
         Err(error) => format!(in alloc; "{error:?}"),
     }
+}
+
+fn show_exclusion(out: &mut String, exclusion: &Exclusion) -> Result<(), AllocError> {
+    let steps = exclusion.path.segments().len();
+    write!(out, "{steps}/")?;
+    match exclusion.length {
+        Some(length) => write!(out, "{length}")?,
+        None => out.push_str("-")?,
+    }
+    let tests = exclusion.tests.as_slice().len();
+    write!(out, "/{tests}/")?;
+    match &exclusion.subset {
+        Some(parts) => {
+            let count = parts.as_slice().len();
+            write!(out, "{count}")
+        }
+        None => out.push_str("-"),
+    }
+}
+
+fn bmff_hash(alloc: Global, hex: &str) -> Result<String, AllocError> {
+    let bytes = unhex(alloc, hex)?;
+    let Ok(item) = decode_whole(alloc, bytes.as_slice()) else {
+        return String::from_str(alloc, "no item");
+    };
+    let value = match read_bmff_hash(alloc, &item) {
+        Ok(value) => value,
+        Err(error) => return format!(in alloc; "{error:?}"),
+    };
+    let mut out = String::from_str(alloc, "[")?;
+    let mut is_first = true;
+    for exclusion in value.exclusions.as_slice() {
+        if !is_first {
+            out.push_str(",")?;
+        }
+        is_first = false;
+        show_exclusion(&mut out, exclusion)?;
+    }
+    out.push_str("] ")?;
+    match &value.alg {
+        Some(alg) => show_text(&mut out, Some(alg.as_str()))?,
+        None => show_text(&mut out, None)?,
+    }
+    out.push_str(" ")?;
+    show_hex(&mut out, value.hash.as_slice())?;
+    Ok(out)
+}
+
+#[test]
+fn bmff_hashes_are_read_field_by_field(rt: HostRuntime) -> Result<(), Fail> {
+    let alloc = rt.alloc();
+    for row in BMFF_HASHES.lines() {
+        if let Some((hex, want)) = row.split_once(" => ") {
+            let got = bmff_hash(alloc, hex)?;
+            assert_eq!(rt; got.as_str(), want, "{hex}");
+        }
+    }
+    Ok(())
 }
 
 #[test]

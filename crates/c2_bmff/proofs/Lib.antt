@@ -9,5 +9,6 @@ mod PathLemmas
 mod Pieces
 mod RowLemmas
 mod SearchLemmas
+mod SomeOutcome
 mod StandLemmas
 mod WalkLemmas

@@ -1,5 +1,5 @@
 // What holds of every BMFF file.
-ghost use Rattle.std.specs.Prelude.{◌≡◌, ℕ, List};
+ghost use Rattle.std.specs.Prelude.{◌≡◌, ◌<◌, ◌^◌, ℕ, List, All};
 ghost use Rattle.c2_base.specs.declared.media.MediaError.{MediaError};
 ghost use Rattle.c2_spec.specs.Bmff.Boxes.{Box, HasRoots, RootFault};
 ghost use Rattle.c2_spec.specs.Bmff.Store.{IsBmffLocated};
@@ -16,4 +16,9 @@ pub fn a_file_has_one_list_of_roots()
 pub fn a_bmff_file_comes_to_one_thing()
     ensures { (file : List ℕ) (v w : Located)
         → IsBmffLocated file v → IsBmffLocated file w → v ≡ w }
+{}
+
+/// Each list of bytes comes to one of these as a BMFF file.
+pub fn each_bmff_file_comes_to_something()
+    ensures { (file : List ℕ) → All (λ b. b < 2 ^ 8) file → (v : Located) × IsBmffLocated file v }
 {}

@@ -1,6 +1,6 @@
 // Worked files of boxes: values from ISO/IEC 14496-12 by hand.
-use crate::{HeadError, RootBox, head, locate, roots};
-use c2_base::{Blob, MediaError, MemSource, VastSource};
+use crate::{ByteTests, Exclusion, HeadError, RootBox, head, locate, match_path, read_path, roots};
+use c2_base::{Blob, MediaError, MemSource, Range, Ranges, VastSource};
 use std::alloc::Global;
 use std::process::Abort;
 use std::test::Fail;
@@ -185,4 +185,162 @@ fn the_first_box_that_fails_is_told(rt: HostRuntime) -> Result<(), Fail> {
         locate(alloc, &mut vast, &boxes).err() == Some(MediaError::StoreTooLarge(0x0200_0001))
     );
     Ok(())
+}
+
+// Texts of paths, and whether they have the form.
+const PATHS: &str = "/ftyp yes
+/moov/trak[2] yes
+/trak[1048576] yes
+/a]b] yes
+ftyp no
+/ no
+/fty no
+/ftypx no
+/ft[p no
+/moov/ no
+/trak[] no
+/trak[0] no
+/trak[01] no
+/trak[1048577] no
+/trak[99999999999999999999] no
+/trak[1 no";
+
+#[test]
+fn paths_have_their_form(rt: HostRuntime) -> Result<(), Fail> {
+    let alloc = rt.alloc();
+    for row in PATHS.lines() {
+        if let Some((text, form)) = row.split_once(' ') {
+            let found = read_path(alloc, text)?;
+            assert_eq!(rt; found.is_some(), form == "yes", "{text}");
+        }
+    }
+    Ok(())
+}
+
+// `ftyp`, and `moov` with two `trak` of 9 and 10 bytes.
+const FILM: [u8; 43] = [
+    0, 0, 0, 0x10, 0x66, 0x74, 0x79, 0x70, 0x69, 0x73, 0x6F, 0x6D, 0, 0, 0, 0, 0, 0, 0, 0x1B, 0x6D,
+    0x6F, 0x6F, 0x76, 0, 0, 0, 9, 0x74, 0x72, 0x61, 0x6B, 1, 0, 0, 0, 0x0A, 0x74, 0x72, 0x61, 0x6B,
+    2, 3,
+];
+
+// One exclusion: its path, its length or 0, the byte that must stand at an offset, and its part.
+#[derive(Drop)]
+struct Case {
+    path: &'static str,
+    length: u64,
+    test: Option<(u64, u8)>,
+    part: Option<Range>,
+}
+
+fn whole(path: &'static str) -> Case {
+    Case {
+        path,
+        length: 0,
+        test: None,
+        part: None,
+    }
+}
+
+fn exclusion(alloc: Global, case: &Case) -> Result<Option<Exclusion>, Fail> {
+    let Some(path) = read_path(alloc, case.path)? else {
+        return Ok(None);
+    };
+    let mut tests = Vec::new(alloc);
+    if let Some((offset, byte)) = case.test {
+        tests.push((offset, Blob::copied(alloc, &[byte])?))?;
+    }
+    let mut subset = None;
+    if let Some(part) = case.part {
+        let mut parts = Vec::new(alloc);
+        parts.push(part)?;
+        subset = Some(Ranges::from_list(parts));
+    }
+    let length = if case.length == 0 {
+        None
+    } else {
+        Some(case.length)
+    };
+    Ok(Some(Exclusion {
+        path,
+        length,
+        tests: ByteTests::from_list(tests),
+        subset,
+    }))
+}
+
+// What an exclusion excludes of these bytes: so many ranges, and the first of them.
+fn excludes(
+    rt: &impl Abort,
+    alloc: Global,
+    bytes: &[u8],
+    case: Case,
+    want: Option<Range>,
+) -> Result<(), Fail> {
+    for most in [1, 7, 65_536] {
+        let mut source = MemSource::new(Blob::copied(alloc, bytes)?, usize::max(1, most), 0);
+        let Some(entry) = exclusion(alloc, &case)? else {
+            return Ok(assert!(rt; false));
+        };
+        let Ok(boxes) = roots(alloc, &mut source) else {
+            return Ok(assert!(rt; false));
+        };
+        let Ok(found) = match_path(alloc, &mut source, &boxes, &entry) else {
+            return Ok(assert!(rt; false));
+        };
+        assert!(rt; found.as_slice().first().copied() == want);
+        assert!(rt; found.as_slice().len() <= 1);
+    }
+    Ok(())
+}
+
+fn at(start: u64, length: u64) -> Option<Range> {
+    Some(Range { start, length })
+}
+
+#[test]
+fn boxes_on_a_path_are_excluded(rt: HostRuntime) -> Result<(), Fail> {
+    let alloc = rt.alloc();
+    excludes(&rt, alloc, &TWO, whole("/ftyp"), at(0, 16))?;
+    excludes(&rt, alloc, &TWO, whole("/mdat[1]"), at(16, 9))?;
+    excludes(&rt, alloc, &TWO, whole("/mdat[2]"), None)?;
+    // Two neighbours, the second alone, and a type that no path enters.
+    excludes(&rt, alloc, &FILM, whole("/moov/trak"), at(24, 19))?;
+    excludes(&rt, alloc, &FILM, whole("/moov/trak[2]"), at(33, 10))?;
+    excludes(&rt, alloc, &FILM, whole("/ftyp/isom"), None)?;
+    // The last `trak` ends a byte too late: `moov` has no children.
+    let mut bad = FILM;
+    bad[36] = 0x0B;
+    excludes(&rt, alloc, &bad, whole("/moov/trak[1]"), None)?;
+    // With the second of them said to have no size.
+    bad[36] = 0;
+    excludes(&rt, alloc, &bad, whole("/moov/trak[1]"), None)
+}
+
+#[test]
+fn lengths_tests_and_parts_are_of_the_box(rt: HostRuntime) -> Result<(), Fail> {
+    let alloc = rt.alloc();
+    let mut case = whole("/mdat");
+    case.length = 9;
+    excludes(&rt, alloc, &TWO, case, at(16, 9))?;
+    let mut longer = whole("/mdat");
+    longer.length = 10;
+    excludes(&rt, alloc, &TWO, longer, None)?;
+    // The byte 0x41 at offset 8, and past the end.
+    let mut holds = whole("/mdat");
+    holds.test = Some((8, 0x41));
+    excludes(&rt, alloc, &TWO, holds, at(16, 9))?;
+    let mut past = whole("/mdat");
+    past.test = Some((9, 0x41));
+    excludes(&rt, alloc, &TWO, past, None)?;
+    // From offset 8 on, and all of it; a part that begins at the end has nothing.
+    let mut rest = whole("/mdat");
+    rest.part = at(8, 0);
+    excludes(&rt, alloc, &TWO, rest, at(24, 1))?;
+    let mut all = whole("/mdat");
+    all.part = at(0, 0);
+    excludes(&rt, alloc, &TWO, all, at(16, 9))?;
+    let mut none = whole("/mdat");
+    none.part = at(9, 5);
+    excludes(&rt, alloc, &TWO, none, None)
 }
