@@ -1,5 +1,5 @@
 -- Each BMFF file comes to something: a refusal, no store, or a store.
-use Rattle.std.proofs.Common.{◌≡◌, ◌⊎◌, inl, inr, ⊎_elim, ℕ, zero, suc, ◌+◌, ◌^◌, ◌<◌, ◌≤◌, Bool, true, false, cond, ltb, ◌==◌, List, [], ◌∷◌, ◌++◌, length, take, drop, is_some, Option, Some, None, refl, sym, ap, ◌∙◌, subst, arith, append_assoc, append-nil, length-append}
+use Rattle.std.proofs.Common.{◌≡◌, ◌⊎◌, inl, inr, ⊎_elim, ℕ, zero, suc, ◌+◌, ◌^◌, ◌<◌, ◌≤◌, Bool, true, false, cond, ◌&&◌, leb, ltb, ◌==◌, List, [], ◌∷◌, ◌++◌, length, take, drop, is_some, Option, Some, None, refl, sym, ap, ◌∙◌, subst, arith, append_assoc, append-nil, length-append}
 use Rattle.std.proofs.lemmas.Bool.{cases_lt, ltb-true}
 use Rattle.std.proofs.lemmas.Grind.{flat_map-append}
 use Rattle.std.proofs.lemmas.List.{drop_all, length-drop}
@@ -8,12 +8,12 @@ use Rattle.std.specs.Str.{bytes_eq}
 use Rattle.c2_base.specs.declared.media.Found.{Found}
 use Rattle.c2_base.specs.declared.media.MediaError.{MediaError}
 use Rattle.c2_base.specs.declared.media.MediaError.TheVariants.{NotMedia, FileTooLarge, Truncated, TwoStores, BadBox, BadProvenanceBox, StoreTooLarge, TooManyBoxes}
-use Rattle.c2_spec.specs.Bmff.Boxes.{SizeForm, short, long, to_end, Box, IsBox, IsSizedBox, AreBoxForms, HasRoots, RootFault, begins_bmff, box_bytes, box_fault, box_len, boxes_len, header_len, is_to_end, most_roots, root_fault, stated_kind, stated_len, stated_header_len, stated_size, uuid_kind}
+use Rattle.c2_spec.specs.Bmff.Boxes.{SizeForm, short, long, to_end, Box, IsBox, IsSizedBox, AreBoxForms, HasRoots, RootFault, begins_bmff, box_bytes, box_fault, box_len, boxes_len, header_len, is_to_end, most_roots, root_fault, stated_kind, stated_len, stated_header_len, stated_long_size, stated_size, uuid_kind}
 use Rattle.c2_spec.specs.Bmff.Store.{FirstBmffFault, too_large, not_media, root, provenance, ProvenanceFault, IsBmffLocated}
 use Rattle.c2_spec.specs.Located.{Located, refused, absent, here, refusal}
 use Rattle.c2_spec.specs.declared.reason.Reason.{Reason}
 use Rattle.c2_spec.specs.declared.reason.Reason.TheVariants as why
-use Rattle.c2_spec.proofs.BmffTests.{six, file_by}
+use Rattle.c2_spec.proofs.BmffTests.{six, file_by, len_by}
 use Rattle.c2_bmff.specs.Provenance.{payload_part}
 use Rattle.c2_bmff.specs.Roots.{BeginsWith, row_of}
 use Rattle.c2_bmff.specs.Search.{FailsBy, Searched, StepsBy}
@@ -40,7 +40,7 @@ six_one false false false false false false x y z h = absurd (cc (h))
 
 -- the tests of a box refuse the file
 box_refuses : (p : ℕ) (rest : List ℕ) (e : MediaError) → box_fault p rest ≡ Some e → Refuses e
-box_refuses p rest e h = ⊎_elim (λ t. subst Refuses (sym t) (why.Truncated, p + length rest, refl)) (λ b. subst Refuses (sym b) (why.BadBox, p, refl)) (six_one _ _ _ _ _ _ (Truncated (p + length rest)) (BadBox p) e (sym (file_by p rest) ∙ h))
+box_refuses p rest e h = ⊎_elim (λ t. subst Refuses (sym t) (why.Truncated, p + length rest, refl)) (λ b. subst Refuses (sym b) (why.BadBox, p, refl)) (six_one (ltb (length rest) 8) (ltb (length rest) (cond (stated_size rest == 1) 16 8)) (leb 2 (stated_size rest) && ltb (stated_size rest) 8) ((stated_size rest == 1) && ltb (stated_long_size rest) 16) (ltb (length rest) (len_by (length rest) (stated_size rest) (stated_long_size rest))) (bytes_eq (stated_kind rest) uuid_kind && ltb (len_by (length rest) (stated_size rest) (stated_long_size rest)) (cond (stated_size rest == 1) 16 8 + 16)) (Truncated (p + length rest)) (BadBox p) e (sym (file_by p rest) ∙ h))
 
 -- so does the test of their number
 root_refuses : (count p : ℕ) (rest : List ℕ) (e : MediaError) → root_fault count p rest ≡ Some e → Refuses e
@@ -48,7 +48,7 @@ root_refuses count p rest e h = go (ltb count most_roots) refl
   where
     go : (t : Bool) → ltb count most_roots ≡ t → Refuses e
     go true s = box_refuses p rest e (sym (ap (λ (x : Bool). cond x (box_fault p rest) (Some TooManyBoxes)) s) ∙ h)
-    go false s = let many : Some TooManyBoxes ≡ Some e = sym (ap (λ (x : Bool). cond x (box_fault p rest) (Some TooManyBoxes)) s) ∙ h in subst Refuses (cc (many)) (why.TooManyBoxes, most_roots, refl)
+    go false s = let many : Some TooManyBoxes ≡ Some e = sym (ap (λ (x : Bool). cond x (box_fault p rest) (Some TooManyBoxes)) s) ∙ h in let one : TooManyBoxes ≡ e = cc (many) in subst Refuses one (why.TooManyBoxes, most_roots, refl)
 
 -- a box passes, and isn't one too many
 root_passes : (count p : ℕ) (rest : List ℕ) → root_fault count p rest ≡ None → (count < most_roots) × (box_fault p rest ≡ None)
@@ -143,7 +143,7 @@ scan file roots has (b ∷ bs) before found s e = by (bytes_eq b.kind uuid_kind)
 -- ---- the file
 
 refused_so : (file : List ℕ) (e : MediaError) → FirstBmffFault file e → Refuses e → (v : Located) × IsBmffLocated file v
-refused_so file e f r = (refused r.0 r.1, e, f, r.2)
+refused_so file e f r = (refused r.0 r.1, (e, f, r.2))
 
 stored : (file : List ℕ) (roots : List Box) → HasRoots file roots → (found : Option Found) → Searched roots found → (v : Located) × IsBmffLocated file v
 stored file roots has None s = (absent, record { roots = roots; has_roots = has; none = s.finds })

@@ -29,12 +29,12 @@ pub bytes_size : (b : Box) → IsBox b → length (box_bytes b) ≡ box_len b
 bytes_size b h = length-append (header_bytes b.form (box_len b) b.kind) b.payload ∙ ap (λ n. n + length b.payload) (header_size b.form (box_len b) b.kind h.kind)
 
 -- one more box that is one of them
-all_more : (bs : List Box) (b : Box) → AllByRecursion IsSizedBox bs → IsSizedBox b → AllByRecursion IsSizedBox (bs ++ b ∷ [])
+pub all_more : (bs : List Box) (b : Box) → AllByRecursion IsSizedBox bs → IsSizedBox b → AllByRecursion IsSizedBox (bs ++ b ∷ [])
 all_more [] b s t = (t, tt)
 all_more (c ∷ cs) b s t = (s.0, all_more cs b s.1 t)
 
 -- after boxes that say their sizes, one that needn't
-forms_more : (bs : List Box) (b : Box) → AllByRecursion IsSizedBox bs → IsBox b → AreBoxForms (bs ++ b ∷ [])
+pub forms_more : (bs : List Box) (b : Box) → AllByRecursion IsSizedBox bs → IsBox b → AreBoxForms (bs ++ b ∷ [])
 forms_more [] b s t = t
 forms_more (c ∷ []) b s t = (s.0, t)
 forms_more (c ∷ d ∷ ds) b s t = (s.0, forms_more (d ∷ ds) b s.1 t)
