@@ -2,7 +2,7 @@
 use Rattle.std.specs.Prelude.{◌≡◌, ◌↔◌, ℕ, true, List}
 use Rattle.c2_base.specs.declared.values.Range.{Range}
 use Rattle.c2_spec.specs.Bmff.Boxes.{Box, HasRoots}
-use Rattle.c2_spec.specs.Bmff.Hash.{Exclusion, IsExcludedBy}
+use Rattle.c2_spec.specs.Bmff.Hash.{Exclusion, IsExcluded, IsExcludedBy}
 use Rattle.c2_spec.specs.Cover.{is_excluded}
 use Rattle.c2_bmff.specs.Roots.{rows_of}
 use Rattle.c2_bmff.specs.declared.root_boxes.RootBox.{RootBox}
@@ -12,3 +12,9 @@ abbrev pub AreExcluded : List ℕ → List RootBox → Exclusion → List Range 
 AreExcluded file rows e ranges =
     (boxes : List Box) → HasRoots file boxes → rows ≡ rows_of boxes
     → (i : ℕ) → (is_excluded ranges i ≡ true) ↔ IsExcludedBy boxes e i
+
+-- the same of these exclusions together
+abbrev pub AreAllExcluded : List ℕ → List RootBox → List Exclusion → List Range → Type 0
+AreAllExcluded file rows exclusions ranges =
+    (boxes : List Box) → HasRoots file boxes → rows ≡ rows_of boxes
+    → (i : ℕ) → (is_excluded ranges i ≡ true) ↔ IsExcluded boxes exclusions i

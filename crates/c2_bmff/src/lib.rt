@@ -22,7 +22,7 @@ pub use header::{BoxHead, HeadError, head};
 pub use laws::{
     a_bmff_file_comes_to_one_thing, a_file_has_one_list_of_roots, each_bmff_file_comes_to_something,
 };
-pub use matching::match_path;
+pub use matching::{match_path, match_paths};
 pub use paths::{Path, Segment, read_path};
 pub use provenance::locate;
 pub use reading::roots;

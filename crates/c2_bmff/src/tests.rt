@@ -1,5 +1,8 @@
 // Worked files of boxes: values from ISO/IEC 14496-12 by hand.
-use crate::{ByteTests, Exclusion, HeadError, RootBox, head, locate, match_path, read_path, roots};
+use crate::{
+    ByteTests, Exclusion, HeadError, RootBox, head, locate, match_path, match_paths, read_path,
+    roots,
+};
 use c2_base::{Blob, MediaError, MemSource, Range, Ranges, VastSource};
 use std::alloc::Global;
 use std::process::Abort;
@@ -343,4 +346,26 @@ fn lengths_tests_and_parts_are_of_the_box(rt: HostRuntime) -> Result<(), Fail> {
     let mut none = whole("/mdat");
     none.part = at(9, 5);
     excludes(&rt, alloc, &TWO, none, None)
+}
+
+#[test]
+fn exclusions_are_taken_together(rt: HostRuntime) -> Result<(), Fail> {
+    let alloc = rt.alloc();
+    let mut source = MemSource::new(Blob::copied(alloc, &FILM)?, 7, 0);
+    let mut entries = Vec::new(alloc);
+    for path in ["/ftyp", "/moov/trak[2]", "/moov/trak[2]"] {
+        if let Some(entry) = exclusion(alloc, &whole(path))? {
+            entries.push(entry)?;
+        }
+    }
+    let Ok(boxes) = roots(alloc, &mut source) else {
+        return Ok(assert!(rt; false));
+    };
+    let Ok(found) = match_paths(alloc, &mut source, &boxes, &entries) else {
+        return Ok(assert!(rt; false));
+    };
+    assert!(rt; found.as_slice().len() == 2);
+    assert!(rt; found.as_slice().first().copied() == at(0, 16));
+    assert!(rt; found.as_slice().last().copied() == at(33, 10));
+    Ok(())
 }
