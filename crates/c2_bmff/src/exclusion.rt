@@ -53,7 +53,12 @@ impl Model for Exclusion {
 
     ghost Value = { hash.Exclusion };
 
-    ghost view = { λ e. record { path = e.path; length = e.length; tests = e.tests; subset = e.subset } };
+    ghost view = { λ e. record {
+      path = e.path;
+      length = e.length;
+      tests = e.tests;
+      subset = e.subset;
+    } };
 }
 
 /// Exclusions, in their order.

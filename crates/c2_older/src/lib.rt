@@ -19,6 +19,7 @@ pub fn rules_hold_when_no_longer_active()
 
 /// They hold as well once it lost boxes that are redacted.
 pub fn rules_hold_without_redacted_boxes()
-    ensures { (hash : Alg → List ℕ → List ℕ) (out : List ℕ → Bool) (was now : Seen) → Loses out was now
-        → AllHold (unjudged_tests hash was) → AllHold (unjudged_tests hash now) }
+    ensures { (hash : Alg → List ℕ → List ℕ) (out : List ℕ → Bool) (was now : Seen)
+        → Loses out was now → AllHold (unjudged_tests hash was)
+        → AllHold (unjudged_tests hash now) }
 {}
