@@ -1,9 +1,10 @@
 pub mod ActiveLemmas
-pub mod AfterLemmas
 pub mod BoundLemmas
 pub mod ChainLemmas
+pub mod EntryLemmas
 pub mod FactLemmas
 pub mod LabelLemmas
+pub mod LabelledLemmas
 pub mod ManifestLemmas
 pub mod StandingLemmas
 pub mod Texts

@@ -1,56 +1,46 @@
 // The rule on boxes that no entry lists.
 ghost use Rattle.std.specs.Prelude.{◌≡◌, IfOk, Some, option_map};
-ghost use Rattle.c2_rules.specs.Readings as readings;
 ghost use Rattle.c2_rules.specs.Rules as rules;
 ghost use Rattle.c2_rules.specs.Tests.{over_all, first_failing};
 
-use crate::entries::lists_label;
+use crate::labelled::{Labelled, is_listed, owner};
 use crate::uris::at_box;
 use c2_base::NoMemory;
-use c2_reading::{Kept, KeptBox, box_label};
-use c2_rules::{Code, Failing, Parsed};
+use c2_reading::{KeptBox, box_label};
+use c2_rules::{Code, Failing};
 use std::alloc::Global;
 
-/// Whether an entry of a manifest lists this label.
-fn lists_own(own: &Kept<'_>, name: &str) -> bool
-    ensures { result ≡ rules.lists_label own.now.manifest (readings.entries_in own.now) name.now }
-{
-    match &own.claim {
-        Parsed::Value(claim) => {
-            lists_label(own, claim.created.as_slice(), name)
-                || lists_label(own, claim.gathered.as_slice(), name)
-        }
-        _ => false,
-    }
-}
-
-fn is_undeclared(own: &Kept<'_>, name: Option<&str>) -> bool
+fn is_undeclared(own: &Labelled<'_, '_>, name: Option<&str>) -> bool
     ensures { result ≡ rules.is_undeclared own.now (option_map (λ x. x.now) name.entry) }
 {
     match name {
-        Some(name) => !lists_own(own, name),
+        Some(name) => !is_listed(own, name),
         None => true,
     }
 }
 
 /// Whether no entry lists this box.
-fn is_unlisted(own: &Kept<'_>, b: &KeptBox<'_>) -> bool
+fn is_unlisted(own: &Labelled<'_, '_>, b: &KeptBox<'_>) -> bool
     ensures { result ≡ (rules.box_test own.now b.now).fails }
 {
     is_undeclared(own, box_label(b))
 }
 
 /// This fails at a box that no entry lists.
-fn at_unlisted(alloc: Global, own: &Kept<'_>, b: &KeptBox<'_>) -> Result<Option<Failing>, NoMemory>
+fn at_unlisted(
+    alloc: Global,
+    own: &Labelled<'_, '_>,
+    b: &KeptBox<'_>,
+) -> Result<Option<Failing>, NoMemory>
     ensures { IfOk result (λ found. found ≡ Some (rules.box_test own.now b.now).failing) }
 {
-    at_box(alloc, own, box_label(b), Code::AssertionUndeclared)
+    at_box(alloc, owner(own), box_label(b), Code::AssertionUndeclared)
 }
 
 /// The first of these assertion boxes of a manifest that no entry lists.
 pub fn check_boxes(
     alloc: Global,
-    own: &Kept<'_>,
+    own: &Labelled<'_, '_>,
     boxes: &[KeptBox<'_>],
 ) -> Result<Option<Failing>, NoMemory>
     ensures { let tests = over_all (λ k b. rules.box_test own.now b) 0 boxes.now in

@@ -16,6 +16,7 @@ mod facts;
 mod forms;
 mod indices;
 mod ingredients;
+mod labelled;
 mod manifest;
 mod redactions;
 #[cfg(test)]

@@ -18,6 +18,7 @@ use crate::entries::check_entries;
 use crate::facts::{Facts, facts_below};
 use crate::forms::check_forms;
 use crate::ingredients::check_ingredients;
+use crate::labelled::{Labelled, owner, with_labels};
 use crate::redactions::check_own_redactions;
 use crate::verdict::check_verdict;
 use c2_base::NoMemory;
@@ -47,11 +48,11 @@ fn check_own_ingredients<H: Hashing>(
 }
 
 /// What fails first of a manifest's boxes that no entry lists.
-fn check_own_boxes(alloc: Global, own: &Kept<'_>) -> Result<Option<Failing>, NoMemory>
+fn check_own_boxes(alloc: Global, own: &Labelled<'_, '_>) -> Result<Option<Failing>, NoMemory>
     ensures { let tests = over_all (λ k b. rules.box_test own.now b) 0 own.now.boxes in
         IfOk result (λ found. found ≡ first_failing tests) }
 {
-    check_boxes(alloc, own, boxes(own))
+    check_boxes(alloc, own, boxes(owner(own)))
 }
 
 /// What fails first of a manifest's ingredients by their form.
@@ -115,7 +116,7 @@ fn check_from_boxes(
     alloc: Global,
     chain: &ReadManifests<'_>,
     i: usize,
-    own: &Kept<'_>,
+    own: &Labelled<'_, '_>,
 ) -> Result<Option<Failing>, NoMemory>
     requires { i < length chain.now }
     ensures { let tests = from_boxes (seen_at chain.now i own.now) in
@@ -125,7 +126,7 @@ fn check_from_boxes(
     if let Some(failing) = found {
         return Ok(Some(failing));
     }
-    let found = check_from_redactions(alloc, chain, i, own)?;
+    let found = check_from_redactions(alloc, chain, i, owner(own))?;
     Ok(found)
 }
 
@@ -136,7 +137,7 @@ fn check_from_entries<H: Hashing>(
     hashing: &H,
     chain: &ReadManifests<'_>,
     i: usize,
-    own: &Kept<'_>,
+    own: &Labelled<'_, '_>,
 ) -> Result<Option<Failing>, NoMemory>
     requires { i < length chain.now }
     ensures { let tests = from_entries H.digest_of (seen_at chain.now i own.now) in
@@ -169,7 +170,8 @@ fn check_part<H: Hashing>(
     if let Some(failing) = found {
         return Ok(Some(failing));
     }
-    let found = check_from_entries(alloc, hashing, chain, i, own)?;
+    let by_label = with_labels(alloc, own)?;
+    let found = check_from_entries(alloc, hashing, chain, i, &by_label)?;
     Ok(found)
 }
 

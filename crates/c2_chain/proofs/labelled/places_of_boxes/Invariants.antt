@@ -1,0 +1,7 @@
+use Rattle.std.proofs.Common.{take}
+use Rattle.c2_lookup.specs.Places.{ArePlaces}
+use Rattle.c2_chain.specs.Labelled.{box_labels}
+use Rattle.c2_chain.proofs.labelled.places_of_boxes.Given as goal
+
+abbrev pub invariant-loop-k : goal.invariant-loop-k
+invariant-loop-k l = ArePlaces (box_labels (take l.k l.boxes)) l.places

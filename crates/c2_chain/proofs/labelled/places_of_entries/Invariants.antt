@@ -1,0 +1,7 @@
+use Rattle.std.proofs.Common.{map, take}
+use Rattle.c2_lookup.specs.Places.{ArePlaces}
+use Rattle.c2_chain.specs.Labelled.{entry_labels}
+use Rattle.c2_chain.proofs.labelled.places_of_entries.Given as goal
+
+abbrev pub invariant-loop-k : goal.invariant-loop-k
+invariant-loop-k l = ArePlaces (entry_labels l.own.manifest (take l.k (map (λ x. x.now) l.entries))) l.places
