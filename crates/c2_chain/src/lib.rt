@@ -35,6 +35,7 @@ pub use c2_reading::{
     each_manifest_has_a_claim_or_not, each_manifest_has_a_question_or_not, each_store_is_read,
     labels_of_a_store_differ, one_claim, one_list_of_claims, one_question, one_reading,
 };
+pub use c2_rules::{Code, Failing};
 pub use chain::{
     Chain, check_known, check_manifest, child_facts, child_of, claim_of, ingredient_of,
     manifest_count, of_store, question_of, reached, reaches, redacted, touched,

@@ -51,6 +51,7 @@ first_found h xs k x o y lt at so_far is some =
     let here : h x ≡ Some y = sym is ∙ some in
     sym (so_far ∙ ap (λ zs. slice_get zs 0) (step ∙ ap (λ z. cons_option z (filter_map h (drop (k + 1) xs))) here))
 
+-- nothing is kept of this place, so the first of what is kept is among the rest
 pub first_passed : {X Y : Type 0} (h : X → Option Y) (xs : List X) (k : ℕ) (x : X) (o : Option Y) → k < length xs → x ≡ get_or xs k x → slice_get (filter_map h xs) 0 ≡ slice_get (filter_map h (drop k xs)) 0 → o ≡ h x → o ≡ None
     → slice_get (filter_map h xs) 0 ≡ slice_get (filter_map h (drop (k + 1) xs)) 0
 first_passed h xs k x o lt at so_far is none =
@@ -58,6 +59,7 @@ first_passed h xs k x o lt at so_far is none =
     let here : h x ≡ None = sym is ∙ none in
     so_far ∙ ap (λ zs. slice_get zs 0) (step ∙ ap (λ z. cons_option z (filter_map h (drop (k + 1) xs))) here)
 
+-- nothing is kept of any place
 pub first_none : {X Y : Type 0} (h : X → Option Y) (xs : List X) (k : ℕ) → length xs ≤ k → slice_get (filter_map h xs) 0 ≡ slice_get (filter_map h (drop k xs)) 0 → None ≡ slice_get (filter_map h xs) 0
 first_none h xs k past so_far = sym (so_far ∙ ap (λ ys. slice_get (filter_map h ys) 0) (drop_of_length-le xs past))
 
@@ -75,28 +77,34 @@ kept m (e ∷ es) = by (entry_label m e) ∙ ap (cons_option (binding_entry m e)
     by None = refl
     by (Some l) = one l (is_binding (label_kind l)) (filter (λ (l : List ℕ). is_binding (label_kind l)) (filter_map (entry_label m) es))
 
+-- the first of two lists is that of the first list, or else of the second
 first_of : {Y : Type 0} (xs ys : List Y) → slice_get (xs ++ ys) 0 ≡ option_or (slice_get xs 0) (slice_get ys 0)
 first_of [] ys = refl
 first_of (x ∷ xs) ys = refl
 
+-- a manifest's binding is the first of what was created, or else of what was gathered
 label_of : (r : Reading) (c : Claim) → r.claim ≡ Value c → binding_label r ≡ option_or (slice_get (filter_map (binding_entry r.manifest) c.created) 0) (slice_get (filter_map (binding_entry r.manifest) c.gathered) 0)
 label_of r c is =
     ap (λ (p : Parsed Claim). slice_get (filter (λ (l : List ℕ). is_binding (label_kind l)) (filter_map (entry_label r.manifest) (entries_of (value_in p)))) 0) is
     ∙ ap (λ zs. slice_get zs 0) (kept r.manifest (c.created ++ c.gathered) ∙ filter_map-append (binding_entry r.manifest) c.created c.gathered)
     ∙ first_of (filter_map (binding_entry r.manifest) c.created) (filter_map (binding_entry r.manifest) c.gathered)
 
+-- the first binding was created
 pub label_first : (r : Reading) (c : Claim) (o : Option (List ℕ)) (l : List ℕ) → r.claim ≡ Value c → o ≡ slice_get (filter_map (binding_entry r.manifest) c.created) 0 → o ≡ Some l → Some l ≡ binding_label r
 label_first r c o l is first some = sym (label_of r c is ∙ ap (λ x. option_or x (slice_get (filter_map (binding_entry r.manifest) c.gathered) 0)) (sym first ∙ some))
 
+-- no binding was created, so the first was gathered
 pub label_second : (r : Reading) (c : Claim) (o p : Option (List ℕ)) → r.claim ≡ Value c → o ≡ slice_get (filter_map (binding_entry r.manifest) c.created) 0 → o ≡ None → p ≡ slice_get (filter_map (binding_entry r.manifest) c.gathered) 0 → p ≡ binding_label r
 label_second r c o p is first none second = second ∙ sym (label_of r c is ∙ ap (λ x. option_or x (slice_get (filter_map (binding_entry r.manifest) c.gathered) 0)) (sym first ∙ none))
 
 -- ---- what was found
 
+-- what is found depends on the first test that fails and on the positions alone
 found_same : (ts us : List Test) (xs ys : List ℕ) (b : Bound) → first_failing ts ≡ first_failing us → xs ≡ ys → IsFoundBy ts xs b → IsFoundBy us ys b
 found_same ts us xs ys (Fails f) same excluded h = h ∙ same
 found_same ts us xs ys (Covers c) same excluded h = (h.0 ∙ same, sym excluded ∙ h.1)
 
+-- the same of a result
 pub found_as : {E : Type 0} (r : Result Bound E) (ts us : List Test) (xs ys : List ℕ) → first_failing ts ≡ first_failing us → xs ≡ ys → IfOk r (IsFoundBy ts xs) → IfOk r (IsFoundBy us ys)
 found_as (Ok b) ts us xs ys same excluded h = found_same ts us xs ys b same excluded h
 found_as (Err e) ts us xs ys same excluded h = tt
@@ -113,6 +121,7 @@ pub digest_same : (named here text : List ℕ) (c : Code) (uri : List ℕ) (cove
 digest_same named here text c uri cover b is agrees same =
     (sym (ap (λ (t : Bool). first_failing (test (not t) c uri ∷ [])) (ap (λ (x : List ℕ). bytes_eq x named) (sym same) ∙ sym is ∙ agrees)), refl)
 
+-- the digest is another
 pub digest_other : {E : Type 0} (named here text : List ℕ) (c k : Code) (uri : List ℕ) (cover : Covered) (b : Bool) (r : Result Bound E) → b ≡ bytes_eq here named → b ≡ false → here ≡ text → k ≡ c
     → IfOk r (λ found. found ≡ Fails (record { code = k; uri = uri })) → IfOk r (IsFoundBy (test (not (bytes_eq text named)) c uri ∷ []) (excluded_of cover))
 digest_other {E} named here text c k uri cover b r is differs same coded h =
@@ -133,6 +142,7 @@ left {E} hash alg kind uri d file size c r long cover fit h =
     (ap (λ t. first_failing (test (not (bytes_eq (hash alg t) d.hash)) (mismatch_code kind) uri ∷ [])) text
     ∙ sym (ap (λ (t : Bool). first_failing (test (not t) code.ProfileHashForm uri ∷ test (not (bytes_eq (hash alg b.text) b.hash)) (mismatch_code kind) uri ∷ [])) ordered)) excluded h
 
+-- the ranges are in order: the digest is left, told by lists that are equal
 pub digest_left : {E : Type 0} (hash : Alg → List ℕ → List ℕ) (alg : Alg) (kind : Kind) (uri : List ℕ) (d : DataHash) (ranges : List Range) (named : List ℕ) (file : List ℕ) (size len : ℕ) (c : Covered) (r : Result Bound E) → ranges ≡ d.exclusions → named ≡ d.hash
     → length file ≡ len → size ≡ len → IsCoverOf size ranges c → bad_range size ranges ≡ None
     → IfOk r (IsFoundBy (test (not (bytes_eq (hash alg (text_of c file)) named)) (mismatch_code kind) uri ∷ []) (excluded_of c))
@@ -150,6 +160,7 @@ refused_at {E} hash alg kind uri d file size i r long bad h =
     found_fails r (after_alg_tests hash alg kind uri b) b.excluded (record { code = code.ProfileHashForm; uri = uri })
     (sym (ap (λ (t : Bool). first_failing (test (not t) code.ProfileHashForm uri ∷ test (not (bytes_eq (hash alg b.text) b.hash)) (mismatch_code kind) uri ∷ [])) disordered)) h
 
+-- a cover is refused: a range is, or memory ran out
 pub range_refused : {E : Type 0} (hash : Alg → List ℕ → List ℕ) (alg : Alg) (kind : Kind) (uri : List ℕ) (d : DataHash) (ranges : List Range) (file : List ℕ) (size len : ℕ) (e : CoverError) (r : Result Bound E) → ranges ≡ d.exclusions → length file ≡ len → size ≡ len
     → IsCause size ranges e → (e ≡ cover_error.NoMemory → IsErr r) → IfOk r (λ found. found ≡ Fails (record { code = code.ProfileHashForm; uri = uri }))
     → IfOk r (IsFoundBy (after_alg_tests hash alg kind uri (data_binding_of file d)) (data_binding_of file d).excluded)
@@ -163,12 +174,14 @@ abbrev by_alg : (hash : Alg → List ℕ → List ℕ) (uri : List ℕ) (kind : 
 by_alg hash uri kind b alg =
     test (not (is_some alg)) code.AlgorithmUnsupported uri ∷ test (not b.in_order) code.ProfileHashForm uri ∷ test (not (has_digest_by hash alg b.text b.hash)) (mismatch_code kind) uri ∷ []
 
+-- the algorithm is known: the rules behind it are left
 pub alg_known : {E : Type 0} (hash : Alg → List ℕ → List ℕ) (r : Reading) (uri : List ℕ) (kind : Kind) (b : Binding) (alg : Alg) (o : Option Alg) (result : Result Bound E) → o ≡ alg_named (alg_in r b.alg) → o ≡ Some alg
     → IfOk result (IsFoundBy (after_alg_tests hash alg kind uri b) b.excluded) → IfOk result (IsBoundBy hash r uri kind (Ok b))
 alg_known {E} hash r uri kind b alg o result is some h =
     found_as result (after_alg_tests hash alg kind uri b) (bound_tests hash r uri kind (Ok b)) b.excluded b.excluded
     (sym (ap (λ (x : Option Alg). first_failing (by_alg hash uri kind b x)) (sym is ∙ some))) refl h
 
+-- the algorithm is unknown
 pub alg_unknown : {E : Type 0} (hash : Alg → List ℕ → List ℕ) (r : Reading) (uri : List ℕ) (kind : Kind) (b : Binding) (o : Option Alg) (result : Result Bound E) → o ≡ alg_named (alg_in r b.alg) → o ≡ None
     → IfOk result (λ found. found ≡ Fails (record { code = code.AlgorithmUnsupported; uri = uri })) → IfOk result (IsBoundBy hash r uri kind (Ok b))
 alg_unknown {E} hash r uri kind b o result is none h =
@@ -190,6 +203,7 @@ data_read {E} hash r uri kind file v d result is h = subst (λ (x : Result DataH
 
 -- ---- an item
 
+-- an item of the kind of BMFF hashes is read as one
 pub bmff_item : (media : Media) (kind : Kind) (v : Item) (b : Result Binding FieldError) → is_bmff_kind kind ≡ true → IsBinding media kind v b → IsBmffBinding media.container (length media.bytes) v b
 bmff_item media kinds.BmffHash v b is h = h
 bmff_item media kinds.DataHash v b is h = absurd (cc (is))
@@ -200,6 +214,7 @@ bmff_item media kinds.Actions v b is h = absurd (cc (is))
 bmff_item media kinds.Cloud v b is h = absurd (cc (is))
 bmff_item media kinds.Ordinary v b is h = absurd (cc (is))
 
+-- an item of another kind is read as a data hash
 pub data_item : (media : Media) (kind : Kind) (v : Item) (b : Result Binding FieldError) → is_bmff_kind kind ≡ false → IsBinding media kind v b → b ≡ data_binding media.bytes (data_hash_of v)
 data_item media kinds.BmffHash v b is h = absurd (cc (is))
 data_item media kinds.DataHash v b is h = h
@@ -228,9 +243,11 @@ in_data {E} hash file r uri kind c v b result other h is = subst (λ (x : Result
 
 -- ---- the binding of a manifest
 
+-- what was found by the rules on a binding with this label, or with none
 abbrev BoundTo : (hash : Alg → List ℕ → List ℕ) → Reading → Option (Result Binding FieldError) → Option (List ℕ) → Bound → Type 0
 BoundTo hash r b label found = IsFoundBy (bound_to_tests hash r b label) (list.excluded_of (binding_value b)) found
 
+-- the payload of a binding is the item in the box with its label
 payload_is : (r : Reading) (label : List ℕ) → binding_label r ≡ Some label → binding_payload r ≡ item_with r label
 payload_is r label is = ap (λ (o : Option (List ℕ)). option_and_then (λ (b : ReadBox). b.boxed.item) (option_and_then (box_with r) o)) is
 
@@ -238,6 +255,7 @@ payload_is r label is = ap (λ (o : Option (List ℕ)). option_and_then (λ (b :
 abbrev pub OneItem : Type 0
 OneItem = (v w : Item) (s : List ℕ) → Spells v s → Spells w s → v ≡ w
 
+-- a payload has one item, or none
 one_item_of : OneItem → (o : Option (List ℕ)) (a b : Option Item) → IsItemOf o a → IsItemOf o b → a ≡ b
 one_item_of one None None None p q = refl
 one_item_of one None None (Some w) p q = absurd q
@@ -255,9 +273,11 @@ same_item one_item media r label payload item b is same read has =
     let one : has.item ≡ item = one_item_of one_item (binding_payload r) has.item item has.is_item there in
     subst (λ (o : Option (List ℕ)). IsLabelledBinding media o item b) is (subst (λ (v : Option Item). IsLabelledBinding media (binding_label r) v b) one has.is)
 
+-- what was found of a binding, by its label
 by_label : {E : Type 0} (hash : Alg → List ℕ → List ℕ) (r : Reading) (label : List ℕ) (b : Option (Result Binding FieldError)) (result : Result Bound E) → binding_label r ≡ Some label → IfOk result (BoundTo hash r b (Some label)) → IfOk result (IsBoundAs hash r b)
 by_label {E} hash r label b result is h = subst (λ (o : Option (List ℕ)). IfOk result (BoundTo hash r b o)) (sym is) h
 
+-- the binding has an item: the rules on it decide
 pub bound_item : {E : Type 0} → OneItem → (hash : Alg → List ℕ → List ℕ) (media : Media) (r : Reading) (label : List ℕ) (payload : Option (List ℕ)) (o : Option Item) (v : Item) (b : Option (Result Binding FieldError)) (result : Result Bound E)
     → binding_label r ≡ Some label → payload ≡ item_with r label → IsItemOf payload o → o ≡ Some v
     → ((x : Result Binding FieldError) → IsBinding media (label_kind label) v x → IfOk result (IsBoundBy hash r (assertion_uri (label_in r) label) (label_kind label) x))
@@ -269,6 +289,7 @@ bound_item {E} one_item hash media r label payload o v b result is same read som
     by None k = absurd k
     by (Some x) k = h x k
 
+-- the binding has no item
 pub bound_no_item : {E : Type 0} → OneItem → (hash : Alg → List ℕ → List ℕ) (media : Media) (r : Reading) (label : List ℕ) (payload : Option (List ℕ)) (o : Option Item) (b : Option (Result Binding FieldError)) (result : Result Bound E)
     → binding_label r ≡ Some label → payload ≡ item_with r label → IsItemOf payload o → o ≡ None
     → IfOk result (λ found. found ≡ Fails (record { code = code.AssertionCborInvalid; uri = assertion_uri (label_in r) label }))
@@ -279,6 +300,7 @@ bound_no_item {E} one_item hash media r label payload o b result is same read no
     (subst (λ (p : Option (Result Binding FieldError)). IfOk result (BoundTo hash r p (Some label))) (sym nothing)
     (found_fails result (bound_to_tests hash r None (Some label)) [] (record { code = code.AssertionCborInvalid; uri = assertion_uri (label_in r) label }) refl h))
 
+-- the manifest has no binding
 pub unbound : {E : Type 0} (hash : Alg → List ℕ → List ℕ) (r : Reading) (o : Option (List ℕ)) (b : Option (Result Binding FieldError)) (result : Result Bound E) → o ≡ None → o ≡ binding_label r
     → IfOk result (λ found. found ≡ Fails (record { code = code.AssertionCborInvalid; uri = manifest_uri r })) → IfOk result (IsBoundAs hash r b)
 unbound {E} hash r o b result none is h =

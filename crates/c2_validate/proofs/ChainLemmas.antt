@@ -28,22 +28,27 @@ use Rattle.c2_validate.specs.declared.error.ValidateError.TheVariants.{ReadFault
 
 -- ---- one place
 
+-- the rules of a reached manifest are those of its place
 pub place_answer : {E : Type 0} (rules : Seen → List Test) (rs : List Reading) (i : ℕ) (b : Bool) (r : Result (Option Failing) E) → b ≡ true → b ≡ is_reached rs i
     → IfOk r (λ found. found ≡ first_failing (tests_of rules rs i (slice_get rs i))) → IfOk r (λ found. found ≡ first_failing (place_tests rules rs i))
 place_answer {E} rules rs i b r reached is h =
     subst (λ (ts : List Test). IfOk r (λ found. found ≡ first_failing ts)) (sym (ap (λ (t : Bool). cond t (tests_of rules rs i (slice_get rs i)) []) (sym is ∙ reached))) h
 
+-- the question of a reached manifest is that of its place
 question_here : (rs : List Reading) (i : ℕ) (b : Bool) → b ≡ true → b ≡ is_reached rs i → question_at rs i ≡ questions_of (slice_get rs i)
 question_here rs i b reached is = ap (λ (t : Bool). cond t (questions_of (slice_get rs i)) []) (sym is ∙ reached)
 
+-- so what the panel was asked of it was asked of its place
 pub place_panel : {T : Type 0} (rs : List Reading) (i : ℕ) (b : Bool) (old new : Judges) (r : Result T ValidateError) → b ≡ true → b ≡ is_reached rs i → HasAsked (questions_of (slice_get rs i)) old new r → HasAsked (question_at rs i) old new r
 place_panel {T} rs i b old new r reached is h = subst (λ (qs : List Question). HasAsked qs old new r) (sym (question_here rs i b reached is)) h
 
+-- and nobody is asked of a place without a question
 pub place_quiet : {J : Type 0} (rs : List Reading) (i : ℕ) (b : Bool) (old new : J) → b ≡ true → b ≡ is_reached rs i → (questions_of (slice_get rs i) ≡ [] → new ≡ old) → question_at rs i ≡ [] → new ≡ old
 place_quiet {J} rs i b old new reached is h none = h (sym (question_here rs i b reached is) ∙ none)
 
 -- ---- where there is no question, nobody is asked
 
+-- what stands at a place was read of some manifest
 read_at : (ms : List Manifest) (rs : List Reading) (i : ℕ) (r : Reading) → AllZip IsReading ms rs → slice_get rs i ≡ Some r → (m : Manifest) × IsReading m r
 read_at [] [] i r h at = absurd (cc (at))
 read_at [] (x ∷ rs) i r h at = absurd h
@@ -51,10 +56,12 @@ read_at (m ∷ ms) [] i r h at = absurd h
 read_at (m ∷ ms) (x ∷ rs) zero r h at = let same : x ≡ r = cc (at) in (m, subst (IsReading m) same h.0)
 read_at (m ∷ ms) (x ∷ rs) (suc i) r h at = read_at ms rs i r h.1 at
 
+-- there is no list without members that has a question
 no_question : (o : Option Question) → option_to_list o ≡ [] → is_some o ≡ true → ⊥
 no_question None none some = cc (some)
 no_question (Some q) none some = cc (none)
 
+-- a manifest without a question fails before the verdict, so nobody was asked
 pub quiet_at : {J : Type 0} → ((m : Manifest) (r : Reading) → IsReading m r → first_failing (claim_tests r) ≡ None → is_some (question_in r) ≡ true) → (rs : List Reading) (i : ℕ) (old new : J) → AreRead rs
     → IfSome (slice_get rs i) (λ r. first_failing (claim_tests r) ≢ None → new ≡ old) → i < length rs → questions_of (slice_get rs i) ≡ [] → new ≡ old
 quiet_at {J} law rs i old new read h lt none = by (slice_get rs i) refl h none
@@ -70,6 +77,7 @@ quiet_at {J} law rs i old new read h lt none = by (slice_get rs i) refl h none
 
 -- ---- all manifests
 
+-- what is asked below a place: its question, and then that of the places below where its rules hold
 asks_at : (rules : Seen → List Test) (rs : List Reading) (i : ℕ) → 0 < i → asked_below rules rs i ≡ question_at rs (i - 1) ++ cond (is_none (first_failing (place_tests rules rs (i - 1)))) (asked_below rules rs (i - 1)) []
 asks_at rules rs zero some = absurd (omega arith)
 asks_at rules rs (suc i) some = let same : suc i - 1 ≡ i = omega arith in rw same refl
@@ -79,11 +87,13 @@ said_again : (said saying : List (Question → Verdict)) (hash : Alg → List �
     → o ≡ first_failing (place_tests (judged_tests hash (panel_says said)) rs i)
 said_again said saying hash rs i o same h = subst (λ (x : List (Question → Verdict)). o ≡ first_failing (place_tests (judged_tests hash (panel_says x)) rs i)) same h
 
+-- a rule fails at this place, and none of a later one does
 pub chain_found : (said saying : List (Question → Verdict)) (hash : Alg → List ℕ → List ℕ) (rs : List Reading) (n i : ℕ) (o : Option Failing) (f : Failing) → saying ≡ said → 0 < i
     → first_failing (downward (place_tests (judged_tests hash (panel_says said)) rs) n) ≡ first_failing (downward (place_tests (judged_tests hash (panel_says said)) rs) i)
     → o ≡ Some f → o ≡ first_failing (place_tests (judged_tests hash (panel_says saying)) rs (i - 1)) → Some f ≡ first_failing (downward (place_tests (judged_tests hash (panel_says said)) rs) n)
 chain_found said saying hash rs n i o f same some so_far is h = down_found (place_tests (judged_tests hash (panel_says said)) rs) n i f some so_far (sym is ∙ said_again said saying hash rs (i - 1) o same h)
 
+-- no rule fails at this place either
 pub chain_passed : (said saying : List (Question → Verdict)) (hash : Alg → List ℕ → List ℕ) (rs : List Reading) (n i : ℕ) (o : Option Failing) → saying ≡ said → 0 < i
     → first_failing (downward (place_tests (judged_tests hash (panel_says said)) rs) n) ≡ first_failing (downward (place_tests (judged_tests hash (panel_says said)) rs) i)
     → o ≡ None → o ≡ first_failing (place_tests (judged_tests hash (panel_says saying)) rs (i - 1)) → first_failing (downward (place_tests (judged_tests hash (panel_says said)) rs) n) ≡ first_failing (downward (place_tests (judged_tests hash (panel_says said)) rs) (i - 1))
@@ -97,6 +107,7 @@ asks_all : (rules : Seen → List Test) (rs : List Reading) (n i : ℕ) (front :
 asks_all rules rs n i front some split =
     split ∙ ap (λ (x : List Question). front ++ x) (asks_at rules rs i some) ∙ sym (append_assoc front (question_at rs (i - 1)) (cond (is_none (first_failing (place_tests rules rs (i - 1)))) (asked_below rules rs (i - 1)) []))
 
+-- a prefix of what is asked at a place makes a prefix of all
 prefix_error : (said saying : List (Question → Verdict)) (rules : Seen → List Test) (rs : List Reading) (n i : ℕ) (a b c : List ℕ) → saying ≡ said → 0 < i → AsksSoFar said (asked_below rules rs n) (asked_below rules rs i) a b
     → HaveAskedPrefix saying (question_at rs (i - 1)) b c → HaveAskedPrefix said (asked_below rules rs n) a c
 prefix_error said saying rules rs n i a b c same some so_far p =
@@ -144,6 +155,7 @@ asks_passed said saying hash rs n i a b c o same some so_far is h p =
       asked = asked_append said so_far.front (question_at rs (i - 1)) a b c so_far.asked (subst (λ (x : List (Question → Verdict)). HaveAsked x (question_at rs (i - 1)) b c) same p);
     }
 
+-- nothing is left to be asked
 pub asks_end : (said : List (Question → Verdict)) (all : List Question) (a b : List ℕ) → AsksSoFar said all [] a b → HaveAsked said all a b
 asks_end said all a b so_far = subst (λ (qs : List Question). HaveAsked said qs a b) (sym (so_far.split ∙ append-nil so_far.front)) so_far.asked
 
@@ -152,6 +164,7 @@ append_none : (xs ys : List Question) → xs ++ ys ≡ [] → (xs ≡ []) × (ys
 append_none [] ys none = (refl, none)
 append_none (x ∷ xs) ys none = absurd (cc (none))
 
+-- so nothing is asked at a place where nothing is asked at all
 pub nothing_at : (said : List (Question → Verdict)) (rules : Seen → List Test) (rs : List Reading) (n i : ℕ) (a b : List ℕ) → 0 < i → AsksSoFar said (asked_below rules rs n) (asked_below rules rs i) a b → asked_below rules rs n ≡ [] → question_at rs (i - 1) ≡ []
 nothing_at said rules rs n i a b some so_far none =
     let all = sym (asks_all rules rs n i so_far.front some so_far.split) ∙ none in
@@ -159,16 +172,20 @@ nothing_at said rules rs n i a b some so_far none =
 
 -- ---- what is left of the judges
 
+-- no count fell, and then no count fell again
 later : (a b c : List ℕ) → length b ≡ length a → NoneFell a b → NoneFell b c → NoneFell a c
 later a b c same p q i lt = omega (arith, p i lt, q i (subst (λ (n : ℕ). i < n) (sym same) lt))
 
+-- as many judges are there who say the same
 same_length : {J : Type 0} (says : J → Question → Verdict) (asked : J → ℕ) (xs ys : List J) → map says ys ≡ map says xs → length (map asked ys) ≡ length (map asked xs)
 same_length {J} says asked xs ys same = length-map ys asked ∙ sym (length-map ys says) ∙ ap length same ∙ length-map xs says ∙ sym (length-map xs asked)
 
+-- no count of asks fell up to here
 pub asked_later : {J T E : Type 0} (says : J → Question → Verdict) (asked faults : J → ℕ) (xs ys zs : List J) (r : Result T E) → map says ys ≡ map says xs → NoneFell (map asked xs) (map asked ys)
     → LeavesJudges (judges_of says asked faults ys) (judges_of says asked faults zs) r → NoneFell (map asked xs) (map asked zs)
 asked_later {J} {T} {E} says asked faults xs ys zs r same p h = later (map asked xs) (map asked ys) (map asked zs) (same_length says asked xs ys same) p h.asked_later
 
+-- what a call leaves of judges who were asked before
 pub leaves_after : {J T E : Type 0} (says : J → Question → Verdict) (asked faults : J → ℕ) (xs ys zs : List J) (r : Result T E) → map says ys ≡ map says xs → map faults ys ≡ map faults xs → NoneFell (map asked xs) (map asked ys)
     → LeavesJudges (judges_of says asked faults ys) (judges_of says asked faults zs) r → LeavesJudges (judges_of says asked faults xs) (judges_of says asked faults zs) r
 leaves_after {J} {T} {E} says asked faults xs ys zs r same kept p h = record {
@@ -178,6 +195,7 @@ leaves_after {J} {T} {E} says asked faults xs ys zs r same kept p h = record {
   ok = subst (λ (x : List ℕ). OnOk r (map faults zs ≡ x)) kept h.ok;
 }
 
+-- what is left of them in the end
 pub leaves_end : {J T E : Type 0} (says : J → Question → Verdict) (asked faults : J → ℕ) (xs ys : List J) (x : T) → map says ys ≡ map says xs → map faults ys ≡ map faults xs → NoneFell (map asked xs) (map asked ys)
     → LeavesJudges {T = T} {E = E} (judges_of says asked faults xs) (judges_of says asked faults ys) (Ok x)
 leaves_end {J} {T} {E} says asked faults xs ys x same kept p = record {
@@ -192,6 +210,7 @@ leaves_end {J} {T} {E} says asked faults xs ys x same kept p = record {
 
 -- ---- why a judge failed
 
+-- no more judges are due than there are
 panel_within : (vs : List Verdict) → panel_size vs ≤ length vs
 panel_within [] = omega arith
 panel_within (Silent ∷ vs) = let rest = panel_within vs in omega (arith, rest)
@@ -216,10 +235,12 @@ cause_after old between new NoMemory kept h = tt
 
 -- ---- a fault of the check of one manifest
 
+-- what was asked where the check of one manifest ended without an answer
 pub panel_error : (qs : List Question) (old new : Judges) (error : ChainError) (e : ValidateError) → e ≡ fault_of error → HasPanel {T = Option Failing} qs old new (Err error) → HasAsked {T = Option Failing} qs old new (Err e)
 panel_error qs old new chain.JudgeFault e same h = subst (λ (x : ValidateError). HasAsked {T = Option Failing} qs old new (Err x)) (sym same) h
 panel_error qs old new chain.NoMemory e same h = subst (λ (x : ValidateError). HasAsked {T = Option Failing} qs old new (Err x)) (sym same) h
 
+-- and why it did
 pub panel_cause : {J : Type 0} (says : J → Question → Verdict) (asked faults : J → ℕ) (xs ys : List J) (qs : List Question) (error : ChainError) (e : ValidateError) → e ≡ fault_of error
     → HasPanel {T = Option Failing} qs (judges_of says asked faults xs) (judges_of says asked faults ys) (Err error) → IsJudgeCause (judges_of says asked faults xs) (judges_of says asked faults ys) e
 panel_cause {J} says asked faults xs ys qs chain.JudgeFault e same h = subst (IsJudgeCause (judges_of says asked faults xs) (judges_of says asked faults ys)) (sym same) (some_rose says asked faults xs ys qs h)

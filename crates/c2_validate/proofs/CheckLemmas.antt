@@ -45,15 +45,18 @@ of_active : (hash : Alg → List ℕ → List ℕ) (rs : List Reading) (c : Cont
     → (b : Option (Result Binding FieldError)) → HasBindingOf (media_of file c) (active_in rs) b → IsBoundAs hash own b o
 of_active hash rs c file own o is h b has = h b (subst (λ (x : Option Reading). HasBindingOf (media_of file c) x b) is has)
 
+-- the tests of the binding are those of the active manifest
 tests_of_active : (hash : Alg → List ℕ → List ℕ) (rs : List Reading) (own : Reading) (b : Option (Result Binding FieldError)) → active_in rs ≡ Some own → binding_tests hash rs b ≡ media_tests hash own b
 tests_of_active hash rs own b is = ap (last_tests hash b) is
 
+-- the binding fails
 pub answer_fails : (hash : Alg → List ℕ → List ℕ) (rs : List Reading) (c : Container) (f : Found) (file : List ℕ) (own : Reading) (o : Bound) (failing : Failing) → active_in rs ≡ Some own → o ≡ Fails failing
     → ((b : Option (Result Binding FieldError)) → HasBinding (media_of file c) own b → IsBoundAs hash own b o) → IsAnswerOver (binding_tests hash rs) rs c f file (answer.Failing failing)
 answer_fails hash rs c f file own o failing is found h b has =
     let fails : Some failing ≡ first_failing (media_tests hash own b) = subst (IsBoundAs hash own b) found (of_active hash rs c file own o is h b has) in
     ap (answer_of (summary_of (length file) f.start f.length (record { readings = rs; binding = b }))) (fails ∙ ap first_failing (sym (tests_of_active hash rs own b is)))
 
+-- the binding holds
 pub answer_covers : (hash : Alg → List ℕ → List ℕ) (rs : List Reading) (c : Container) (f : Found) (file : List ℕ) (own : Reading) (o : Bound) (cover : Covered) (s : Summary) (size : ℕ) → active_in rs ≡ Some own → o ≡ Covers cover → HasSize size o
     → length file ≡ size → s ≡ summary_by rs cover f.start f.length → ((b : Option (Result Binding FieldError)) → HasBinding (media_of file c) own b → IsBoundAs hash own b o) → IsAnswerOver (binding_tests hash rs) rs c f file (answer.Valid s)
 answer_covers hash rs c f file own o cover s size is found sized long counted h b has =
@@ -70,10 +73,12 @@ answer_covers hash rs c f file own o cover s size is found sized long counted h 
 
 -- ---- a part of the list, and the rest
 
+-- the answer where a part of the list fails
 pub part_answers : (xs : List Test) (ys : Option (Result Binding FieldError) → List Test) (rs : List Reading) (c : Container) (f : Found) (file : List ℕ) (o : Option Failing) (failing : Failing) → o ≡ Some failing → o ≡ first_failing xs
     → IsAnswerOver (λ b. xs ++ ys b) rs c f file (answer.Failing failing)
 part_answers xs ys rs c f file o failing some is b has = ap (answer_of (summary_of (length file) f.start f.length (record { readings = rs; binding = b }))) (part_fails xs (ys b) failing (sym some ∙ is))
 
+-- the answer where a part passes is that of the rest
 pub rest_answers : {E : Type 0} (xs : List Test) (ys : Option (Result Binding FieldError) → List Test) (rs : List Reading) (c : Container) (f : Found) (file : List ℕ) (o : Option Failing) (r : Result Answer E) → o ≡ None → o ≡ first_failing xs
     → IfOk r (IsAnswerOver ys rs c f file) → IfOk r (IsAnswerOver (λ b. xs ++ ys b) rs c f file)
 rest_answers xs ys rs c f file o (Err e) none is h = tt
@@ -95,17 +100,20 @@ asked_then qs old new before now (Err ReadFault) h cause = front_all old.said qs
 asked_then qs old new before now (Err JudgeFault) h cause = absurd cause
 asked_then qs old new before now (Err NoMemory) h cause = front_all old.said qs old.asked new.asked h
 
+-- the source's error has its cause
 pub cause_of_error : (old new : Judges) (before now : ℕ) (e : ValidateError) → IsCause before now e → IsFaultCause before now old new e
 cause_of_error old new before now ReadFault h = h
 cause_of_error old new before now JudgeFault h = absurd h
 cause_of_error old new before now NoMemory h = tt
 
+-- so has a result of a call that asks no judge
 pub cause_of_source : {T : Type 0} (old new : Judges) (before now : ℕ) (r : Result T ValidateError) → IfErr r (IsCause before now) → IfErr r (IsFaultCause before now old new)
 cause_of_source old new before now (Ok x) h = tt
 cause_of_source old new before now (Err ReadFault) h = h
 cause_of_source old new before now (Err JudgeFault) h = absurd h
 cause_of_source old new before now (Err NoMemory) h = tt
 
+-- a failure of a call that reads no source has its cause
 pub cause_of_judges : (old new : Judges) (before now : ℕ) (e : ValidateError) → IsJudgeCause old new e → IsFaultCause before now old new e
 cause_of_judges old new before now ReadFault h = absurd h
 cause_of_judges old new before now JudgeFault h = h
@@ -124,12 +132,15 @@ asked_none qs js before now (Err NoMemory) cause none = front_none js.said qs js
 
 -- ---- the active manifest
 
+-- what is asked, by whether the active manifest fails
 none_below : (hash : Alg → List ℕ → List ℕ) (said : Question → Verdict) (rs : List Reading) (o : Option Failing) (b : Bool) → is_none o ≡ b → o ≡ first_failing (active_tests (active_in rs)) → check_asks hash said rs ≡ cond b (asked_below (judged_tests hash said) rs (length rs)) []
 none_below hash said rs o b is same = ap (λ (t : Bool). cond t (asked_below (judged_tests hash said) rs (length rs)) []) (ap is_none (sym same) ∙ is)
 
+-- nothing is asked where the active manifest fails
 pub asks_none : (hash : Alg → List ℕ → List ℕ) (said : Question → Verdict) (rs : List Reading) (o : Option Failing) (failing : Failing) → o ≡ Some failing → o ≡ first_failing (active_tests (active_in rs)) → check_asks hash said rs ≡ []
 asks_none hash said rs o failing some is = none_below hash said rs o false (ap is_none some) is
 
+-- all reached manifests are asked of where it holds
 pub asks_below : (hash : Alg → List ℕ → List ℕ) (said : Question → Verdict) (rs : List Reading) (o : Option Failing) → o ≡ None → o ≡ first_failing (active_tests (active_in rs)) → check_asks hash said rs ≡ asked_below (judged_tests hash said) rs (length rs)
 asks_below hash said rs o none is = none_below hash said rs o true (ap is_none none) is
 
@@ -137,11 +148,13 @@ asks_below hash said rs o none is = none_below hash said rs o true (ap is_none n
 pub nobody : (qs : List Question) (js : Judges) → qs ≡ [] → HaveAsked js.said qs js.asked js.asked
 nobody qs js none = subst (λ (ps : List Question). HaveAsked js.said ps js.asked js.asked) (sym none) refl
 
+-- equal lists were asked alike
 pub asked_same : {T : Type 0} (ps qs : List Question) (old new : Judges) (r : Result T ValidateError) → qs ≡ ps → HasAsked ps old new r → HasAsked qs old new r
 asked_same {T} ps qs old new r same h = subst (λ (xs : List Question). HasAsked xs old new r) (sym same) h
 
 -- ---- the box tree of a store
 
+-- the answer over what was read is the one over the box tree
 pub tree_answered : {E : Type 0} → ((ms : List Manifest) (rs ss : List Reading) → AreReadings ms rs → AreReadings ms ss → rs ≡ ss) → (hash : Alg → List ℕ → List ℕ) (said : Question → Verdict) (m : Media) (t : Tree) (file : List ℕ) (rs : List Reading) (r : Result Answer E)
     → AreReadings (manifests_of t) rs → IfOk r (IsAnswerOver (all_tests hash said rs) rs m.container m.found file) → IfOk r (IsTreeAnswered hash said m t file)
 tree_answered one hash said m t file rs (Err e) reads h = tt
@@ -155,11 +168,13 @@ tree_answered one hash said m t file rs (Ok a) reads h = λ contained expected k
         let there : HasBindingOf (media file jpeg) (active_in rs) s.binding = subst (λ (x : List Reading). HasBindingOf (media file jpeg) (active_in x) s.binding) (sym same) held.binding in
         k.2 ∙ sym (over s.binding there ∙ ap (λ (x : List Reading). list.store_answer hash said (length file) m.found.start m.found.length (record { readings = x; binding = s.binding })) same)
 
+-- what is asked over what was read is asked over the box tree
 pub tree_asked : {T : Type 0} → ((ms : List Manifest) (rs ss : List Reading) → AreReadings ms rs → AreReadings ms ss → rs ≡ ss) → (hash : Alg → List ℕ → List ℕ) (said : Question → Verdict) (t : Tree) (rs : List Reading) (old new : Judges) (r : Result T ValidateError)
     → AreReadings (manifests_of t) rs → HasAsked (check_asks hash said rs) old new r → HasAskedThose (TreeAsks hash said t) old new r
 tree_asked one hash said t rs old new r reads h qs k =
     asked_same (check_asks hash said rs) qs old new r (k.2 ∙ ap (check_asks hash said) (one (manifests_of t) k.0 rs k.1 reads)) h
 
+-- nobody was asked where nothing is asked over the box tree
 pub tree_unasked : {J : Type 0} → ((ms : List Manifest) (rs ss : List Reading) → AreReadings ms rs → AreReadings ms ss → rs ≡ ss) → (hash : Alg → List ℕ → List ℕ) (said : Question → Verdict) (t : Tree) (rs : List Reading) (old new : J)
     → AreReadings (manifests_of t) rs → (check_asks hash said rs ≡ [] → new ≡ old) → TreeAsks hash said t [] → new ≡ old
 tree_unasked one hash said t rs old new reads h k = h (ap (check_asks hash said) (one (manifests_of t) rs k.0 reads k.1) ∙ sym k.2)

@@ -17,6 +17,7 @@ use Rattle.c2_validate.specs.Counts.{keeps, keeps_label, kept_in}
 
 -- ---- reached places
 
+-- one number more at the end
 range_suc : (a n : ℕ) → range_with_len a (suc n) ≡ range_with_len a n ++ (a + n) ∷ []
 range_suc a zero = let same : a ≡ a + zero = omega arith in ap (λ (x : ℕ). x ∷ []) same
 range_suc a (suc n) = let same : (a + 1) + n ≡ a + suc n = omega arith in ap (λ (xs : List ℕ). a ∷ xs) (range_suc (a + 1) n ∙ ap (λ (x : ℕ). range_with_len (a + 1) n ++ x ∷ []) same)
@@ -29,6 +30,7 @@ places_more p i b is =
     ap (λ (n : ℕ). length (filter p (range_with_len 0 n))) next ∙ ap (λ xs. length (filter p xs)) (range_suc 0 i ∙ ap (λ (x : ℕ). range_with_len 0 i ++ x ∷ []) here) ∙ ap length (filter-append p (range_with_len 0 i) (i ∷ []))
     ∙ length-append (filter p (range_with_len 0 i)) (filter p (i ∷ [])) ∙ ap (λ (t : Bool). length (filter p (range_with_len 0 i)) + length (cond t (i ∷ []) [])) is
 
+-- the count goes up by one where the place passes
 pub places_step : (p : ℕ → Bool) (i count one : ℕ) (b : Bool) → count ≡ length (filter p (range_with_len 0 i)) → b ≡ p i → one ≡ cond b 1 0 → count + one ≡ length (filter p (range_with_len 0 (i + 1)))
 places_step p i count one b so_far is same = by b (sym is) same
   where
@@ -36,6 +38,7 @@ places_step p i count one b so_far is same = by b (sym is) same
     by true h k = let more = places_more p i true h in omega (arith, so_far, more, k)
     by false h k = let more = places_more p i false h in omega (arith, so_far, more, k)
 
+-- the count stays below the place
 pub step_below : (i count one : ℕ) (b : Bool) → count ≤ i → one ≡ cond b 1 0 → count + one ≤ i + 1
 step_below i count one true below same = omega (arith, below, same)
 step_below i count one false below same = omega (arith, below, same)
@@ -49,6 +52,7 @@ labels_more rs i found more all so_far is sum =
     let step : length (downward (kept_labels rs) (i + 1)) ≡ length (kept_labels rs i) + length (downward (kept_labels rs) i) = ap (λ (n : ℕ). length (downward (kept_labels rs) n)) next ∙ length-append (kept_labels rs i) (downward (kept_labels rs) i) in
     omega (arith, so_far, is, sum, step)
 
+-- the labels of a reached manifest are those of its place
 pub place_reached : {E : Type 0} (rs all : List Reading) (i : ℕ) (r : Reading) (b : Bool) (result : Result ℕ E) → i < length rs → all ≡ rs → r ≡ get_or all i r → b ≡ is_reached rs i → b ≡ true
     → IfOk result (λ n. n ≡ length (kept_in (is_redacted rs i) r)) → IfOk result (λ n. n ≡ length (kept_labels rs i))
 place_reached rs all i r b (Err e) lt same at is reached h = tt
@@ -71,6 +75,7 @@ kept_same redacted m (e ∷ es) = by (entry_label m e) (kept_same redacted m es)
     by None rest = rest
     by (Some l) rest = one l (not (redacted l)) rest
 
+-- the labels of what was created and of what was gathered
 pub kept_both : {E : Type 0} (redacted : List ℕ → Bool) (r : Reading) (c : Claim) (a b : ℕ) (result : Result ℕ E) → r.claim ≡ Value c → a ≡ length (filter (keeps redacted r.manifest) c.created) → b ≡ length (filter (keeps redacted r.manifest) c.gathered)
     → IfOk result (λ n. n ≡ a + b) → IfOk result (λ n. n ≡ length (kept_in redacted r))
 kept_both redacted r c a b (Err e) is created gathered h = tt

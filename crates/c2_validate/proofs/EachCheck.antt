@@ -55,6 +55,7 @@ pub record Laws : Type 0 where
 abbrev Refuses : JumbfError → Type 0
 Refuses e = (r : Refusal) × (boxes_refusal e ≡ Some r)
 
+-- two values that are there are one
 same_some : {A : Type 0} (x y : A) → Some x ≡ Some y → x ≡ y
 same_some x y h = cc (h)
 
@@ -64,10 +65,12 @@ head_case at e true b h = (record { reason = reason.BadHead; number = at }, ap b
 head_case at e false true h = (record { reason = reason.Overrun; number = at }, ap boxes_refusal (sym (same_some (Overrun at) e h)))
 head_case at e false false h = absurd (cc (h))
 
+-- a bad head refuses something
 head_refuses : (at : ℕ) (region : List ℕ) (e : JumbfError) → box_head_fault at region ≡ Some e → Refuses e
 unfolding box_head_fault
 head_refuses at region e is = head_case at e _ _ is
 
+-- a bad box refuses something
 box_refuses : {earlier : List (Option (List ℕ))} {depth at : ℕ} {region : List ℕ} {e : JumbfError} → TreeFault earlier depth at region e → Refuses e
 box_refuses {earlier} {depth} {at} {region} {e} (faults.head is) = head_refuses at region e is
 box_refuses (faults.too_deep a b c) = (record { reason = reason.TooDeep; number = _ }, refl)
@@ -78,6 +81,7 @@ box_refuses (faults.bad_description a b c d) = (record { reason = reason.BadDesc
 box_refuses (faults.same_label d rest a b) = (record { reason = reason.DuplicateLabel; number = _ }, refl)
 box_refuses (faults.inside d boxes rest a b c e f g) = box_refuses g
 
+-- each first failing test of boxes refuses something
 tree_refuses : (bytes : List ℕ) (e : JumbfError) → JumbfFault bytes e → Refuses e
 tree_refuses bytes e (faults.inside f) = box_refuses f
 tree_refuses bytes e (faults.trailing t more a b c) = (record { reason = reason.Trailing; number = length (tree_bytes t) }, refl)
@@ -91,15 +95,18 @@ data AllSay : List StoreTest → Type 0 where
   none_left : AllSay []
   one_more : {t : StoreTest} {ts : List StoreTest} → Says t → AllSay ts → AllSay (t ∷ ts)
 
+-- two lists of tests that say something
 both_say : (xs ys : List StoreTest) → AllSay xs → AllSay ys → AllSay (xs ++ ys)
 both_say [] ys none_left k = k
 both_say (x ∷ xs) ys (one_more h hs) k = one_more h (both_say xs ys hs k)
 
+-- the tests of manifests say something
 manifests_say : (t : Tree) (boxes : List ℕ) → AllSay (flat_map (manifest_tests t) boxes)
 manifests_say t [] = none_left
 manifests_say t (i ∷ is) =
     one_more (record { reason = reason.ManifestType; number = (box_at t i).place }, refl) (one_more (record { reason = reason.ManifestLabel; number = (box_at t i).place }, refl) (manifests_say t is))
 
+-- the tests of their number say something
 counts_say : (n : ℕ) → AllSay (count_tests n)
 counts_say n = one_more (record { reason = reason.NoManifest; number = 0 }, refl) (one_more (record { reason = reason.TooMany; number = n }, refl) none_left)
 
@@ -117,6 +124,7 @@ first_says : (ts : List StoreTest) (e : StoreError) → AllSay ts → first_refu
 first_says [] e none_left is = absurd (cc (is))
 first_says (t ∷ ts) e (one_more says rest) is = says_here t ts e t.fails refl says (first_says ts e rest) is
 
+-- each first failing test of manifests refuses something
 store_says : (t : Tree) (e : StoreError) → store_refusal t ≡ Some e → (r : Refusal) × (manifests_refusal e ≡ Some r)
 store_says t e is = first_says (store_tests t) e (one_more (record { reason = reason.NotStore; number = 0 }, refl) (both_say (flat_map (manifest_tests t) (superboxes t 0)) (count_tests (length (superboxes t 0))) (manifests_say t (superboxes t 0)) (counts_say (length (superboxes t 0))))) is
 
@@ -134,6 +142,7 @@ HoldsHere (refused reason number) = ⊤
 HoldsHere absent = ⊤
 HoldsHere (here start len t) = Holds t
 
+-- a store's bytes come to a box tree or a refusal
 each_box_tree : Laws → (start len : ℕ) (store : List ℕ) → All (λ b. b < 2 ^ 8) store → length store < 2 ^ 64 → (what : Opening Tree) × IsBoxTree start len store what × HoldsHere what
 each_box_tree laws start len store bytes short = go (laws.tree store bytes)
   where
@@ -147,6 +156,7 @@ Accepted (refused reason number) = ⊤
 Accepted absent = ⊤
 Accepted (here start len t) = Holds t × (store_refusal t ≡ None)
 
+-- a box tree comes to a store of manifests or a refusal
 each_manifest_tree : (start len : ℕ) (t : Tree) → Holds t → (what : Opening Tree) × IsManifestTree start len t what × Accepted what
 each_manifest_tree start len t holds = go (store_refusal t) refl
   where
@@ -154,6 +164,7 @@ each_manifest_tree start len t holds = go (store_refusal t) refl
     go None is = (here start len t, (is, refl), (holds, is))
     go (Some e) is = let r = store_says t e is in (refused r.0.reason r.0.number, (e, is, r.1), tt)
 
+-- a store's bytes come to a store of manifests or a refusal
 each_manifest_store : Laws → (start len : ℕ) (store : List ℕ) → All (λ b. b < 2 ^ 8) store → length store < 2 ^ 64 → (what : Opening Tree) × IsManifestStore start len store what × Accepted what
 each_manifest_store laws start len store bytes short = let t = each_box_tree laws start len store bytes short in go t.0 t.1 t.2
   where
@@ -162,6 +173,7 @@ each_manifest_store laws start len store bytes short = let t = each_box_tree law
     go absent is holds = absurd is
     go (here at count t) is holds = let m = each_manifest_tree at count t holds in (m.0, (here at count t, is, m.1), m.2)
 
+-- each file is opened as something
 each_opened : Laws → (file : List ℕ) → All (λ b. b < 2 ^ 8) file → (what : Opening Tree) × IsOpened file what × Accepted what
 each_opened laws file bytes = let l = laws.located file bytes in go l.0 l.1
   where
@@ -175,21 +187,26 @@ each_opened laws file bytes = let l = laws.located file bytes in go l.0 l.1
 
 -- ---- what a program can hold
 
+-- a part of what a program can hold can be held
 held_part : Laws → (s x : List ℕ) → IsHeld s → IsPart s x → IsHeld x
 held_part laws s x held part = record { bytes = laws.bytes s x part held.bytes; short = omega (arith, laws.shorter s x part, held.short) }
 
+-- so can a part that may be none
 held_option : Laws → (s : List ℕ) → IsHeld s → (o : Option (List ℕ)) → IfSome o (IsPart s) → IfSome o IsHeld
 held_option laws s held None h = tt
 held_option laws s held (Some x) h = held_part laws s x held h
 
+-- the item of a signature box can be held
 held_signature : Laws → (s : List ℕ) → IsHeld s → (o : Option Superbox) → IfSome o (HasParts s) → IfSome (option_and_then (λ (b : Superbox). b.item) o) IsHeld
 held_signature laws s held None h = tt
 held_signature laws s held (Some b) h = held_option laws s held b.item h.1
 
+-- the items of assertion boxes can be held
 held_boxes : Laws → (s : List ℕ) → IsHeld s → (bs : List Superbox) → AllByRecursion (HasParts s) bs → AllByRecursion (λ (b : Superbox). IfSome b.item IsHeld) bs
 held_boxes laws s held [] h = tt
 held_boxes laws s held (b ∷ bs) h = (held_option laws s held b.item h.0.1, held_boxes laws s held bs h.1)
 
+-- the payloads of a manifest can be held
 held_manifest : Laws → (s : List ℕ) (m : Manifest) → IsHeld s → ArePartsOf s m → IsHeldManifest m
 held_manifest laws s m held parts = record {
   claim = held_option laws s held (claim_bytes m.claims) (laws.claimed s m parts);
@@ -197,15 +214,18 @@ held_manifest laws s m held parts = record {
   assertions = held_boxes laws s held m.assertions parts.assertions;
 }
 
+-- those of manifests can
 held_manifests : Laws → (s : List ℕ) → IsHeld s → (ms : List Manifest) → ((i : ℕ) → IfSome (slice_get ms i) (ArePartsOf s)) → AllByRecursion IsHeldManifest ms
 held_manifests laws s held [] parts = tt
 held_manifests laws s held (m ∷ ms) parts = (held_manifest laws s m held (parts 0), held_manifests laws s held ms (λ i. parts (suc i)))
 
+-- those of a store can
 held_store : Laws → (t : Tree) → Holds t → AllByRecursion IsHeldManifest (manifests_of t)
 held_store laws t holds = held_manifests laws holds.list holds.held (manifests_of t) (λ i. laws.parts holds.list t i holds.spells)
 
 -- ---- the binding of a manifest that was read
 
+-- the item of the first box with a label can be held
 find_held : (label : List ℕ) (bs : List Superbox) (rs : List ReadBox) → AllZip IsReadBox bs rs → AllByRecursion (λ (b : Superbox). IfSome b.item IsHeld) bs → IfSome (option_and_then (λ (b : ReadBox). b.boxed.item) (find (is_labelled label) rs)) IsHeld
 find_held label [] [] z h = tt
 find_held label [] (r ∷ rs) z h = absurd z
@@ -219,6 +239,7 @@ find_held label (b ∷ bs) (r ∷ rs) z h = by (is_labelled label r) (find_held 
     by true rest = here_held
     by false rest = rest
 
+-- the payload of a binding can be held
 payload_held : (m : Manifest) (r : Reading) → IsHeldManifest m → IsReading m r → IfSome (binding_payload r) IsHeld
 payload_held m r held reads = by (binding_label r)
   where
@@ -237,11 +258,13 @@ jpeg_binding file kinds.Actions v = (data_binding file (data_hash_of v), refl)
 jpeg_binding file kinds.Cloud v = (data_binding file (data_hash_of v), refl)
 jpeg_binding file kinds.Ordinary v = (data_binding file (data_hash_of v), refl)
 
+-- what a binding with this label comes to in a JPEG
 labelled_binding : (file : List ℕ) (label : Option (List ℕ)) (item : Option Item) → (b : Option (Result Binding FieldError)) × IsLabelledBinding (media file jpeg) label item b
 labelled_binding file None item = (None, refl)
 labelled_binding file (Some label) None = (None, refl)
 labelled_binding file (Some label) (Some v) = let b = jpeg_binding file (label_kind label) v in (Some b.0, b.1)
 
+-- the binding of a manifest comes to something
 each_binding : Laws → (file : List ℕ) (m : Manifest) (r : Reading) → IsHeldManifest m → IsReading m r → (b : Option (Result Binding FieldError)) × HasBinding (media file jpeg) r b
 each_binding laws file m r held reads =
     let v = laws.binding (binding_payload r) (payload_held m r held reads) in
@@ -256,6 +279,7 @@ read_at (m ∷ ms) [] i r z h at = absurd z
 read_at (m ∷ ms) (x ∷ rs) zero r z h at = let same : x ≡ r = cc (at) in (m, (h.0, subst (IsReading m) same z.0))
 read_at (m ∷ ms) (x ∷ rs) (suc i) r z h at = read_at ms rs i r z.1 h.1 at
 
+-- that of the active manifest does
 active_binding : Laws → (file : List ℕ) (ms : List Manifest) (rs : List Reading) → AreReadings ms rs → AllByRecursion IsHeldManifest ms → (b : Option (Result Binding FieldError)) × HasBindingOf (media file jpeg) (active_in rs) b
 active_binding laws file ms rs reads held = by (active_in rs) refl
   where
@@ -265,6 +289,7 @@ active_binding laws file ms rs reads held = by (active_in rs) refl
 
 -- ---- answers
 
+-- there is an answer over each box tree
 each_tree_answer : Laws → (hash : Alg → List ℕ → List ℕ) (said : Question → Verdict) (file : List ℕ) (start len : ℕ) (t : Tree) → begins_jpeg file ≡ true → Holds t → (a : Answer) × IsTreeAnswer hash said file start len t a
 each_tree_answer laws hash said file start len t is holds =
     let held = held_store laws t holds in
@@ -273,11 +298,13 @@ each_tree_answer laws hash said file start len t is holds =
     let s : StoreReading = record { readings = rs.0; binding = b.0 } in
     (store_answer hash said (length file) start len s, (s, record { media = media file jpeg; is_media = record { bytes = refl; container = is }; reads = record { each = rs.1; binding = b.1 } }, refl))
 
+-- and over whatever a file is opened as
 each_opened_answer : Laws → (hash : Alg → List ℕ → List ℕ) (said : Question → Verdict) (file : List ℕ) (o : Opening Tree) → Accepted o → ((start len : ℕ) (t : Tree) → o ≡ here start len t → begins_jpeg file ≡ true) → (a : Answer) × IsOpenedAnswer hash said file o a
 each_opened_answer laws hash said file (refused r n) h begun = (answer.Refused r n, refl)
 each_opened_answer laws hash said file absent h begun = (answer.NoStore, refl)
 each_opened_answer laws hash said file (here start len t) h begun = each_tree_answer laws hash said file start len t (begun start len t refl) h.0
 
+-- each file has an answer
 pub each_answer : Laws → (hash : Alg → List ℕ → List ℕ) (said : Question → Verdict) (file : List ℕ) → All (λ b. b < 2 ^ 8) file → (a : Answer) × IsAnswer hash said file a
 each_answer laws hash said file bytes =
     let o = each_opened laws file bytes in
@@ -286,11 +313,13 @@ each_answer laws hash said file bytes =
 
 -- ---- questions
 
+-- there is a list of questions over whatever a file is opened as
 each_opened_asks : Laws → (asks : List Reading → List Question) (o : Opening Tree) → Accepted o → (qs : List Question) × OpenedAsks asks o qs
 each_opened_asks laws asks (refused r n) h = ([], refl)
 each_opened_asks laws asks absent h = ([], refl)
 each_opened_asks laws asks (here start len t) h = let rs = laws.readings (manifests_of t) (held_store laws t h.0) in (asks rs.0, (rs.0, rs.1, refl))
 
+-- each file has a list of questions
 pub each_list : Laws → (asks : List Reading → List Question) (file : List ℕ) → All (λ b. b < 2 ^ 8) file → (qs : List Question) × MediaAsks asks file qs
 each_list laws asks file bytes =
     let o = each_opened laws file bytes in

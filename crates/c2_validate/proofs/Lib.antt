@@ -6,4 +6,5 @@ mod EachCheck
 mod OneCheck
 mod Reading
 mod StoreLemmas
+mod Texts
 mod TopLemmas

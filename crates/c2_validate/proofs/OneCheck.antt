@@ -32,9 +32,11 @@ pub record OpeningLaws : Type 0 where
 pub one_after : {A B : Type 0} (First : A → Type 0) (Next : A → B → Type 0) → ((a b : A) → First a → First b → a ≡ b) → ((a : A) (x y : B) → Next a x → Next a y → x ≡ y) → (x y : B) → (a : A) × First a × Next a x → (b : A) × First b × Next b y → x ≡ y
 one_after {A} {B} First Next first next x y h k = next h.0 x y h.2 (subst (λ (a : A). Next a y) (first k.0 h.0 k.1 h.1) k.2)
 
+-- two values that are there are one
 one_some : {A : Type 0} (a b : A) → Some a ≡ Some b → a ≡ b
 one_some a b e = cc (e)
 
+-- no value is there and not there
 none_some : {A : Type 0} (a : A) (o : Option A) → o ≡ Some a → o ≡ None → ⊥
 none_some a o p q = let bad = sym p ∙ q in cc (bad)
 
@@ -45,11 +47,13 @@ abbrev opening_of : Option Refusal → Opening Tree
 opening_of None = absent
 opening_of (Some r) = refused_by r
 
+-- what is opened further is one thing at most
 one_opens : {A B : Type 0} (Is : ℕ → ℕ → A → Opening B → Type 0) → ((start len : ℕ) (a : A) (x y : Opening B) → Is start len a x → Is start len a y → x ≡ y) → (o : Opening A) (x y : Opening B) → Opens Is o x → Opens Is o y → x ≡ y
 one_opens Is once (refused reason number) x y h k = h ∙ sym k
 one_opens Is once absent x y h k = h ∙ sym k
 one_opens Is once (here start len a) x y h k = once start len a x y h k
 
+-- a store's bytes are one box tree or one refusal at most
 one_box_tree : OpeningLaws → (start len : ℕ) (store : List ℕ) (x y : Opening Tree) → IsBoxTree start len store x → IsBoxTree start len store y → x ≡ y
 one_box_tree laws start len store (refused r n) (refused q m) h k = ap opening_of (sym h.2 ∙ ap boxes_refusal (laws.fault store h.0 k.0 h.1 k.1) ∙ k.2)
 one_box_tree laws start len store (refused r n) absent h k = absurd k
@@ -59,6 +63,7 @@ one_box_tree laws start len store (here s l t) (refused q m) h k = absurd (laws.
 one_box_tree laws start len store (here s l t) absent h k = absurd k
 one_box_tree laws start len store (here s l t) (here p m u) h k = h.1 ∙ ap (here start len) (laws.tree store t u h.0 k.0) ∙ sym k.1
 
+-- a box tree is one store of manifests or one refusal at most
 one_manifest_tree : (start len : ℕ) (t : Tree) (x y : Opening Tree) → IsManifestTree start len t x → IsManifestTree start len t y → x ≡ y
 one_manifest_tree start len t (refused r n) (refused q m) h k = ap opening_of (sym h.2 ∙ ap manifests_refusal (one_some h.0 k.0 (sym h.1 ∙ k.1)) ∙ k.2)
 one_manifest_tree start len t (refused r n) absent h k = absurd k
@@ -68,10 +73,12 @@ one_manifest_tree start len t (here s l u) (refused r n) h k = absurd (none_some
 one_manifest_tree start len t (here s l u) absent h k = absurd k
 one_manifest_tree start len t (here s l u) (here p m v) h k = h.1 ∙ sym k.1
 
+-- a store's bytes are one store of manifests or one refusal at most
 pub one_manifest_store : OpeningLaws → (start len : ℕ) (store : List ℕ) (x y : Opening Tree) → IsManifestStore start len store x → IsManifestStore start len store y → x ≡ y
 one_manifest_store laws start len store x y h k =
     one_after (IsBoxTree start len store) (Opens IsManifestTree) (one_box_tree laws start len store) (one_opens IsManifestTree one_manifest_tree) x y h k
 
+-- a file is opened as one thing at most
 pub one_opened : OpeningLaws → (file : List ℕ) (x y : Opening Tree) → IsOpened file x → IsOpened file y → x ≡ y
 one_opened laws file x y h k = one_after (IsLocated file) (Opens IsManifestStore) (laws.located file) (one_opens IsManifestStore (one_manifest_store laws)) x y h k
 
@@ -81,10 +88,12 @@ one_opened laws file x y h k = one_after (IsLocated file) (Opens IsManifestStore
 abbrev pub media : List ℕ → Container → Media
 media bytes container = record { bytes = bytes; container = container }
 
+-- a file that begins as a JPEG has no other container
 jpeg_container : (file : List ℕ) (c : Container) → begins_jpeg file ≡ true → IsContainer file c → c ≡ jpeg
 jpeg_container file jpeg is h = refl
 jpeg_container file (bmff roots) is h = absurd (let no : false ≡ is_bmff file = sym (ap (λ (b : Bool). not b && begins_bmff file) is) in let bad = no ∙ h.0 in cc (bad))
 
+-- it is media in one way
 pub jpeg_media_is : (file : List ℕ) (m : Media) → begins_jpeg file ≡ true → IsMedia file m → m ≡ media file jpeg
 jpeg_media_is file m is h = ap₂ media h.bytes (jpeg_container file m.container is h.container)
 
@@ -104,31 +113,37 @@ pub record ReadingLaws : Type 0 where
   pub manifests : (ms : List Manifest) (rs ss : List Reading) → AreReadings ms rs → AreReadings ms ss → rs ≡ ss
   pub store : (m : Media) (ms : List Manifest) (s t : StoreReading) → IsStoreReading m ms s → IsStoreReading m ms t → s ≡ t
 
+-- its store is read in one way
 one_file_reading : ReadingLaws → (file : List ℕ) (t : Tree) → begins_jpeg file ≡ true → (a b : StoreReading) → IsFileReading file t a → IsFileReading file t b → a ≡ b
 one_file_reading laws file t is a b h k =
     laws.store (media file jpeg) (manifests_of t) a b (subst (λ (m : Media). IsStoreReading m (manifests_of t) a) (jpeg_media_is file h.media is h.is_media) h.reads)
     (subst (λ (m : Media). IsStoreReading m (manifests_of t) b) (jpeg_media_is file k.media is k.is_media) k.reads)
 
+-- there is one answer at most over a box tree
 one_tree_answer : ReadingLaws → (hash : Alg → List ℕ → List ℕ) (said : Question → Verdict) (file : List ℕ) (start len : ℕ) (t : Tree) → begins_jpeg file ≡ true → (a b : Answer) → IsTreeAnswer hash said file start len t a → IsTreeAnswer hash said file start len t b
     → a ≡ b
 one_tree_answer laws hash said file start len t is a b h k =
     one_after (IsFileReading file t) (λ (s : StoreReading) (e : Answer). e ≡ store_answer hash said (length file) start len s) (one_file_reading laws file t is) (λ s x y p q. p ∙ sym q) a b h k
 
+-- and over what a file is opened as
 one_opened_answer : ReadingLaws → (hash : Alg → List ℕ → List ℕ) (said : Question → Verdict) (file : List ℕ) (o : Opening Tree) → IsOpened file o → (a b : Answer) → IsOpenedAnswer hash said file o a → IsOpenedAnswer hash said file o b → a ≡ b
 one_opened_answer laws hash said file (refused reason number) opened a b h k = h ∙ sym k
 one_opened_answer laws hash said file absent opened a b h k = h ∙ sym k
 one_opened_answer laws hash said file (here start len t) opened a b h k = one_tree_answer laws hash said file start len t (store_begins file (here start len t) start len t opened refl) a b h k
 
+-- a file has one answer at most
 pub one_answer : ((file : List ℕ) (x y : Opening Tree) → IsOpened file x → IsOpened file y → x ≡ y) → ReadingLaws → (hash : Alg → List ℕ → List ℕ) (said : Question → Verdict) (file : List ℕ) (a b : Answer) → IsAnswer hash said file a → IsAnswer hash said file b
     → a ≡ b
 one_answer opening laws hash said file a b h k = one_opened_answer laws hash said file h.0 h.1 a b h.2 (subst (λ (o : Opening Tree). IsOpenedAnswer hash said file o b) (opening file k.0 h.0 k.1 h.1) k.2)
 
 -- ---- questions
 
+-- there is one list of questions at most over what a file is opened as
 one_opened_asks : ReadingLaws → (asks : List Reading → List Question) (o : Opening Tree) (ps qs : List Question) → OpenedAsks asks o ps → OpenedAsks asks o qs → ps ≡ qs
 one_opened_asks laws asks (refused reason number) ps qs h k = h ∙ sym k
 one_opened_asks laws asks absent ps qs h k = h ∙ sym k
 one_opened_asks laws asks (here start len t) ps qs h k = one_after (AreReadings (manifests_of t)) (λ (rs : List Reading) (xs : List Question). xs ≡ asks rs) (laws.manifests (manifests_of t)) (λ rs x y p q. p ∙ sym q) ps qs h k
 
+-- a file has one list of questions at most
 pub one_list : ((file : List ℕ) (x y : Opening Tree) → IsOpened file x → IsOpened file y → x ≡ y) → ReadingLaws → (asks : List Reading → List Question) (file : List ℕ) (ps qs : List Question) → MediaAsks asks file ps → MediaAsks asks file qs → ps ≡ qs
 one_list opening laws asks file ps qs h k = one_after (IsOpened file) (OpenedAsks asks) (opening file) (one_opened_asks laws asks) ps qs h k

@@ -27,6 +27,7 @@ faulty : (bytes : List ℕ) (e : JumbfError) (r : Refusal) → boxes_refusal e �
 faulty bytes e r refuses (inl memory) = absurd (let both = sym refuses ∙ ap boxes_refusal memory in cc (both))
 faulty bytes e r refuses (inr fault) = fault
 
+-- so is no error that refuses a store
 bad_store : (t : Tree) (e : StoreError) (r : Refusal) → manifests_refusal e ≡ Some r → (e ≡ store.NoMemory) ⊎ (store_refusal t ≡ Some e) → store_refusal t ≡ Some e
 bad_store t e r refuses (inl memory) = absurd (let both = sym refuses ∙ ap manifests_refusal memory in cc (both))
 bad_store t e r refuses (inr fault) = fault

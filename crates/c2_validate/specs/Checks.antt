@@ -102,18 +102,19 @@ IsBoundBy hash r uri kind b found =
     IsFoundBy (bound_tests hash r uri kind b) (binding.excluded_of (binding_value (Some b))) found
 
 -- the same of the binding of a manifest, or of none
-abbrev pub IsBoundAs : (Alg → List ℕ → List ℕ) → Reading → Option (Result Binding FieldError) → Bound
-    → Type 0
+abbrev pub IsBoundAs : (Alg → List ℕ → List ℕ) → Reading → Option (Result Binding FieldError)
+    → Bound → Type 0
 IsBoundAs hash r b found =
     IsFoundBy (media_tests hash r b) (binding.excluded_of (binding_value b)) found
 
--- the rules on a binding behind that on its algorithm, which is this
+-- the rules on a binding behind that on its algorithm, where it is this one
 abbrev pub after_alg_tests : (Alg → List ℕ → List ℕ) → Alg → Kind → List ℕ → Binding → List Test
 after_alg_tests hash alg kind uri b =
     test (not b.in_order) code.ProfileHashForm uri
     ∷ test (not (bytes_eq (hash alg b.text) b.hash)) (mismatch_code kind) uri
     ∷ []
 
+-- a BMFF hash
 abbrev pub is_bmff_kind : Kind → Bool
 is_bmff_kind kinds.BmffHash = true
 is_bmff_kind kind = false
@@ -125,46 +126,53 @@ media_of file c = record { bytes = file; container = container_of c }
 -- ---- the answer
 
 -- The answer over these readings, whatever the binding of the active manifest comes to in this file, where these tests are left.
-abbrev pub IsAnswerOver : (Option (Result Binding FieldError) → List Test) → List Reading → types.Container
-    → Found → List ℕ → Answer → Type 0
+abbrev pub IsAnswerOver : (Option (Result Binding FieldError) → List Test) → List Reading
+    → types.Container → Found → List ℕ → Answer → Type 0
 IsAnswerOver tests rs c f file a =
     (b : Option (Result Binding FieldError)) → HasBindingOf (media_of file c) (active_in rs) b
-    → a ≡ answer_of (summary_of (length file) f.start f.length (record { readings = rs; binding = b }))
+    → a ≡ answer_of
+    (summary_of (length file) f.start f.length (record { readings = rs; binding = b }))
     (first_failing (tests b))
 
--- the tests of the whole list, those behind the first of it, and those of the binding
+-- the tests of the whole list
 abbrev pub all_tests : (Alg → List ℕ → List ℕ) → (Question → Verdict) → List Reading
     → Option (Result Binding FieldError) → List Test
 all_tests hash said rs b = check_list hash said (record { readings = rs; binding = b })
 
+-- those behind that on the active manifest
 abbrev pub later_tests : (Alg → List ℕ → List ℕ) → (Question → Verdict) → List Reading
     → Option (Result Binding FieldError) → List Test
 later_tests hash said rs b =
     chain_tests (judged_tests hash said) rs ++ last_tests hash b (active_in rs)
 
+-- those of its binding
 abbrev pub binding_tests : (Alg → List ℕ → List ℕ) → List Reading
     → Option (Result Binding FieldError) → List Test
 binding_tests hash rs b = last_tests hash b (active_in rs)
 
 -- the one answer over the box tree of a store, where the file has the container that was answered
-abbrev pub IsTreeAnswered : (Alg → List ℕ → List ℕ) → (Question → Verdict) → Media → Tree → List ℕ → Answer → Type 0
+abbrev pub IsTreeAnswered : (Alg → List ℕ → List ℕ) → (Question → Verdict) → Media → Tree
+    → List ℕ → Answer → Type 0
 IsTreeAnswered hash said m t file a =
     IsContainer file (container_of m.container) → (expected : Answer)
     → IsTreeAnswer hash said file m.found.start m.found.length t expected → expected ≡ a
 
 -- the same over a store that was found
-abbrev pub IsFoundAnswered : (Alg → List ℕ → List ℕ) → (Question → Verdict) → Media → List ℕ → Answer → Type 0
+abbrev pub IsFoundAnswered : (Alg → List ℕ → List ℕ) → (Question → Verdict) → Media → List ℕ
+    → Answer → Type 0
 IsFoundAnswered hash said m file a =
     IsContainer file (container_of m.container) → (expected : Answer) (what : Opening Tree)
     → IsManifestStore m.found.start m.found.length m.found.store what
     → IsOpenedAnswer hash said file what expected → expected ≡ a
 
--- what is asked over the box tree of a store, and over a store that was found
+-- what is asked over the box tree of a store
 abbrev pub TreeAsks : (Alg → List ℕ → List ℕ) → (Question → Verdict) → Tree → List Question → Type 0
 TreeAsks hash said t qs =
     (rs : List Reading) × AreReadings (manifests_of t) rs × (qs ≡ check_asks hash said rs)
 
-abbrev pub FoundAsks : (Alg → List ℕ → List ℕ) → (Question → Verdict) → Found → List Question → Type 0
+-- and over a store that was found
+abbrev pub FoundAsks : (Alg → List ℕ → List ℕ) → (Question → Verdict) → Found → List Question
+    → Type 0
 FoundAsks hash said f qs =
     (what : Opening Tree) × IsManifestStore f.start f.length f.store what
     × OpenedAsks (check_asks hash said) what qs

@@ -21,7 +21,8 @@ pub record IsAnswered (hash : Alg → List ℕ → List ℕ) (said : Question �
 
 -- The panel was asked these questions, by the result of a call: all of them, or those of a prefix where the source failed or memory
 -- ran out, or those before the one at which a judge failed.
-abbrev pub HasAsked : {T : Type 0} → List Question → Judges → Judges → Result T ValidateError → Type 0
+abbrev pub HasAsked : {T : Type 0} → List Question → Judges → Judges → Result T ValidateError
+    → Type 0
 HasAsked qs old new (Ok x) = HaveAsked old.said qs old.asked new.asked
 HasAsked qs old new (Err ReadFault) = HaveAskedPrefix old.said qs old.asked new.asked
 HasAsked qs old new (Err JudgeFault) =
@@ -34,7 +35,7 @@ abbrev pub HasAskedThose : {T : Type 0} → (List Question → Type 0) → Judge
 HasAskedThose AreAsked old new result =
     (qs : List Question) → AreAsked qs → HasAsked qs old new result
 
--- the cause of an error, by the source's count of faults before and after and by those of the judges
+-- the cause of an error, by the source's count of faults before and after and by the judges'
 abbrev pub IsFaultCause : ℕ → ℕ → Judges → Judges → ValidateError → Type 0
 IsFaultCause before now old new ReadFault = Rose before now
 IsFaultCause before now old new JudgeFault = SomeRose old.faults new.faults

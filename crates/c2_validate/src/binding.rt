@@ -14,6 +14,7 @@ use c2_rules::Parsed;
 use c2_spec::{Claim, Ref};
 use std::alloc::Global;
 
+/// Whether an assertion of this kind binds a manifest to its file.
 fn is_binding(what: Kind) -> bool
     ensures { result ≡ rules.is_binding what }
 {

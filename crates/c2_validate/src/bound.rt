@@ -126,6 +126,7 @@ fn file_len<S: Source>(source: &mut S) -> Result<u64, ValidateError>
     }
 }
 
+/// Whether the digest is this.
 fn is_digest(digest: &Digest, hash: &[u8]) -> bool
     ensures { result ≡ bytes_eq digest.now hash.now }
 {
@@ -318,6 +319,7 @@ fn jpeg_refusal(item: &Cbor) -> FieldError
     }
 }
 
+/// Whether this is a BMFF hash.
 fn is_bmff_hash(kind: Kind) -> bool
     ensures { result ≡ is_bmff_kind kind }
 {
@@ -357,7 +359,7 @@ fn check_item<S: Source, H: Hashing>(
 }
 
 /// A manifest without a binding fails.
-#[tactic(auto, using(c2_chain::proofs::Texts::nothing_after))]
+#[tactic(auto, using(crate::proofs::Texts::nothing_after))]
 fn fails_unbound(alloc: Global, own: &Kept<'_>) -> Result<Bound, ValidateError>
     ensures found { IfOk result (λ found. found ≡ Bound.Fails
         (record { code = Code.AssertionCborInvalid; uri = rules.manifest_uri own.now })) }

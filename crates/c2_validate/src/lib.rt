@@ -13,10 +13,14 @@ mod find;
 mod laws;
 mod read;
 mod summary;
+#[cfg(test)]
+mod tests;
 pub mod types;
 
+pub use c2_rules::{Answer, Summary};
 pub use check::validate;
 pub use error::ValidateError;
 pub use find::find_store;
 pub use laws::{each_file_has_a_check, one_check, one_opening};
 pub use read::read_store;
+pub use types::{Container, Media, Opened};

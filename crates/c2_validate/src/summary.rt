@@ -21,6 +21,7 @@ pub fn count(chain: &Chain<'_>) -> usize
     manifests(readings(chain)).len()
 }
 
+/// One, or none.
 fn one_if(wanted: bool) -> u64
     ensures { result ≡ (if wanted then 1 else 0) }
 {
