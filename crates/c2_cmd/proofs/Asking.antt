@@ -9,7 +9,7 @@ use Rattle.c2_spec.specs.Judges.Panel.{verdicts, panel_size, Counted, MovedBelow
 use Rattle.c2_rules.proofs.AskingLemmas.{asked_one}
 use Rattle.c2_rules.specs.Asking.{HaveAskedPrefix}
 use Rattle.c2_cmd.specs.CommandLine.{reading_roles, reads_media}
-use Rattle.c2_rules.specs.Validated.{AreQuestions}
+use Rattle.c2_rules.specs.Validated.{AreQuestions, CheckAsks}
 use Rattle.c2_cmd.specs.Outcome.{Inputs, Asks, CommandAsks, inputs, uses_media}
 use Rattle.c2_cmd.specs.declared.types.Command.{Command}
 use Rattle.c2_cmd.specs.declared.types.Command.TheVariants as command
@@ -30,6 +30,14 @@ known_file said hash None found roles qs is media questions tells asks = absurd 
 known_file said hash (Some file) found roles qs is media questions tells asks =
     let i = inputs (Some file) None None said hash in
     (file, refl, subst (λ (c : Command). CommandAsks c i qs) questions (subst (λ (x : Option Roles). Asks x i qs) is asks))
+
+-- and what a call of `validate` asks is what the check of its file asks
+pub checked_file : (said : Question → Verdict) (hash : Alg → List ℕ → List ℕ) (known : Option (List ℕ)) (found : Option Roles) (roles : Roles) (qs : List Question) → found ≡ Some roles → is_some roles.media ≡ reads_media roles.command → roles.command ≡ command.Validate → (uses_media found ≡ true → IsSome known)
+    → Asks found (inputs known None None said hash) qs → (file : List ℕ) × (known ≡ Some file) × CheckAsks hash said file qs
+checked_file said hash None found roles qs is media validates tells asks = absurd (false≢true (tells (ap uses_media is ∙ media ∙ ap reads_media validates)))
+checked_file said hash (Some file) found roles qs is media validates tells asks =
+    let i = inputs (Some file) None None said hash in
+    (file, refl, subst (λ (c : Command). CommandAsks c i qs) validates (subst (λ (x : Option Roles). Asks x i qs) is asks))
 
 -- the panel was asked the one question, and failed at none
 pub prefix_one : (said : List (Question → Verdict)) (q : Question) (before now : List ℕ) → MovedBelow Counted (panel_size (verdicts said q)) before now → HaveAskedPrefix said (q ∷ []) before now

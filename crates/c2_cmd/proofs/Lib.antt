@@ -1,9 +1,11 @@
 mod Asked
 mod Asking
 mod Delivering
+mod EachOutcome
 mod Lines
 mod Listing
 mod Naming
 mod OneOutcome
 mod Preparing
 mod Replying
+mod Validating

@@ -2,22 +2,23 @@
 use Rattle.std.proofs.Common.{◌≡◌, refl, sym, ◌∙◌, ap, subst, ℕ, List, Option, Some, None}
 use Rattle.c2_base.specs.declared.values.Question.{Question}
 use Rattle.c2_spec.specs.declared.claim.Claim.{Claim}
+use Rattle.c2_spec.specs.declared.digest.Alg.{Alg}
 use Rattle.c2_spec.specs.declared.digest.Alg.TheVariants.{Sha256}
 use Rattle.c2_spec.specs.declared.jumbf.JumbfError.{JumbfError}
 use Rattle.c2_spec.specs.declared.panel.Verdict.{Verdict}
 use Rattle.c2_spec.specs.declared.reason.Refusal.{Refusal}
-use Rattle.c2_spec.specs.C2pa.Manifest.{Manifest, manifests_of, store_refusal}
+use Rattle.c2_spec.specs.C2pa.Manifest.{Manifest, manifests_of}
 use Rattle.c2_spec.specs.Jpeg.Store.{IsLocated}
 use Rattle.c2_spec.specs.Jumbf.Faults.{JumbfFault}
 use Rattle.c2_spec.specs.Jumbf.Tree.{Tree, SpellsTree}
 use Rattle.c2_spec.specs.Located.{Opening, Located, refused, absent, here, refused_by}
-use Rattle.c2_spec.specs.Reason.{boxes_refusal, manifests_refusal}
-use Rattle.c2_rules.specs.CheckList.{questions}
+use Rattle.c2_spec.specs.Reason.{boxes_refusal}
 use Rattle.c2_rules.specs.Claims.{HaveClaims}
-use Rattle.c2_rules.specs.Opened.{Opens, IsBoxTree, IsManifestTree, IsManifestStore, IsBoxed, IsOpened}
+use Rattle.c2_rules.specs.Opened.{Opens, IsBoxTree, IsBoxed, IsOpened}
 use Rattle.c2_rules.specs.Readings.{Reading, AreReadings}
-use Rattle.c2_rules.specs.Validated.{OpenedAsks}
-use Rattle.c2_cmd.specs.Outcome.{Outcome, Inputs, Reports, IsOutcome, IsCommandOutcome, IsDigested, IsListing, IsShown, IsQuestioned, Asks, CommandAsks, shown, questioned}
+use Rattle.c2_rules.specs.Validated.{AreQuestions, CheckAsks, IsAnswer}
+use Rattle.c2_rules.specs.declared.answer.Answer.{Answer as Checked}
+use Rattle.c2_cmd.specs.Outcome.{Outcome, Inputs, Reports, IsOutcome, IsCommandOutcome, IsDigested, IsListing, IsShown, IsQuestioned, Asks, CommandAsks, answered, shown, questioned}
 use Rattle.c2_cmd.specs.declared.types.Command.{Command}
 use Rattle.c2_cmd.specs.declared.types.Command.TheVariants as command
 use Rattle.c2_cmd.specs.declared.types.Roles.{Roles}
@@ -30,16 +31,14 @@ pub record Laws : Type 0 where
   pub fault : (bytes : List ℕ) (e f : JumbfError) → JumbfFault bytes e → JumbfFault bytes f → e ≡ f
   pub claims : (ms : List Manifest) (cs ds : List (Option Claim)) → HaveClaims ms cs → HaveClaims ms ds → cs ≡ ds
   pub readings : (ms : List Manifest) (rs ss : List Reading) → AreReadings ms rs → AreReadings ms ss → rs ≡ ss
+  pub opened : (file : List ℕ) (a b : Opening Tree) → IsOpened file a → IsOpened file b → a ≡ b
+  pub answer : (hash : Alg → List ℕ → List ℕ) (said : Question → Verdict) (file : List ℕ) (a b : Checked) → IsAnswer hash said file a → IsAnswer hash said file b → a ≡ b
+  pub asks : (hash : Alg → List ℕ → List ℕ) (said : Question → Verdict) (file : List ℕ) (ps qs : List Question) → CheckAsks hash said file ps → CheckAsks hash said file qs → ps ≡ qs
+  pub questions : (file : List ℕ) (ps qs : List Question) → AreQuestions file ps → AreQuestions file qs → ps ≡ qs
 
 -- where the first value is one, and so is each that follows from it, the second is one
 one_after : {A B : Type 0} (First : A → Type 0) (Next : A → B → Type 0) → ((a b : A) → First a → First b → a ≡ b) → ((a : A) (x y : B) → Next a x → Next a y → x ≡ y) → (x y : B) → (a : A) × First a × Next a x → (b : A) × First b × Next b y → x ≡ y
 one_after {A} {B} First Next first next x y h k = next h.0 x y h.2 (subst (λ (a : A). Next a y) (first k.0 h.0 k.1 h.1) k.2)
-
-one_some : {A : Type 0} (a b : A) → Some a ≡ Some b → a ≡ b
-one_some a b e = cc (e)
-
-none_some : {A : Type 0} (a : A) (o : Option A) → o ≡ Some a → o ≡ None → ⊥
-none_some a o p q = let bad = sym p ∙ q in cc (bad)
 
 -- ---- openings
 
@@ -62,24 +61,8 @@ one_box_tree laws start len store (here s l t) (refused q m) h k = absurd (laws.
 one_box_tree laws start len store (here s l t) absent h k = absurd k
 one_box_tree laws start len store (here s l t) (here p m u) h k = h.1 ∙ ap (here start len) (laws.tree store t u h.0 k.0) ∙ sym k.1
 
-one_manifest_tree : (start len : ℕ) (t : Tree) (x y : Opening Tree) → IsManifestTree start len t x → IsManifestTree start len t y → x ≡ y
-one_manifest_tree start len t (refused r n) (refused q m) h k = ap opening_of (sym h.2 ∙ ap manifests_refusal (one_some h.0 k.0 (sym h.1 ∙ k.1)) ∙ k.2)
-one_manifest_tree start len t (refused r n) absent h k = absurd k
-one_manifest_tree start len t (refused r n) (here s l u) h k = absurd (none_some h.0 (store_refusal t) h.1 k.0)
-one_manifest_tree start len t absent y h k = absurd h
-one_manifest_tree start len t (here s l u) (refused r n) h k = absurd (none_some k.0 (store_refusal t) k.1 h.0)
-one_manifest_tree start len t (here s l u) absent h k = absurd k
-one_manifest_tree start len t (here s l u) (here p m v) h k = h.1 ∙ sym k.1
-
-one_manifest_store : Laws → (start len : ℕ) (store : List ℕ) (x y : Opening Tree) → IsManifestStore start len store x → IsManifestStore start len store y → x ≡ y
-one_manifest_store laws start len store x y h k =
-    one_after (IsBoxTree start len store) (Opens IsManifestTree) (one_box_tree laws start len store) (one_opens IsManifestTree one_manifest_tree) x y h k
-
 one_boxed : Laws → (file : List ℕ) (x y : Opening Tree) → IsBoxed file x → IsBoxed file y → x ≡ y
 one_boxed laws file x y h k = one_after (IsLocated file) (Opens IsBoxTree) (laws.located file) (one_opens IsBoxTree (one_box_tree laws)) x y h k
-
-one_opened : Laws → (file : List ℕ) (x y : Opening Tree) → IsOpened file x → IsOpened file y → x ≡ y
-one_opened laws file x y h k = one_after (IsLocated file) (Opens IsManifestStore) (laws.located file) (one_opens IsManifestStore (one_manifest_store laws)) x y h k
 
 -- ---- outcomes
 
@@ -95,7 +78,7 @@ one_questioned : Laws → (said : Question → Verdict) (t : Tree) (x y : Outcom
 one_questioned laws said t x y h k = one_after (AreReadings (manifests_of t)) (λ rs e. e ≡ questioned said rs) (laws.readings (manifests_of t)) (λ rs a b p q. p ∙ sym q) x y h k
 
 one_media : Laws → (P : Tree → Outcome → Type 0) → ((t : Tree) (x y : Outcome) → P t x → P t y → x ≡ y) → (file : List ℕ) (x y : Outcome) → (what : Opening Tree) × IsOpened file what × Reports (λ start len t e. P t e) what x → (what : Opening Tree) × IsOpened file what × Reports (λ start len t e. P t e) what y → x ≡ y
-one_media laws P once file x y h k = one_after (IsOpened file) (Reports (λ start len t e. P t e)) (one_opened laws file) (one_report (λ start len t e. P t e) (λ start len t. once t)) x y h k
+one_media laws P once file x y h k = one_after (IsOpened file) (Reports (λ start len t e. P t e)) (laws.opened file) (one_report (λ start len t e. P t e) (λ start len t. once t)) x y h k
 
 one_command : Laws → (c : Command) (roles : Roles) (i : Inputs) (x y : Outcome) → IsCommandOutcome c roles i x → IsCommandOutcome c roles i y → x ≡ y
 one_command laws command.Digest roles i x y h k =
@@ -103,6 +86,7 @@ one_command laws command.Digest roles i x y h k =
 one_command laws command.List roles i x y h k = one_after (IsBoxed i.media) (Reports IsListing) (one_boxed laws i.media) (one_report IsListing (λ start len t a b p q. p ∙ sym q)) x y h k
 one_command laws command.Show roles i x y h k = one_media laws IsShown (one_shown laws) i.media x y h k
 one_command laws command.Questions roles i x y h k = one_media laws (IsQuestioned i.said) (one_questioned laws i.said) i.media x y h k
+one_command laws command.Validate roles i x y h k = one_after (IsAnswer i.hash i.said i.media) (λ found e. e ≡ answered found) (laws.answer i.hash i.said i.media) (λ found a b p q. p ∙ sym q) x y h k
 
 pub one_outcome : Laws → (roles : Option Roles) (i : Inputs) (x y : Outcome) → IsOutcome roles i x → IsOutcome roles i y → x ≡ y
 one_outcome laws None i x y h k = h ∙ sym k
@@ -110,19 +94,12 @@ one_outcome laws (Some roles) i x y h k = one_command laws roles.command roles i
 
 -- ---- questions
 
-one_of_tree : Laws → (t : Tree) (ps qs : List Question) → (rs : List Reading) × AreReadings (manifests_of t) rs × (ps ≡ questions rs) → (rs : List Reading) × AreReadings (manifests_of t) rs × (qs ≡ questions rs) → ps ≡ qs
-one_of_tree laws t ps qs h k = one_after (AreReadings (manifests_of t)) (λ rs l. l ≡ questions rs) (laws.readings (manifests_of t)) (λ rs a b p q. p ∙ sym q) ps qs h k
-
-one_of_opened : Laws → (what : Opening Tree) (ps qs : List Question) → OpenedAsks questions what ps → OpenedAsks questions what qs → ps ≡ qs
-one_of_opened laws (refused reason number) ps qs h k = h ∙ sym k
-one_of_opened laws absent ps qs h k = h ∙ sym k
-one_of_opened laws (here start len t) ps qs h k = one_of_tree laws t ps qs h k
-
 one_asks : Laws → (c : Command) (i : Inputs) (ps qs : List Question) → CommandAsks c i ps → CommandAsks c i qs → ps ≡ qs
 one_asks laws command.Digest i ps qs h k = h ∙ sym k
 one_asks laws command.List i ps qs h k = h ∙ sym k
 one_asks laws command.Show i ps qs h k = h ∙ sym k
-one_asks laws command.Questions i ps qs h k = one_after (IsOpened i.media) (OpenedAsks questions) (one_opened laws i.media) (one_of_opened laws) ps qs h k
+one_asks laws command.Questions i ps qs h k = laws.questions i.media ps qs h k
+one_asks laws command.Validate i ps qs h k = laws.asks i.hash i.said i.media ps qs h k
 
 pub one_list : Laws → (roles : Option Roles) (i : Inputs) (ps qs : List Question) → Asks roles i ps → Asks roles i qs → ps ≡ qs
 one_list laws None i ps qs h k = h ∙ sym k

@@ -25,12 +25,14 @@ reads_media command.Digest = true
 reads_media command.List = true
 reads_media command.Show = true
 reads_media command.Questions = true
+reads_media command.Validate = true
 
 abbrev pub asks_judges : Command → Bool
 asks_judges command.Digest = false
 asks_judges command.List = false
 asks_judges command.Show = false
 asks_judges command.Questions = true
+asks_judges command.Validate = true
 
 -- how many names of judges may follow
 abbrev pub most_judges : Command → ℕ
@@ -38,6 +40,7 @@ most_judges command.Digest = 0
 most_judges command.List = 0
 most_judges command.Show = 0
 most_judges command.Questions = MAX_JUDGE_NAMES
+most_judges command.Validate = MAX_JUDGE_NAMES
 
 -- the command of a word
 abbrev pub command_of : List ℕ → Option Command
@@ -46,6 +49,7 @@ command_of word =
     else if bytes_eq word (codes "list") then Some command.List
     else if bytes_eq word (codes "show") then Some command.Show
     else if bytes_eq word (codes "questions") then Some command.Questions
+    else if bytes_eq word (codes "validate") then Some command.Validate
     else None
 
 -- the roles of `COMMAND MEDIA` and `COMMAND MEDIA JUDGE..`

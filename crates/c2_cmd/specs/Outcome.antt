@@ -1,5 +1,5 @@
 -- The outcome of a run: a relation between the roles of its words, what it is handed, and its outcome.
-use Rattle.std.specs.Prelude.{◌≡◌, ℕ, ◌+◌, Bool, false, List, [], ◌++◌, take, drop, is_some, unwrap_or, Some, None}
+use Rattle.std.specs.Prelude.{◌≡◌, ℕ, ◌+◌, Bool, false, List, [], ◌++◌, take, drop, is_some, unwrap_or, Some, None, if◌then◌else◌}
 use Rattle.std.specs.List.{flat_map}
 use Rattle.std.specs.declared.option.Option.{Option}
 use Rattle.c2_base.specs.declared.values.Question.{Question}
@@ -16,9 +16,13 @@ use Rattle.c2_rules.specs.CheckList.{Asked, all_asked}
 use Rattle.c2_rules.specs.Claims.{HaveClaims}
 use Rattle.c2_rules.specs.Opened.{IsBoxed, IsOpened}
 use Rattle.c2_rules.specs.Readings.{Reading, AreReadings}
-use Rattle.c2_rules.specs.Validated.{AreQuestions}
+use Rattle.c2_rules.specs.Codes.{is_unsupported}
+use Rattle.c2_rules.specs.Validated.{AreQuestions, CheckAsks, IsAnswer}
+use Rattle.c2_rules.specs.declared.answer.Answer.{Answer as Checked}
+use Rattle.c2_rules.specs.declared.answer.Answer.TheVariants as checked
+use Rattle.c2_rules.specs.declared.code.Code.{Code}
 use Rattle.c2_texts.specs.Show.{show_line}
-use Rattle.c2_texts.specs.Texts.{usage_line, refused_line, none_line, digest_line, listing, question_line, no_question_line}
+use Rattle.c2_texts.specs.Texts.{usage_line, refused_line, none_line, digest_line, listing, question_line, no_question_line, valid_line, failing_line}
 use Rattle.c2_cmd.specs.declared.types.Answer.{Answer}
 use Rattle.c2_cmd.specs.declared.types.Answer.TheVariants as answer
 use Rattle.c2_cmd.specs.declared.types.Command.{Command}
@@ -105,12 +109,28 @@ questioned said rs = reports answer.Done (verdict_lines said (all_asked rs))
 abbrev pub IsQuestioned : (Question → Verdict) → Tree → Outcome → Type 0
 IsQuestioned said t expected = (rs : List Reading) × AreReadings (manifests_of t) rs × (expected ≡ questioned said rs)
 
+-- where a rule with this code fails: what isn't supported counts as refused
+abbrev pub failing_answer : Code → Answer
+failing_answer code = if is_unsupported code then answer.Refused else answer.Failing
+
+-- what is reported of the answer of the check
+abbrev pub answered : Checked → Outcome
+answered (checked.Valid summary) = reports answer.Done (valid_line summary)
+answered (checked.Failing failing) = reports (failing_answer failing.code) (failing_line failing)
+answered (checked.Refused reason number) = reports answer.Refused (refused_line reason number)
+answered checked.NoStore = reports answer.NoStore none_line
+
+-- the outcome of `validate`
+abbrev pub IsValidated : (Alg → List ℕ → List ℕ) → (Question → Verdict) → List ℕ → Outcome → Type 0
+IsValidated hash said file expected = (found : Checked) × IsAnswer hash said file found × (expected ≡ answered found)
+
 -- the outcome of a command with these roles
 abbrev pub IsCommandOutcome : Command → Roles → Inputs → Outcome → Type 0
 IsCommandOutcome command.Digest roles i expected = IsDigestOutcome (i.hash Sha256) i.media expected
 IsCommandOutcome command.List roles i expected = IsListOutcome i.media expected
 IsCommandOutcome command.Show roles i expected = IsMediaOutcome IsShown i.media expected
 IsCommandOutcome command.Questions roles i expected = IsMediaOutcome (IsQuestioned i.said) i.media expected
+IsCommandOutcome command.Validate roles i expected = IsValidated i.hash i.said i.media expected
 
 -- the outcome of words with these roles, or with none
 abbrev pub IsOutcome : Option Roles → Inputs → Outcome → Type 0
@@ -132,6 +152,7 @@ CommandAsks command.Digest i qs = qs ≡ []
 CommandAsks command.List i qs = qs ≡ []
 CommandAsks command.Show i qs = qs ≡ []
 CommandAsks command.Questions i qs = AreQuestions i.media qs
+CommandAsks command.Validate i qs = CheckAsks i.hash i.said i.media qs
 
 abbrev pub Asks : Option Roles → Inputs → List Question → Type 0
 Asks None i qs = qs ≡ []

@@ -14,11 +14,12 @@ use Rattle.c2_cmd.specs.declared.types.Answer.{Answer}
 use Rattle.c2_cmd.specs.declared.types.Answer.TheVariants as answer
 use Rattle.c2_cmd.specs.declared.types.Roles.{Roles}
 use Rattle.c2_cmd.specs.declared.types.Status.{Status}
-use Rattle.c2_cmd.specs.declared.types.Status.TheVariants.{Done, Refused, NoStore, Usage, InputFault, OutputFault, JudgeFault, NoMemory}
+use Rattle.c2_cmd.specs.declared.types.Status.TheVariants.{Done, Failing, Refused, NoStore, Usage, InputFault, OutputFault, JudgeFault, NoMemory}
 
 -- the status of an answer
 abbrev pub status_of : Answer → Status
 status_of answer.Done = Done
+status_of answer.Failing = Failing
 status_of answer.Refused = Refused
 status_of answer.NoStore = NoStore
 status_of answer.Usage = Usage
@@ -100,6 +101,13 @@ WithoutFault claim OutputFault = ⊤
 WithoutFault claim JudgeFault = ⊤
 WithoutFault claim NoMemory = ⊤
 WithoutFault claim status = claim
+
+-- the run ended before it had a reply: a source or a judge failed, or memory ran out
+abbrev pub HasNoReply : Status → Type 0
+HasNoReply InputFault = ⊤
+HasNoReply JudgeFault = ⊤
+HasNoReply NoMemory = ⊤
+HasNoReply status = ⊥
 
 -- this holds of the words and the files wherever the whole reply was known, also where it could not be written
 abbrev pub WhereReplied : Type 0 → Status → Type 0

@@ -1,11 +1,12 @@
 -- Statuses by their numbers.
 use Rattle.std.specs.Prelude.{ℕ}
 use Rattle.c2_cmd.specs.declared.types.Status.{Status}
-use Rattle.c2_cmd.specs.declared.types.Status.TheVariants.{Done, Refused, NoStore, Usage, InputFault, OutputFault, JudgeFault, NoMemory}
+use Rattle.c2_cmd.specs.declared.types.Status.TheVariants.{Done, Failing, Refused, NoStore, Usage, InputFault, OutputFault, JudgeFault, NoMemory}
 
 -- the exit status of the program
 abbrev pub exit_status : Status → ℕ
 exit_status Done = 0
+exit_status Failing = 1
 exit_status Refused = 2
 exit_status NoStore = 3
 exit_status Usage = 4

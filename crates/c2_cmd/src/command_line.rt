@@ -63,6 +63,7 @@ fn command_of(word: &str) -> Option<Command>
         "list" => Some(Command::List),
         "show" => Some(Command::Show),
         "questions" => Some(Command::Questions),
+        "validate" => Some(Command::Validate),
         _ => None,
     }
 }
@@ -73,7 +74,7 @@ fn most_judges(command: Command) -> usize
 {
     match command {
         Command::Digest | Command::List | Command::Show => 0,
-        Command::Questions => MAX_JUDGE_NAMES,
+        Command::Questions | Command::Validate => MAX_JUDGE_NAMES,
     }
 }
 

@@ -1,12 +1,13 @@
 //! Laws of the outcomes of runs.
-ghost use Rattle.std.specs.Prelude.{◌≡◌, List, Option};
+ghost use Rattle.std.specs.Prelude.{◌≡◌, ◌<◌, ◌^◌, All, List, Option};
 ghost use Rattle.c2_base.specs.declared.values.Question.{Question};
 ghost use Rattle.c2_cmd.specs.Outcome.{Asks, Inputs, IsOutcome, Outcome};
 ghost use Rattle.c2_cmd.specs.declared.types.Roles.{Roles as AnyRoles};
 
-use c2_chain::{one_list_of_claims, one_reading};
+use c2_chain::{a_reading_is_the_claim_and_the_question, one_list_of_claims, one_reading};
 use c2_jpegseg::each_file_is_located;
 use c2_jumbf::each_list_is_a_tree_or_not;
+use c2_validate::{each_file_has_a_check, one_check, one_opening};
 
 /// Words and inputs come to one outcome at most, and to one list of questions at most.
 pub fn one_outcome()
@@ -19,4 +20,17 @@ pub fn one_outcome()
     each_list_is_a_tree_or_not();
     one_list_of_claims();
     one_reading();
+    one_opening();
+    one_check();
+}
+
+/// Words and inputs whose media are bytes come to an outcome, and to a list of questions.
+pub fn each_run_has_an_outcome()
+    ensures outcome { (roles : Option AnyRoles) (i : Inputs) → All (λ b. b < 2 ^ 8) i.media
+        → (expected : Outcome) × IsOutcome roles i expected }
+    ensures questions { (roles : Option AnyRoles) (i : Inputs) → All (λ b. b < 2 ^ 8) i.media
+        → (qs : List Question) × Asks roles i qs }
+{
+    each_file_has_a_check();
+    a_reading_is_the_claim_and_the_question();
 }

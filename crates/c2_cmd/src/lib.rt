@@ -16,7 +16,8 @@ mod reply;
 mod run_command;
 mod show;
 pub mod types;
+mod validate;
 
 pub use command_line::roles;
-pub use laws::one_outcome;
+pub use laws::{each_run_has_an_outcome, one_outcome};
 pub use run_command::run;

@@ -7,7 +7,7 @@ ghost use Rattle.c2_base.specs.declared.values.Question.{Question};
 ghost use Rattle.c2_spec.specs.Judges.Panel.{LeavesJudges, judges_of};
 ghost use Rattle.c2_cmd.specs.Outcome.{Outcome, uses_judges, uses_media};
 ghost use Rattle.c2_cmd.specs.Reply.{AskedThose, IsCause, IsReply};
-ghost use Rattle.c2_cmd.specs.Run.{AskedPanel, ComesTo, Delivers, HasFailed, HasReport, IsKnown, KeepsJudges, Puts, WhereReplied, WithoutFault, call_of, roles_in, state_of};
+ghost use Rattle.c2_cmd.specs.Run.{AskedPanel, ComesTo, Delivers, HasFailed, HasNoReply, HasReport, IsKnown, KeepsJudges, Puts, WhereReplied, WithoutFault, call_of, roles_in, state_of};
 
 use crate::command_line::roles;
 use crate::digest::reply_to_digest;
@@ -18,6 +18,7 @@ use crate::replies::usage_reply;
 use crate::reply::{Fault, Reply};
 use crate::show::reply_to_show;
 use crate::types::{Answer, Command, RolesError, Status};
+use crate::validate::reply_to_validate;
 use c2_base::{Failed, Sink, Source, write_all};
 use c2_hash::Hashing;
 use c2_judge::Judge;
@@ -70,7 +71,7 @@ pub fn run<H: Hashing, A: Source, W: Sink>(
     ensures output { result ≡ Status.OutputFault
         → HasFailed true (W.faults report.old) (W.faults report.new) }
     ensures report_quiet { WithoutFault (W.faults report.new ≡ W.faults report.old) result }
-    ensures report_unwritten { result ≡ Status.JudgeFault → report.new ≡ report.old }
+    ensures report_unwritten { HasNoReply result → report.new ≡ report.old }
     ensures report_later { W.faults report.old ≤ W.faults report.new }
     ensures report_unfinished { W.faults report.old < W.faults report.new
         → W.finished report.new ≡ W.finished report.old }
@@ -99,6 +100,7 @@ pub fn run<H: Hashing, A: Source, W: Sink>(
     }
     match reply.answer {
         Answer::Done => Status::Done,
+        Answer::Failing => Status::Failing,
         Answer::Refused => Status::Refused,
         Answer::NoStore => Status::NoStore,
         Answer::Usage => Status::Usage,
@@ -162,6 +164,7 @@ fn reply_to<H: Hashing, A: Source>(
         Command::List => reply_to_list(alloc, media),
         Command::Show => reply_to_show(alloc, media),
         Command::Questions => reply_to_questions(alloc, media, judges),
+        Command::Validate => reply_to_validate(alloc, hashing, media, judges),
     }
 }
 

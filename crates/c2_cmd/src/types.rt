@@ -12,8 +12,11 @@ pub enum Command {
     /// The manifests of the store, as JSON.
     Show,
 
-    /// The question that judges are asked of the active manifest, and what they say.
+    /// The questions that judges are asked of the reached manifests, and what they say.
     Questions,
+
+    /// Whether every rule of the check list holds.
+    Validate,
 }
 
 /// Which word is which: the index of each name among the words.
@@ -57,6 +60,9 @@ pub enum Answer {
     /// What was asked for.
     Done,
 
+    /// A rule that fails.
+    Failing,
+
     /// A refused container, box or store, or a part of a store that isn't supported.
     Refused,
 
@@ -72,6 +78,9 @@ pub enum Answer {
 pub enum Status {
     /// Done.
     Done = 0,
+
+    /// A rule fails.
+    Failing = 1,
 
     /// The container, a box or the store is refused, or has a part that isn't supported.
     Refused = 2,

@@ -9,7 +9,7 @@ use std::alloc::{AllocError, Global};
 use std::process::Abort;
 use std::test::Fail;
 
-const USAGE: &str = "usage: c2 digest|list|show MEDIA; questions MEDIA [JUDGE..]\n";
+const USAGE: &str = "usage: c2 digest|list|show MEDIA; questions|validate MEDIA [JUDGE..]\n";
 
 fn gives_usage(rt: &impl Abort, alloc: Global, given: &Vec<String>) -> Result<(), Fail> {
     assert_eq!(rt; roles(alloc, given), Err(RolesError::Usage));
@@ -47,6 +47,7 @@ fn words_that_fit_nothing_give_the_usage_line(rt: HostRuntime) -> Result<(), Fai
     gives_usage(&rt, alloc, &words(alloc, &["questions", "P", "-V"])?)?;
     gives_usage(&rt, alloc, &words(alloc, &["questions", "P", "V", ""])?)?;
     gives_usage(&rt, alloc, &words(alloc, &["question", "P"])?)?;
+    gives_usage(&rt, alloc, &words(alloc, &["validate"])?)?;
     gives_usage(&rt, alloc, &words(alloc, &["--help"])?)
 }
 
@@ -95,6 +96,7 @@ fn reading_commands_have_one_name(rt: HostRuntime) -> Result<(), Fail> {
         ("list", Command::List),
         ("show", Command::Show),
         ("questions", Command::Questions),
+        ("validate", Command::Validate),
     ];
     for (word, command) in commands {
         has_roles(&rt, alloc, &words(alloc, &[word, "P"])?, command)?;

@@ -19,7 +19,7 @@ line text = text ++ 0x0A ∷ []
 
 -- where the words don't fit
 abbrev pub usage_line : List ℕ
-usage_line = line (codes "usage: c2 digest|list|show MEDIA; questions MEDIA [JUDGE..]")
+usage_line = line (codes "usage: c2 digest|list|show MEDIA; questions|validate MEDIA [JUDGE..]")
 
 -- a refusal, with its number
 abbrev pub refused_line : Reason → ℕ → List ℕ

@@ -19,5 +19,6 @@ pub use lines::{
     digest_line, failing_line, no_question_line, none_line, question_line, refused_line,
     usage_line, valid_line,
 };
+pub use names::code_name;
 pub use show::show_line;
 pub use tree::listing;

@@ -14,7 +14,7 @@ pub fn usage_line(alloc: Global) -> Result<String, AllocError>
 {
     String::from_str(
         alloc,
-        "usage: c2 digest|list|show MEDIA; questions MEDIA [JUDGE..]\n",
+        "usage: c2 digest|list|show MEDIA; questions|validate MEDIA [JUDGE..]\n",
     )
 }
 

@@ -109,7 +109,7 @@ fn plain_lines_are_these(rt: HostRuntime) -> Result<(), Fail> {
     Ok(())
 }
 
-const PLAIN: &str = "usage: c2 digest|list|show MEDIA; questions MEDIA [JUDGE..]
+const PLAIN: &str = "usage: c2 digest|list|show MEDIA; questions|validate MEDIA [JUDGE..]
 none
 refused BadHead 18446744073709551615
 2 50 0abc

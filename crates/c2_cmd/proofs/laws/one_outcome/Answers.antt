@@ -9,6 +9,10 @@ returns-clause-outcome c = one_outcome (record {
   fault = c.each_list_is_a_tree_or_not.ensures.one_fault;
   claims = c.one_list_of_claims.ensures;
   readings = c.one_reading.ensures.manifests;
+  opened = c.one_opening.ensures.file;
+  answer = c.one_check.ensures.answer;
+  asks = c.one_check.ensures.asks;
+  questions = c.one_check.ensures.questions;
 })
 
 pub returns-clause-questions : goal.returns-clause-questions
@@ -19,4 +23,8 @@ returns-clause-questions c = one_list (record {
   fault = c.each_list_is_a_tree_or_not.ensures.one_fault;
   claims = c.one_list_of_claims.ensures;
   readings = c.one_reading.ensures.manifests;
+  opened = c.one_opening.ensures.file;
+  answer = c.one_check.ensures.answer;
+  asks = c.one_check.ensures.asks;
+  questions = c.one_check.ensures.questions;
 })

@@ -13,6 +13,9 @@ returns-in-Done-clause-outcome g c known = (outcome_of c.in-Ok.reply, (c.in-Ok.e
 pub returns-in-Refused-clause-outcome : goal.returns-in-Refused-clause-outcome
 returns-in-Refused-clause-outcome g c known = (outcome_of c.in-Ok.reply, (c.in-Ok.ensures.reply known).holds)
 
+pub returns-in-Failing-clause-outcome : goal.returns-in-Failing-clause-outcome
+returns-in-Failing-clause-outcome g c known = (outcome_of c.in-Ok.reply, (c.in-Ok.ensures.reply known).holds)
+
 pub returns-in-NoStore-clause-outcome : goal.returns-in-NoStore-clause-outcome
 returns-in-NoStore-clause-outcome g c known = (outcome_of c.in-Ok.reply, (c.in-Ok.ensures.reply known).holds)
 
@@ -30,6 +33,10 @@ returns-in-Done-clause-report g c known expected comes =
 pub returns-in-Refused-clause-report : goal.returns-in-Refused-clause-report
 returns-in-Refused-clause-report g c known expected comes =
     wrote_all expected c.in-Ok.reply _ _ answer.Refused ((c.in-Ok.ensures.reply known).only expected comes) c.in-Refused.is (on_ok _ c.deliver.result (sym c.is_err.ensures.value ∙ c.if-is_err.false) c.deliver.ensures.delivered)
+
+pub returns-in-Failing-clause-report : goal.returns-in-Failing-clause-report
+returns-in-Failing-clause-report g c known expected comes =
+    wrote_all expected c.in-Ok.reply _ _ answer.Failing ((c.in-Ok.ensures.reply known).only expected comes) c.in-Failing.is (on_ok _ c.deliver.result (sym c.is_err.ensures.value ∙ c.if-is_err.false) c.deliver.ensures.delivered)
 
 pub returns-in-NoStore-clause-report : goal.returns-in-NoStore-clause-report
 returns-in-NoStore-clause-report g c known expected comes =
@@ -56,6 +63,9 @@ returns-in-Done-clause-asked g c known qs asks = c.in-Ok.ensures.asked known qs 
 
 pub returns-in-Refused-clause-asked : goal.returns-in-Refused-clause-asked
 returns-in-Refused-clause-asked g c known qs asks = c.in-Ok.ensures.asked known qs asks
+
+pub returns-in-Failing-clause-asked : goal.returns-in-Failing-clause-asked
+returns-in-Failing-clause-asked g c known qs asks = c.in-Ok.ensures.asked known qs asks
 
 pub returns-in-NoStore-clause-asked : goal.returns-in-NoStore-clause-asked
 returns-in-NoStore-clause-asked g c known qs asks = c.in-Ok.ensures.asked known qs asks

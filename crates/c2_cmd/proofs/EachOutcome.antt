@@ -1,0 +1,121 @@
+-- Words and inputs whose media are bytes come to an outcome, and to a list of questions.
+use Rattle.std.proofs.Common.{◌≡◌, refl, ℕ, ◌<◌, ◌^◌, List, [], ◌∷◌, Option, Some, None}
+use Rattle.std.specs.Prelude.{⊤, All}
+use Rattle.c2_base.specs.declared.values.Question.{Question}
+use Rattle.c2_spec.specs.declared.claim.Claim.{Claim}
+use Rattle.c2_spec.specs.declared.digest.Alg.{Alg}
+use Rattle.c2_spec.specs.declared.digest.Alg.TheVariants.{Sha256}
+use Rattle.c2_spec.specs.declared.panel.Verdict.{Verdict}
+use Rattle.c2_spec.specs.C2pa.Manifest.{Manifest, HasClaim, manifests_of}
+use Rattle.c2_spec.specs.Jpeg.Store.{IsLocated}
+use Rattle.c2_spec.specs.Jumbf.Tree.{Tree}
+use Rattle.c2_spec.specs.Located.{Opening, Located, refused, absent, here}
+use Rattle.c2_rules.specs.CheckList.{check_asks, questions}
+use Rattle.c2_rules.specs.Claims.{HaveClaims}
+use Rattle.c2_rules.specs.Opened.{Opens, IsManifestStore, IsBoxed, IsOpened}
+use Rattle.c2_rules.specs.Readings.{Reading, IsReading, AreReadings, claim_in}
+use Rattle.c2_rules.specs.Validated.{IsAnswer, IsOpenedAnswer, MediaAsks}
+use Rattle.c2_rules.specs.declared.answer.Answer.{Answer}
+use Rattle.c2_texts.specs.Texts.{refused_line, none_line, usage_line, listing, digest_line}
+use Rattle.c2_cmd.specs.Outcome.{Outcome, Inputs, Reports, IsOutcome, IsCommandOutcome, IsDigested, IsListing, IsShown, IsQuestioned, IsMediaOutcome, Asks, CommandAsks, answered, questioned, shown, reports, outside}
+use Rattle.c2_cmd.specs.declared.types.Answer.TheVariants as answer
+use Rattle.c2_cmd.specs.declared.types.Command.{Command}
+use Rattle.c2_cmd.specs.declared.types.Command.TheVariants as command
+use Rattle.c2_cmd.specs.declared.types.Roles.{Roles}
+
+-- what the laws of the crates below say
+pub record Laws : Type 0 where
+  pub answer : (hash : Alg → List ℕ → List ℕ) (said : Question → Verdict) (file : List ℕ) → All (λ b. b < 2 ^ 8) file → (a : Answer) × IsAnswer hash said file a
+  pub claim : (m : Manifest) (r : Reading) → IsReading m r → HasClaim m (claim_in r)
+
+-- ---- a file is opened, and its manifests are read
+
+-- the manifests of what is here are read as something
+abbrev HasReadings : Opening Tree → Type 0
+HasReadings (refused reason number) = ⊤
+HasReadings absent = ⊤
+HasReadings (here start len t) = (rs : List Reading) × AreReadings (manifests_of t) rs
+
+readings_of : (hash : Alg → List ℕ → List ℕ) (said : Question → Verdict) (file : List ℕ) (what : Opening Tree) (a : Answer) → IsOpenedAnswer hash said file what a → HasReadings what
+readings_of hash said file (refused reason number) a h = tt
+readings_of hash said file absent a h = tt
+readings_of hash said file (here start len t) a h = (h.0.readings, h.1.reads.each)
+
+each_opened : Laws → (i : Inputs) → All (λ b. b < 2 ^ 8) i.media → (what : Opening Tree) × IsOpened i.media what × HasReadings what
+each_opened laws i held =
+    let a = laws.answer i.hash i.said i.media held in
+    (a.1.0, a.1.1, readings_of i.hash i.said i.media a.1.0 a.0 a.1.2)
+
+-- as a box tree
+each_boxed : Laws → (i : Inputs) → All (λ b. b < 2 ^ 8) i.media → (tree : Opening Tree) × IsBoxed i.media tree
+each_boxed laws i held = let o = each_opened laws i held in go o.0 o.1.0 o.1.1 o.1.2
+  where
+    go : (what : Opening Tree) (l : Located) → IsLocated i.media l → Opens IsManifestStore l what → (tree : Opening Tree) × IsBoxed i.media tree
+    go what (refused reason number) located opens = (refused reason number, (refused reason number, located, refl))
+    go what absent located opens = (absent, (absent, located, refl))
+    go what (here start len store) located opens = (opens.0, (here start len store, located, opens.1))
+
+-- ---- outcomes
+
+each_report : {A : Type 0} (Is : ℕ → ℕ → A → Outcome → Type 0) (o : Opening A) → ((start len : ℕ) (a : A) → (e : Outcome) × Is start len a e) → (e : Outcome) × Reports Is o e
+each_report Is (refused reason number) some = (reports answer.Refused (refused_line reason number), refl)
+each_report Is absent some = (reports answer.NoStore none_line, refl)
+each_report Is (here start len a) some = some start len a
+
+each_media : Laws → (P : Tree → Outcome → Type 0) → ((t : Tree) (rs : List Reading) → AreReadings (manifests_of t) rs → (e : Outcome) × P t e) → (i : Inputs) → All (λ b. b < 2 ^ 8) i.media → (e : Outcome) × IsMediaOutcome P i.media e
+each_media laws P over i held = let o = each_opened laws i held in go o.0 o.1 o.2
+  where
+    go : (what : Opening Tree) → IsOpened i.media what → HasReadings what → (e : Outcome) × IsMediaOutcome P i.media e
+    go (refused reason number) is read = (reports answer.Refused (refused_line reason number), (refused reason number, is, refl))
+    go absent is read = (reports answer.NoStore none_line, (absent, is, refl))
+    go (here start len t) is read = let e = over t read.0 read.1 in (e.0, (here start len t, is, e.1))
+
+each_claims : Laws → (ms : List Manifest) (rs : List Reading) → AreReadings ms rs → (cs : List (Option Claim)) × HaveClaims ms cs
+each_claims laws [] [] reads = ([], tt)
+each_claims laws [] (r ∷ rs) reads = absurd reads
+each_claims laws (m ∷ ms) [] reads = absurd reads
+each_claims laws (m ∷ ms) (r ∷ rs) reads = let cs = each_claims laws ms rs reads.1 in (claim_in r ∷ cs.0, (laws.claim m r reads.0, cs.1))
+
+each_shown : Laws → (t : Tree) (rs : List Reading) → AreReadings (manifests_of t) rs → (e : Outcome) × IsShown t e
+each_shown laws t rs reads = let cs = each_claims laws (manifests_of t) rs reads in (shown t cs.0, (cs.0, cs.1, refl))
+
+each_questioned : (said : Question → Verdict) (t : Tree) (rs : List Reading) → AreReadings (manifests_of t) rs → (e : Outcome) × IsQuestioned said t e
+each_questioned said t rs reads = (questioned said rs, (rs, reads, refl))
+
+each_command : Laws → (c : Command) (roles : Roles) (i : Inputs) → All (λ b. b < 2 ^ 8) i.media → (e : Outcome) × IsCommandOutcome c roles i e
+each_command laws command.Digest roles i held =
+    let o = each_opened laws i held in
+    let e = each_report (IsDigested (i.hash Sha256) i.media) o.1.0 (λ start len store. (reports answer.Done (digest_line start len (i.hash Sha256 (outside start len i.media))), refl)) in
+    (e.0, (o.1.0, o.1.1, e.1))
+each_command laws command.List roles i held =
+    let b = each_boxed laws i held in
+    let e = each_report IsListing b.0 (λ start len t. (reports answer.Done (listing t), refl)) in
+    (e.0, (b.0, b.1, e.1))
+each_command laws command.Show roles i held = each_media laws IsShown (each_shown laws) i held
+each_command laws command.Questions roles i held = each_media laws (IsQuestioned i.said) (each_questioned i.said) i held
+each_command laws command.Validate roles i held = let a = laws.answer i.hash i.said i.media held in (answered a.0, (a.0, a.1, refl))
+
+pub each_outcome : Laws → (roles : Option Roles) (i : Inputs) → All (λ b. b < 2 ^ 8) i.media → (e : Outcome) × IsOutcome roles i e
+each_outcome laws None i held = (reports answer.Usage usage_line, refl)
+each_outcome laws (Some roles) i held = each_command laws roles.command roles i held
+
+-- ---- questions
+
+each_asked : Laws → (asks : List Reading → List Question) (i : Inputs) → All (λ b. b < 2 ^ 8) i.media → (qs : List Question) × MediaAsks asks i.media qs
+each_asked laws asks i held = let o = each_opened laws i held in go o.0 o.1 o.2
+  where
+    go : (what : Opening Tree) → IsOpened i.media what → HasReadings what → (qs : List Question) × MediaAsks asks i.media qs
+    go (refused reason number) is read = ([], (refused reason number, is, refl))
+    go absent is read = ([], (absent, is, refl))
+    go (here start len t) is read = (asks read.0, (here start len t, is, (read.0, read.1, refl)))
+
+each_asks : Laws → (c : Command) (i : Inputs) → All (λ b. b < 2 ^ 8) i.media → (qs : List Question) × CommandAsks c i qs
+each_asks laws command.Digest i held = ([], refl)
+each_asks laws command.List i held = ([], refl)
+each_asks laws command.Show i held = ([], refl)
+each_asks laws command.Questions i held = each_asked laws questions i held
+each_asks laws command.Validate i held = each_asked laws (check_asks i.hash i.said) i held
+
+pub each_list : Laws → (roles : Option Roles) (i : Inputs) → All (λ b. b < 2 ^ 8) i.media → (qs : List Question) × Asks roles i qs
+each_list laws None i held = ([], refl)
+each_list laws (Some roles) i held = each_asks laws roles.command i held
