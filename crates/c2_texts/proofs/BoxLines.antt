@@ -23,6 +23,7 @@ mutual
       let both = length-append (boxes_from at depth i t) (boxes_from_all (at + length (tree_bytes t)) depth (i + tree_count t) ts) in
       omega (arith, first, rest, both)
 
+-- a tree lists as many boxes as it counts
 count_is : (t : Tree) → length (boxes_of t) ≡ tree_count t
 count_is t = length-boxes 0 1 0 t
 

@@ -14,10 +14,12 @@ high_same b h =
     let other : (b == 0x7F) ≡ false = ne_eqb b 0x7F (omega arith) in
     simp (low, other) refl
 
+-- a question mark or an ASCII byte is an ASCII byte
 choice_low : (t : Bool) (b : ℕ) → b < 128 → cond t 0x3F b < 128
 choice_low true b h = omega arith
 choice_low false b h = h
 
+-- what is printed for an ASCII byte is an ASCII byte
 low_stays : (b : ℕ) → b < 128 → printable_byte b < 128
 low_stays b h = choice_low (nat_lt b 0x20 || (b == 0x7F)) b h
 
@@ -25,18 +27,22 @@ low_stays b h = choice_low (nat_lt b 0x20 || (b == 0x7F)) b h
 abbrev AreHigh : List ℕ → Type 0
 AreHigh bs = AllByRecursion (λ b. 128 ≤ b) bs
 
+-- of two lists of bytes above ASCII, the one that is chosen has only such bytes
 either_high : (t : Bool) (xs ys : List ℕ) → AreHigh xs → AreHigh ys → AreHigh (cond t xs ys)
 either_high true xs ys h k = h
 either_high false xs ys h k = k
 
+-- where the second of two lists is chosen and has only bytes above ASCII, the chosen one has
 second_high : (t : Bool) (xs ys : List ℕ) → t ≡ false → AreHigh ys → AreHigh (cond t xs ys)
 second_high true xs ys e k = absurd (cc (e))
 second_high false xs ys e k = k
 
+-- bytes above ASCII are printed as they are
 same_high : (bs : List ℕ) → AreHigh bs → map printable_byte bs ≡ bs
 same_high [] h = refl
 same_high (b ∷ bs) h = let first = high_same b h.0 in let rest = same_high bs h.1 in cc
 
+-- the bytes of a character above ASCII are printed as they are
 high_bytes : (c : ℕ) → 128 ≤ c → map printable_byte (encode c) ≡ encode c
 unfolding encode
 high_bytes c h =
@@ -47,10 +53,12 @@ high_bytes c h =
     (omega arith, (omega arith, (omega arith, tt)))
     (omega arith, (omega arith, (omega arith, (omega arith, tt)))))))
 
+-- the printed bytes of a character, in ASCII or above, are the bytes of one character
 by_size : (c : ℕ) → (c < 128) ⊎ (128 ≤ c) → map printable_byte (encode c) ≡ encode (printable_byte c)
 by_size c (inl h) = ap (map printable_byte) (encode_ascii c h) ∙ sym (encode_ascii (printable_byte c) (low_stays c h))
 by_size c (inr h) = high_bytes c h ∙ ap encode (sym (high_same c h))
 
+-- printing the bytes of a character gives the bytes of the printed character: itself, or a question mark
 pub printable_encode : (c : ℕ) → map printable_byte (encode c) ≡ encode (printable_byte c)
 printable_encode c = by_size c (search arith)
 

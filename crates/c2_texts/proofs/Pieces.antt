@@ -19,6 +19,7 @@ use Rattle.c2_texts.specs.Show.{text_or_null, entry_data, claim_data, claim_or_n
 
 -- ---- arrays
 
+-- the items of an array with its closing bracket are those without it and then the bracket
 items_end : (later : Bool) (ds : List Data) → items_text later (items_of ds) ≡ items_inside later ds ++ 93 ∷ []
 items_end later [] = refl
 items_end later (d ∷ ds) = simp (items_end true ds, append_assoc) refl
@@ -52,6 +53,7 @@ four : (p1 p2 p3 p4 t1 t2 t3 t4 o0 o1 o2 o3 o4 o5 : List ℕ) → o1 ≡ o0 ++ (
     → o5 ≡ o0 ++ (p1 ++ (t1 ++ (p2 ++ (t2 ++ (p3 ++ (t3 ++ (p4 ++ (t4 ++ 125 ∷ []))))))))
 four p1 p2 p3 p4 t1 t2 t3 t4 o0 o1 o2 o3 o4 o5 a b c d e = simp (e, d, c, b, a, append_assoc) refl
 
+-- a claim's four members and the closing brace, written one behind the other, are the text of the claim
 pub claim_written : (c : Claim) (o0 o1 o2 o3 o4 o5 : List ℕ) → o1 ≡ o0 ++ (codes "{\"alg\":" ++ compact_text (text_or_null c.alg))
     → o2 ≡ o1 ++ (codes ",\"assertions\":" ++ compact_text (array (items_of (map entry_data (c.created ++ c.gathered)))))
     → o3 ≡ o2 ++ (codes ",\"instanceID\":" ++ compact_text (string c.instance))
@@ -63,9 +65,11 @@ claim_written c o0 o1 o2 o3 o4 o5 a b d e f =
     (compact_text (text_or_null c.alg)) (compact_text (array (items_of (map entry_data (c.created ++ c.gathered))))) (compact_text (string c.instance)) (compact_text (array (items_of (map string c.redacted))))
     o0 o1 o2 o3 o4 o5 a b d e f
 
+-- a text that has gained this item has gained the item that is there, if it is this one
 written_as : (o0 o5 : List ℕ) (d : Data) (o : Option Data) → o5 ≡ o0 ++ compact_text d → Some d ≡ o → Some o5 ≡ option_map (λ (x : Data). o0 ++ compact_text x) o
 written_as o0 o5 d o e f = ap Some e ∙ ap (option_map (λ (x : Data). o0 ++ compact_text x)) f
 
+-- what was written of a manifest's parts is the text of the manifest at this place, with its claim
 of_parts : (t : Tree) (boxes : List ℕ) (label : List ℕ) (update : Bool) (claim : Option Claim) (o0 o5 : List ℕ) (m : Option ManifestBoxes)
     → Some boxes ≡ option_map (λ (m : ManifestBoxes). m.assertions) m
     → Some label ≡ option_and_then (λ (m : ManifestBoxes). any_label (box_at t m.whole).box) m
@@ -79,6 +83,7 @@ of_parts t boxes label update claim o0 o5 (Some m) a b c e =
     let data_is : object (member (codes "boxes") (array (items_of (filter_map box_data (map (superbox_at t) boxes)))) (member (codes "claim") (claim_or_null claim) (member (codes "label") (string label) (member (codes "update") (boolean update) no_members)))) ≡ manifest_data (manifest_at t m) claim = simp (boxes_are, update_is, ← b) refl in
     ap Some (e ∙ ap (λ (x : Data). o0 ++ compact_text x) data_is)
 
+-- a manifest's four members and the closing brace, one behind the other, are the text of the manifest
 pub manifest_written : (t : Tree) (boxes : List ℕ) (label : List ℕ) (update : Bool) (claim : Option Claim) (o0 o1 named o2 o3 o4 o5 : List ℕ) (m : Option ManifestBoxes)
     → Some boxes ≡ option_map (λ (m : ManifestBoxes). m.assertions) m
     → Some label ≡ option_and_then (λ (m : ManifestBoxes). any_label (box_at t m.whole).box) m
@@ -99,6 +104,7 @@ manifest_written t boxes label update claim o0 o1 named o2 o3 o4 o5 m boxes_are 
 
 -- ---- manifests
 
+-- with the manifest at a place written, the text goes on to the same end with those behind it
 front : (t : Tree) (s : List ManifestBoxes) (cs : List (Option Claim)) (i : ℕ) (c : Option Claim) (old new w : List ℕ) (later : Bool) → slice_get cs i ≡ Some c
     → Some new ≡ option_map (λ (m : ManifestBoxes). (old ++ comma_if later) ++ compact_text (manifest_data (manifest_at t m) c)) (slice_get s i)
     → old ++ items_inside later (manifests_data (drop i (map (manifest_at t) s)) (drop i cs)) ≡ w
@@ -112,6 +118,7 @@ front t (m ∷ ms) (b ∷ cs) zero c old new w later h e f =
     item_step old new w later (manifest_data (manifest_at t m) b) (manifests_data (map (manifest_at t) ms) cs) f is_too
 front t (m ∷ ms) (b ∷ cs) (suc i) c old new w later h e f = front t ms cs i c old new w later h e f
 
+-- the same of all manifests of a store, with the comma before the manifest
 pub manifest_more : (t : Tree) (s : List ManifestBoxes) (ms : List Manifest) (cs : List (Option Claim)) (i : ℕ) (c : Option Claim) (old behind new w : List ℕ) (later : Bool)
     → s ≡ store_of t → ms ≡ manifests_of t → slice_get cs i ≡ Some c → behind ≡ old ++ comma_if later
     → Some new ≡ option_map (λ (m : ManifestBoxes). behind ++ compact_text (manifest_data (manifest_at t m) c)) (slice_get s i)
@@ -126,6 +133,7 @@ manifest_more t s ms cs i c old behind new w later stores are claims comma is so
 
 -- ---- the line
 
+-- the active label, the manifests and the end of the line, one behind the other, are the line of `show`
 pub line_written : (ms : List Manifest) (claims : List (Option Claim)) (o0 o1 o2 o3 o4 : List ℕ) → o0 ≡ [] → o1 ≡ o0 ++ (codes "{\"active\":" ++ compact_text (active_data (active_of ms)))
     → o2 ≡ o1 ++ codes ",\"manifests\":[" → o3 ≡ o2 ++ items_inside false (manifests_data ms claims) → o4 ≡ o3 ++ codes "]}\n" → o4 ≡ show_line ms claims
 unfolding serde_json_on_literals

@@ -31,6 +31,7 @@ claim_data c = object
     (member (codes "redacted") (array (items_of (map string c.redacted)))
     no_members))))
 
+-- a claim that may be missing
 abbrev pub claim_or_null : Option Claim → Data
 claim_or_null None = null
 claim_or_null (Some c) = claim_data c
@@ -40,6 +41,7 @@ abbrev pub labelled_data : ℕ → Option (List ℕ) → Option Data
 labelled_data size None = None
 labelled_data size (Some label) = Some (object (member (codes "label") (string label) (member (codes "size") (number (unsigned size)) no_members)))
 
+-- a box of an assertion store, if it has a label
 abbrev pub box_data : Superbox → Option Data
 box_data b = labelled_data (length b.contents) b.label
 

@@ -37,6 +37,7 @@ digest_line start length digest = line (decimal start ++ codes " " ++ decimal le
 abbrev pub printable_byte : ℕ → ℕ
 printable_byte b = if nat_lt b 0x20 || b == 0x7F then 0x3F else b
 
+-- a text with a question mark for each control byte
 abbrev pub printable : List ℕ → List ℕ
 printable text = map printable_byte text
 
@@ -75,6 +76,7 @@ box_numbers depth place total = decimal depth ++ codes " " ++ decimal place ++ c
 abbrev pub box_row : List ℕ → List ℕ → List ℕ → List ℕ
 box_row numbers kind label = numbers ++ codes " " ++ encode_lower kind ++ codes " " ++ label ++ codes "\n"
 
+-- a box as a line: its depth, place and length, its type, and its label
 abbrev pub box_line : IndexedBox → List ℕ
 box_line b = box_row (box_numbers b.depth b.place (length (any_bytes b.box))) (to_be_bytes w32 (any_kind b.box)) (label_column (any_label b.box))
 

@@ -5,6 +5,7 @@ use Rattle.serde_json.specs.Written.{compact_text}
 use Rattle.c2_texts.proofs.Pieces.{claim_written}
 use Rattle.c2_texts.proofs.claims.push_claim.Goals as goal
 
+-- what was written is the text of the claim
 pub returns : goal.returns
 returns c =
     claim_written c.args.claim.now (string_bytes c.args.out.now) (string_bytes c.push_value.new.out) (string_bytes c.push_assertions.new.out) (string_bytes c.push_text.new.out) (string_bytes c.push_redacted.new.out) (string_bytes c.push.new.self)

@@ -1,5 +1,6 @@
 use Rattle.std.proofs.Common.{append_assoc}
 use Rattle.c2_texts.proofs.lines.valid_line.Goals as goal
 
+-- what was written is the line of a valid file with these counts
 pub returns : goal.returns
 returns c = simp append_assoc c.in_ok-text.ensures.ok

@@ -5,6 +5,7 @@ use Rattle.c2_texts.specs.Show.{box_data}
 use Rattle.c2_texts.proofs.Pieces.{array_written}
 use Rattle.c2_texts.proofs.manifests.push_labelled.Goals as goal
 
+-- what was written is the array of the labelled boxes
 pub returns : goal.returns
 returns c =
     array_written (codes "{\"boxes\":") (string_bytes c.args.out.now) (string_bytes c.push_str.new.self) (string_bytes c.push_boxes.new.out) (string_bytes c.push.new.self) (filter_map box_data (map (superbox_at c.args.tree.now) c.args.boxes.now))

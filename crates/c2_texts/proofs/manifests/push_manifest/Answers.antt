@@ -3,9 +3,11 @@ use Rattle.c2_texts.proofs.Pieces.{manifest_written}
 use Rattle.c2_spec.proofs.BoxesOfManifests.{assertions_inside}
 use Rattle.c2_texts.proofs.manifests.push_manifest.Goals as goal
 
+-- the assertion boxes of a manifest of the store are boxes of the tree
 pub push_labelled-requires : goal.push_labelled-requires
 push_labelled-requires c = assertions_inside c.args.tree.now c.args.store.now c.args.i c.assertions.result.now c.requires.same c.assertions.ensures
 
+-- what was written is the text of the manifest at this place
 pub returns : goal.returns
 returns c =
     manifest_written c.args.tree.now c.assertions.result.now c.label.result.now c.is_update-update.result _ (string_bytes c.args.out.now)

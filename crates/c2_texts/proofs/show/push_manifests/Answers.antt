@@ -2,6 +2,7 @@ use Rattle.std.proofs.Common.{rules, string_bytes}
 use Rattle.c2_texts.proofs.Pieces.{manifest_more}
 use Rattle.c2_texts.proofs.show.push_manifests.Goals as goal
 
+-- with one manifest written, the rest to come is shorter by it, and the whole is the same
 pub loop-i-preserved : goal.loop-i-preserved
 loop-i-preserved c = record {
   end = c.loop-i.invariant.end;

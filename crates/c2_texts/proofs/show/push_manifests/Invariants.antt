@@ -3,6 +3,7 @@ use Rattle.c2_texts.specs.Items.{items_inside}
 use Rattle.c2_texts.specs.Show.{manifests_data}
 use Rattle.c2_texts.proofs.show.push_manifests.Given as goal
 
+-- what is written so far and the manifests to come are all manifests behind the text of the start
 abbrev pub invariant-loop-i : goal.invariant-loop-i
 invariant-loop-i l = record {
   end : l.i-end ≡ length l.store;

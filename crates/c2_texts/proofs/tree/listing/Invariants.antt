@@ -4,6 +4,7 @@ use Rattle.c2_spec.specs.Jumbf.Boxes.{boxes_of, tree_count}
 use Rattle.c2_texts.specs.Texts.{box_line}
 use Rattle.c2_texts.proofs.tree.listing.Given as goal
 
+-- the text so far has the lines of the first `i` boxes
 abbrev pub invariant-boxes : goal.invariant-boxes
 invariant-boxes l = record {
   end : l.i-end ≡ tree_count l.tree;
