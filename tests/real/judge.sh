@@ -34,10 +34,23 @@ sed -n '/^```sh$/,/^```$/{/^```/!p}' "$here/../../examples/README.md" > "$work/c
     echo "a command of examples/README.md fails"
     exit 1
 }
-words=$(sed -n 's/^.* \(approved\|silent\|mismatch\)$/\1/p' "$work/printed" | sort | tr '\n' ' ')
-if [ "$words" != "approved approved mismatch mismatch silent " ]; then
+uri="self#jumbf=/c2pa/urn:c2pa:11111111-2222-4333-8444-555555555555"
+grep -E '^(valid|failing|refused|none|status)' "$work/printed" > "$work/answers" || true
+grep -E '^archive/' "$work/printed" | sort >> "$work/answers"
+cat > "$work/expected" << END
+valid manifests=1 assertions=2 covered=14 outside=0
+failing assertion.dataHash.mismatch $uri/c2pa.assertions/c2pa.hash.data
+status 1
+failing profile.verdict.missing $uri/c2pa.signature
+status 1
+failing claimSignature.mismatch $uri/c2pa.signature
+status 1
+archive/changed.jpg: failing claimSignature.mismatch $uri/c2pa.signature
+archive/signed.jpg: valid manifests=1 assertions=2 covered=14 outside=0
+END
+if ! diff "$work/expected" "$work/answers"; then
     cat "$work/printed" "$work/errors"
-    echo "the commands of examples/README.md print other verdicts than it says: $words"
+    echo "the commands of examples/README.md print other answers than it says"
     exit 1
 fi
 echo "the commands of examples/README.md do what it says"
