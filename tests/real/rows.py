@@ -3,46 +3,42 @@
 
     rows.py write [COMMAND..]  writes the tables of crates/c2_tests, those that are there or those of the commands: a comment line
                                that says what a row shows, then the store in hex, ` => `, and status and line of `show`, of
-                               `questions` without verdict files, or of `validate` with a judge who approves every question
+                               `questions` without verdict files, or of `validate` with a judge who approves every question,
+                               and how often he is asked
     rows.py check              fails where a table there isn't the one that would be written
     rows.py files DIRECTORY    writes a JPEG around each of these stores and of those of rule_rows.py, and the verdicts on the latter
 """
 
 import os
 import pathlib
+import re
 import sys
 
 import question_rows
 import rule_rows
 import show_rows
+import validate_rows
 from drafts import Jpeg
 from make_store import jpeg
 from media import media_of
 from store import report
 
-# the bytes of a store above which it is left out of the tables
-LONGEST = 5_000
-
 
 class Approving(dict):
-    """A judge who approves every question."""
+    """A judge who approves every question, and counts them."""
 
-    def __missing__(self, identity):
+    def __init__(self):
+        self.asked = 0
+
+    def __getitem__(self, identity):
         return "approved"
 
     def __contains__(self, identity):
+        self.asked += 1
         return True
 
 
-def checked_rows():
-    """The stores of rule_rows.py that no judge refuses, and that aren't long."""
-    for what, _, drafts in rule_rows.rows():
-        contents = media_of(Jpeg().file(drafts)).store
-        if len(contents) <= LONGEST and not any(draft.signature in rule_rows.REFUSED for draft in drafts):
-            yield what, contents
-
-
-ROWS = {"show": show_rows.rows, "questions": question_rows.rows, "validate": checked_rows}
+ROWS = {"show": show_rows.rows, "questions": question_rows.rows, "validate": validate_rows.rows}
 
 
 # What a source text of Rust can't have as it is, or shouldn't.
@@ -52,9 +48,20 @@ NOT_PLAIN = ("\x7f", "\u2028", "\u2029")
 def rows_of(command):
     """The rows of a command: two lines each, what it shows and the row. A report of several lines has ` / ` between them."""
     for what, contents in ROWS[command]():
-        line, status = report(command, jpeg(contents), [Approving()] if command == "validate" else [])
+        judge = Approving()
+        line, status = report(command, jpeg(contents), [judge] if command == "validate" else [])
         line = line.replace("\n", " / ")
-        yield f"# {what}\n{contents.hex()} => {status} {line}\n"
+        asked = f", asked {judge.asked}" if command == "validate" else ""
+        yield f"# {what}\n{folded(contents)} => {status} {line}{asked}\n"
+
+
+def folded(contents):
+    """Hex of bytes, in which `COUNT*PIECE` between spaces stands for a piece that comes many times."""
+    found = re.search(rb"(.{4,32}?)\1{99,}", contents, re.DOTALL)
+    if found is None:
+        return contents.hex()
+    count = len(found[0]) // len(found[1])
+    return f"{contents[: found.start()].hex()} {count}*{found[1].hex()} {contents[found.end() :].hex()}"
 
 
 def escaped(text):
@@ -79,6 +86,8 @@ def module(command):
     )
     if others:
         text += f'\n/// Rows with characters that are written as escapes.\npub const ESCAPED: &str = "{escaped(others)}";\n'
+    if command == "validate":
+        text += "".join(f'\n/// {what}\npub const {name}: &str =\n    "{value}";\n' for what, name, value in validate_rows.constants())
     return path, text
 
 

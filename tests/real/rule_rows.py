@@ -9,7 +9,7 @@ A judge approves all questions, but for those of a signature box whose signature
 import sys
 
 import jumbf
-from drafts import ACTIONS, ALL_EXCLUDED, NO_DIGEST, Assertion, BmffHash, DataHash, Ingredient, Jpeg, Manifest, exclusion, reference
+from drafts import ACTIONS, ALL_EXCLUDED, NO_DIGEST, Assertion, BmffHash, DataHash, Ingredient, Jpeg, Manifest, digest, exclusion, reference
 from make_store import (
     NULL,
     UNDEFINED,
@@ -256,6 +256,9 @@ def entry_rows():
     yield "a label with a line feed", failing("assertion.missing", "m" + STORE + "/a?"), line
     yield "another digest", failing("assertion.hashedURI.mismatch", "m" + STORE + "/test.note"), one(note(hashed=NO_DIGEST))
     yield "a digest cut short", failing("assertion.hashedURI.mismatch", "m" + STORE + "/test.note"), one(note(hashed=b""))
+    actions = Assertion("c2pa.actions.v2", ACTIONS)
+    changed = with_(Assertion(actions.label, ACTIONS[:-1] + b"e"), hashed=digest(actions.box(None)[8:]))
+    yield "a changed byte of an action", failing("assertion.hashedURI.mismatch", "m" + STORE + "/c2pa.actions.v2"), one(changed)
     other = one(note(), store_type=b"c2ax")
     yield "an assertion store of another type", failing("assertion.missing", "m" + STORE + "/test.note"), other
     relative = redacting(f"{URL}d{STORE}/test.note", below=old(note(is_there=False), note("b", hashed=NO_DIGEST)))

@@ -2,6 +2,7 @@
 use crate::files::{ONE_MANIFEST, ONE_PACKET, ONE_PACKET_DIGEST, SIGNED, words};
 use crate::questions_rows::ROWS;
 use crate::tables::{in_jpeg, row_of};
+use crate::validate_rows;
 use c2_base::{Blob, MemSink, MemSource, SureSource};
 use c2_cmd::run;
 use c2_cmd::types::Status;
@@ -75,7 +76,8 @@ const SHOWN: &str =
 const APPROVED: &str =
     "b33baf01a86a1024b3fb02e0c14dd1af3ecbb0d192c18e309ca0016a24391063 m approved\n";
 
-// Lets the media of a run fail at each call in turn, until no call fails. A judge is asked so often then, and never before.
+// Lets the media of a run fail at each call in turn, until no call fails. A judge is asked so often then, and never before, but
+// for `validate`, which reads the media again once all questions are asked.
 fn reads_fail(
     rt: &impl Abort,
     alloc: Global,
@@ -103,7 +105,11 @@ fn reads_fail(
         assert_eq!(rt; status.code(), 5);
         assert!(rt; report.bytes().is_empty(), "at call {fail_at}");
         assert!(rt; !report.finished(), "at call {fail_at}");
-        assert_eq!(rt; judges[0].asked(), 0, "at call {fail_at}");
+        let asked_before = judges[0].asked();
+        assert!(rt;
+            asked_before == 0 || command == "validate" && asked_before == asked,
+            "at call {fail_at}"
+        );
     }
     assert!(rt; false, "no run was without a fault");
     Ok(())
@@ -131,13 +137,14 @@ fn writes_fail(
     asked: u64,
 ) -> Result<(), Fail> {
     let given = words(alloc, &[command, "P"])?;
+    let less = known.len().saturating_sub(1);
     let rows: [(usize, u64, usize, Status); 6] = [
         (1000, 1, 0, Status::OutputFault),
         (1000, 2, known.len(), Status::OutputFault),
         (1000, 3, known.len(), Status::Done),
         (0, 0, 0, Status::OutputFault),
         (30, 0, 30, Status::OutputFault),
-        (70, 0, 70, Status::OutputFault),
+        (less, 0, less, Status::OutputFault),
     ];
     for (room, fail_at, written, want) in rows {
         let mut media = SureSource::new(Blob::copied(alloc, file)?);
@@ -182,13 +189,17 @@ fn shared_manifest(alloc: Global) -> Result<(Vec<u8>, String), Fail> {
     Ok((file, approved))
 }
 
-#[test]
-fn judges_fail_at_each_ask_in_turn(rt: HostRuntime) -> Result<(), Fail> {
-    let alloc = rt.alloc();
-    let given = words(alloc, &["questions", "P", "V", "W"])?;
-    let (file, approved) = shared_manifest(alloc)?;
+// Lets the second of three judges of a run fail at each of its four asks in turn, until none fails.
+fn asks_fail(
+    rt: &impl Abort,
+    alloc: Global,
+    command: &str,
+    file: &[u8],
+    approved: &str,
+) -> Result<(), Fail> {
+    let given = words(alloc, &[command, "P", "V", "W"])?;
     for fail_at in 1..6 {
-        let mut media = SureSource::new(Blob::copied(alloc, file.as_slice())?);
+        let mut media = SureSource::new(Blob::copied(alloc, file)?);
         let mut report = MemSink::with_room(alloc, 1000, 0)?;
         let mut judges: Vec<Box<dyn Judge>> = Vec::new(alloc);
         judges.push(Box::new(alloc, FixedJudge::new(Verdict::Silent, 0))?)?;
@@ -201,7 +212,7 @@ fn judges_fail_at_each_ask_in_turn(rt: HostRuntime) -> Result<(), Fail> {
         } else {
             Status::Done
         };
-        let known = if fails { "" } else { approved.as_str() };
+        let known = if fails { "" } else { approved };
         assert_eq!(rt; status, want, "at ask {fail_at}");
         assert_eq!(rt; report.bytes(), known.as_bytes(), "at ask {fail_at}");
         assert_eq!(rt; report.finished(), !fails, "at ask {fail_at}");
@@ -211,4 +222,23 @@ fn judges_fail_at_each_ask_in_turn(rt: HostRuntime) -> Result<(), Fail> {
         assert_eq!(rt; judges[2].asked(), 0);
     }
     Ok(())
+}
+
+#[test]
+fn judges_fail_at_each_ask_in_turn(rt: HostRuntime) -> Result<(), Fail> {
+    let alloc = rt.alloc();
+    let (file, approved) = shared_manifest(alloc)?;
+    asks_fail(&rt, alloc, "questions", file.as_slice(), approved.as_str())
+}
+
+#[test]
+fn validate_tells_each_fault(rt: HostRuntime) -> Result<(), Fail> {
+    let alloc = rt.alloc();
+    let (digits, _) = row_of(validate_rows::ROWS, "# redacted and absent");
+    let store = hex::decode(alloc, digits)?;
+    let file = in_jpeg(alloc, store.as_slice(), 63_984)?;
+    let valid = "valid manifests=4 assertions=8 covered=4 outside=0\n";
+    reads_fail(&rt, alloc, "validate", file.as_slice(), valid, 4)?;
+    writes_fail(&rt, alloc, "validate", file.as_slice(), valid, 4)?;
+    asks_fail(&rt, alloc, "validate", file.as_slice(), valid)
 }

@@ -5,6 +5,8 @@
 #![tactic(auto)]
 
 #[cfg(test)]
+mod checks;
+#[cfg(test)]
 mod digest;
 #[cfg(test)]
 mod faults;
@@ -28,5 +30,7 @@ mod show_rows;
 mod stores;
 #[cfg(test)]
 mod tables;
+#[cfg(test)]
+mod validate_rows;
 #[cfg(test)]
 mod words;

@@ -1,4 +1,4 @@
-// What `show` and `questions` say of files.
+// What `show`, `questions` and `validate` say of files.
 use crate::files::{ONE_MANIFEST, ONE_PACKET, comes_to, words};
 use crate::tables::in_jpeg;
 use c2_base::{Blob, MemSink, SureSource, VastSource};
@@ -11,7 +11,7 @@ use std::alloc::Global;
 use std::process::Abort;
 use std::test::Fail;
 
-// What both commands say of files without a manifest.
+// What commands say of files without a manifest.
 fn says_of_none(rt: &impl Abort, alloc: Global, command: &str) -> Result<(), Fail> {
     let given = words(alloc, &[command, "P"])?;
     let empty = "refused NotMedia 0\n";
@@ -26,7 +26,8 @@ fn says_of_none(rt: &impl Abort, alloc: Global, command: &str) -> Result<(), Fai
 fn files_without_a_manifest_are_told_apart(rt: HostRuntime) -> Result<(), Fail> {
     let alloc = rt.alloc();
     says_of_none(&rt, alloc, "show")?;
-    says_of_none(&rt, alloc, "questions")
+    says_of_none(&rt, alloc, "questions")?;
+    says_of_none(&rt, alloc, "validate")
 }
 
 #[test]
@@ -47,7 +48,7 @@ fn a_manifest_without_a_claim_is_shown_and_has_no_question(rt: HostRuntime) -> R
     )
 }
 
-// What both commands say of a file of 2 to the 62 bytes.
+// What commands say of a file of 2 to the 62 bytes.
 fn says_of_a_vast_file(rt: &impl Abort, alloc: Global, command: &str) -> Result<(), Fail> {
     let given = words(alloc, &[command, "P"])?;
     let mut media = VastSource::new(Blob::copied(alloc, &[])?, 1 << 62);
@@ -68,7 +69,8 @@ fn says_of_a_vast_file(rt: &impl Abort, alloc: Global, command: &str) -> Result<
 fn a_file_of_two_to_the_62_bytes_is_refused(rt: HostRuntime) -> Result<(), Fail> {
     let alloc = rt.alloc();
     says_of_a_vast_file(&rt, alloc, "show")?;
-    says_of_a_vast_file(&rt, alloc, "questions")
+    says_of_a_vast_file(&rt, alloc, "questions")?;
+    says_of_a_vast_file(&rt, alloc, "validate")
 }
 
 const MANIFEST: [u8; 16] = *b"c2ma\x00\x11\x00\x10\x80\x00\x00\xAA\x00\x38\x9B\x71";

@@ -3,7 +3,7 @@ use crate::files::words;
 use c2_base::{Blob, MemSink, MemSource};
 use c2_cmd::run;
 use c2_hash::Sha;
-use c2_judge::Judge;
+use c2_judge::{FixedJudge, Judge, Verdict};
 use std::alloc::Global;
 use std::process::Abort;
 use std::test::Fail;
@@ -64,6 +64,62 @@ pub fn rows_come_to(
     Ok(())
 }
 
+/// The same over a JPEG of one packet, with a judge who approves all questions. How often he is asked stands behind the line.
+pub fn judged_rows_come_to(
+    rt: &impl Abort,
+    alloc: Global,
+    command: &str,
+    table: &str,
+    count: usize,
+) -> Result<(), Fail> {
+    let given = words(alloc, &[command, "P", "V"])?;
+    let mut seen: usize = 0;
+    for row in table.lines() {
+        if let Some((digits, known)) = row.split_once(" => ") {
+            let store = bytes_of(alloc, digits)?;
+            let file = in_jpeg(alloc, store.as_slice(), 63_984)?;
+            for most in [1, 7, 65_536] {
+                let media = MemSource::new(Blob::copied(alloc, file.as_slice())?, most, 0);
+                judged_comes_to(rt, alloc, &given, media, known)?;
+            }
+            seen = seen.saturating_add(1);
+        }
+    }
+    assert_eq!(rt; seen, count);
+    Ok(())
+}
+
+/// Runs a command over a file with a judge who approves all questions, and compares status, line and how often he is asked.
+pub fn judged_comes_to(
+    rt: &impl Abort,
+    alloc: Global,
+    given: &Vec<String>,
+    media: MemSource,
+    known: &str,
+) -> Result<(), Fail> {
+    let mut judges: Vec<Box<dyn Judge>> = Vec::new(alloc);
+    judges.push(Box::new(alloc, FixedJudge::new(Verdict::Approved, 0))?)?;
+    let mut got = said_of(alloc, given, media, &mut judges)?;
+    assert_eq!(rt; judges.len(), 1);
+    let asked = judges[0].asked();
+    write!(&mut got, ", asked {asked}")?;
+    assert_eq!(rt; got.as_str(), known);
+    Ok(())
+}
+
+/// The bytes of hex, in which `COUNT*PIECE` between spaces stands for a piece that comes so many times.
+pub fn bytes_of(alloc: Global, digits: &str) -> Result<Vec<u8>, Fail> {
+    let mut bytes = Vec::new(alloc);
+    for word in digits.split(' ') {
+        let (count, piece) = word.split_once('*').unwrap_or(("1", word));
+        let piece = hex::decode(alloc, piece)?;
+        for _ in 0..count.parse::<u32>().unwrap_or(0) {
+            bytes.extend_from_slice(piece.as_slice())?;
+        }
+    }
+    Ok(bytes)
+}
+
 /// The row of a table behind a line that says what it shows: the store in hex, and status and lines.
 pub fn row_of(table: &'static str, what: &str) -> (&'static str, &'static str) {
     let mut found = false;
@@ -88,21 +144,25 @@ fn store_comes_to(
     let file = in_jpeg(alloc, store.as_slice(), 63_984)?;
     for most in [1, 7, 65_536] {
         let media = MemSource::new(Blob::copied(alloc, file.as_slice())?, most, 0);
-        let got = said_of(alloc, given, media)?;
+        let got = said_of(alloc, given, media, &mut Vec::new(alloc))?;
         assert_eq!(rt; got.as_str(), known, "in pieces of {most}: {hex}");
     }
     let file = in_jpeg(alloc, store.as_slice(), 50)?;
     let media = MemSource::new(Blob::from_vec(file), 65_536, 0);
-    let got = said_of(alloc, given, media)?;
+    let got = said_of(alloc, given, media, &mut Vec::new(alloc))?;
     assert_eq!(rt; got.as_str(), known, "in packets: {hex}");
     Ok(())
 }
 
-// The status of a run without judges and its report, with ` / ` between its lines.
-fn said_of(alloc: Global, given: &Vec<String>, mut media: MemSource) -> Result<String, Fail> {
+// The status of a run and its report, with ` / ` between its lines.
+fn said_of(
+    alloc: Global,
+    given: &Vec<String>,
+    mut media: MemSource,
+    judges: &mut Vec<Box<dyn Judge>>,
+) -> Result<String, Fail> {
     let mut sink = MemSink::with_room(alloc, 1000, 0)?;
-    let mut judges: Vec<Box<dyn Judge>> = Vec::new(alloc);
-    let status = run(alloc, &Sha, given, &mut media, &mut sink, &mut judges);
+    let status = run(alloc, &Sha, given, &mut media, &mut sink, judges);
     let code = status.code();
     let mut known = format!(in alloc; "{code} ")?;
     match str::from_utf8(sink.bytes()) {

@@ -1,0 +1,120 @@
+"""Small stores for `validate`, a choice from rule_rows.py, with a judge who approves; the store of a photograph; and what changed
+bytes of a valid file come to.
+"""
+
+import rule_rows
+from drafts import ACTIONS, APP0, Assertion, DataHash, Jpeg, Manifest
+from make_store import NULL, array, data, mapping, open_map, sign1, tag, text
+from media import media_of
+from store import report
+
+# Rows besides the first of each code.
+CHOSEN = """
+gathered assertions
+a claim without an algorithm, and a binding without one
+a claim with other fields, an open map and nulls
+the references' own algorithm holds
+an ingredient
+a manifest that nobody names isn't looked at
+an older manifest with another hash
+an update as an ingredient
+a redacted assertion
+another digest of a touched manifest
+a range more
+1,024 exclusions
+a message that is no CBOR
+the algorithm of claimSignature
+a touched manifest without claimSignature
+the second of two
+two entries with one label
+an entry's algorithm
+a label with a line feed
+a changed byte of an action
+an entry behind a redacted one
+a box without a label
+a box that no entry of an older manifest lists
+the second of three redactions
+no hash in an older manifest
+a data hash and a BMFF hash
+a later manifest
+a binding that is no CBOR
+the binding's algorithm
+ranges that overlap
+a range whose end is no number of 64 bits
+a BMFF hash in a JPEG
+""".strip().split("\n")
+
+
+def rows():
+    """The first store of each code, those that were chosen, and those where an order or a shared manifest matters."""
+    besides = {what for group in (rule_rows.order_rows, rule_rows.shared_rows) for what, _, _ in group()}.union(CHOSEN)
+    seen = set()
+    for what, told, drafts in rule_rows.rows():
+        kind, code, *_ = told.split()
+        code = code if kind == "failing" else kind
+        is_refused = any(draft.signature in rule_rows.REFUSED for draft in drafts)
+        if not is_refused and (code not in seen or what in besides):
+            seen.add(code)
+            besides.discard(what)
+            yield what, media_of(Jpeg().file(drafts)).store
+    assert not besides, besides
+
+
+# A photograph: a header, a scan of bytes that follow a rule, and the end. With the two bytes before its store it has 3 * 2^20 bytes.
+SCAN = bytes.fromhex("ffda0008010100003f00")
+PICTURE = APP0 + SCAN + bytes(at % 251 for at in range(3_145_696)) + b"\xff\xd9"
+
+
+def photographed(ranges):
+    """The store of a photograph as a camera's program may write it, and what `validate` says."""
+    stamped = mapping(("sigTst", mapping(("tstTokens", array(mapping(("val", data(b"\0"))))))), ("pad", data(bytes(8))))
+    draft = Manifest(
+        "m",
+        Assertion("c2pa.thumbnail.claim.jpeg", b"\xff\xd8\xff\xd9", b"bidb"),
+        Assertion("c2pa.actions.v2", ACTIONS),
+        Assertion("c2pa.metadata", b'{"dc:title":"a photograph"}', b"json"),
+        rule_rows.with_(DataHash(), ranges=ranges),
+    )
+    draft.claim_fields = {
+        "dc:title": NULL,
+        "claim_generator_info": open_map(("version", text("1")), ("name", text("a camera"))),
+        "gathered_assertions": NULL,
+        "redacted_assertions": NULL,
+        "alg": NULL,
+    }
+    draft.change_message = lambda _: tag(18, sign1(unprotected=stamped))
+    contents = Jpeg(rest=PICTURE).file([draft])
+    store = media_of(contents).store
+    told = report("validate", contents, [rule_rows.verdicts_on(contents)])
+    return store, told
+
+
+def constants():
+    """Further constants of the table: what each says, its name and value."""
+    store, told = photographed([None])
+    assert told == ("valid manifests=1 assertions=4 covered=3145728 outside=0", 0), told
+    yield "The store of a photograph, which is valid.", "PHOTOGRAPH", store.hex()
+    store, told = photographed([(0, 1 << 63)])
+    assert told == (rule_rows.failing("profile.hash.form", "m" + rule_rows.HASH), 1), told
+    yield "The same with a range that ends far behind the file.", "FAR_RANGE", store.hex()
+    yield from changed_constants()
+
+
+def changed_constants():
+    """What changed bytes of the store of the first row come to, where its question alone is approved."""
+    _, _, drafts = next(rule_rows.rows())
+    contents = Jpeg().file(drafts)
+    verdicts = rule_rows.verdicts_on(contents)
+    (identity,) = verdicts
+    yield "A verdict file that approves the first row's question.", "VERDICT", f"{identity} approved"
+    media = media_of(contents)
+    at = contents.index(media.store)
+    statuses = []
+    for place in range(at, at + len(media.store)):
+        changed = bytearray(contents)
+        changed[place] = (changed[place] + 1) % 256
+        statuses.append(report("validate", bytes(changed), [verdicts])[1])
+    # nothing binds the name of an active manifest whose URIs are all relative
+    assert [at for at, status in enumerate(statuses) if status == 0] == [media.store.index(b"\x03m\0") + 1]
+    digits = "".join(map(str, statuses))
+    yield "The status of the first row's file, where one byte of its store is one more, for each byte in order.", "CHANGED", digits
