@@ -38,7 +38,8 @@ class Comparison:
         done = subprocess.run([self.program, *words], stdout=subprocess.PIPE, check=False)
         return done.stdout, done.returncode
 
-    def compare(self, contents, verdicts, is_changed):
+    def compare(self, contents, verdicts, with_all):
+        """Runs the commands that ask judges on a file and verdict files, or all commands."""
         write(self.media, contents)
         names = [os.path.join(self.folder, f"verdicts-{number}") for number in range(len(verdicts))]
         for name, rows in zip(names, verdicts):
@@ -49,7 +50,7 @@ class Comparison:
                 write(name, rows)
         self.answers[kind_of_answer(*store.answer("validate", self.media, *names))] += 1
         for command in self.commands if self.program else ():
-            if command not in JUDGED and not is_changed:
+            if command not in JUDGED and not with_all:
                 continue
             words = [command, self.media, *(names if command in JUDGED else ())]
             self.runs[command] += 1
