@@ -531,6 +531,8 @@ def other_binding(drawn, draft):
     """A binding made for the other container."""
     no_hash(drawn, draft)
     draft.assertions.append(DataHash() if isinstance(drawn.media, Bmff) else BmffHash(ALL_EXCLUDED))
+    if drawn.chance.random() < 0.3:
+        draft.assertions[-1].more.append(("merkle", drawn.chance.choice((array(), NULL))))
 
 
 def covered_byte(drawn, _):
@@ -615,6 +617,10 @@ def changed_file(chance, contents):
         media = media_of(contents)
     except Refused:
         media = None
+    if media is not None and chance.random() < 0.2:
+        # a byte of the headers before the store's manifests
+        at = media.start + chance.randrange(90)
+        return contents[:at] + bytes([chance.choice((0, 1, contents[at] ^ 1, chance.randrange(256)))]) + contents[at + 1 :]
     if media is not None and chance.random() < 0.7:
         around = (Jpeg if media.roots is None else Bmff)(contents[: media.start], contents[media.start + media.length :])
         return around.around(varied_store(chance, media.store))

@@ -93,17 +93,20 @@ class Run:
                 print(f"  store.py {computed[1]} {computed[0][:300]}" + (f"\n  expected {expected}" if wrong else ""))
 
 
-    def compare_changed(self, chance, contents, count):
-        """The same on changes of a file, half of them at the header of a box."""
-        places = [box.start for box in all_boxes(contents)]
-        path = os.path.join(self.directory, "changed")
-        for _ in range(count):
-            at = chance.choice(places) if chance.random() < 0.5 else chance.randrange(len(contents))
-            write(path, contents[:at] + varied(chance, contents[at : at + 24]) + contents[at + 24 :])
-            before = self.failures
-            self.compare("changed")
-            if self.failures > before:
-                shutil.copy(path, f"differs-{self.failures}")
+    def compare_changed(self, contents):
+        """The same on a changed file, which is kept where c2 differs."""
+        path, before = os.path.join(self.directory, "changed"), self.failures
+        write(path, contents)
+        self.compare("changed")
+        if self.failures > before:
+            shutil.copy(path, f"differs-{self.failures}")
+
+
+def changed_at(chance, contents, places, count):
+    """Changes of a file, half of them at places."""
+    for _ in range(count):
+        at = chance.choice(places) if chance.random() < 0.5 else chance.randrange(len(contents))
+        yield contents[:at] + varied(chance, contents[at : at + 24]) + contents[at + 24 :]
 
 
 def all_boxes(contents):
@@ -146,7 +149,9 @@ def main():
             write(os.path.join(directory, f"{base}+{variant}{kind}"), contents)
             run.compare(f"{base}+{variant}{kind}", expected)
             if expected.startswith("valid "):
-                run.compare_changed(chance, contents, changes)
+                places = [box.start for box in all_boxes(contents)]
+                for changed in changed_at(chance, contents, places, changes):
+                    run.compare_changed(changed)
     print(f"{len(files)} files, {variant_count} made of them, {run.runs} runs, {run.failures} failures")
     sys.exit(run.failures > 0)
 
