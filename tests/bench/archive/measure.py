@@ -30,9 +30,8 @@ def main():
     pairs = [argument for file in files for argument in (file, f"{file}.verdicts")]
     rows = {
         "c2 validate, with a verdict file": ([program, "validate"], files, pairs, 2),
-        "c2 show": ([program, "show"], files, files, 1),
         "sha256sum": (["sha256sum"], files, files, 1),
-        "exiftool -JUMBF:all": (["exiftool", "-JUMBF:all"], files[:200], files[:200], 1),
+        "exiftool -JUMBF:all": (["exiftool", "-JUMBF:all"], files[:100], files[:100], 1),
         "exiftool -JUMBF:all, 100 files at once": (["exiftool", "-q", "-JUMBF:all"], files[:1_000], files[:1_000], 100),
     }
     size = sum(map(os.path.getsize, files))
