@@ -1,7 +1,7 @@
 // What `validate` says of small stores and of a photograph: the rows are computed by tests/real/rows.py, which writes them.
 use crate::files::{JFIF, ONE_MANIFEST, ONE_PACKET, comes_to, words};
 use crate::tables::{in_jpeg, judged_comes_to, judged_rows_come_to, row_of};
-use crate::validate_rows::{CHANGED, FAR_RANGE, PHOTOGRAPH, ROWS, VERDICT};
+use crate::validate_rows::{CHANGED, FAR_RANGE, MORE_ROWS, PHOTOGRAPH, ROWS, VERDICT};
 use c2_base::{Blob, MemSink, MemSource, SureSource};
 use c2_cmd::run;
 use c2_cmd::types::Status;
@@ -13,7 +13,12 @@ use std::test::Fail;
 
 #[test]
 fn stores_are_checked(rt: HostRuntime) -> Result<(), Fail> {
-    judged_rows_come_to(&rt, rt.alloc(), "validate", ROWS, 80)
+    judged_rows_come_to(&rt, rt.alloc(), "validate", ROWS, 40)
+}
+
+#[test]
+fn more_stores_are_checked(rt: HostRuntime) -> Result<(), Fail> {
+    judged_rows_come_to(&rt, rt.alloc(), "validate", MORE_ROWS, 40)
 }
 
 #[test]
