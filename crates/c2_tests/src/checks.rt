@@ -181,3 +181,32 @@ fn status_of(alloc: Global, file: &[u8], judges: &mut Vec<Box<dyn Judge>>) -> Re
     let status = run(alloc, &Sha, &given, &mut media, &mut report, judges);
     Ok(status.code())
 }
+
+#[test]
+fn no_prefix_is_valid_and_no_changed_byte(rt: HostRuntime) -> Result<(), Fail> {
+    let alloc = rt.alloc();
+    let (digits, _) = row_of(ROWS, "# a data hash alone");
+    let store = hex::decode(alloc, digits)?;
+    let file = in_jpeg(alloc, store.as_slice(), 63_984)?;
+    let Ok(judge) = ListJudge::read(alloc, VERDICT.as_bytes()) else {
+        assert!(rt; false, "no verdict file");
+        return Ok(());
+    };
+    let mut judges: Vec<Box<dyn Judge>> = Vec::new(alloc);
+    judges.push(Box::new(alloc, judge)?)?;
+    assert_eq!(rt; status_of(alloc, file.as_slice(), &mut judges)?, 0);
+    for length in 0..file.len() {
+        let prefix = file.get(..length).unwrap_or(&[]);
+        assert_eq!(rt; status_of(alloc, prefix, &mut judges)?, 2, "{length} bytes");
+    }
+    // The store stands behind the marker and the packet's numbers. Nothing binds the name of its manifest.
+    let mut place: usize = 14;
+    for digit in CHANGED.as_bytes() {
+        let changed = one_more(alloc, file.as_slice(), place)?;
+        let status = status_of(alloc, changed.as_slice(), &mut judges)?;
+        assert_eq!(rt; status.saturating_add(b'0'), *digit, "at {place}");
+        place = place.saturating_add(1);
+    }
+    assert_eq!(rt; place.saturating_add(2), file.len());
+    Ok(())
+}
