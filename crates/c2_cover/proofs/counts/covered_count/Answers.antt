@@ -5,6 +5,7 @@ use Rattle.c2_cover.proofs.PassingLemmas.{kept_others}
 use Rattle.c2_spec.specs.Cover.{is_excluded}
 use Rattle.c2_cover.proofs.counts.covered_count.Goals as goal
 
+-- no range of the cover ends after the file, so its end has room in 64 bits
 pub overflow_add-at : goal.overflow_add-at
 overflow_add-at c =
     let copy = c.deref-range-items.ensures.value ∙ ap (λ (v : Covered). v.ranges) c.cover.view_is in
@@ -12,11 +13,13 @@ overflow_add-at c =
     let size = ap (λ (v : Covered). v.size) c.cover.view_is in
     omega (arith, more.inside, size, c.cover.invariant.0)
 
+-- with the positions between the last range and this one, those before this range's end are counted
 pub loop-range-preserved : goal.loop-range-preserved
 loop-range-preserved c =
     let copy = c.deref-range-items.ensures.value ∙ ap (λ (v : Covered). v.ranges) c.cover.view_is in
     counts_more _ _ _ _ _ _ (next_of c.args.cover.now.ranges c.deref-range-items.result.now c.loop-range.range-index copy c.loop-range-test.true) c.loop-range.invariant
 
+-- with the positions after the last range, all covered positions of the file are counted
 pub returns : goal.returns
 returns c =
     let copy = c.deref-range-items.ensures.value ∙ ap (λ (v : Covered). v.ranges) c.cover.view_is in

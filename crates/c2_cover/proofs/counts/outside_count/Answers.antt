@@ -6,6 +6,7 @@ use Rattle.c2_cover.proofs.PassingLemmas.{filter_twice}
 use Rattle.c2_cover.proofs.CountLemmas.{next_of, next_inside, outside_more, outside_small, outside_all, outside_cut}
 use Rattle.c2_cover.proofs.counts.outside_count.Goals as goal
 
+-- each range of the cover ends in the file, so its end has room in 64 bits
 pub outside_range-count-requires-clause-fits : goal.outside_range-count-requires-clause-fits
 outside_range-count-requires-clause-fits c =
     let copy = c.deref-range-items.ensures.value ∙ ap (λ (v : Covered). v.ranges) c.cover.view_is in
@@ -13,6 +14,7 @@ outside_range-count-requires-clause-fits c =
     let next = next_inside c.args.cover.now.size 0 _ _ c.args.cover.now.ranges c.loop-range.range-index (next_of c.args.cover.now.ranges c.deref-range-items.result.now c.loop-range.range-index copy c.loop-range-test.true) c.loop-range.invariant.others in
     omega (arith, next.2, size, c.cover.invariant.0)
 
+-- no more positions are excluded outside than the file has, so their count has room in 64 bits
 pub overflow_add-count : goal.overflow_add-count
 overflow_add-count c =
     let copy = c.deref-range-items.ensures.value ∙ ap (λ (v : Covered). v.ranges) c.cover.view_is in
@@ -20,11 +22,13 @@ overflow_add-count c =
     let more = outside_more _ _ _ _ _ _ _ _ (next_of c.args.cover.now.ranges c.deref-range-items.result.now c.loop-range.range-index copy c.loop-range-test.true) c.outside_range-count.ensures c.loop-range.invariant in
     omega (arith, outside_small _ _ _ _ _ _ more, size, c.cover.invariant.0)
 
+-- with those of this range, the outside positions of one range more are counted
 pub loop-range-preserved : goal.loop-range-preserved
 loop-range-preserved c =
     let copy = c.deref-range-items.ensures.value ∙ ap (λ (v : Covered). v.ranges) c.cover.view_is in
     outside_more _ _ _ _ _ _ _ _ (next_of c.args.cover.now.ranges c.deref-range-items.result.now c.loop-range.range-index copy c.loop-range-test.true) c.outside_range-count.ensures c.loop-range.invariant
 
+-- over all ranges, the count is that of the excluded positions outside, also where the end was cut
 pub returns : goal.returns
 returns c =
     let copy = c.deref-range-items.ensures.value ∙ ap (λ (v : Covered). v.ranges) c.cover.view_is in

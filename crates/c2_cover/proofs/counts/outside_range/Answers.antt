@@ -3,6 +3,7 @@ use Rattle.c2_cover.specs.Counted.{passing, is_out}
 use Rattle.c2_cover.proofs.CountLemmas.{outside_split}
 use Rattle.c2_cover.proofs.counts.outside_range.Goals as goal
 
+-- the positions before `start` and those from `end` on are all of the range that lie outside
 pub returns : goal.returns
 returns c =
     let n : c.args.range.start + c.args.range.length - c.args.range.start ≡ c.args.range.length = omega arith in

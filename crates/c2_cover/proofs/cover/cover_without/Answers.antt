@@ -6,6 +6,7 @@ use Rattle.c2_spec.specs.Cover.{holds}
 use Rattle.c2_cover.proofs.MergingSteps.{cover_of, sorted_order}
 use Rattle.c2_cover.proofs.cover.cover_without.Goals as goal
 
+-- sorted by their starts, the ranges rise and still end in the file
 pub merged-requires : goal.merged-requires
 merged-requires c =
     sorted_order c.args.size 0 c.sort_unstable_by_key.new.self
@@ -13,6 +14,7 @@ merged-requires c =
     (recursion_from_All (λ (r : Range). r.start + r.length ≤ c.args.size) _ (All-permutation (λ (r : Range). r.start + r.length ≤ c.args.size) c.args.ranges.now _ c.sort_unstable_by_key.ensures.permutation c.requires))
     (λ d some. omega arith)
 
+-- the merged ranges exclude what the given ones do in their old order, so they make the cover
 pub returns : goal.returns
 returns c =
     cover_of c.args.size c.args.ranges.now _

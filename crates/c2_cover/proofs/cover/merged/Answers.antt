@@ -6,6 +6,7 @@ use Rattle.c2_cover.proofs.MergingSteps.{range, merges_grown, merges_next, open_
 use Rattle.c2_cover.proofs.cover.merged.Goals as goal
 use Rattle.c2_cover.proofs.cover.merged.Goals.{then-range-end, else-range-end+in_ok-close}
 
+-- with the next range in the open one or after it, the ranges still exclude the same positions
 pub loop-range-preserved : goal.loop-range-preserved
 loop-range-preserved c =
     let first = drop-cons c.args.ranges.now c.loop-range.range-index (range 0 0) c.loop-range-test.true in
@@ -15,9 +16,11 @@ loop-range-preserved c =
       | else-range-end+in_ok-close w ↦ rw w.done-is (rw w.held-is (rw w.in_ok-close.ensures (merges_next c.args.size c.args.ranges.now c.loop-range.range-index c.loop-range.done.items c.loop-range.held _ c.loop-range.invariant first last w.if-range-end.false)))
     ]
 
+-- with the last open range, the ranges rise in the file, apart from each other, and none is empty
 pub returns-clause-merged : goal.returns-clause-merged
 returns-clause-merged c = rw c.in_ok-close-2.ensures (open_merged c.args.size c.loop-range.done.items c.loop-range.held c.loop-range.invariant.merged c.loop-range.invariant.below c.loop-range.invariant.inside)
 
+-- with the last open range, they exclude a position just when the given ranges do
 pub returns-clause-same : goal.returns-clause-same
 returns-clause-same c i =
     ap (λ rs. is_excluded rs i) c.in_ok-close-2.ensures ∙ open_same c.loop-range.done.items c.loop-range.held i ∙ c.loop-range.invariant.same i

@@ -2,6 +2,7 @@ use Rattle.std.proofs.Common.{[], ◌++◌, take, sym, ap, ◌∙◌, refl, arit
 use Rattle.std.proofs.lemmas.List.{append-nil}
 use Rattle.c2_cover.proofs.digest.digest_cover.Goals as goal
 
+-- before the first piece, nothing is hashed, and the whole covered text is still to come
 pub pieces-init : goal.pieces-init
 pieces-init g c = record {
   room = c.requires.room;
@@ -11,6 +12,7 @@ pieces-init g c = record {
   hashed = λ file known. record { prefix = []; held = c.start-state.ensures; joined = sym (c.new-reader.ensures.text file) };
 }
 
+-- with one piece more hashed, what is hashed and what is still to come are the covered text
 pub pieces-preserved : goal.pieces-preserved
 pieces-preserved g c =
     let before = c.pieces.invariant in
@@ -29,6 +31,7 @@ pieces-preserved g c =
           };
     }
 
+-- after the last piece, the digest is that of the whole covered text
 pub returns-clause-digest : goal.returns-clause-digest
 returns-clause-digest g c file known =
     let h = c.pieces.invariant.hashed file known in

@@ -5,6 +5,7 @@ use Rattle.c2_cover.specs.Covers.{text_of, rest_of, left_of}
 use Rattle.c2_cover.specs.Digests.{IsHashed}
 use Rattle.c2_cover.proofs.digest.digest_cover.Given as goal
 
+-- the state stands for the pieces read so far, the reader for the rest, and the source hasn't failed
 abbrev pub invariant-pieces : goal.invariant-pieces
 invariant-pieces g l = record {
   room : 0 < length l.buf;
@@ -14,5 +15,6 @@ invariant-pieces g l = record {
   hashed : ForSome (g.S.Source.known l.fn.source) (λ file. IsHashed g.H.Hashing.holds l.fn.alg (text_of l.cover file) (rest_of l.reader file) l.state);
 }
 
+-- the bytes of the covered text that are still to come, which get fewer with each piece
 abbrev pub decreases-pieces : goal.decreases-pieces
 decreases-pieces g l = left_of l.reader

@@ -5,6 +5,7 @@ use Rattle.c2_cover.specs.Unread.{Lies, unread}
 use Rattle.c2_cover.proofs.UnreadLemmas.{ended_at, compared, pending}
 use Rattle.c2_cover.proofs.same.same_text.Goals as goal
 
+-- where one text has ended, they are equal just when nothing of either is unread
 pub returns-then-count-eq0-clause-same : goal.returns-then-count-eq0-clause-same
 returns-then-count-eq0-clause-same g c file known copy known2 =
     let before = c.pieces.invariant in
@@ -19,6 +20,7 @@ returns-then-count-eq0-clause-same g c file known copy known2 =
     ended_at c.in_ok-mine.mine c.in_ok-theirs.theirs c.refill.new.buf c.refill-in-pieces.new.buf c.refill.new.reader c.refill-in-pieces.new.reader file copy lies lies2 (sym c.min-count.ensures ∙ c.if-count-eq0.true) (λ e. c.in_ok-mine.ensures.filled.end e file one) (λ e. c.in_ok-theirs.ensures.filled.end e copy two)
     ∙ sym now
 
+-- covered texts that differ in the bytes compared here aren't equal
 pub returns-then-not-same_slices-clause-same : goal.returns-then-not-same_slices-clause-same
 returns-then-not-same_slices-clause-same g c file known copy known2 =
     let before = c.pieces.invariant in
@@ -35,6 +37,7 @@ returns-then-not-same_slices-clause-same g c file known copy known2 =
     let prefixes = compared c.in_ok-mine.mine.from c.in_ok-mine.mine.to c.in_ok-theirs.theirs.from c.in_ok-theirs.theirs.to c.min-count.result c.refill.new.buf c.refill-in-pieces.new.buf c.refill.new.reader c.refill-in-pieces.new.reader file copy lies lies2 small small2 in
     sym (now ∙ prefixes ∙ ap (λ b. b && bytes_eq (unread (pending (c.in_ok-mine.mine.from + c.min-count.result) c.in_ok-mine.mine.to) c.refill.new.buf c.refill.new.reader file) (unread (pending (c.in_ok-theirs.theirs.from + c.min-count.result) c.in_ok-theirs.theirs.to) c.refill-in-pieces.new.buf c.refill-in-pieces.new.reader copy)) (sym c.if-not-same_slices.ensures))
 
+-- after equal bytes, the covered texts are equal just when what is unread of them is
 pub pieces-preserved : goal.pieces-preserved
 pieces-preserved g c =
     let before = c.pieces.invariant in

@@ -6,6 +6,7 @@ use Rattle.c2_cover.specs.Covers.{text_of}
 use Rattle.c2_cover.specs.Unread.{Lies, unread, unread_len}
 use Rattle.c2_cover.proofs.same.same_text.Given as goal
 
+-- the covered texts are equal just when their unread bytes are, and neither source has failed
 abbrev pub invariant-pieces : goal.invariant-pieces
 invariant-pieces g l = record {
   left : 0 < length l.left;
@@ -23,5 +24,6 @@ invariant-pieces g l = record {
   same : ForSome (g.A.Source.known l.fn.first) (λ file. ForSome (g.B.Source.known l.fn.second) (λ copy. bytes_eq (text_of l.cover file) (text_of l.other copy) ≡ bytes_eq (unread l.mine l.left l.one file) (unread l.theirs l.right l.two copy)));
 }
 
+-- the bytes of the first covered text that aren't compared yet, which get fewer with each turn
 abbrev pub decreases-pieces : goal.decreases-pieces
 decreases-pieces g l = unread_len l.mine l.one

@@ -3,6 +3,7 @@ use Rattle.c2_cover.specs.Covers.{Covered}
 use Rattle.c2_cover.proofs.StretchLemmas.{start_of}
 use Rattle.c2_cover.proofs.reader.CoveredReader.new.Goals as goal
 
+-- a new reader has the cover's whole text before it, as many bytes as positions are covered
 pub returns : goal.returns
 returns c =
     start_of c.args.cover.now _ _ (ap (λ (v : Covered). v.size) c.cover.view_is)

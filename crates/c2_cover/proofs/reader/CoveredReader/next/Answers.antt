@@ -4,12 +4,14 @@ use Rattle.c2_cover.specs.Covers.{Reading, AreMerged, rest_of, left_of}
 use Rattle.c2_cover.proofs.StretchLemmas.{stretch_piece, stretch_left, stretch_end, stretch_nothing, stretch_after, prefix_filled, after}
 use Rattle.c2_cover.proofs.reader.CoveredReader.next.Goals as goal
 
+-- after a piece the reader stands in the file, with merged ranges that begin there or later
 pub invariant_of-self : goal.invariant_of-self
 invariant_of-self g c =
     let small : c.min-count.result ≤ c.stretch-stretch.result.end - c.stretch-stretch.result.from = grind (arith, common_steps) in
     subst (λ size. (c.stretch-stretch.result.from + c.min-count.result ≤ size) × AreMerged size (c.stretch-stretch.result.from + c.min-count.result) c.stretch-stretch.result.ahead.now) (ap (λ (v : Reading). v.size) (sym c.self.view_is))
     (stretch_after c.args.self.now c.stretch-stretch.result.from c.stretch-stretch.result.end c.min-count.result c.stretch-stretch.result.ahead.now c.stretch-stretch.ensures small)
 
+-- the buffer begins with the next piece of the covered text, which is empty only at the end
 pub returns-clause-piece : goal.returns-clause-piece
 returns-clause-piece g c =
     let stretch = c.stretch-stretch.result in
