@@ -17,15 +17,19 @@ pushed (z ∷ xs) x (suc m) y at = later (pushed xs x m y at)
     later (inl e) = inl e
     later (inr e) = inr (ap suc e.0, e.1)
 
+-- the fact is that of the manifest at this place, where there is one
 abbrev pub FactHere : (Alg → List ℕ → List ℕ) → List Reading → ℕ → ChildFact → Type 0
 FactHere hash rs m fact = IfSome (slice_get rs m) (λ r. fact ≡ fact_of hash (is_touched rs m) r)
 
+-- a fact about a place is that of the manifest that stands there
 from_here : (hash : Alg → List ℕ → List ℕ) (rs : List Reading) (m : ℕ) (fact : ChildFact) (r : Reading) → slice_get rs m ≡ Some r → FactHere hash rs m fact → fact ≡ fact_of hash (is_touched rs m) r
 from_here hash rs m fact r at h = subst (λ (o : Option Reading). IfSome o (λ x. fact ≡ fact_of hash (is_touched rs m) x)) at h
 
+-- an empty list of facts holds no wrong one
 pub no_facts : (hash : Alg → List ℕ → List ℕ) (rs : List Reading) → AreFacts hash rs []
 no_facts hash rs m fact r at there = absurd cc
 
+-- where what is known is right, and what is found of the next manifest is too, so is all that is known then
 pub facts_more : (hash : Alg → List ℕ → List ℕ) (rs : List Reading) (n : ℕ) (old new : List (Option ChildFact)) (o : Option ChildFact) → AreFacts hash rs old → length old ≡ n → IfSome o (FactHere hash rs n) → new ≡ old ++ o ∷ [] → AreFacts hash rs new
 facts_more hash rs n old new o h count one is m fact r at there = by (pushed old o m (Some fact) (sym (ap (λ (xs : List (Option ChildFact)). slice_get xs m) is) ∙ at))
   where
@@ -39,6 +43,7 @@ facts_more hash rs n old new o h count one is m fact r at there = by (pushed old
     by (inl before) = h m fact r before there
     by (inr last) = here last.0 last.1
 
+-- with one manifest more looked at, there is one place more in what is known
 pub count_more : (old new : List (Option ChildFact)) (o : Option ChildFact) (n : ℕ) → length old ≡ n → new ≡ old ++ o ∷ [] → length new ≡ n + 1
 count_more old new o n count is = ap length is ∙ one (old) ∙ ap (λ (k : ℕ). k + 1) count
   where
@@ -52,15 +57,18 @@ fact_at_place hash rs all m own touched fact lt same at is found =
     let there : slice_get rs m ≡ Some own = slice_get-get_or rs m own lt ∙ ap (λ (xs : List Reading). Some (get_or xs m own)) (sym same) ∙ ap Some (sym at) in
     subst (λ (o : Option Reading). IfSome o (λ x. fact ≡ fact_of hash (is_touched rs m) x)) (sym there) (found ∙ ap (λ (b : Bool). fact_of hash b own) is)
 
+-- a fact that is known of a place is kept at that place
 some_inner : (o : Option (Option ChildFact)) (fact : ChildFact) → Some fact ≡ option_and_then (λ (x : Option ChildFact). x) o → o ≡ Some (Some fact)
 some_inner None fact e = absurd cc
 some_inner (Some None) fact e = absurd cc
 some_inner (Some (Some f)) fact e = ap (λ (x : ChildFact). Some (Some x)) (sym (same_Some fact f e))
 
+-- what holds of the fact for each manifest that may stand at a place holds of the fact at the place
 by_reading : (hash : Alg → List ℕ → List ℕ) (rs : List Reading) (m : ℕ) (fact : ChildFact) (o : Option Reading) → ((r : Reading) → o ≡ Some r → fact ≡ fact_of hash (is_touched rs m) r) → IfSome o (λ r. fact ≡ fact_of hash (is_touched rs m) r)
 by_reading hash rs m fact None f = tt
 by_reading hash rs m fact (Some r) f = f r refl
 
+-- what was found out before of the manifest at a place is right of it
 pub fact_known : (hash : Alg → List ℕ → List ℕ) (rs : List Reading) (facts : List (Option ChildFact)) (m : ℕ) (fact : ChildFact) → AreFacts hash rs facts → Some fact ≡ option_and_then (λ (x : Option ChildFact). x) (slice_get facts m) → FactHere hash rs m fact
 fact_known hash rs facts m fact h e = by_reading hash rs m fact (slice_get rs m) (λ r there. h m fact r (some_inner (slice_get facts m) fact e) there)
 
@@ -69,9 +77,11 @@ fact_there : (hash : Alg → List ℕ → List ℕ) (rs all : List Reading) (n m
 fact_there hash rs all n m fact child lt bound same at h =
     from_here hash rs m fact child (slice_get-get_or rs m child (omega arith) ∙ ap (λ (xs : List Reading). Some (get_or xs m child)) (sym same) ∙ ap Some (sym at)) h
 
+-- a fact about a child says whether the child is touched
 pub fact_touched : (hash : Alg → List ℕ → List ℕ) (rs all : List Reading) (n m : ℕ) (fact : ChildFact) (child : Reading) → m < n → n < length rs → all ≡ rs → child ≡ get_or all m child → FactHere hash rs m fact → fact.touched ≡ is_touched rs m
 fact_touched hash rs all n m fact child lt bound same at h = ap (λ (f : ChildFact). f.touched) (fact_there hash rs all n m fact child lt bound same at h)
 
+-- a fact about a child has the digests of the child's contents and of those of its signature box
 pub fact_fits : (hash : Alg → List ℕ → List ℕ) (rs all : List Reading) (n m : ℕ) (fact : ChildFact) (child : Reading) → m < n → n < length rs → all ≡ rs → child ≡ get_or all m child → FactHere hash rs m fact → fact ≡ fact_of hash fact.touched child
 fact_fits hash rs all n m fact child lt bound same at h =
     fact_there hash rs all n m fact child lt bound same at h ∙ ap (λ (b : Bool). fact_of hash b child) (sym (fact_touched hash rs all n m fact child lt bound same at h))

@@ -15,14 +15,17 @@ use Rattle.c2_rules.specs.declared.answer.Failing.{Failing}
 abbrev earlier : List Reading → ℕ → Standing
 earlier rs m = earlier_standing (is_touched rs m) (slice_get rs m)
 
+-- a manifest at a place before this one stands earlier
 stands_before : (rs : List Reading) (i m : ℕ) (b : Bool) → Decides b (m < i) → m < i → cond b (earlier rs m) later ≡ earlier rs m
 stands_before rs i m true d lt = refl
 stands_before rs i m false d lt = absurd (true≢false (sym (d.1 lt)))
 
+-- a manifest whose label has a place before this one stands as a child that is touched or isn't
 standing_is : (rs : List Reading) (i m : ℕ) (target : List ℕ) (child : Reading) (touched : Bool) → place_of rs target ≡ Some m → m < i → slice_get rs m ≡ Some child → touched ≡ is_touched rs m → standing_of rs i target ≡ child_standing touched child
 standing_is rs i m target child touched place lt at is =
     ap (place_standing rs i) place ∙ stands_before rs i m (ltb m i) (Decides-ltb m i) lt ∙ ap (earlier_standing (is_touched rs m)) at ∙ ap (λ (b : Bool). child_standing b child) (sym is)
 
+-- what fails of an ingredient by the child it names fails of it by where the manifest with that label stands
 pub child_stands : {E : Type 0} (hash : Alg → List ℕ → List ℕ) (r : Reading) (uri : List ℕ) (manifest : Ref) (sign : Option Ref) (rs all : List Reading) (i m : ℕ) (target : List ℕ) (child : Reading) (touched : Bool) (o : Result (Option Failing) E)
     → i < length rs → place_of rs target ≡ Some m → m < i → all ≡ rs → child ≡ get_or all m child → touched ≡ is_touched rs m
     → IfOk o (λ found. found ≡ first_failing (standing_tests hash r uri manifest sign (child_standing touched child)))
@@ -39,6 +42,7 @@ earlier_holds None b uri some = absurd cc
 earlier_holds (Some r) true uri some = refl
 earlier_holds (Some r) false uri some = refl
 
+-- an ingredient that names a manifest at a place before its own fails by no rule on the order of manifests
 pub stands_earlier : (rs : List Reading) (i m : ℕ) (target uri : List ℕ) → i < length rs → Some m ≡ place_of rs target → m < i → None ≡ first_failing (order_tests uri (standing_of rs i target))
 stands_earlier [] i m target uri bound place lt = absurd (omega arith)
 stands_earlier (r ∷ rs) i m target uri bound place lt =

@@ -25,12 +25,15 @@ HasPanel qs old new (Err NoMemory) = HaveAskedPrefix old.said qs old.asked new.a
 abbrev pub from_bindings : Seen → List Test
 from_bindings s = binding_tests s ++ each (λ k b. form_tests s b) 0 s.own.boxes
 
+-- the rules on redactions, then those on bindings and all after them
 abbrev pub from_redactions : Seen → List Test
 from_redactions s = each (λ k text. redaction_tests (label_in s.own) (claim_uri s.own) text) 0 (redactions_in s.own) ++ from_bindings s
 
+-- the rule on boxes that no entry lists, then the rules on redactions and all after them
 abbrev pub from_boxes : Seen → List Test
 from_boxes s = over_all (λ k b. box_test s.own b) 0 s.own.boxes ++ from_redactions s
 
+-- the rules on entries, then that on boxes that no entry lists and all after it
 abbrev pub from_entries : (Alg → List ℕ → List ℕ) → Seen → List Test
 from_entries hash s = each (entry_tests hash s) 0 (entries_in s.own) ++ from_boxes s
 
