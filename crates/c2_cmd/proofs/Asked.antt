@@ -64,6 +64,7 @@ asked_here t s c i one is lt label question =
 
 -- ---- the manifests from the last to the first
 
+-- going down from place `i`, the list of the place below comes first, then those further down
 down_at : {A : Type 0} (list_at : ℕ → List A) (i : ℕ) → 0 < i → downward list_at i ≡ list_at (i - 1) ++ downward list_at (i - 1)
 down_at list_at zero some = absurd (omega arith)
 down_at list_at (suc i) some = let same : suc i - 1 ≡ i = omega arith in rw same refl
@@ -80,10 +81,12 @@ all_start t s c items n is none count =
 
 -- ---- their questions
 
+-- what comes of two lists in a row is what comes of the first, then what comes of the second
 flat_append : {A B : Type 0} (f : A → List B) (xs ys : List A) → flat_map f (xs ++ ys) ≡ flat_map f xs ++ flat_map f ys
 flat_append f [] ys = refl
 flat_append f (x ∷ xs) ys = ap (λ l. f x ++ l) (flat_append f xs ys) ∙ sym (append_assoc (f x) (flat_map f xs) (flat_map f ys))
 
+-- a manifest, as it is asked of, has the question that was read of it, or none
 of_reading : (o : Option Reading) → questions_in (asked_of o) ≡ questions_of o
 of_reading None = refl
 of_reading (Some r) = one (question_in r)
@@ -92,10 +95,12 @@ of_reading (Some r) = one (question_in r)
     one None = refl
     one (Some q) = refl
 
+-- what is asked of the manifest at a place is its question where it is reached, and nothing where it isn't
 of_place : (rs : List Reading) (i : ℕ) (b : Bool) → is_reached rs i ≡ b → questions_in (asked_at rs i) ≡ question_at rs i
 of_place rs i true is = rw is (of_reading (slice_get rs i))
 of_place rs i false is = rw is refl
 
+-- what is asked of the first `n` manifests, the last first, are the questions of their places in that order
 of_places : (rs : List Reading) (n : ℕ) → questions_in (downward (asked_at rs) n) ≡ downward (question_at rs) n
 of_places rs zero = refl
 of_places rs (suc n) =

@@ -14,6 +14,7 @@ pub on_ok : {A E : Type 0} (P : Type 0) (r : Result A E) → is_err r ≡ false 
 on_ok P (Ok x) is h = h
 on_ok P (Err e) is h = absurd (cc (is))
 
+-- what is promised of every error holds of a result that is one
 pub on_err : {A E : Type 0} (P : Type 0) (r : Result A E) → is_err r ≡ true → OnErr r P → P
 on_err P (Ok x) is h = absurd (cc (is))
 on_err P (Err e) is h = h

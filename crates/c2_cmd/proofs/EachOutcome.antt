@@ -36,11 +36,13 @@ HasReadings (refused reason number) = ⊤
 HasReadings absent = ⊤
 HasReadings (here start len t) = (rs : List Reading) × AreReadings (manifests_of t) rs
 
+-- where the check of an opened file has an answer, the manifests of its store are read as something
 readings_of : (hash : Alg → List ℕ → List ℕ) (said : Question → Verdict) (file : List ℕ) (what : Opening Tree) (a : Answer) → IsOpenedAnswer hash said file what a → HasReadings what
 readings_of hash said file (refused reason number) a h = tt
 readings_of hash said file absent a h = tt
 readings_of hash said file (here start len t) a h = (h.0.readings, h.1.reads.each)
 
+-- a file of bytes is opened as something, and where it has a store the manifests there are read
 each_opened : Laws → (i : Inputs) → All (λ b. b < 2 ^ 8) i.media → (what : Opening Tree) × IsOpened i.media what × HasReadings what
 each_opened laws i held =
     let a = laws.answer i.hash i.said i.media held in
@@ -57,11 +59,13 @@ each_boxed laws i held = let o = each_opened laws i held in go o.0 o.1.0 o.1.1 o
 
 -- ---- outcomes
 
+-- there is an outcome for whatever a file is opened as, if there is one for each store that is found
 each_report : {A : Type 0} (Is : ℕ → ℕ → A → Outcome → Type 0) (o : Opening A) → ((start len : ℕ) (a : A) → (e : Outcome) × Is start len a e) → (e : Outcome) × Reports Is o e
 each_report Is (refused reason number) some = (reports answer.Refused (refused_line reason number), refl)
 each_report Is absent some = (reports answer.NoStore none_line, refl)
 each_report Is (here start len a) some = some start len a
 
+-- a command that reads manifests has an outcome for every file of bytes, if it has one for every store
 each_media : Laws → (P : Tree → Outcome → Type 0) → ((t : Tree) (rs : List Reading) → AreReadings (manifests_of t) rs → (e : Outcome) × P t e) → (i : Inputs) → All (λ b. b < 2 ^ 8) i.media → (e : Outcome) × IsMediaOutcome P i.media e
 each_media laws P over i held = let o = each_opened laws i held in go o.0 o.1 o.2
   where
@@ -70,18 +74,22 @@ each_media laws P over i held = let o = each_opened laws i held in go o.0 o.1 o.
     go absent is read = (reports answer.NoStore none_line, (absent, is, refl))
     go (here start len t) is read = let e = over t read.0 read.1 in (e.0, (here start len t, is, e.1))
 
+-- manifests that are read have a list of claims, with an entry for each manifest
 each_claims : Laws → (ms : List Manifest) (rs : List Reading) → AreReadings ms rs → (cs : List (Option Claim)) × HaveClaims ms cs
 each_claims laws [] [] reads = ([], tt)
 each_claims laws [] (r ∷ rs) reads = absurd reads
 each_claims laws (m ∷ ms) [] reads = absurd reads
 each_claims laws (m ∷ ms) (r ∷ rs) reads = let cs = each_claims laws ms rs reads.1 in (claim_in r ∷ cs.0, (laws.claim m r reads.0, cs.1))
 
+-- `show` has an outcome over every box tree whose manifests are read
 each_shown : Laws → (t : Tree) (rs : List Reading) → AreReadings (manifests_of t) rs → (e : Outcome) × IsShown t e
 each_shown laws t rs reads = let cs = each_claims laws (manifests_of t) rs reads in (shown t cs.0, (cs.0, cs.1, refl))
 
+-- `questions` has an outcome over every box tree whose manifests are read, whatever the panel says
 each_questioned : (said : Question → Verdict) (t : Tree) (rs : List Reading) → AreReadings (manifests_of t) rs → (e : Outcome) × IsQuestioned said t e
 each_questioned said t rs reads = (questioned said rs, (rs, reads, refl))
 
+-- every command has an outcome where its media are bytes
 each_command : Laws → (c : Command) (roles : Roles) (i : Inputs) → All (λ b. b < 2 ^ 8) i.media → (e : Outcome) × IsCommandOutcome c roles i e
 each_command laws command.Digest roles i held =
     let o = each_opened laws i held in
@@ -95,12 +103,14 @@ each_command laws command.Show roles i held = each_media laws IsShown (each_show
 each_command laws command.Questions roles i held = each_media laws (IsQuestioned i.said) (each_questioned i.said) i held
 each_command laws command.Validate roles i held = let a = laws.answer i.hash i.said i.media held in (answered a.0, (a.0, a.1, refl))
 
+-- a call whose media are bytes has an outcome, whether its words fit a command or none
 pub each_outcome : Laws → (roles : Option Roles) (i : Inputs) → All (λ b. b < 2 ^ 8) i.media → (e : Outcome) × IsOutcome roles i e
 each_outcome laws None i held = (reports answer.Usage usage_line, refl)
 each_outcome laws (Some roles) i held = each_command laws roles.command roles i held
 
 -- ---- questions
 
+-- where questions are chosen from the manifests as read, every file of bytes has a list of them
 each_asked : Laws → (asks : List Reading → List Question) (i : Inputs) → All (λ b. b < 2 ^ 8) i.media → (qs : List Question) × MediaAsks asks i.media qs
 each_asked laws asks i held = let o = each_opened laws i held in go o.0 o.1 o.2
   where
@@ -109,6 +119,7 @@ each_asked laws asks i held = let o = each_opened laws i held in go o.0 o.1 o.2
     go absent is read = ([], (absent, is, refl))
     go (here start len t) is read = (asks read.0, (here start len t, is, (read.0, read.1, refl)))
 
+-- every command has a list of questions for its judges where its media are bytes
 each_asks : Laws → (c : Command) (i : Inputs) → All (λ b. b < 2 ^ 8) i.media → (qs : List Question) × CommandAsks c i qs
 each_asks laws command.Digest i held = ([], refl)
 each_asks laws command.List i held = ([], refl)
@@ -116,6 +127,7 @@ each_asks laws command.Show i held = ([], refl)
 each_asks laws command.Questions i held = each_asked laws questions i held
 each_asks laws command.Validate i held = each_asked laws (check_asks i.hash i.said) i held
 
+-- a call whose media are bytes has a list of questions: an empty one where its words fit no command
 pub each_list : Laws → (roles : Option Roles) (i : Inputs) → All (λ b. b < 2 ^ 8) i.media → (qs : List Question) × Asks roles i qs
 each_list laws None i held = ([], refl)
 each_list laws (Some roles) i held = each_asks laws roles.command i held

@@ -47,11 +47,13 @@ abbrev opening_of : Option Refusal → Opening Tree
 opening_of None = absent
 opening_of (Some r) = refused_by r
 
+-- what was located is opened as one thing at most, if a store in its range is
 one_opens : {A B : Type 0} (Is : ℕ → ℕ → A → Opening B → Type 0) → ((start len : ℕ) (a : A) (x y : Opening B) → Is start len a x → Is start len a y → x ≡ y) → (o : Opening A) (x y : Opening B) → Opens Is o x → Opens Is o y → x ≡ y
 one_opens Is once (refused reason number) x y h k = h ∙ sym k
 one_opens Is once absent x y h k = h ∙ sym k
 one_opens Is once (here start len a) x y h k = once start len a x y h k
 
+-- the bytes of a store are one box tree at most, or are refused for one reason, never both
 one_box_tree : Laws → (start len : ℕ) (store : List ℕ) (x y : Opening Tree) → IsBoxTree start len store x → IsBoxTree start len store y → x ≡ y
 one_box_tree laws start len store (refused r n) (refused q m) h k = ap opening_of (sym h.2 ∙ ap boxes_refusal (laws.fault store h.0 k.0 h.1 k.1) ∙ k.2)
 one_box_tree laws start len store (refused r n) absent h k = absurd k
@@ -61,25 +63,31 @@ one_box_tree laws start len store (here s l t) (refused q m) h k = absurd (laws.
 one_box_tree laws start len store (here s l t) absent h k = absurd k
 one_box_tree laws start len store (here s l t) (here p m u) h k = h.1 ∙ ap (here start len) (laws.tree store t u h.0 k.0) ∙ sym k.1
 
+-- a file is opened in one way at most: as a box tree, as refused for a reason, or as without a store
 one_boxed : Laws → (file : List ℕ) (x y : Opening Tree) → IsBoxed file x → IsBoxed file y → x ≡ y
 one_boxed laws file x y h k = one_after (IsLocated file) (Opens IsBoxTree) (laws.located file) (one_opens IsBoxTree (one_box_tree laws)) x y h k
 
 -- ---- outcomes
 
+-- what was opened has one outcome at most, if a store in its range has
 one_report : {A : Type 0} (Is : ℕ → ℕ → A → Outcome → Type 0) → ((start len : ℕ) (a : A) (x y : Outcome) → Is start len a x → Is start len a y → x ≡ y) → (o : Opening A) (x y : Outcome) → Reports Is o x → Reports Is o y → x ≡ y
 one_report Is once (refused reason number) x y h k = h ∙ sym k
 one_report Is once absent x y h k = h ∙ sym k
 one_report Is once (here start len a) x y h k = once start len a x y h k
 
+-- `show` has one outcome at most over a box tree
 one_shown : Laws → (t : Tree) (x y : Outcome) → IsShown t x → IsShown t y → x ≡ y
 one_shown laws t x y h k = one_after (HaveClaims (manifests_of t)) (λ claims e. e ≡ shown t claims) (laws.claims (manifests_of t)) (λ claims a b p q. p ∙ sym q) x y h k
 
+-- `questions` has one outcome at most over a box tree, by what the panel says
 one_questioned : Laws → (said : Question → Verdict) (t : Tree) (x y : Outcome) → IsQuestioned said t x → IsQuestioned said t y → x ≡ y
 one_questioned laws said t x y h k = one_after (AreReadings (manifests_of t)) (λ rs e. e ≡ questioned said rs) (laws.readings (manifests_of t)) (λ rs a b p q. p ∙ sym q) x y h k
 
+-- a command that reads manifests has one outcome at most for a file, if it has for a box tree
 one_media : Laws → (P : Tree → Outcome → Type 0) → ((t : Tree) (x y : Outcome) → P t x → P t y → x ≡ y) → (file : List ℕ) (x y : Outcome) → (what : Opening Tree) × IsOpened file what × Reports (λ start len t e. P t e) what x → (what : Opening Tree) × IsOpened file what × Reports (λ start len t e. P t e) what y → x ≡ y
 one_media laws P once file x y h k = one_after (IsOpened file) (Reports (λ start len t e. P t e)) (laws.opened file) (one_report (λ start len t e. P t e) (λ start len t. once t)) x y h k
 
+-- a command has one outcome at most for what it is handed
 one_command : Laws → (c : Command) (roles : Roles) (i : Inputs) (x y : Outcome) → IsCommandOutcome c roles i x → IsCommandOutcome c roles i y → x ≡ y
 one_command laws command.Digest roles i x y h k =
     one_after (IsLocated i.media) (Reports (IsDigested (i.hash Sha256) i.media)) (laws.located i.media) (one_report (IsDigested (i.hash Sha256) i.media) (λ start len store a b p q. p ∙ sym q)) x y h k
@@ -88,12 +96,14 @@ one_command laws command.Show roles i x y h k = one_media laws IsShown (one_show
 one_command laws command.Questions roles i x y h k = one_media laws (IsQuestioned i.said) (one_questioned laws i.said) i.media x y h k
 one_command laws command.Validate roles i x y h k = one_after (IsAnswer i.hash i.said i.media) (λ found e. e ≡ answered found) (laws.answer i.hash i.said i.media) (λ found a b p q. p ∙ sym q) x y h k
 
+-- a call has one outcome at most, whether its words fit a command or none
 pub one_outcome : Laws → (roles : Option Roles) (i : Inputs) (x y : Outcome) → IsOutcome roles i x → IsOutcome roles i y → x ≡ y
 one_outcome laws None i x y h k = h ∙ sym k
 one_outcome laws (Some roles) i x y h k = one_command laws roles.command roles i x y h k
 
 -- ---- questions
 
+-- a command has one list of questions at most for what it is handed
 one_asks : Laws → (c : Command) (i : Inputs) (ps qs : List Question) → CommandAsks c i ps → CommandAsks c i qs → ps ≡ qs
 one_asks laws command.Digest i ps qs h k = h ∙ sym k
 one_asks laws command.List i ps qs h k = h ∙ sym k
@@ -101,6 +111,7 @@ one_asks laws command.Show i ps qs h k = h ∙ sym k
 one_asks laws command.Questions i ps qs h k = laws.questions i.media ps qs h k
 one_asks laws command.Validate i ps qs h k = laws.asks i.hash i.said i.media ps qs h k
 
+-- a call has one list of questions at most, whether its words fit a command or none
 pub one_list : Laws → (roles : Option Roles) (i : Inputs) (ps qs : List Question) → Asks roles i ps → Asks roles i qs → ps ≡ qs
 one_list laws None i ps qs h k = h ∙ sym k
 one_list laws (Some roles) i ps qs h k = one_asks laws roles.command i ps qs h k

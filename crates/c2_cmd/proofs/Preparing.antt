@@ -54,6 +54,7 @@ prepares_short file (here start len store) reply is h = absurd h
 pub prepared_reply : (file : List ℕ) (p : Prepared) (reply : Reply) → p ≡ prepared.Reply reply → PreparesMedia file p → AreQuestions file [] × ((said : Question → Verdict) → IsMediaOutcome (IsQuestioned said) file (outcome_of reply))
 prepared_reply file p reply is h = subst (λ (x : Prepared). PreparesMedia file x) is h
 
+-- where manifests are to be asked of, their questions are the file's, and their lines are its outcome
 pub prepared_ask : (file : List ℕ) (p : Prepared) (asked : Vec Asked Global) → p ≡ prepared.Ask asked → PreparesMedia file p → AreQuestions file (questions_in asked.items) × ((said : Question → Verdict) → IsMediaOutcome (IsQuestioned said) file (asked_outcome asked.items said))
 prepared_ask file p asked is h = subst (λ (x : Prepared). PreparesMedia file x) is h
 

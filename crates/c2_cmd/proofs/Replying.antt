@@ -33,6 +33,7 @@ use Rattle.c2_cmd.specs.declared.types.Roles.{Roles}
 pub stored_here : (file : List ℕ) (s : Stored) (f : Found) → s ≡ stored.Here f → IsStored file s → IsLocated file (here f.start f.length f.store)
 stored_here file s f is h = subst (λ (x : Stored). IsStored file x) is h
 
+-- a file that has a reply already is one that is refused or has no store, and the reply says which
 pub stored_reply : (file : List ℕ) (s : Stored) (reply : Reply) → s ≡ stored.Reply reply → IsStored file s → (l : Located) × IsLocated file l × IsShort l (outcome_of reply)
 stored_reply file s reply is h = subst (λ (x : Stored). IsStored file x) is h
 
@@ -56,6 +57,7 @@ short_boxed file (refused reason number) e is h = (refused reason number, (refus
 short_boxed file absent e is h = (absent, (absent, is, refl), h)
 short_boxed file (here start len store) e is h = absurd h
 
+-- that a file is refused or has no store is the outcome of every command that reads manifests
 pub media_short : (P : Tree → Outcome → Type 0) (file : List ℕ) (l : Located) (e : Outcome) → IsLocated file l → IsShort l e → IsMediaOutcome P file e
 media_short P file (refused reason number) e is h = (refused reason number, (refused reason number, is, refl), h)
 media_short P file absent e is h = (absent, (absent, is, refl), h)

@@ -27,6 +27,7 @@ reads_media command.Show = true
 reads_media command.Questions = true
 reads_media command.Validate = true
 
+-- whether a command asks judges
 abbrev pub asks_judges : Command → Bool
 asks_judges command.Digest = false
 asks_judges command.List = false
@@ -61,6 +62,7 @@ abbrev pub roles_with : Command → List (List ℕ) → Option Roles
 roles_with c [] = None
 roles_with c (media ∷ judges) = if nat_le (length judges) (most_judges c) then Some (reading_roles c) else None
 
+-- the roles of words that may all be names: the first of them names the command, if they fit
 abbrev pub roles_of_names : List (List ℕ) → Option Roles
 roles_of_names [] = None
 roles_of_names (first ∷ names) = option_and_then (λ c. roles_with c names) (command_of first)

@@ -89,6 +89,7 @@ IsMediaOutcome IsExpected file expected = (what : Opening Tree) × IsOpened file
 abbrev pub shown : Tree → List (Option Claim) → Outcome
 shown t claims = reports answer.Done (show_line (manifests_of t) claims)
 
+-- the outcome of `show` over the box tree of a store, with the claims that its manifests have
 abbrev pub IsShown : Tree → Outcome → Type 0
 IsShown t expected = (claims : List (Option Claim)) × HaveClaims (manifests_of t) claims × (expected ≡ shown t claims)
 
@@ -142,6 +143,7 @@ abbrev pub uses_media : Option Roles → Bool
 uses_media None = false
 uses_media (Some roles) = is_some roles.media
 
+-- whether words with these roles, or with none, may ask judges
 abbrev pub uses_judges : Option Roles → Bool
 uses_judges None = false
 uses_judges (Some roles) = asks_judges roles.command
@@ -154,6 +156,7 @@ CommandAsks command.Show i qs = qs ≡ []
 CommandAsks command.Questions i qs = AreQuestions i.media qs
 CommandAsks command.Validate i qs = CheckAsks i.hash i.said i.media qs
 
+-- the judges are asked these questions, in order, by words with these roles; words without roles ask none
 abbrev pub Asks : Option Roles → Inputs → List Question → Type 0
 Asks None i qs = qs ≡ []
 Asks (Some roles) i qs = CommandAsks roles.command i qs

@@ -99,6 +99,7 @@ IsFoundOutcome IsExpected f expected = (what : Opening Tree) × IsManifestStore 
 abbrev pub RepliesOver : (Tree → Outcome → Type 0) → Found → Reply → Type 0
 RepliesOver IsExpected f reply = IsFoundOutcome IsExpected f (outcome_of reply)
 
+-- the reply of `list` over a store that was found: its boxes, or why they are refused
 abbrev pub ListsStore : Found → Reply → Type 0
 ListsStore f reply = (what : Opening Tree) × IsBoxTree f.start f.length f.store what × Reports IsListing what (outcome_of reply)
 
@@ -127,15 +128,19 @@ Prepares AreAsked IsExpected (prepared.Ask asked) = AreAsked (questions_in asked
 abbrev pub PreparesMedia : List ℕ → Prepared → Type 0
 PreparesMedia file = Prepares (AreQuestions file) (λ said. IsMediaOutcome (IsQuestioned said) file)
 
+-- the questions that `questions` asks over a store that was found
 abbrev pub AsksOfFound : Found → List Question → Type 0
 AsksOfFound f qs = (what : Opening Tree) × IsManifestStore f.start f.length f.store what × OpenedAsks questions what qs
 
+-- `questions` is prepared over a store that was found
 abbrev pub PreparesFound : Found → Prepared → Type 0
 PreparesFound f = Prepares (AsksOfFound f) (λ said. IsFoundOutcome (IsQuestioned said) f)
 
+-- the questions that `questions` asks over the box tree of a store
 abbrev pub AsksOfTree : Tree → List Question → Type 0
 AsksOfTree t qs = (rs : List Reading) × AreReadings (manifests_of t) rs × (qs ≡ questions rs)
 
+-- `questions` is prepared over the box tree of a store
 abbrev pub PreparesTree : Tree → Prepared → Type 0
 PreparesTree t = Prepares (AsksOfTree t) (λ said. IsQuestioned said t)
 

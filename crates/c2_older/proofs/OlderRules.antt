@@ -27,20 +27,24 @@ use Rattle.c2_older.specs.Older.{is_kept, thinned, has_signature, Alike, StaysAl
 abbrev pub Holds : Test → Type 0
 Holds t = t.fails ≡ false
 
+-- what holds of all in one list and of all in another holds of all in the two in a row
 each-append : {X : Type 0} (P : X → Type 0) (xs ys : List X) → AllByRecursion P xs → AllByRecursion P ys → AllByRecursion P (xs ++ ys)
 each-append P [] ys h k = k
 each-append P (x ∷ xs) ys h k = (h.0, each-append P xs ys h.1 k)
 
+-- what holds of all in two lists in a row holds of all in the first
 each-front : {X : Type 0} (P : X → Type 0) (xs ys : List X) → AllByRecursion P (xs ++ ys) → AllByRecursion P xs
 each-front P [] ys h = tt
 each-front P (x ∷ xs) ys h = (h.0, each-front P xs ys h.1)
 
+-- what holds of all in two lists in a row holds of all in the second
 each-back : {X : Type 0} (P : X → Type 0) (xs ys : List X) → AllByRecursion P (xs ++ ys) → AllByRecursion P ys
 each-back P [] ys h = h
 each-back P (x ∷ xs) ys h = each-back P xs ys h.1
 
 -- ---- lists of tests over kept boxes
 
+-- where the rules on every box held, they hold on the kept boxes, if on each box they go on to hold
 each_kept : (f g : ReadBox → List Test) (keep : ReadBox → Bool) (P : ReadBox → Type 0) (bs : List ReadBox) (k j : ℕ) → ((b : ReadBox) → P b → AllByRecursion Holds (f b) → AllByRecursion Holds (g b)) → AllByRecursion P bs
     → AllByRecursion Holds (each (λ k b. f b) k bs) → AllByRecursion Holds (each (λ k b. g b) j (filter keep bs))
 each_kept f g keep P [] k j step p h = tt
@@ -51,6 +55,7 @@ each_kept f g keep P (b ∷ bs) k j step p h =
     go true own more_of same = each-append Holds (g b) (each (λ k b. g b) (j + 1) (filter keep bs)) own more_of
     go false own more_of same = same
 
+-- a rule that holds on every box holds on the boxes that are kept
 over_kept : (t : ReadBox → Test) (keep : ReadBox → Bool) (bs : List ReadBox) (k j : ℕ) → AllByRecursion Holds (over_all (λ k b. t b) k bs) → AllByRecursion Holds (over_all (λ k b. t b) j (filter keep bs))
 over_kept t keep [] k j h = tt
 over_kept t keep (b ∷ bs) k j h = go (keep b) (over_kept t keep bs (k + 1) (j + 1) h.1) (over_kept t keep bs (k + 1) j h.1)
@@ -61,14 +66,17 @@ over_kept t keep (b ∷ bs) k j h = go (keep b) (over_kept t keep bs (k + 1) (j 
 
 -- ---- ingredients
 
+-- what is there isn't missing
 none_from_some : {A : Type 0} (o : Option A) → is_some o ≡ true → is_none o ≡ false
 none_from_some None e = absurd (cc (e))
 none_from_some (Some x) e = refl
 
+-- where neither of two things is so, it isn't so that one of them is
 or_both : (a b : Bool) → a ≡ false → b ≡ false → (a || b) ≡ false
 or_both true b e f = e
 or_both false b e f = f
 
+-- the rules on a manifest that an ingredient refers to hold as they did, where it stands alike
 named_alike : (hash : Alg → List ℕ → List ℕ) (r : Reading) (uri : List ℕ) (manifest : Ref) (sign : Option Ref) (s t : Standing) → Alike (is_some sign) s t → AllByRecursion Holds (standing_tests hash r uri manifest sign s) → AllByRecursion Holds (standing_tests hash r uri manifest sign t)
 named_alike hash r uri manifest sign missing t (inl e) h = subst (λ x. AllByRecursion Holds (standing_tests hash r uri manifest sign x)) (sym e) tt
 named_alike hash r uri manifest sign missing t (inr e) h = subst (λ x. AllByRecursion Holds (standing_tests hash r uri manifest sign x)) (sym e) tt
@@ -108,6 +116,7 @@ order_alike uri signed (touched c) t e h = subst (λ x. AllByRecursion Holds (or
 order_alike uri signed (whole c own) t (inl e) h = subst (λ x. AllByRecursion Holds (order_tests uri x)) (sym e) tt
 order_alike uri signed (whole c own) t (inr e) h = subst (λ x. AllByRecursion Holds (order_tests uri x)) (sym e.0) tt
 
+-- the rules on the form of an ingredient hold as they did, where the manifest that it names stands alike
 parsed_alike : (uri : List ℕ) (before after : List ℕ → Standing) (signed : Bool) (p : Parsed Ingredient) → ((label : List ℕ) → named_by (value_in p) ≡ Some label → Alike signed (before label) (after label)) → AllByRecursion Holds (parsed_tests before uri p) → AllByRecursion Holds (parsed_tests after uri p)
 parsed_alike uri before after signed NoItem a h = h
 parsed_alike uri before after signed NoForm a h = h
@@ -117,6 +126,7 @@ parsed_alike uri before after signed (Value g) a h = go (named_by (Some g)) refl
     go None e k = tt
     go (Some label) e k = order_alike uri signed (before label) (after label) (a label e) k
 
+-- the rules on the form of a box by its kind hold as they did, where the manifest it names stands alike
 kind_alike : (uri : List ℕ) (before after : List ℕ → Standing) (signed : Bool) (p : Parsed Ingredient) (k : Kind) → ((label : List ℕ) → named_by (value_in p) ≡ Some label → Alike signed (before label) (after label)) → AllByRecursion Holds (kind_tests before uri p k) → AllByRecursion Holds (kind_tests after uri p k)
 kind_alike uri before after signed p kinds.DataHash a h = tt
 kind_alike uri before after signed p kinds.BmffHash a h = tt
@@ -127,6 +137,7 @@ kind_alike uri before after signed p kinds.Actions a h = tt
 kind_alike uri before after signed p kinds.Cloud a h = tt
 kind_alike uri before after signed p kinds.Ordinary a h = tt
 
+-- the rules on the form of a box hold as they did, with a label or without, where what it names stands alike
 form_alike : (own : List ℕ) (before after : List ℕ → Standing) (b : ReadBox) (o : Option (List ℕ)) → BoxAlike before after b
     → AllByRecursion Holds (option_map_or (λ (label : List ℕ). kind_tests before (assertion_uri own label) b.ingredient (label_kind label)) o []) → AllByRecursion Holds (option_map_or (λ (label : List ℕ). kind_tests after (assertion_uri own label) b.ingredient (label_kind label)) o [])
 form_alike own before after b None a h = tt
@@ -134,6 +145,7 @@ form_alike own before after b (Some label) a h = kind_alike (assertion_uri own l
 
 -- ---- entries
 
+-- a label that is found to be this one is this one
 given_is : (o : Option (List ℕ)) (label : List ℕ) → is_given o label ≡ true → o ≡ Some label
 given_is None label e = absurd (cc (e))
 given_is (Some t) label e = ap Some ((bytes_eq-Decides t label).0 e)
@@ -142,9 +154,11 @@ given_is (Some t) label e = ap Some ((bytes_eq-Decides t label).0 e)
 labelled_lost : (out : List ℕ → Bool) (label : List ℕ) (b : ReadBox) → out label ≡ true → is_labelled label b ≡ true → is_kept out b ≡ false
 labelled_lost out label b taken is = ap (λ o. not (passes_some (out) o)) (given_is b.boxed.label label is) ∙ not_from_true (out label) taken
 
+-- a box with a label that isn't taken out is kept
 labelled_kept : (out : List ℕ → Bool) (label : List ℕ) (b : ReadBox) → out label ≡ false → is_labelled label b ≡ true → is_kept out b ≡ true
 labelled_kept out label b free is = ap (λ o. not (passes_some (out) o)) (given_is b.boxed.label label is) ∙ ap not free
 
+-- under a label that is taken out, no box is found among those that are kept
 find_lost : (out : List ℕ → Bool) (label : List ℕ) (bs : List ReadBox) → out label ≡ true → find (is_labelled label) (filter (is_kept out) bs) ≡ None
 find_lost out label [] taken = refl
 find_lost out label (b ∷ bs) taken = go (is_kept out b) (is_labelled label b) refl refl (find_lost out label bs taken)
@@ -154,6 +168,7 @@ find_lost out label (b ∷ bs) taken = go (is_kept out b) (is_labelled label b) 
     go true true e f more_of = absurd (both_ways (is_kept out b) (labelled_lost out label b taken f) e)
     go true false e f more_of = ap (λ z. cond z (Some b) (find (is_labelled label) (filter (is_kept out) bs))) f ∙ more_of
 
+-- under a label that isn't taken out, the same box is found among those that are kept as among all
 find_kept : (out : List ℕ → Bool) (label : List ℕ) (bs : List ReadBox) → out label ≡ false → find (is_labelled label) (filter (is_kept out) bs) ≡ find (is_labelled label) bs
 find_kept out label [] free = refl
 find_kept out label (b ∷ bs) free = go (is_kept out b) (is_labelled label b) refl refl (find_kept out label bs free)
@@ -166,6 +181,7 @@ find_kept out label (b ∷ bs) free = go (is_kept out b) (is_labelled label b) r
 
 -- ---- filters
 
+-- where no box that is taken out is picked, the picked boxes are the same among the kept as among all
 filter_lost : (p keep : ReadBox → Bool) (P : ReadBox → Type 0) (bs : List ReadBox) → ((b : ReadBox) → P b → keep b ≡ false → p b ≡ false) → AllByRecursion P bs → filter p (filter keep bs) ≡ filter p bs
 filter_lost p keep P [] h k = refl
 filter_lost p keep P (b ∷ bs) h k = go (keep b) refl (filter_lost p keep P bs h k.1)
@@ -174,6 +190,7 @@ filter_lost p keep P (b ∷ bs) h k = go (keep b) refl (filter_lost p keep P bs 
     go true e more_of = ap (λ (zs : List ReadBox). cond (p b) (b ∷ zs) zs) more_of
     go false e more_of = more_of ∙ ap (λ z. cond z (b ∷ filter p bs) (filter p bs)) (sym (h b k.0 e))
 
+-- what isn't so together with something that is, isn't so
 and_true : (x : Bool) → (x && true) ≡ false → x ≡ false
 and_true true e = e
 and_true false e = e
@@ -183,15 +200,18 @@ no_longer : (x act y : Bool) → (x && (act || y)) ≡ false → (x && (false ||
 no_longer x true y e = and_left x (false || y) (and_true x e)
 no_longer x false y e = e
 
+-- the rule on kinds of hashes that aren't supported holds of every manifest but the active one
 kinds_free : (s : Seen) (k : ℕ) (labels : List (List ℕ)) → s.is_active ≡ false → AllByRecursion Holds (over_all (hash_kind_test s) k labels)
 kinds_free s k [] e = tt
 kinds_free s k (label ∷ labels) e = (and_left s.is_active (is_other_hash (label_kind label)) e, kinds_free s (k + 1) labels e)
 
 -- ---- all of them
 
+-- a manifest as it is seen: its reading, whether it is active, what is redacted, and how others stand
 abbrev pub old_seen : Reading → Bool → (List ℕ → Bool) → (List ℕ → Standing) → Seen
 old_seen r act red standing = record { own = r; is_active = act; is_redacted = red; standing = standing }
 
+-- the rules on an entry of the claim hold once redacted boxes are taken out, if they held before
 entry_holds : (hash : Alg → List ℕ → List ℕ) (out : List ℕ → Bool) (r : Reading) (contents : List ℕ) (assertions : List Superbox) (act : Bool) (red red' : List ℕ → Bool) (before after : List ℕ → Standing) (k : ℕ) (e : Ref) → ((l : List ℕ) → red' l ≡ (out l || red l))
     → AllByRecursion Holds (entry_tests hash (old_seen r act red before) k e) → AllByRecursion Holds (entry_tests hash (old_seen (thinned out contents assertions r) false red' after) k e)
 entry_holds hash out r contents assertions act red red' before after k e more_red h = go (entry_label r.manifest e) h
@@ -239,6 +259,7 @@ entry_holds hash out r contents assertions act red red' before after k e more_re
     go None g = g
     go (Some label) g = by_label label g (out label) refl
 
+-- the rules on all entries of the claim hold once redacted boxes are taken out, if they held before
 entries_thin : (hash : Alg → List ℕ → List ℕ) (out : List ℕ → Bool) (r : Reading) (contents : List ℕ) (assertions : List Superbox) (act : Bool) (red red' : List ℕ → Bool) (before after : List ℕ → Standing) (k : ℕ) (es : List Ref) → ((l : List ℕ) → red' l ≡ (out l || red l))
     → AllByRecursion Holds (each (entry_tests hash (old_seen r act red before)) k es) → AllByRecursion Holds (each (entry_tests hash (old_seen (thinned out contents assertions r) false red' after)) k es)
 entries_thin hash out r contents assertions act red red' before after k [] more_red h = tt
@@ -249,6 +270,7 @@ entries_thin hash out r contents assertions act red red' before after k (e ∷ e
     (entry_holds hash out r contents assertions act red red' before after k e more_red (each-front Holds (entry_tests hash s k e) (each (entry_tests hash s) (k + 1) es) h))
     (entries_thin hash out r contents assertions act red red' before after (k + 1) es more_red (each-back Holds (entry_tests hash s k e) (each (entry_tests hash s) (k + 1) es) h))
 
+-- the rules on bindings and parents hold once redacted boxes are taken out, if they held before
 bindings_thin : (out : List ℕ → Bool) (r : Reading) (contents : List ℕ) (assertions : List Superbox) (act : Bool) (red red' : List ℕ → Bool) (before after : List ℕ → Standing) → AllByRecursion (StaysAlike out before after) r.boxes
     → AllByRecursion Holds (binding_tests (old_seen r act red before)) → AllByRecursion Holds (binding_tests (old_seen (thinned out contents assertions r) false red' after))
 bindings_thin out r contents assertions act red red' before after lost h = go r.manifest.is_update h
@@ -272,6 +294,7 @@ bindings_thin out r contents assertions act red red' before after lost h = go r.
     go true g = (g.0, (ap (λ (x : List ReadBox). not (is_one_parent x)) ingredients ∙ g.1.0, tt))
     go false g = standard g
 
+-- all rules but the verdict's hold of a manifest that lost redacted boxes and is no longer active, as before
 pub thin_rules : (hash : Alg → List ℕ → List ℕ) (out : List ℕ → Bool) (r : Reading) (contents : List ℕ) (assertions : List Superbox) (act : Bool) (red red' : List ℕ → Bool) (before after : List ℕ → Standing)
     → ((l : List ℕ) → red' l ≡ (out l || red l)) → AllByRecursion (StaysAlike out before after) r.boxes
     → AllByRecursion Holds (unjudged_tests hash (old_seen r act red before)) → AllByRecursion Holds (unjudged_tests hash (old_seen (thinned out contents assertions r) false red' after))
@@ -308,10 +331,12 @@ thin_rules hash out r contents assertions act red red' before after more_red los
 
 -- ---- the laws
 
+-- where every rule of a list holds, place by place, each one after the other holds
 rec_from : (ts : List Test) → AllHold ts → AllByRecursion Holds ts
 rec_from [] h = tt
 rec_from (t ∷ ts) h = (h 0 t refl, rec_from ts (λ i u e. h (suc i) u e))
 
+-- where the rules of a list hold one after the other, every one holds, place by place
 all_from : (ts : List Test) → AllByRecursion Holds ts → AllHold ts
 all_from [] h i t e = absurd (cc e)
 all_from (u ∷ ts) h zero t e = let same : u ≡ t = cc e in ap (λ (x : Test). x.fails) (sym same) ∙ h.0
@@ -322,6 +347,7 @@ seen_now : (out : List ℕ → Bool) (was now : Seen) (h : Loses out was now) �
 seen_now out was now h = ap (λ (r : Reading). record { own = r; is_active = now.is_active; is_redacted = now.is_redacted; standing = now.standing }) h.own
     ∙ ap (λ (b : Bool). record { own = thinned out h.contents h.assertions was.own; is_active = b; is_redacted = now.is_redacted; standing = now.standing }) h.active
 
+-- where all rules of a manifest but the verdict's held, they hold once it lost boxes that are redacted
 pub without_boxes : (hash : Alg → List ℕ → List ℕ) (out : List ℕ → Bool) (was now : Seen) → Loses out was now → AllHold (unjudged_tests hash was) → AllHold (unjudged_tests hash now)
 without_boxes hash out was now h k =
     subst (λ (s : Seen). AllHold (unjudged_tests hash s)) (sym (seen_now out was now h))
@@ -330,6 +356,7 @@ without_boxes hash out was now h k =
 
 -- ---- no longer the active one
 
+-- the rules on bindings and parents hold of a manifest that is no longer active, if they held before
 inactive_bindings : (s : Seen) → AllByRecursion Holds (binding_tests s) → AllByRecursion Holds (binding_tests (inactive s))
 inactive_bindings s h = go s.own.manifest.is_update h
   where
@@ -340,6 +367,7 @@ inactive_bindings s h = go s.own.manifest.is_update h
         each-append Holds (over_all (hash_kind_test (inactive s)) 0 (labels_in s.own)) _ (kinds_free (inactive s) 0 (labels_in s.own) refl)
         (no_longer (length (bindings_in s.own) == 0) s.is_active (not (has_other_hash s.own)) k.0, k.1)
 
+-- the rules but the verdict's hold in turn of a manifest that is no longer active, if they held before
 inactive_rules : (hash : Alg → List ℕ → List ℕ) (s : Seen) → AllByRecursion Holds (unjudged_tests hash s) → AllByRecursion Holds (unjudged_tests hash (inactive s))
 inactive_rules hash s h =
     let v8 : List Test = each (λ k b. ingredient_tests hash s b) 0 s.own.boxes in
@@ -363,5 +391,6 @@ inactive_rules hash s h =
     each-append Holds (claim_tests s.own) (rest_tests hash (inactive s)) h0
     (each-append Holds v8 _ g8 (each-append Holds v9 _ g9 (each-append Holds v10 _ g10 (each-append Holds v11 _ g11 (each-append Holds (binding_tests (inactive s)) v13 (inactive_bindings s g12) g13)))))
 
+-- where all rules of a manifest but the verdict's hold, they hold once it is no longer the active one
 pub when_inactive : (hash : Alg → List ℕ → List ℕ) (s : Seen) → AllHold (unjudged_tests hash s) → AllHold (unjudged_tests hash (inactive s))
 when_inactive hash s h = all_from (unjudged_tests hash (inactive s)) (inactive_rules hash s (rec_from (unjudged_tests hash s) h))

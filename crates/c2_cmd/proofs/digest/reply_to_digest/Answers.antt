@@ -8,6 +8,7 @@ use Rattle.c2_cmd.proofs.Replying.{always_ok, each_ok, memory_cause, no_usage, s
 use Rattle.c2_texts.specs.Texts.{digest_line}
 use Rattle.c2_cmd.proofs.digest.reply_to_digest.Goals as goal
 
+-- where the media are known, the reply is the digest of their bytes outside the embedded range
 pub returns-clause-reply : goal.returns-clause-reply
 returns-clause-reply g c =
     let hash = g.H.Hashing.digest_of Sha256 in
@@ -16,11 +17,14 @@ returns-clause-reply g c =
     let digest = c.in_ok-digest.ensures.digest file (c.in_ok-found.ensures.stays.same_bytes ∙ known) in
     (here found.start found.length found.store, stored_here file _ found c.in-Here.is (c.in_ok-found.ensures.stored file known), out ∙ ap (λ d. reports answer.Done (digest_line found.start found.length d)) digest)) c.digest_reply.ensures.reply
 
+-- a reply with a digest never says that the words fit no command
 pub returns-clause-words : goal.returns-clause-words
 returns-clause-words g c = each_ok _ _ c.digest_reply.result (λ r out. no_usage r _ out) c.digest_reply.ensures.reply
 
+-- where there is a reply with a digest, the media haven't failed in this call
 pub returns-clause-count : goal.returns-clause-count
 returns-clause-count g c = always_ok _ c.digest_reply.result (c.in_ok-digest.ensures.count ∙ c.in_ok-found.ensures.count)
 
+-- once the digest is made, the one fault left is that memory runs out, which needs no cause
 pub returns-clause-fault : goal.returns-clause-fault
 returns-clause-fault g c = memory_cause _ _ c.digest_reply.result c.digest_reply.ensures.memory

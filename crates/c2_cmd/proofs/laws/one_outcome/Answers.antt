@@ -1,6 +1,7 @@
 use Rattle.c2_cmd.proofs.OneOutcome.{one_list, one_outcome}
 use Rattle.c2_cmd.proofs.laws.one_outcome.Goals as goal
 
+-- two outcomes of the same call are the same
 pub returns-clause-outcome : goal.returns-clause-outcome
 returns-clause-outcome c = one_outcome (record {
   located = c.each_file_is_located.ensures.once;
@@ -15,6 +16,7 @@ returns-clause-outcome c = one_outcome (record {
   questions = c.one_check.ensures.questions;
 })
 
+-- two lists of questions of the same call are the same
 pub returns-clause-questions : goal.returns-clause-questions
 returns-clause-questions c = one_list (record {
   located = c.each_file_is_located.ensures.once;

@@ -3,11 +3,13 @@ use Rattle.c2_cmd.specs.Reply.{ListsStore, Replies, outcome_of}
 use Rattle.c2_cmd.proofs.Replying.{boxed_outcome, each_ok, short_boxed, stored_here, stored_reply}
 use Rattle.c2_cmd.proofs.list.reply_to_list.Goals as goal
 
+-- where known media have a store, the reply over this store is the outcome of `list`
 pub returns-in-Here-clause-reply : goal.returns-in-Here-clause-reply
 returns-in-Here-clause-reply g c =
     each_ok (ListsStore c.in-Here.found) (Replies IsListOutcome (g.S.Source.known c.args.media.now)) c.list_store.result (λ r h file known.
     boxed_outcome file c.in-Here.found (outcome_of r) (stored_here file _ c.in-Here.found c.in-Here.is (c.in_ok-found.ensures.stored file known)) h) c.list_store.ensures.reply
 
+-- where known media are refused or have no store, saying so is the outcome of `list`
 pub returns-in-Reply-clause-reply : goal.returns-in-Reply-clause-reply
 returns-in-Reply-clause-reply g c file known =
     let short = stored_reply file _ c.in-Reply.reply c.in-Reply.is (c.in_ok-found.ensures.stored file known) in

@@ -3,6 +3,7 @@ use Rattle.c2_spec.specs.declared.digest.Alg.TheVariants.{Sha256}
 use Rattle.c2_spec.proofs.Kept.{kept_around}
 use Rattle.c2_cmd.proofs.outside.digest_outside.Goals as goal
 
+-- where the bytes are known, the digest is that of those before the range and those after it
 pub returns-in-Ok-clause-digest : goal.returns-in-Ok-clause-digest
 returns-in-Ok-clause-digest g c file known =
     let size : length file ≡ g.S.Source.len c.args.source.now = g.met.S.Source.known_len c.args.source.now file known in

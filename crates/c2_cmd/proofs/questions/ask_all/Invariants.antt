@@ -5,6 +5,7 @@ use Rattle.c2_cmd.specs.Outcome.{verdict_lines}
 use Rattle.c2_cmd.specs.Reply.{AsksSoFar, questions_in}
 use Rattle.c2_cmd.proofs.questions.ask_all.Given as goal
 
+-- so far the text has the lines of the manifests passed, and the panel was asked their questions
 abbrev pub invariant-loop-one : goal.invariant-loop-one
 invariant-loop-one g l =
     let says = map (λ j. (goal.Judge-dyn g (j.vtable, j.value)).says j.value) in

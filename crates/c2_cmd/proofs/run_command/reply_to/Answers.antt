@@ -3,12 +3,14 @@ use Rattle.c2_spec.specs.Judges.Panel.{panel_says}
 use Rattle.c2_cmd.proofs.Asking.{checked_file, known_file}
 use Rattle.c2_cmd.proofs.run_command.reply_to.Goals as goal
 
+-- by `questions` the judges are asked what the call puts to them, or after a fault what comes up to it
 pub returns-in-Questions-clause-asked : goal.returns-in-Questions-clause-asked
 returns-in-Questions-clause-asked g c known qs asks =
     let said = panel_says (map (λ j. (goal.Judge-dyn g (j.vtable, j.value)).says j.value) c.args.judges.now.items) in
     let f = known_file said g.H.Hashing.digest_of (g.A.Source.known c.args.media.now) _ c.in-Ok.found qs c.in-Ok.ensures.roles c.in-Ok.ensures.media c.in-Questions.is known.media_known asks in
     c.reply_to_questions.ensures.asked f.0 f.1 qs f.2
 
+-- by `validate` the judges are asked what the call puts to them, or after a fault what comes up to it
 pub returns-in-Validate-clause-asked : goal.returns-in-Validate-clause-asked
 returns-in-Validate-clause-asked g c known qs asks =
     let said = panel_says (map (λ j. (goal.Judge-dyn g (j.vtable, j.value)).says j.value) c.args.judges.now.items) in
