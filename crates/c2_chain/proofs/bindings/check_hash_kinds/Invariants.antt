@@ -4,6 +4,7 @@ use Rattle.c2_rules.specs.Seen.{seen_at}
 use Rattle.c2_rules.specs.Tests.{over_all, first_failing}
 use Rattle.c2_chain.proofs.bindings.check_hash_kinds.Given as goal
 
+-- no label that was passed is refused: what fails first of all labels is among the rest
 abbrev pub invariant-loop-k : goal.invariant-loop-k
 invariant-loop-k l =
     let test_of = hash_kind_test (seen_at l.chain l.i l.own) in

@@ -6,6 +6,7 @@ use Rattle.c2_chain.specs.Counts.{number_tests}
 use Rattle.c2_chain.proofs.BoundLemmas.{goes_on}
 use Rattle.c2_chain.proofs.bindings.check_standard.Goals as goal
 
+-- where no kind of hash is refused, what fails first by the numbers fails first of all these rules
 pub returns-in-None : goal.returns-in-None
 returns-in-None c =
     goes_on (over_all (hash_kind_test (seen_at c.args.chain.now c.args.i c.args.own.now)) 0 (map (λ x. x.now) c.args.labels.now)) (number_tests (seen_at c.args.chain.now c.args.i c.args.own.now) (map (λ x. x.now) c.args.labels.now) (map (λ x. x.now) c.args.bindings.now))

@@ -5,6 +5,7 @@ use Rattle.c2_rules.specs.Seen.{seen_at}
 use Rattle.c2_rules.specs.Tests.{each, first_failing}
 use Rattle.c2_chain.proofs.entries.check_entries.Given as goal
 
+-- the entries that were passed hold: what fails first of all is among the rest
 abbrev pub invariant-loop-k : goal.invariant-loop-k
 invariant-loop-k g l =
     let tests = entry_tests g.H.Hashing.digest_of (seen_at l.chain l.i l.own) in

@@ -7,6 +7,7 @@ use Rattle.c2_rules.specs.Seen.{seen_at}
 use Rattle.c2_rules.proofs.TestLemmas.{by_some}
 use Rattle.c2_chain.proofs.entries.check_entry.Goals as goal
 
+-- what fails of an entry by the label that it lists fails of the entry
 pub returns-in-Some : goal.returns-in-Some
 returns-in-Some g c =
     by_some (λ (label : List ℕ). labelled_tests g.H.Hashing.digest_of (seen_at c.args.chain.now c.args.i c.args.own.now) (take c.args.k (entries_in c.args.own.now)) c.args.entry.now label (assertion_uri (label_in c.args.own.now) label))

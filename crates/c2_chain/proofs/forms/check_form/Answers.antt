@@ -10,6 +10,7 @@ use Rattle.c2_rules.specs.declared.parsed.Parsed.{Parsed}
 use Rattle.c2_rules.proofs.TestLemmas.{by_some}
 use Rattle.c2_chain.proofs.forms.check_form.Goals as goal
 
+-- what fails of a box by the kind that its label tells fails of the box by its form
 pub returns-in-Some : goal.returns-in-Some
 returns-in-Some c =
     let tests : Parsed Ingredient → Kind → List Test = λ p k. kind_tests (standing_of c.args.chain.now c.args.i) (assertion_uri (label_in c.args.own.now) c.in-Some.name.now) p k in

@@ -8,6 +8,7 @@ use Rattle.c2_rules.specs.Seen.{standing_of}
 use Rattle.c2_rules.proofs.TestLemmas.{by_some}
 use Rattle.c2_chain.proofs.forms.check_reference.Goals as goal
 
+-- what fails by the place of the manifest that an ingredient names fails by the ingredient
 pub returns-in-Some-named : goal.returns-in-Some-named
 returns-in-Some-named c =
     by_some (λ (l : List ℕ). order_tests (assertion_uri (label_in c.args.own.now) c.args.name.now) (standing_of c.args.chain.now c.args.i l)) (option_and_then (λ (ref : Ref). manifest_named ref.url) c.args.g.now.manifest) c.in-Some-named.target.now _

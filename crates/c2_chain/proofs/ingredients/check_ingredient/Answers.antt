@@ -5,6 +5,7 @@ use Rattle.c2_rules.specs.Tests.{first_failing}
 use Rattle.c2_rules.proofs.TestLemmas.{by_value}
 use Rattle.c2_chain.proofs.ingredients.check_ingredient.Goals as goal
 
+-- what fails of a box's ingredient, at the box's URI, fails of the box
 pub returns-in-Value : goal.returns-in-Value
 returns-in-Value g c =
     by_value (child_tests g.H.Hashing.digest_of (seen_at c.args.chain.now c.args.i c.args.own.now) (assertion_box_uri c.args.own.now c.args.b.now.boxed.label)) c.args.b.now.ingredient c.in-Value.g _ c.check_reading.result

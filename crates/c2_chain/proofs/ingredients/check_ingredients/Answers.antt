@@ -5,6 +5,7 @@ use Rattle.c2_rules.specs.Seen.{seen_at}
 use Rattle.c2_rules.proofs.TestLemmas.{each_failed}
 use Rattle.c2_chain.proofs.ingredients.check_ingredients.Goals as goal
 
+-- where all ingredient boxes before it pass, what fails of this one fails first of all
 pub returns-in-Some : goal.returns-in-Some
 returns-in-Some g c =
     each_failed (λ (k : ℕ) (b : ReadBox). ingredient_tests g.H.Hashing.digest_of (seen_at c.args.chain.now c.args.i c.args.own.now) b)

@@ -5,6 +5,7 @@ use Rattle.c2_rules.specs.Seen.{seen_at, standing_of}
 use Rattle.c2_rules.proofs.TestLemmas.{by_some}
 use Rattle.c2_chain.proofs.ingredients.check_reading.Goals as goal
 
+-- what fails by the manifest whose label an ingredient names fails by the ingredient
 pub returns-in-Some-named : goal.returns-in-Some-named
 returns-in-Some-named g c =
     let uri : List ℕ = assertion_box_uri c.args.own.now (option_map (λ x. x.now) c.args.name) in

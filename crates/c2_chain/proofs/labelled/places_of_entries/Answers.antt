@@ -3,6 +3,7 @@ use Rattle.c2_chain.specs.Labelled.{entry_labels}
 use Rattle.c2_chain.proofs.LabelledLemmas.{entry_more, entry_place}
 use Rattle.c2_chain.proofs.labelled.places_of_entries.Goals as goal
 
+-- with the label of one entry more, the places are right of the entries so far
 pub loop-k-preserved : goal.loop-k-preserved
 loop-k-preserved c =
     let es = map (λ x. x.now) c.args.entries.now in
