@@ -179,6 +179,7 @@ flat_twice f g (x ∷ xs) = ap (λ (ys : List RootBox). flat_map g (f x) ++ ys) 
 abbrev nothing : RootBox → List RootBox
 nothing r = []
 
+-- where each row has no rows below it, all rows together have none
 flat_none : (xs : List RootBox) → flat_map nothing xs ≡ []
 flat_none [] = refl
 flat_none (x ∷ xs) = flat_none xs

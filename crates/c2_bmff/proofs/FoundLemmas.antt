@@ -66,14 +66,17 @@ other_no_store b h = go (is_store_box b) refl
     go true e = absurd (no_both b e h)
     go false e = e
 
+-- where no root box has a part in a store, none of them holds one
 none_found : (before : List Box) → AllByRecursion (λ (b : Box). is_other_box b ≡ true) before → list_any is_store_box before ≡ false
 none_found [] h = refl
 none_found (b ∷ bs) h = ap (λ t. t || list_any is_store_box bs) (other_no_store b h.0) ∙ none_found bs h.1
 
+-- an "or" with `true` on its right passes
 or_true : (t : Bool) → (t || true) ≡ true
 or_true true = refl
 or_true false = refl
 
+-- where a box that holds a store stands among root boxes, whatever they are, some of them holds one
 one_found : (before : List Box) (h : Box) (after : List Box) → is_store_box h ≡ true → list_any is_store_box (before ++ h ∷ after) ≡ true
 one_found [] h after e = ap (λ t. t || list_any is_store_box after) e
 one_found (b ∷ bs) h after e = ap (λ t. is_store_box b || t) (one_found bs h after e) ∙ or_true (is_store_box b)
@@ -85,6 +88,7 @@ any_is boxes (Some f) h = ap (list_any is_store_box) h.split ∙ one_found h.bef
 
 -- ---- one box more
 
+-- one box more without a part in a store, after others without one, leaves none with one
 all_more : (bs : List Box) (b : Box) → AllByRecursion (λ (x : Box). is_other_box x ≡ true) bs → is_other_box b ≡ true → AllByRecursion (λ (x : Box). is_other_box x ≡ true) (bs ++ b ∷ [])
 all_more [] b s t = (t, tt)
 all_more (c ∷ cs) b s t = (s.0, all_more cs b s.1 t)
@@ -107,6 +111,7 @@ finds_other boxes b (Some f) h e = record {
   for = h.for;
 }
 
+-- where nothing was found among root boxes, none of them has a part in a store
 none_before : (boxes : List Box) (found : Option Found) → Finds boxes found → is_some found ≡ false → AllByRecursion (λ (b : Box). is_other_box b ≡ true) boxes
 none_before boxes None h e = h
 none_before boxes (Some f) h e = absurd (cc (e))

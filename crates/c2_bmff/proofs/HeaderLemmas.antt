@@ -18,6 +18,7 @@ piece from count rest h =
     let m : 16 ≡ from + (16 - from) = omega (arith, h) in
     ap (λ n. take count (drop from (take n rest))) m ∙ ap (take count) (drop-take from (16 - from) rest) ∙ take-take count (16 - from) (drop from rest) (omega (arith, h))
 
+-- six tests whose two errors are mapped find the mapped error of the same test
 mapped : (g : HeadError → MediaError) (a b c d e f : Bool) → six a b c d e f (g Short) (g Bad) ≡ option_map g (six a b c d e f Short Bad)
 mapped g true b c d e f = refl
 mapped g false true c d e f = refl
@@ -27,23 +28,29 @@ mapped g false false false false true f = refl
 mapped g false false false false false true = refl
 mapped g false false false false false false = refl
 
+-- the first header test that fails is that of the six tests, by the numbers that the header states
 header_by : (left : ℕ) (bytes : List ℕ) → header_fault left bytes ≡ by left Short Bad (stated_size bytes) (stated_long_size bytes) (stated_kind bytes)
 unfolding header_fault
 header_by left bytes = refl
 
+-- the first 16 bytes state the size that the rest of the file does
 size_same : (rest : List ℕ) → stated_size (take 16 rest) ≡ stated_size rest
 size_same rest = ap (from_be_bytes w32) (piece 0 4 rest (omega arith))
 
+-- they state the same type
 kind_same : (rest : List ℕ) → stated_kind (take 16 rest) ≡ stated_kind rest
 kind_same rest = piece 4 4 rest (omega arith)
 
+-- and the same size of 8 bytes
 long_same : (rest : List ℕ) → stated_long_size (take 16 rest) ≡ stated_long_size rest
 long_same rest = ap (from_be_bytes w64) (piece 8 8 rest (omega arith))
 
+-- with errors of the file in place of the header's, the same test of the header is the first to fail
 by_mapped : (g : HeadError → MediaError) (left size long : ℕ) (kind : List ℕ) → by left (g Short) (g Bad) size long kind ≡ option_map g (by left Short Bad size long kind)
 by_mapped g left size long kind =
     mapped g (ltb left 8) (ltb left (cond (size == 1) 16 8)) (leb 2 size && ltb size 8) ((size == 1) && ltb long 16) (ltb left (len_by left size long)) (bytes_eq kind uuid_kind && ltb (len_by left size long) (cond (size == 1) 16 8 + 16))
 
+-- a box fails at its place as its first 16 bytes do, with the error of the file
 pub same_fault : (p : ℕ) (rest : List ℕ) → box_fault p rest ≡ option_map (media_error p (length rest)) (header_fault (length rest) (take 16 rest))
 same_fault p rest =
     file_by p rest
@@ -54,6 +61,7 @@ same_fault p rest =
     ∙ ap (λ k. by (length rest) Short Bad (stated_size (take 16 rest)) (stated_long_size (take 16 rest)) k) (sym (kind_same rest))
     ∙ sym (header_by (length rest) (take 16 rest)))
 
+-- what the first 16 bytes tell of a header that passes holds of the box at its place in the file
 pub head_of : (p : ℕ) (rest bytes : List ℕ) (left : ℕ) (h : BoxHead) → bytes ≡ take 16 rest → left ≡ length rest → IsHeader left bytes h → IsHead p rest h
 head_of p rest bytes left h b l f =
     let good : header_fault (length rest) (take 16 rest) ≡ None = sym (ap₂ header_fault l b) ∙ f.good in
@@ -65,6 +73,7 @@ head_of p rest bytes left h b l f =
       to_end = f.to_end ∙ ap (λ (x : List ℕ). stated_size x == 0) b ∙ ap (λ n. n == 0) (size_same rest);
     }
 
+-- where the first 16 bytes fail a test, the box at its place fails with that test's error of the file
 pub fault_of : (p : ℕ) (rest bytes : List ℕ) (left : ℕ) (e : HeadError) → bytes ≡ take 16 rest → left ≡ length rest → header_fault left bytes ≡ Some e → box_fault p rest ≡ Some (media_error p (length rest) e)
 fault_of p rest bytes left e b l f = same_fault p rest ∙ ap (option_map (media_error p (length rest))) (sym (ap₂ header_fault l b) ∙ f)
 

@@ -8,6 +8,7 @@ use Rattle.c2_bmff.specs.Marks.{in_row, in_row_part, stands_at}
 use Rattle.c2_bmff.specs.declared.root_boxes.RootBox.{RootBox}
 use Rattle.c2_spec.specs.Bmff.Hash.{in_part}
 
+-- three tests that must all hold may be joined either way
 and_join : (a b c : Bool) → (a && (b && c)) ≡ ((a && b) && c)
 and_join true b c = refl
 and_join false b c = refl
@@ -32,6 +33,7 @@ stands_split file at value n inside fits =
 
 -- ---- lists
 
+-- three tests of which one must hold may be joined either way
 or_join : (a b c : Bool) → ((a || b) || c) ≡ (a || (b || c))
 or_join true b c = refl
 or_join false b c = refl
@@ -41,6 +43,7 @@ pub or_false : (b : Bool) → (b || false) ≡ b
 or_false true = refl
 or_false false = refl
 
+-- some member of a list with one more at its end passes where one of the list or that one does
 any_append : {A : Type 0} (p : A → Bool) (xs : List A) (x : A) → list_any p (xs ++ x ∷ []) ≡ (list_any p xs || p x)
 any_append p [] x = or_false (p x)
 any_append p (y ∷ ys) x = ap (λ b. p y || b) (any_append p ys x) ∙ sym (or_join (p y) (list_any p ys) (p x))

@@ -28,6 +28,7 @@ abbrev pub Member : {A : Type 0} → A → List A → Type 0
 Member x [] = ⊥
 Member x (y ∷ ys) = (x ≡ y) ⊎ Member x ys
 
+-- what a list contains at some index is a member of it
 to_member : {A : Type 0} (xs : List A) (x : A) → Contains xs x → Member x xs
 to_member {A} xs x c = go xs c.0 c.1 c.2
   where
@@ -36,30 +37,36 @@ to_member {A} xs x c = go xs c.0 c.1 c.2
     go (y ∷ ys) zero inside e = inl (sym e)
     go (y ∷ ys) (suc k) inside e = inr (go ys k (omega arith) e)
 
+-- a member of a list stands at some index of it
 from_member : {A : Type 0} (xs : List A) (x : A) → Member x xs → Contains xs x
 from_member [] x m = absurd m
 from_member (y ∷ ys) x (inl e) = (0, omega arith, sym e)
 from_member (y ∷ ys) x (inr m) = let c : Contains ys x = from_member ys x m in (suc c.0, omega (arith, c.1), c.2)
 
+-- the value of a member is a member of the values
 member_map : {A B : Type 0} (f : A → B) (xs : List A) (x : A) → Member x xs → Member (f x) (map f xs)
 member_map f [] x m = m
 member_map f (y ∷ ys) x (inl e) = inl (ap f e)
 member_map f (y ∷ ys) x (inr m) = inr (member_map f ys x m)
 
+-- a member of the values is the value of some member
 map_member : {A B : Type 0} (f : A → B) (xs : List A) (y : B) → Member y (map f xs) → (x : A) × Member x xs × (y ≡ f x)
 map_member f [] y m = absurd m
 map_member f (x ∷ xs) y (inl e) = (x, inl refl, e)
 map_member f (x ∷ xs) y (inr m) = let r = map_member f xs y m in (r.0, inr r.1, r.2)
 
+-- a member of the first of two lists is one of both together
 in_front : {A : Type 0} (xs ys : List A) (x : A) → Member x xs → Member x (xs ++ ys)
 in_front [] ys x m = absurd m
 in_front (z ∷ zs) ys x (inl e) = inl e
 in_front (z ∷ zs) ys x (inr m) = inr (in_front zs ys x m)
 
+-- so is a member of the second
 in_back : {A : Type 0} (xs ys : List A) (x : A) → Member x ys → Member x (xs ++ ys)
 in_back [] ys x m = m
 in_back (z ∷ zs) ys x m = inr (in_back zs ys x m)
 
+-- a member of two lists together is one of the first or of the second
 in_either : {A : Type 0} (xs ys : List A) (x : A) → Member x (xs ++ ys) → Member x xs ⊎ Member x ys
 in_either [] ys x m = inr m
 in_either (z ∷ zs) ys x (inl e) = inl (inl e)
@@ -69,11 +76,13 @@ in_either {A} (z ∷ zs) ys x (inr m) = go (in_either zs ys x m)
     go (inl a) = inl (inr a)
     go (inr b) = inr b
 
+-- a member of what one member of a list gives is a member of what all of them give
 member_flat : {A B : Type 0} (f : A → List B) (xs : List A) (x : A) (y : B) → Member x xs → Member y (f x) → Member y (flat_map f xs)
 member_flat f [] x y m n = absurd m
 member_flat {A} f (z ∷ zs) x y (inl e) n = in_front (f z) (flat_map f zs) y (subst (λ (a : A). Member y (f a)) e n)
 member_flat f (z ∷ zs) x y (inr m) n = in_back (f z) (flat_map f zs) y (member_flat f zs x y m n)
 
+-- a member of what all members of a list give comes from one of them
 flat_member : {A B : Type 0} (f : A → List B) (xs : List A) (y : B) → Member y (flat_map f xs) → (x : A) × Member x xs × Member y (f x)
 flat_member f [] y m = absurd m
 flat_member {A} f (z ∷ zs) y m = go (in_either (f z) (flat_map f zs) y m) (λ n. flat_member f zs y n)
@@ -82,11 +91,13 @@ flat_member {A} f (z ∷ zs) y m = go (in_either (f z) (flat_map f zs) y m) (λ 
     go (inl a) rest = (z, inl refl, a)
     go (inr b) rest = let r = rest b in (r.0, inr r.1, r.2)
 
+-- what holds of all members of a list holds of each
 all_member : {A : Type 0} (P : A → Type 0) (xs : List A) (x : A) → AllByRecursion P xs → Member x xs → P x
 all_member P [] x h m = absurd m
 all_member P (y ∷ ys) x h (inl e) = subst P (sym e) h.0
 all_member P (y ∷ ys) x h (inr m) = all_member P ys x h.1 m
 
+-- where some member passes a test, there is a member that does
 any_member : {A : Type 0} (p : A → Bool) (xs : List A) → list_any p xs ≡ true → (x : A) × Member x xs × (p x ≡ true)
 any_member p [] e = absurd (cc (e))
 any_member {A} p (x ∷ xs) e = go (p x) refl (λ h. any_member p xs h)
@@ -95,6 +106,7 @@ any_member {A} p (x ∷ xs) e = go (p x) refl (λ h. any_member p xs h)
     go true h rest = (x, inl refl, h)
     go false h rest = let r = rest (sym (ap (λ (t : Bool). t || list_any p xs) h) ∙ e) in (r.0, inr r.1, r.2)
 
+-- where a member passes a test, some member does
 member_any : {A : Type 0} (p : A → Bool) (xs : List A) (x : A) → Member x xs → p x ≡ true → list_any p xs ≡ true
 member_any p [] x m h = absurd m
 member_any p (y ∷ ys) x (inl e) h = ap (λ (t : Bool). t || list_any p ys) (ap p (sym e) ∙ h)
@@ -106,6 +118,7 @@ member_any p (y ∷ ys) x (inr m) h = ap (λ (t : Bool). p y || t) (member_any p
 
 -- ---- a step
 
+-- the rows that pass a test are those of the boxes whose rows pass it
 rows_filter : (p : RootBox → Bool) (ps : List PlacedBox) → filter p (map row_of ps) ≡ map row_of (filter (λ (b : PlacedBox). p (row_of b)) ps)
 rows_filter p [] = refl
 rows_filter p (x ∷ xs) = go (p (row_of x)) (rows_filter p xs)
@@ -114,12 +127,14 @@ rows_filter p (x ∷ xs) = go (p (row_of x)) (rows_filter p xs)
     go true e = ap (λ (rs : List RootBox). row_of x ∷ rs) e
     go false e = e
 
+-- the row at an index is that of the box at this index
 rows_one : (n : ℕ) (ps : List PlacedBox) → take 1 (drop n (map row_of ps)) ≡ map row_of (take 1 (drop n ps))
 rows_one zero [] = refl
 rows_one zero (x ∷ xs) = refl
 rows_one (suc n) [] = ap (take 1) (drop_all (suc n) [] (omega arith)) ∙ sym (ap (λ (ps : List PlacedBox). map row_of (take 1 ps)) (drop_all (suc n) [] (omega arith)))
 rows_one (suc n) (x ∷ xs) = rows_one n xs
 
+-- the rows that a step's number leaves are those of the boxes that it leaves
 rows_nth : (nth : Option ℕ) (ps : List PlacedBox) → nth_of nth (map row_of ps) ≡ map row_of (nth_of nth ps)
 rows_nth None ps = refl
 rows_nth (Some k) ps = rows_one (k - 1) ps
@@ -146,6 +161,7 @@ pub record OnRows (file : List ℕ) (rows : List RootBox) (b : PlacedBox) : Type
   pub row : Member (row_of b) rows
   pub stands : Stands file b
 
+-- each box on a path below boxes that stand in the file has its row among the rows on the path
 pub path_rows : (file : List ℕ) → AreBytes file → length file < 2 ^ 62 → (ps : List PlacedBox) (steps : List PathStep) (b : PlacedBox) → OnPath ps steps b → AllByRecursion (Stands file) ps → OnRows file (on_rows file (map row_of ps) steps) b
 path_rows file bytes fits ps steps b (last _ step _ c) h =
     let m : Member b (matched step ps) = to_member (matched step ps) b c in
@@ -169,6 +185,7 @@ pub record HasBox (file : List ℕ) (ps : List PlacedBox) (steps : List PathStep
   pub is : r ≡ row_of box
   pub stands : Stands file box
 
+-- each row on a path below boxes that stand in the file is that of a box on the path
 pub rows_path : (file : List ℕ) → AreBytes file → length file < 2 ^ 62 → (steps : List PathStep) (ps : List PlacedBox) (r : RootBox) → AllByRecursion (Stands file) ps → Member r (on_rows file (map row_of ps) steps) → HasBox file ps steps r
 rows_path file bytes fits [] ps r h m = absurd m
 rows_path file bytes fits (step ∷ []) ps r h m =
@@ -206,23 +223,28 @@ test_row file b t s h =
     let inside : t.offset + length t.value ≤ box_len b.box = leb-true (t.offset + length t.value) (box_len b.box) parts.0 in
     record { inside = inside; same = sym (piece_same file b t.offset (length t.value) s inside) ∙ (bytes_eq-Decides (take (length t.value) (drop (b.at + t.offset) file)) t.value).0 parts.1 }
 
+-- a byte test that the box meets holds by its row
 row_test : (file : List ℕ) (b : PlacedBox) (t : ByteTest) → Stands file b → MeetsTest b.box t → holds_test file (row_of b) t ≡ true
 row_test file b t s m =
     and_from (leb (t.offset + length t.value) (box_len b.box)) (stands_at file (b.at + t.offset) t.value) (le-leb (t.offset + length t.value) (box_len b.box) m.inside)
     ((bytes_eq-Decides (take (length t.value) (drop (b.at + t.offset) file)) t.value).1 (piece_same file b t.offset (length t.value) s m.inside ∙ m.same))
 
+-- where all byte tests hold by the row, the box meets them all
 tests_rows : (file : List ℕ) (b : PlacedBox) (ts : List ByteTest) → Stands file b → list_all (holds_test file (row_of b)) ts ≡ true → AllByRecursion (MeetsTest b.box) ts
 tests_rows file b [] s h = tt
 tests_rows file b (t ∷ ts) s h = let parts = and_parts (holds_test file (row_of b) t) (list_all (holds_test file (row_of b)) ts) h in (test_row file b t s parts.0, tests_rows file b ts s parts.1)
 
+-- where the box meets all byte tests, they hold by its row
 rows_tests : (file : List ℕ) (b : PlacedBox) (ts : List ByteTest) → Stands file b → AllByRecursion (MeetsTest b.box) ts → list_all (holds_test file (row_of b)) ts ≡ true
 rows_tests file b [] s h = refl
 rows_tests file b (t ∷ ts) s h = and_from (holds_test file (row_of b) t) (list_all (holds_test file (row_of b)) ts) (row_test file b t s h.0) (rows_tests file b ts s h.1)
 
+-- where the row has the stated length, the box has it
 sized_row : (o : Option ℕ) (b : PlacedBox) → has_length o (row_of b) ≡ true → IfSome o (λ n. box_len b.box ≡ n)
 sized_row None b h = tt
 sized_row (Some n) b h = eqb-true (box_len b.box) n h
 
+-- where the box has the stated length, its row has it
 row_sized : (o : Option ℕ) (b : PlacedBox) → IfSome o (λ n. box_len b.box ≡ n) → has_length o (row_of b) ≡ true
 row_sized None b h = refl
 row_sized (Some n) b h = eq-eqb (box_len b.box) n h
@@ -270,6 +292,7 @@ fill_rows : (size low : ℕ) (rows : List RootBox) → FillSource size low rows 
 fill_rows size low [] f = tt
 fill_rows size low (r ∷ rs) f = ((omega (arith, f.0, fill_end size (low + r.length) rs f.3), f.1), fill_rows size (low + r.length) rs f.3)
 
+-- all rows that fill a source lie inside it
 pub rows_within : (size low : ℕ) (rows : List RootBox) → FillSource size low rows → All (IsRowWithin size) rows
 rows_within size low rows f = All-from_recursion (IsRowWithin size) rows (fill_rows size low rows f)
 
@@ -279,6 +302,7 @@ all_rows_excluded file boxes es i bytes h ex =
     let e = any_member (excludes_row file (rows_of boxes) i) es ex in
     record { exclusion = e.0; is_one = from_member es e.0 e.1; excludes = rows_excluded file boxes e.0 i bytes h e.2 }
 
+-- a position that one of the exclusions excludes is excluded by the rows
 pub all_excluded_rows : (file : List ℕ) (boxes : List Box) (es : List Exclusion) (i : ℕ) → AreBytes file → HasRoots file boxes → IsExcluded boxes es i → list_any (excludes_row file (rows_of boxes) i) es ≡ true
 all_excluded_rows file boxes es i bytes h ex = member_any (excludes_row file (rows_of boxes) i) es ex.exclusion (to_member es ex.exclusion ex.is_one) (excluded_rows file boxes ex.exclusion i bytes h ex.excludes)
 

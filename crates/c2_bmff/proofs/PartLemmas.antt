@@ -41,9 +41,11 @@ abbrev whole : List ℕ → List ℕ → List ℕ → Bool → Part → Part
 whole a b c found tail =
     cond (not (bytes_eq a c2pa_user_type)) part.Other (cond (not (bytes_eq b (0 ∷ 0 ∷ 0 ∷ 0 ∷ []))) part.Bad (cond (not (bytes_eq c (codes "manifest" ++ 0 ∷ []))) part.Other (cond found part.Second tail)))
 
+-- what a C2PA box for a store is, by the payload's length and the two sizes of the store's box
 abbrev tail_by : ℕ → ℕ → ℕ → Part
 tail_by len n e = cond (ltb len 37) part.Bad (sized_part (cond (there (len - 37) n e) (Some (cond (n == 1) e n)) None))
 
+-- what the first 53 bytes say of a `uuid` box, by the pieces that the tests ask for
 by_first : (found : Bool) (len : ℕ) (bytes : List ℕ) → first_part found len bytes ≡ whole (take 16 bytes) (take 4 (drop 16 bytes)) (take 9 (drop 20 bytes)) found (tail_by len (from_be_bytes w32 (take 4 (drop 37 bytes))) (from_be_bytes w64 (take 8 (drop 45 bytes))))
 unfolding first_part store_by
 by_first found len bytes = refl
@@ -57,9 +59,11 @@ tail_cases true true true false d t = refl
 tail_cases true true true true false t = refl
 tail_cases true true true true true t = refl
 
+-- a content of less than 21 bytes after the user type is a payload of less than 37
 few_same : (n : ℕ) → not (leb 21 (n - 16)) ≡ ltb n 37
 few_same n = ⊎_elim (λ l. ap not (lt-leb 21 (n - 16) (omega (arith, l))) ∙ sym (lt-ltb n 37 l)) (λ m. ap not (le-leb 21 (n - 16) (omega (arith, m))) ∙ sym (le-ltb n 37 m)) (cases_lt n 37)
 
+-- what the payload says of a `uuid` box, by the same pieces
 by_payload : (found : Bool) (p : List ℕ) → payload_part found p ≡ whole (take 16 p) (take 4 (drop 16 p)) (take 9 (drop 4 (drop 16 p))) found (tail_by (length p) (from_be_bytes w32 (take 4 (drop 21 (drop 16 p)))) (from_be_bytes w64 (take 8 (drop 8 (drop 21 (drop 16 p))))))
 unfolding payload_part
 by_payload found p = ap (whole (take 16 p) (take 4 (drop 16 p)) (take 9 (drop 4 (drop 16 p))) found) tail

@@ -43,6 +43,7 @@ second_fails : (a c d : Bool) (n : ℕ) → number_if a false c d n ≡ None
 second_fails true c d n = refl
 second_fails false c d n = refl
 
+-- where the last of the four tests fails, there is no number
 last_fails : (a b c : Bool) (n : ℕ) → number_if a b c false n ≡ None
 last_fails true true true n = refl
 last_fails true true false n = refl
@@ -53,6 +54,7 @@ last_fails false b c n = refl
 by_tests : (ds : List ℕ) → number_of_digits ds ≡ number_if (list_all is_ascii_digit ds) (not (get_or ds 0 0x30 == 0x30)) (leb 1 (digits_value 10 ds)) (leb (digits_value 10 ds) most_nth) (digits_value 10 ds)
 by_tests ds = refl
 
+-- a text with a byte that is no digit writes no number in brackets
 pub not_digits : (ds : List ℕ) (i : ℕ) → i < length ds → is_ascii_digit (get_or ds i 0) ≡ false → number_of_digits ds ≡ None
 not_digits ds i inside fails = by_tests ds ∙ ap (λ t. number_if t (not (get_or ds 0 0x30 == 0x30)) (leb 1 (digits_value 10 ds)) (leb (digits_value 10 ds) most_nth) (digits_value 10 ds)) (all_fails ds i inside fails)
 
@@ -107,6 +109,7 @@ pub nth_other : (text : List ℕ) → 0 < length text → (get_or text 0 0 ≡ 0
 nth_other [] some other = absurd (omega arith)
 nth_other (b ∷ bs) some other = sym (ap (λ t. cond (t && bytes_eq (drop (length bs - 1) bs) (0x5D ∷ [])) (nth_number (digits_value 10 (take (length bs - 1) bs)) (take (length bs - 1) bs)) None) (ne_eqb b 0x5B other))
 
+-- one byte after a type, even an opening bracket, is no number in brackets
 pub nth_open : (text : List ℕ) → length text ≡ 1 → None ≡ nth_of_text text
 nth_open [] one = absurd (omega arith)
 nth_open (b ∷ []) one = go (b == 0x5B)
@@ -116,6 +119,7 @@ nth_open (b ∷ []) one = go (b == 0x5B)
     go false = refl
 nth_open (b ∷ c ∷ cs) one = absurd (omega arith)
 
+-- a text after a type whose last byte doesn't close the bracket is no number in brackets
 pub nth_unclosed : (text : List ℕ) (last : ℕ) → 2 ≤ length text → last ≡ length text - 1 → (get_or text last 0 ≡ 0x5D → ⊥) → None ≡ nth_of_text text
 nth_unclosed [] last two e other = absurd (omega arith)
 nth_unclosed (b ∷ bs) last two e other =

@@ -9,6 +9,7 @@ use Rattle.std.proofs.lemmas.Bool.Decides.{Decides-eqb}
 use Rattle.std.proofs.lemmas.Slice.Eq.{starts_is}
 use Rattle.c2_spec.specs.C2pa.Uri.{after_piece}
 
+-- a text that begins with the piece is stripped to what follows it, and no other text is
 pub strip_is : (piece text : List ℕ) (r : Option (Bor (List ℕ))) → MatchOption r (FindsTextPrefix piece text None) (λ x. StripsPrefix (FindsTextPrefix piece) text x.now)
     → option_map (λ t. t.now) r ≡ after_piece piece text
 strip_is piece text None h =

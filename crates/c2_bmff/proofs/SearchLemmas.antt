@@ -28,6 +28,7 @@ pub record BoxAt (p : ℕ) (boxes : List Box) (n : ℕ) (r : RootBox) : Type 0 w
   pub more : take (suc n) boxes ≡ take n boxes ++ box ∷ []
   pub row : r ≡ row_of (record { at = p + boxes_len (take n boxes); box = box })
 
+-- equal lists have the same first member
 first_same : {X : Type 0} (x y : X) (xs ys : List X) → x ∷ xs ≡ y ∷ ys → x ≡ y
 first_same x y xs ys e = cc (e)
 
@@ -113,6 +114,7 @@ tests u v m found hs big n = cond (not u) part.Other (cond (not v) part.Bad (con
 abbrev pub faults : Bool → Bool → Bool → Bool → Bool → Bool → ℕ → ℕ → Option MediaError
 faults u v m found hs big n p = cond u (cond (not v) (Some (BadProvenanceBox p)) (cond (not m) None (cond found (Some (TwoStores p)) (cond (not hs) (Some (BadProvenanceBox p)) (cond big (Some (StoreTooLarge n)) None))))) None
 
+-- a `uuid` box without a part in a store isn't of C2PA, or has version 0 and another purpose
 pub other_by : (u v m found hs big : Bool) (n : ℕ) → tests u v m found hs big n ≡ part.Other → (not u || (v && not m)) ≡ true
 other_by false v m found hs big n e = refl
 other_by true true false found hs big n e = refl
@@ -122,6 +124,7 @@ other_by true true true false false big n e = absurd (cc (e))
 other_by true true true false true true n e = absurd (cc (e))
 other_by true true true false true false n e = absurd (cc (e))
 
+-- such a box fails no test
 pub other_fault : (u v m found hs big : Bool) (n p : ℕ) → (not u || (v && not m)) ≡ true → faults u v m found hs big n p ≡ None
 other_fault false v m found hs big n p e = refl
 other_fault true true false found hs big n p e = refl
@@ -137,6 +140,7 @@ pub record Holder (u v m found hs big : Bool) (n t p : ℕ) : Type 0 where
   pub len : t ≡ n
   pub passes : faults u v m found hs big n p ≡ None
 
+-- a `uuid` box that holds a store passes all tests, and no store was found before it
 pub holds_by : (u v m found hs big : Bool) (n t p : ℕ) → tests u v m found hs big n ≡ part.Holds t → Holder u v m found hs big n t p
 holds_by true true true false true false n t p e = record { is = refl; first = refl; whole = refl; small = refl; len = let f : part.Holds n ≡ part.Holds t = e in cc (f); passes = refl }
 holds_by false v m found hs big n t p e = absurd (cc (e))
@@ -146,6 +150,7 @@ holds_by true true true true hs big n t p e = absurd (cc (e))
 holds_by true true true false false big n t p e = absurd (cc (e))
 holds_by true true true false true true n t p e = absurd (cc (e))
 
+-- a `uuid` box that isn't passed fails with the error that is told of it, at its start
 pub fails_by : (u v m found hs big : Bool) (n : ℕ) (r : RootBox) (q : Part) (e : MediaError) → tests u v m found hs big n ≡ q → FailsBy q r e → faults u v m found hs big n r.start ≡ Some e
 fails_by u v m found hs big n r part.Other e t f = absurd f
 fails_by u v m found hs big n r (part.Holds k) e t f = absurd f

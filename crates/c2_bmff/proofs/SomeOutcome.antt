@@ -84,6 +84,7 @@ least b h = omega (arith, bytes_size b h, least_len b.form)
     least_len long = omega arith
     least_len to_end = omega arith
 
+-- a BMFF file with boxes that say their sizes at its front has root boxes, or a first test of them fails
 roots_walk : (file : List ℕ) → length file < 2 ^ 62 → begins_bmff file ≡ true → (n : ℕ) (before : List Box) (rest : List ℕ) → AreBytes rest → length rest ≤ n → length rest < 2 ^ 62 → AllByRecursion IsSizedBox before → length before ≤ most_roots → file ≡ flat_map box_bytes before ++ rest → RootsOr file
 roots_walk file fits begins n before [] bytes enough small sized few e = inl (before, record { fits = fits; begins = begins; bytes = e ∙ append-nil (flat_map box_bytes before); forms = sized_forms before sized; few = few })
 roots_walk file fits begins zero before (x ∷ xs) bytes enough small sized few e = absurd (omega arith)
@@ -123,6 +124,7 @@ roots_walk file fits begins (suc n) before (x ∷ xs) bytes enough small sized f
 abbrev FoundOr : List ℕ → List Box → Type 0
 FoundOr file roots = ((found : Option Found) × Searched roots found) ⊎ ((e : MediaError) × ProvenanceFault file e × Refuses e)
 
+-- where the first root boxes pass the search, all of them do, or a C2PA box among the others fails
 scan : (file : List ℕ) (roots : List Box) → HasRoots file roots → (after before : List Box) (found : Option Found) → Searched before found → roots ≡ before ++ after → FoundOr file roots
 scan file roots has [] before found s e = inl (found, subst (λ (bs : List Box). Searched bs found) (sym (e ∙ append-nil before)) s)
 scan file roots has (b ∷ bs) before found s e = by (bytes_eq b.kind uuid_kind) refl (payload_part (is_some found) b.payload) refl (λ new t. scan file roots has bs (before ++ b ∷ []) new t (e ∙ sym (append_assoc before (b ∷ []) bs)))
@@ -142,13 +144,16 @@ scan file roots has (b ∷ bs) before found s e = by (bytes_eq b.kind uuid_kind)
 
 -- ---- the file
 
+-- a file whose first failing test refuses it is refused for that reason
 refused_so : (file : List ℕ) (e : MediaError) → FirstBmffFault file e → Refuses e → (v : Located) × IsBmffLocated file v
 refused_so file e f r = (refused r.0 r.1, (e, f, r.2))
 
+-- a file whose root boxes are all searched has the store that was found, or none
 stored : (file : List ℕ) (roots : List Box) → HasRoots file roots → (found : Option Found) → Searched roots found → (v : Located) × IsBmffLocated file v
 stored file roots has None s = (absent, record { roots = roots; has_roots = has; none = s.finds })
 stored file roots has (Some f) s = (here f.start f.length f.store, record { roots = roots; has_roots = has; holds = s.finds })
 
+-- each list of bytes is refused, has no store, or has a store in one range
 pub some_outcome : (file : List ℕ) → AreBytes file → (v : Located) × IsBmffLocated file v
 some_outcome file bytes = ⊎_elim (λ fits. begin fits (begins_bmff file) refl) (λ large. refused_so file (FileTooLarge (length file)) (too_large large) (why.FileTooLarge, length file, refl)) (cases_lt (length file) (2 ^ 62))
   where

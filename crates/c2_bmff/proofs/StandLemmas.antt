@@ -45,6 +45,7 @@ record Told (b : Box) (rest : List ℕ) (tail : List ℕ) : Type 0 where
   pub kind : stated_kind rest ≡ b.kind
   pub others : drop (stated_len rest) rest ≡ tail
 
+-- at the front of its bytes, a box that says its size is told with its length, its header and its type
 told : (b : Box) (rest tail : List ℕ) → IsSizedBox b → AreBytes rest → length rest < 2 ^ 64 → rest ≡ box_bytes b ++ tail → Told b rest tail
 told b rest tail s bytes fits e =
     let none : box_fault 0 rest ≡ None = ap (box_fault 0) e ∙ box_passes b.form b.kind b.payload tail s.is_box (λ t. absurd (let wrong = sym t ∙ s.sized in cc (wrong))) 0 in
@@ -131,6 +132,7 @@ record Inner (file : List ℕ) (p : PlacedBox) : Type 0 where
   pub bytes : drop (p.at + header_len p.box.form) file ≡ p.box.payload ++ tail
   pub inside : p.at + header_len p.box.form ≤ length file
 
+-- the payload of a box that stands in a file is that of its row, and stands after its header
 inner : (file : List ℕ) (p : PlacedBox) → Stands file p → Inner file p
 inner file p s =
     let hl : ℕ = header_len p.box.form in
@@ -155,6 +157,7 @@ pub record KidsAre (file : List ℕ) (p : PlacedBox) (children : List PlacedBox)
   pub rows : kids file (row_of p) ≡ map row_of children
   pub stand : AllByRecursion (Stands file) children
 
+-- the rows of the children of a box are those of its row's children, and they stand in the file
 pub kids_are : (file : List ℕ) (p : PlacedBox) (children : List PlacedBox) → AreBytes file → length file < 2 ^ 62 → Stands file p → HasChildren p children → KidsAre file p children
 kids_are file p children bytes fits s (filled boxes f) =
     let i : Inner file p = inner file p s in

@@ -6,9 +6,11 @@ use Rattle.c2_bmff.specs.declared.header.BoxHead.{BoxHead}
 use Rattle.c2_bmff.specs.declared.header.HeadError.{HeadError}
 use Rattle.c2_bmff.specs.declared.header.HeadError.TheVariants.{Short, Bad}
 
+-- the length of the box: a size of 0 is all that is left, 1 has the size after the type
 abbrev pub header_total : ℕ → List ℕ → ℕ
 header_total left bytes = if stated_size bytes == 0 then left else if stated_size bytes == 1 then stated_long_size bytes else stated_size bytes
 
+-- the first test of a box's header that fails, or none
 unfoldable pub header_fault : ℕ → List ℕ → Option HeadError
 header_fault left bytes =
     if nat_lt left 8 then Some Short
@@ -19,6 +21,7 @@ header_fault left bytes =
     else if bytes_eq (stated_kind bytes) uuid_kind && nat_lt (header_total left bytes) (stated_header_len bytes + 16) then Some Bad
     else None
 
+-- these bytes pass the tests, and the header states this; the box ends in the `left` bytes
 pub record IsHeader (left : ℕ) (bytes : List ℕ) (h : BoxHead) : Type 0 where
   pub good : header_fault left bytes ≡ None
   pub header : h.header ≡ stated_header_len bytes

@@ -17,6 +17,7 @@ pub record IsHead (p : ℕ) (rest : List ℕ) (h : BoxHead) : Type 0 where
   pub kind : h.kind ≡ stated_kind rest
   pub to_end : h.to_end ≡ (stated_size rest == 0)
 
+-- the header there, or the first test of the box that fails, unless the source failed or memory ran out
 abbrev pub IsHeadOr : ℕ → List ℕ → Result BoxHead MediaError → Type 0
 IsHeadOr p rest (Ok h) = IsHead p rest h
 IsHeadOr p rest (Err e) = OrOutside e (box_fault p rest ≡ Some e)

@@ -5,6 +5,7 @@ use Rattle.c2_spec.specs.Bmff.Paths.{nth_of}
 use Rattle.c2_bmff.specs.declared.root_boxes.RootBox.{RootBox}
 use Rattle.c2_bmff.proofs.children.add_matched.Given as goal
 
+-- the siblings of this type so far are counted, and those that are wanted among them are added
 abbrev pub invariant-loop-row : goal.invariant-loop-row
 invariant-loop-row l = record {
   seen : l.seen ≡ length (filter (λ (r : RootBox). bytes_eq r.kind l.kind) (take l.row-index l.siblings));

@@ -8,6 +8,7 @@ use Rattle.c2_bmff.specs.declared.root_boxes.RootBox.{RootBox}
 use Rattle.c2_bmff.proofs.ChildLemmas.{all_matched, not_empty, steps_from, path_start, path_next}
 use Rattle.c2_bmff.proofs.children.boxes_on.Goals as goal
 
+-- the rows that the first step matches among the siblings are those to go on from
 pub loop-next-init : goal.loop-next-init
 loop-next-init g c =
     let found : c.select.new.found.items ≡ row_matched c.index-path-0.result c.args.siblings.now = c.in_ok-select.ensures ∙ ap (λ (xs : List RootBox). xs ++ row_matched c.index-path-0.result c.args.siblings.now) c.new-found.ensures.items in
@@ -20,6 +21,7 @@ loop-next-init g c =
           ∙ ap (go_on file c.index-path-0.result (drop 1 c.args.path.now)) (sym found);
     }
 
+-- the rows that the next step matches among the children of those are the ones to go on from
 pub loop-next-preserved : goal.loop-next-preserved
 loop-next-preserved g c =
     let before = c.loop-next.invariant in

@@ -5,6 +5,7 @@ use Rattle.c2_base.specs.Source.{StaysSource}
 use Rattle.c2_bmff.specs.Children.{IsRowWithin, go_on, on_rows}
 use Rattle.c2_bmff.proofs.children.boxes_on.Given as goal
 
+-- the rows on the path are those that its other steps lead to from the rows found so far
 abbrev pub invariant-loop-next : goal.invariant-loop-next
 invariant-loop-next g l = record {
   stays : StaysSource g.S.Source.len g.S.Source.known g.S.Source.faults l.initial.source l.source;

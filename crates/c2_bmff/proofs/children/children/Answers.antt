@@ -10,6 +10,7 @@ use Rattle.c2_bmff.specs.Roots.{row_at}
 use Rattle.c2_bmff.proofs.ChildLemmas.{payload_len, rest_is, walk_none, walk_more, walk_end}
 use Rattle.c2_bmff.proofs.children.children.Goals as goal
 
+-- where no box that says its size stands next in the payload, the parent has no children
 pub returns-in_default-clause-rows : goal.returns-in_default-clause-rows
 returns-in_default-clause-rows g c file known =
     let parent = c.args.parent in
@@ -23,6 +24,7 @@ returns-in_default-clause-rows g c file known =
     ∙ sym (walk_none file parent c.boxes.done c.boxes.rows.items (take (len - c.boxes.done) (drop (base + c.boxes.done) file)) (c.boxes.invariant.walked file known) rest some
     (subst (IsChildHead (take (len - c.boxes.done) (drop (base + c.boxes.done) file))) c.in_default.is (c.in_ok-head.ensures.read file (c.boxes.invariant.stays.same_bytes ∙ known))))
 
+-- with the row of the next box in the payload, the walk over the children stands after that box
 pub boxes-preserved : goal.boxes-preserved
 boxes-preserved g c =
     let before = c.boxes.invariant in
@@ -47,6 +49,7 @@ boxes-preserved g c =
           subst (ChildWalk file parent (c.boxes.done + h.length)) (sym c.in_ok-keep.ensures) (walk_more file parent c.boxes.done c.boxes.rows.items (take (len - c.boxes.done) (drop (base + c.boxes.done) file)) h (before.walked file known) rest some head.0 head.1 (omega (arith, within.0)));
     }
 
+-- where the boxes fill the payload, their rows are those of the children
 pub returns-clause-rows : goal.returns-clause-rows
 returns-clause-rows g c file known =
     let parent = c.args.parent in

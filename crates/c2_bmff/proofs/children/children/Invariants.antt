@@ -5,6 +5,7 @@ use Rattle.c2_base.specs.Source.{StaysSource}
 use Rattle.c2_bmff.specs.Children.{ChildWalk, IsRowWithin}
 use Rattle.c2_bmff.proofs.children.children.Given as goal
 
+-- the rows are those of the boxes in the first `done` bytes of the payload, and lie in the source
 abbrev pub invariant-boxes : goal.invariant-boxes
 invariant-boxes g l = record {
   inside : l.done ≤ l.len;
@@ -14,5 +15,6 @@ invariant-boxes g l = record {
   walked : ForSome (g.S.Source.known l.initial.source) (λ file. ChildWalk file l.fn.parent l.done l.rows.items);
 }
 
+-- the bytes of the payload after the boxes so far, which get fewer with each box
 abbrev pub decreases-boxes : goal.decreases-boxes
 decreases-boxes g l = l.len - l.done

@@ -6,6 +6,7 @@ use Rattle.c2_bmff.specs.declared.root_boxes.RootBox.{RootBox}
 use Rattle.c2_bmff.proofs.ChildLemmas.{all_matched, flat_next}
 use Rattle.c2_bmff.proofs.children.descend.Goals as goal
 
+-- with the children of one box more, the rows that the step matches below the boxes so far are found
 pub loop-parent-preserved : goal.loop-parent-preserved
 loop-parent-preserved g c =
     let before = c.loop-parent.invariant in

@@ -6,6 +6,7 @@ use Rattle.c2_base.specs.Source.{StaysSource}
 use Rattle.c2_bmff.specs.Children.{IsRowWithin, matched_in}
 use Rattle.c2_bmff.proofs.children.descend.Given as goal
 
+-- found are the rows that the step matches among the children of the boxes so far
 abbrev pub invariant-loop-parent : goal.invariant-loop-parent
 invariant-loop-parent g l = record {
   stays : StaysSource g.S.Source.len g.S.Source.known g.S.Source.faults l.initial.source l.source;

@@ -5,6 +5,7 @@ use Rattle.c2_bmff.specs.Marks.{in_row_part}
 use Rattle.c2_bmff.proofs.MarkLemmas.{any_more, no_range}
 use Rattle.c2_bmff.proofs.marking.add_parts.Goals as goal
 
+-- with the next part, its positions are held too, and no range ends after the old ones and the box do
 pub loop-part-preserved : goal.loop-part-preserved
 loop-part-preserved c =
     let before = c.loop-part.invariant in

@@ -7,6 +7,7 @@ use Rattle.c2_bmff.specs.Marks.{in_row_part, in_row_subset}
 use Rattle.c2_bmff.proofs.MarkLemmas.{parts_are}
 use Rattle.c2_bmff.proofs.marking.add_subset.Goals as goal
 
+-- with the parts of the box, the ranges hold the positions of its subset and those before
 pub returns-clause-same : goal.returns-clause-same
 returns-clause-same c i =
     c.in_ok-add_parts.ensures.same i

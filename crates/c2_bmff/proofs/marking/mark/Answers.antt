@@ -9,6 +9,7 @@ use Rattle.c2_bmff.proofs.ChildLemmas.{no_row}
 use Rattle.c2_bmff.proofs.MarkLemmas.{any_more}
 use Rattle.c2_bmff.proofs.marking.mark.Goals as goal
 
+-- with the box of the next row, the ranges hold what the exclusion excludes through the rows so far
 pub loop-row-preserved : goal.loop-row-preserved
 loop-row-preserved g c =
     let before = c.loop-row.invariant in
@@ -23,6 +24,7 @@ loop-row-preserved g c =
           ∙ sym (any_more (marks file c.args.entry.now i) c.args.rows.now k no_row (is_excluded c.args.ranges.now.items i) c.loop-row-test.true);
     }
 
+-- after the last row, the ranges hold what the exclusion excludes through all of them
 pub returns-clause-same : goal.returns-clause-same
 returns-clause-same g c file known i =
     c.loop-row.invariant.same file known i ∙ ap (λ (rs : List RootBox). is_excluded c.args.ranges.now.items i || list_any (marks file c.args.entry.now i) rs) (take_all c.loop-row.row-index c.args.rows.now c.loop-row-test.false)

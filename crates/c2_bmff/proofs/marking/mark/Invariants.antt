@@ -7,6 +7,7 @@ use Rattle.c2_spec.specs.Cover.{is_excluded}
 use Rattle.c2_bmff.specs.Marks.{IsRangeWithin, marks}
 use Rattle.c2_bmff.proofs.marking.mark.Given as goal
 
+-- the old ranges and the exclusion's positions in the rows so far are held; the source hasn't failed
 abbrev pub invariant-loop-row : goal.invariant-loop-row
 invariant-loop-row g l = record {
   stays : StaysSource g.S.Source.len g.S.Source.known g.S.Source.faults l.initial.source l.source;

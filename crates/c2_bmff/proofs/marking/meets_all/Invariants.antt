@@ -7,6 +7,7 @@ use Rattle.c2_bmff.specs.Exclusions.{byte_test}
 use Rattle.c2_bmff.specs.Marks.{holds_test}
 use Rattle.c2_bmff.proofs.marking.meets_all.Given as goal
 
+-- all byte tests hold of the box just when those from this one on do; the source hasn't failed
 abbrev pub invariant-loop-test : goal.invariant-loop-test
 invariant-loop-test g l = record {
   stays : StaysSource g.S.Source.len g.S.Source.known g.S.Source.faults l.initial.source l.source;

@@ -5,6 +5,7 @@ use Rattle.c2_bmff.specs.Marks.{stands_at}
 use Rattle.c2_bmff.proofs.MarkLemmas.{stands_split}
 use Rattle.c2_bmff.proofs.marking.stands.Goals as goal
 
+-- where one piece of the value differs, the value doesn't stand in the file
 pub returns-then-not-is_same-clause-stands : goal.returns-then-not-is_same-clause-stands
 returns-then-not-is_same-clause-stands g c file known =
     let len : length file ≡ g.S.Source.len c.args.source.now = g.met.S.Source.known_len c.args.source.now file known in
@@ -14,6 +15,7 @@ returns-then-not-is_same-clause-stands g c file known =
     let front : bytes_eq (take n (drop c.pieces.at file)) (take n rest) ≡ false = ap (λ (xs : List ℕ). bytes_eq xs (take n rest)) (sym (c.in_ok-fill_first.ensures.filled file (c.pieces.invariant.stays.same_bytes ∙ known))) ∙ sym c.is_same.ensures ∙ c.if-not-is_same.true in
     sym (c.pieces.invariant.same file known ∙ split ∙ ap (λ b. b && stands_at file (c.pieces.at + n) (drop n rest)) front)
 
+-- where a piece is the same, the value stands there just when what is left of it stands after it
 pub pieces-preserved : goal.pieces-preserved
 pieces-preserved g c =
     let before = c.pieces.invariant in

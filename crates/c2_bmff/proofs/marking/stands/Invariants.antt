@@ -4,6 +4,7 @@ use Rattle.c2_base.specs.Source.{StaysSource}
 use Rattle.c2_bmff.specs.Marks.{stands_at}
 use Rattle.c2_bmff.proofs.marking.stands.Given as goal
 
+-- the value stands at its place just when its rest stands here, which ends no later than the value
 abbrev pub invariant-pieces : goal.invariant-pieces
 invariant-pieces g l = record {
   inside : l.at + length l.rest ≤ l.pos + length l.value;
@@ -12,5 +13,6 @@ invariant-pieces g l = record {
   same : ForSome (g.S.Source.known l.initial.source) (λ file. stands_at file l.pos l.value ≡ stands_at file l.at l.rest);
 }
 
+-- the bytes of the value that aren't compared yet, which get fewer with each piece
 abbrev pub decreases-pieces : goal.decreases-pieces
 decreases-pieces g l = length l.rest

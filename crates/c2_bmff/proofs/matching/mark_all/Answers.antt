@@ -10,6 +10,7 @@ use Rattle.c2_bmff.specs.declared.root_boxes.RootBox.{RootBox}
 use Rattle.c2_bmff.proofs.MarkLemmas.{any_more}
 use Rattle.c2_bmff.proofs.matching.mark_all.Goals as goal
 
+-- with the next exclusion, the ranges hold what the exclusions so far exclude
 pub loop-entry-preserved : goal.loop-entry-preserved
 loop-entry-preserved g c =
     let before = c.loop-entry.invariant in

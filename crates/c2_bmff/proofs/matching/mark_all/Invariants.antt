@@ -8,6 +8,7 @@ use Rattle.c2_bmff.specs.Children.{IsRowWithin, on_rows}
 use Rattle.c2_bmff.specs.Marks.{IsRangeWithin, excludes_row}
 use Rattle.c2_bmff.proofs.matching.mark_all.Given as goal
 
+-- the ranges hold what the exclusions so far exclude, and the rows are those on the last path
 abbrev pub invariant-loop-entry : goal.invariant-loop-entry
 invariant-loop-entry g l = record {
   stays : StaysSource g.S.Source.len g.S.Source.known g.S.Source.faults l.initial.source l.source;

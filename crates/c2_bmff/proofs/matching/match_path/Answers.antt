@@ -11,9 +11,11 @@ use Rattle.c2_bmff.proofs.BoxThere.{are_bytes}
 use Rattle.c2_bmff.proofs.MatchLemmas.{excluded_rows, rows_excluded, rows_within}
 use Rattle.c2_bmff.proofs.matching.match_path.Goals as goal
 
+-- root boxes that fill the source lie inside it
 pub boxes_on-requires : goal.boxes_on-requires
 boxes_on-requires g c = record { inside = subst (All (IsRowWithin (g.S.Source.len c.args.source.now))) (sym c.as_slice.ensures) (rows_within (g.S.Source.len c.args.source.now) 0 c.args.roots.now c.requires.fill) }
 
+-- the ranges hold exactly the positions that the exclusion excludes
 pub returns-in-Ok-mark-clause-excluded : goal.returns-in-Ok-mark-clause-excluded
 returns-in-Ok-mark-clause-excluded g c file known boxes has rows i =
     let bytes = are_bytes file (g.met.S.Source.known_bytes c.args.source.now file known) in

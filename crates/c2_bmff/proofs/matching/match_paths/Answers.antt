@@ -11,9 +11,11 @@ use Rattle.c2_bmff.proofs.BoxThere.{are_bytes}
 use Rattle.c2_bmff.proofs.MatchLemmas.{all_excluded_rows, all_rows_excluded, rows_within}
 use Rattle.c2_bmff.proofs.matching.match_paths.Goals as goal
 
+-- root boxes that fill the source lie inside it
 pub mark_all-requires : goal.mark_all-requires
 mark_all-requires g c = record { inside = subst (All (IsRowWithin (g.S.Source.len c.args.source.now))) (sym c.as_slice.ensures) (rows_within (g.S.Source.len c.args.source.now) 0 c.args.roots.now c.requires.fill) }
 
+-- the ranges hold exactly the positions that the exclusions exclude together
 pub returns-in-Ok-clause-excluded : goal.returns-in-Ok-clause-excluded
 returns-in-Ok-clause-excluded g c file known boxes has rows i =
     let bytes = are_bytes file (g.met.S.Source.known_bytes c.args.source.now file known) in

@@ -4,6 +4,7 @@ use Rattle.std.proofs.lemmas.Iterator.{YieldsList-from_slice}
 use Rattle.std.proofs.lemmas.Iterator.Search.{all_from_yields_List}
 use Rattle.c2_bmff.proofs.paths.is_kind.Goals as goal
 
+-- four bytes are a type in a path just when they are ASCII and none opens a bracket
 pub returns : goal.returns
 returns c =
     let four : length c.args.kind ≡ 4 = search rules in

@@ -2,6 +2,7 @@ use Rattle.std.proofs.Common.{◌∙◌, ◌-◌, option_map, Some, length, sym,
 use Rattle.c2_bmff.proofs.PathLemmas.{nth_between, two_or_more}
 use Rattle.c2_bmff.proofs.paths.nth_in.Goals as goal
 
+-- of a text in brackets, the number is the one that the digits between them write
 pub returns : goal.returns
 returns c =
     ap (option_map Some) c.in_ok-number.ensures

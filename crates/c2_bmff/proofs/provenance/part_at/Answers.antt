@@ -4,6 +4,7 @@ use Rattle.c2_bmff.specs.Provenance.{first_part, payload_at}
 use Rattle.c2_bmff.proofs.PartLemmas.{part_same, take_first}
 use Rattle.c2_bmff.proofs.provenance.part_at.Goals as goal
 
+-- what the first 53 bytes of the payload say of the `uuid` box is what its whole payload says
 pub returns-clause-part : goal.returns-clause-part
 returns-clause-part g c file known =
     let size : length file ≡ g.S.Source.len c.args.source.now = g.met.S.Source.known_len c.args.source.now file known in

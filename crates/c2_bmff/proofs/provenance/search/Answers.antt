@@ -9,9 +9,11 @@ use Rattle.c2_bmff.proofs.RowLemmas.{NextRow, next_row, row_fails, row_not, row_
 use Rattle.c2_bmff.proofs.provenance.search.Goals as goal
 use Rattle.c2_bmff.proofs.provenance.search.Goals.{then-eq+in-Ok, else-eq}
 
+-- a row of nothing, for indices after the last root box
 abbrev no_row : RootBox
 no_row = record { start = 0; length = 0; header = 0; kind = []; to_end = false }
 
+-- before the first root box nothing is found, and all rows are still to come
 pub loop-row-init : goal.loop-row-init
 loop-row-init g c = record {
   stays = record { same_len = refl; same_bytes = refl; later = omega arith };
@@ -21,6 +23,7 @@ loop-row-init g c = record {
   searched = λ file known. rows_start file c.args.rows.now;
 }
 
+-- the root box of this row ends in the source
 pub step-requires-clause-inside : goal.step-requires-clause-inside
 step-requires-clause-inside g c =
     let k = c.loop-row.row-index in
@@ -28,6 +31,7 @@ step-requires-clause-inside g c =
     let next : NextRow (g.S.Source.len c.args.source.now) r (drop (suc k) c.args.rows.now) = next_row (g.S.Source.len c.args.source.now) c.loop-row.invariant.fill.0 (drop k c.args.rows.now) r (drop (suc k) c.args.rows.now) c.loop-row.invariant.fill.1 (drop-cons c.args.rows.now k no_row c.loop-row-test.true) in
     subst (λ (n : ℕ). r.start + r.length ≤ n) (sym c.loop-row.invariant.stays.same_len) next.inside
 
+-- a `uuid` root box that isn't passed is the first C2PA box of the file that fails
 pub returns-in-Err-clause-found : goal.returns-in-Err-clause-found
 returns-in-Err-clause-found g c file known roots =
     let k = c.loop-row.row-index in
@@ -36,6 +40,7 @@ returns-in-Err-clause-found g c file known roots =
     (row_fails file c.args.rows.now k r (drop (suc k) c.args.rows.now) c.loop-row.found c.in-Err.error (drop-cons c.args.rows.now k no_row c.loop-row-test.true) roots (c.loop-row.invariant.searched file known) (sym c.if-eq.ensures))
     (c.in-Err.ensures.fails file (c.loop-row.invariant.stays.same_bytes ∙ known))
 
+-- with the next root box, what is found is the store among the root boxes so far, or none
 pub loop-row-preserved : goal.loop-row-preserved
 loop-row-preserved g c =
     let before = c.loop-row.invariant in
@@ -62,5 +67,6 @@ loop-row-preserved g c =
       }))
     ]
 
+-- after the last root box, what is found is the file's store, or none
 pub returns-clause-found : goal.returns-clause-found
 returns-clause-found g c file known roots = rows_end file c.args.rows.now c.loop-row.row-index c.loop-row.found c.loop-row-test.false roots (c.loop-row.invariant.searched file known)

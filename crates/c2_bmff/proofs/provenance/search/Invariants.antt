@@ -6,6 +6,7 @@ use Rattle.c2_bmff.specs.Roots.{FillSource}
 use Rattle.c2_bmff.specs.Search.{IsFoundWithin, SearchedTo}
 use Rattle.c2_bmff.proofs.provenance.search.Given as goal
 
+-- the root boxes so far pass, the store found is theirs, and the other rows fill the source
 abbrev pub invariant-loop-row : goal.invariant-loop-row
 invariant-loop-row g l = record {
   stays : StaysSource g.S.Source.len g.S.Source.known g.S.Source.faults l.initial.source l.source;

@@ -7,6 +7,7 @@ use Rattle.c2_bmff.specs.declared.provenance.Part.TheVariants as part
 use Rattle.c2_bmff.proofs.PartLemmas.{piece_of}
 use Rattle.c2_bmff.proofs.provenance.step.Goals as goal
 
+-- the store that was read is that of the box: the bytes of its payload from place 37 on
 pub returns-in-Ok-clause-steps : goal.returns-in-Ok-clause-steps
 returns-in-Ok-clause-steps g c file known =
     let payload : List ℕ = payload_at file c.args.row in

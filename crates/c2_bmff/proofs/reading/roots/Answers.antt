@@ -4,16 +4,19 @@ use Rattle.c2_spec.specs.Bmff.Store.{FirstBmffFault, too_large, not_media, root}
 use Rattle.c2_bmff.proofs.WalkLemmas.{outside_map}
 use Rattle.c2_bmff.proofs.reading.roots.Goals as goal
 
+-- in a file of 2^62 bytes or more, its size is the first test to fail
 pub returns-then-size-ge-FILE_LEN_LIMIT-clause-refused : goal.returns-then-size-ge-FILE_LEN_LIMIT-clause-refused
 returns-then-size-ge-FILE_LEN_LIMIT-clause-refused g c file known =
     let len : length file ≡ c.in_ok-size.size = g.met.S.Source.known_len c.args.source.now file known ∙ sym c.in_ok-size.ensures.length in
     subst (λ n. FirstBmffFault file (FileTooLarge n)) len (too_large (omega (arith, len, c.if-size-ge-FILE_LEN_LIMIT.true)))
 
+-- in a smaller file that doesn't begin as BMFF, that is the first test to fail
 pub returns-then-not-branch-clause-refused : goal.returns-then-not-branch-clause-refused
 returns-then-not-branch-clause-refused g c file known =
     let len : length file ≡ c.in_ok-size.size = g.met.S.Source.known_len c.args.source.now file known ∙ sym c.in_ok-size.ensures.length in
     not_media (omega (arith, len, c.if-size-ge-FILE_LEN_LIMIT.false)) (c.in_ok-is_bmff.ensures.begins file (c.in_ok-size.ensures.stays.same_bytes ∙ known) ∙ c.if-not-branch.true)
 
+-- in a smaller BMFF file, the first test to fail is that of the walk over its root boxes
 pub returns-in-Err-clause-refused : goal.returns-in-Err-clause-refused
 returns-in-Err-clause-refused g c file known =
     let len : length file ≡ c.in_ok-size.size = g.met.S.Source.known_len c.args.source.now file known ∙ sym c.in_ok-size.ensures.length in

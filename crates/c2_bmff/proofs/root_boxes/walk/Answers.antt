@@ -6,6 +6,7 @@ use Rattle.c2_bmff.proofs.BoxThere.{are_bytes}
 use Rattle.c2_bmff.proofs.WalkLemmas.{fill_more, many_fault, outside_map, room_fault, walks_end, walks_fault, walks_more, walks_start}
 use Rattle.c2_bmff.proofs.root_boxes.walk.Goals as goal
 
+-- before the first root box, the walk stands at position 0 and has no rows
 pub boxes-init : goal.boxes-init
 boxes-init g c =
     let none = c.new-rows.ensures.items in
@@ -18,12 +19,14 @@ boxes-init g c =
       walked = λ file known. subst (Walks file 0) (sym none) (walks_start file);
     }
 
+-- as many root boxes as a file may have, and a byte after them, are too many
 pub returns-then-len-ge-MAX_ROOT_BOXES-clause-fault : goal.returns-then-len-ge-MAX_ROOT_BOXES-clause-fault
 returns-then-len-ge-MAX_ROOT_BOXES-clause-fault g c file known =
     let len : length file ≡ c.args.size = g.met.S.Source.known_len c.args.source.now file known ∙ sym c.requires.size in
     let many : most_roots ≤ length c.boxes.rows.items = omega (arith, c.if-len-ge-MAX_ROOT_BOXES.true, c.len.ensures) in
     walks_fault file c.boxes.at c.boxes.rows.items TooManyBoxes (c.boxes.invariant.walked file known) (omega (arith, len, c.boxes-test.true)) c.boxes.invariant.few (many_fault (length c.boxes.rows.items) c.boxes.at (drop c.boxes.at file) many)
 
+-- a root box that fails its tests is the first fault of the file
 pub returns-in-Err-clause-fault : goal.returns-in-Err-clause-fault
 returns-in-Err-clause-fault g c file known =
     let len : length file ≡ c.args.size = g.met.S.Source.known_len c.args.source.now file known ∙ sym c.requires.size in
@@ -32,6 +35,7 @@ returns-in-Err-clause-fault g c file known =
     (λ fails. walks_fault file c.boxes.at c.boxes.rows.items c.in-Err.error (c.boxes.invariant.walked file known) (omega (arith, len, c.boxes-test.true)) c.boxes.invariant.few (room_fault (length c.boxes.rows.items) c.boxes.at (drop c.boxes.at file) c.in-Err.error few fails))
     (c.in-Err.ensures.read file (c.boxes.invariant.stays.same_bytes ∙ known))
 
+-- with the row of one root box more, the rows are those of the boxes up to that box's end
 pub boxes-preserved : goal.boxes-preserved
 boxes-preserved g c =
     let before = c.boxes.invariant in
@@ -50,6 +54,7 @@ boxes-preserved g c =
           subst (Walks file (c.boxes.at + c.in-Ok.head.length)) (sym more) (walks_more file c.boxes.at c.boxes.rows.items c.in-Ok.head (before.walked file known) (are_bytes file (g.met.S.Source.known_bytes c.args.source.now file known)) (omega (arith, len, c.requires.bounded)) (omega (arith, len, c.boxes-test.true)) (call.read file (before.stays.same_bytes ∙ known)));
     }
 
+-- where the walk has reached the end of the file, the rows are those of its root boxes
 pub returns-clause-walked : goal.returns-clause-walked
 returns-clause-walked g c file known =
     let len : length file ≡ c.args.size = g.met.S.Source.known_len c.args.source.now file known ∙ sym c.requires.size in

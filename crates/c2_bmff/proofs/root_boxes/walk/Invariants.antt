@@ -5,6 +5,7 @@ use Rattle.c2_spec.specs.Bmff.Boxes.{most_roots}
 use Rattle.c2_bmff.specs.Roots.{FillSource, Walks}
 use Rattle.c2_bmff.proofs.root_boxes.walk.Given as goal
 
+-- the rows fill the source up to here, are those of the boxes there, and aren't too many
 abbrev pub invariant-boxes : goal.invariant-boxes
 invariant-boxes g l = record {
   inside : l.at ≤ l.size;
@@ -15,5 +16,6 @@ invariant-boxes g l = record {
   walked : ForSome (g.S.Source.known l.initial.source) (λ file. Walks file l.at l.rows.items);
 }
 
+-- the bytes of the file after the root boxes walked so far, which get fewer with each box
 abbrev pub decreases-boxes : goal.decreases-boxes
 decreases-boxes g l = l.size - l.at
