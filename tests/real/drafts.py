@@ -8,6 +8,8 @@ twice, since the binding of the last one has the digest of the file around it.
 import hashlib
 
 import cbor
+from bmff import PROVENANCE
+from fields import BadBinding
 from locate import Refused
 from make import segment
 from make_store import (
@@ -28,7 +30,7 @@ from make_store import (
     uint,
 )
 from manifests import BMFF_HASH, DATA_HASH
-from media import PROVENANCE, BadBinding, Binding, media_of
+from media import Binding, media_of
 
 ACTIONS = mapping(("actions", array(mapping(("action", text("c2pa.created"))))))
 NO_DIGEST = bytes(32)
@@ -121,7 +123,17 @@ def exclusion(xpath, *pairs):
     return mapping(("xpath", text(xpath)), *pairs)
 
 
-PROVENANCE_BOX = exclusion("/uuid", ("data", array(mapping(("offset", uint(8)), ("value", data(PROVENANCE))))))
+def tested(*tests):
+    """The field of an exclusion that tests bytes at offsets."""
+    return "data", array(*(mapping(("offset", uint(offset)), ("value", data(value))) for offset, value in tests))
+
+
+def subset(*parts):
+    """The field of an exclusion that means parts of a box, by their offsets and lengths."""
+    return "subset", array(*(mapping(("offset", uint(offset)), ("length", uint(length))) for offset, length in parts))
+
+
+PROVENANCE_BOX = exclusion("/uuid", tested((8, PROVENANCE)))
 ALL_EXCLUDED = PROVENANCE_BOX, exclusion("/ftyp"), exclusion("/mfra")
 
 

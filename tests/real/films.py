@@ -1,12 +1,13 @@
 #!/usr/bin/env python3
 """Puts stores into films and pictures in BMFF files, and compares what c2 says of them with store.py.
 
-    films.py C2 DIRECTORY [CHANGES]      reads the files of DIRECTORY, writes further ones beside them, and runs every reading
-                                         command of C2; and so many times on each that is changed at random
+    films.py C2 DIRECTORY [RUNS]      reads the files of DIRECTORY, writes further ones beside them, and runs every reading command of
+                                      C2; and so many runs, or a few more, on files with a store that are changed at random
 
 A file without a store must be `none`, or NotMedia where it doesn't begin with a box `ftyp`; what a file with a store must be is
-said beside each variant. A judge approves all questions. The status is 1 where C2 differs; a changed file at which it does is kept
-in the current directory as differs-N.
+said beside each variant. One of them is signed with a key, and its verdict file says whether the signature holds; of the others a
+judge approves all questions. The status is 1 where C2 or store.py says another thing than it must, or C2 another than store.py; a
+changed file at which C2 does is kept in the current directory as differs-N. With `-` in place of C2 store.py alone is asked.
 """
 
 import os
@@ -14,25 +15,28 @@ import random
 import shutil
 import subprocess
 import sys
+import zlib
+from collections import Counter
+
+from cryptography.hazmat.primitives.asymmetric import ec
 
 import store
+from bmff import Exclusion, check_support, root_boxes
+from box_changes import changed_boxes
+from cbor import read_whole
 from chance_stores import questions_in
-from drafts import ACTIONS, ALL_EXCLUDED, Assertion, Bmff, BmffHash, DataHash, Manifest, exclusion
+from drafts import ACTIONS, ALL_EXCLUDED, Assertion, Bmff, BmffHash, DataHash, Manifest, exclusion, subset
+from fields import BadBinding
 from locate import Refused
-from make_store import array, mapping, uint
-from media import children_of, root_boxes
+from plain_cover import drawn_exclusion
+from sign import certificate_of, verdict_row
+from sign_photo import Signed, Signer
+from validate import kind_of_answer
 from vary import varied
 
 LABEL = "urn:c2pa:11111111-2222-4333-8444-555555555555"
-
-
-def manifest(*bindings):
-    return [Manifest(LABEL, Assertion("c2pa.actions.v2", ACTIONS), *bindings)]
-
-
-def subset(*parts):
-    return ("subset", array(*(mapping(("offset", uint(offset)), ("length", uint(length))) for offset, length in parts)))
-
+VALID = "valid manifests=1 assertions=2 "
+TESTED = f"failing assertion.bmffHash.mismatch self#jumbf=/c2pa/{LABEL}/c2pa.assertions/c2pa.hash.bmff.v2\n"
 
 # Some that leave out a part of what a tool may change later: times, names, the first bytes of the samples.
 PARTS = (
@@ -49,49 +53,85 @@ PARTS = (
 )
 
 
+def manifest(*bindings):
+    return [Manifest(LABEL, Assertion("c2pa.actions.v2", ACTIONS), *bindings)]
+
+
+def signed(data):
+    """A file that is signed with a new key."""
+    key = ec.generate_private_key(ec.SECP256R1())
+    return Signed(Signer(key, [certificate_of(key)]), data)
+
+
+def drawn(data):
+    """Exclusions that are drawn at random, the same ones for the same file."""
+    chance = random.Random(zlib.crc32(data))
+    some = [drawn_exclusion(chance, data) for _ in range(20)]
+    return [*ALL_EXCLUDED, *filter(is_supported, some)]
+
+
+def is_supported(spelled):
+    try:
+        check_support([Exclusion(read_whole(spelled))])
+    except BadBinding:
+        return False
+    return True
+
+
 def variants(data):
-    """Name, contents, and how `validate` must begin."""
+    """Name, contents, what `validate` must begin with, and a verdict file, None for one that approves all."""
     roots = root_boxes(data)
     first, last = roots[0].end, roots[-1].start if roots[-1].kind == b"mfra" else len(data)
     in_front, behind = Bmff(data[:first], data[first:]), Bmff(data[:last], data[last:])
-    yield "in_front", in_front.file(manifest(BmffHash(ALL_EXCLUDED))), "valid manifests=1 assertions=2 "
-    yield "parts", in_front.file(manifest(BmffHash(PARTS))), "valid manifests=1 assertions=2 "
-    yield "data_hash", in_front.file(manifest(DataHash())), f"valid manifests=1 assertions=2 covered={len(data)} outside=0"
     with_store = in_front.file(manifest(BmffHash(ALL_EXCLUDED)))
-    yield "cut_short", with_store[:-1], "refused Truncated "
+    yield "in_front", with_store, VALID, None
+    yield "parts", in_front.file(manifest(BmffHash(PARTS))), VALID, None
+    yield "drawn", in_front.file(manifest(BmffHash(drawn(data)))), VALID, None
+    yield "data_hash", in_front.file(manifest(DataHash())), f"{VALID}covered={len(data)} outside=0\n", None
+    yield "cut_short", with_store[:-1], "refused Truncated ", None
     place = next(box.inside for box in reversed(roots) if box.kind not in (b"ftyp", b"mfra") and box.inside < box.end)
     place += len(with_store) - len(data)
-    changed = with_store[:place] + bytes([with_store[place] ^ 1]) + with_store[place + 1 :]
-    yield "changed", changed, f"failing assertion.bmffHash.mismatch self#jumbf=/c2pa/{LABEL}/c2pa.assertions/c2pa.hash.bmff.v2"
+    yield "changed", with_store[:place] + bytes([with_store[place] ^ 1]) + with_store[place + 1 :], TESTED, None
     if int.from_bytes(data[roots[-1].start : roots[-1].start + 4], "big") != 0:
-        yield "behind", behind.file(manifest(BmffHash(ALL_EXCLUDED))), "valid manifests=1 assertions=2 "
-        yield "twice", Bmff(with_store).around(b"\0\0\0\x08jumb"), "refused TwoStores "
+        yield "behind", behind.file(manifest(BmffHash(ALL_EXCLUDED))), VALID, None
+        yield "twice", Bmff(with_store).around(b"\0\0\0\x08jumb"), "refused TwoStores ", None
+        made = signed(data)
+        yield "signed", made.bytes, f"{VALID}covered={made.covered} outside={made.outside}\n", verdict_row(made).encode()
 
 
 class Run:
+    """Runs every reading command on files of a directory; without a program only store.py is asked."""
+
     def __init__(self, program, directory):
-        self.program, self.directory = program, directory
-        self.failures = self.refusals = self.runs = 0
+        self.program, self.directory = None if program == "-" else os.path.abspath(program), directory
+        self.failures, self.runs, self.answers = 0, 0, Counter()
 
-    def compare(self, name, expected=""):
-        """Runs every command on a file; `validate` must begin as it is expected."""
+    def compare(self, name, expected="", verdicts=None):
+        """Runs the commands on a file; `validate` must print what begins as it is expected, and all where the file holds no store."""
         path = os.path.join(self.directory, name)
-        with open(path, "rb") as file:
-            identities = questions_in(file.read())
-        verdicts = f"{path}.verdicts"
-        write(verdicts, "".join(f"{identity} approved\n" for identity in identities).encode())
+        if verdicts is None:
+            verdicts = "".join(f"{identity} approved\n" for identity in questions_in(read(path))).encode()
+        write(f"{path}.verdicts", verdicts)
         for command in store.COMMANDS:
-            words = [command, path, *([verdicts] if command in ("questions", "validate") else [])]
-            done = subprocess.run([self.program, *words], stdout=subprocess.PIPE, check=False)
-            told, computed = (done.stdout, done.returncode), store.answer(*words)
+            words = [command, path, *([f"{path}.verdicts"] if command in ("questions", "validate") else [])]
+            answers = {"store.py": store.answer(*words)}
+            if self.program:
+                done = subprocess.run([self.program, *words], stdout=subprocess.PIPE, check=False)
+                answers["c2"] = done.stdout, done.returncode
             self.runs += 1
-            wrong = command == "validate" and not told[0].decode("utf-8").startswith(expected)
-            if told != computed or wrong:
-                self.failures += 1
-                print(f"{command} {name}:")
-                print(f"  c2       {told[1]} {told[0][:300]}")
-                print(f"  store.py {computed[1]} {computed[0][:300]}" + (f"\n  expected {expected}" if wrong else ""))
+            if command == "validate":
+                self.answers[kind_of_answer(*answers["store.py"])] += 1
+            begins = expected if command == "validate" or expected.startswith(("none", "refused")) else ""
+            if len(set(answers.values())) > 1 or not all(told.startswith(begins.encode()) for told, _ in answers.values()):
+                self.tell(f"{command} {name}", answers, begins)
 
+    def tell(self, what, answers, begins):
+        self.failures += 1
+        print(f"{what}:")
+        for who, (told, status) in answers.items():
+            print(f"  {who:8} {status} {told[:300]}")
+        if begins:
+            print(f"  expected {begins}")
 
     def compare_changed(self, contents):
         """The same on a changed file, which is kept where c2 differs."""
@@ -109,16 +149,6 @@ def changed_at(chance, contents, places, count):
         yield contents[:at] + varied(chance, contents[at : at + 24]) + contents[at + 24 :]
 
 
-def all_boxes(contents):
-    """The root boxes of a file, and the boxes in those that paths enter."""
-    pending, found = root_boxes(contents), []
-    while pending:
-        box = pending.pop()
-        found.append(box)
-        pending += children_of(contents, box)
-    return found
-
-
 def write(path, contents):
     with open(path, "wb") as file:
         file.write(contents)
@@ -129,30 +159,39 @@ def read(path):
         return file.read()
 
 
+def compare_variants(run, name, data):
+    """Compares on what is made of a file; answers the made files that are valid."""
+    base, kind = os.path.splitext(name)
+    try:
+        for variant, contents, expected, verdicts in variants(data):
+            made = f"{base}+{variant}{kind}"
+            write(os.path.join(run.directory, made), contents)
+            run.compare(made, expected, verdicts)
+            if expected.startswith("valid "):
+                yield contents
+    except Refused as refused:
+        run.failures += 1
+        print(f"{name} is refused: {refused}")
+
+
 def main():
-    program, directory = os.path.abspath(sys.argv[1]), sys.argv[2]
-    changes, chance = int(sys.argv[3]) if len(sys.argv) > 3 else 0, random.Random(1)
-    run, files, variant_count = Run(program, directory), sorted(os.listdir(directory)), 0
+    program, directory = sys.argv[1:3]
+    runs, chance = int(sys.argv[3]) if len(sys.argv) > 3 else 0, random.Random(1)
+    run, files, valid = Run(program, directory), sorted(os.listdir(directory)), []
     for name in files:
         data = read(os.path.join(directory, name))
         is_media = data[4:8] == b"ftyp"
         run.compare(name, "none\n" if is_media else "refused NotMedia 0\n")
-        try:
-            made = list(variants(data)) if is_media else []
-        except Refused as refused:
-            run.failures += 1
-            print(f"{name} is refused: {refused}")
-            made = []
-        base, kind = os.path.splitext(name)
-        for variant, contents, expected in made:
-            variant_count += 1
-            write(os.path.join(directory, f"{base}+{variant}{kind}"), contents)
-            run.compare(f"{base}+{variant}{kind}", expected)
-            if expected.startswith("valid "):
-                places = [box.start for box in all_boxes(contents)]
-                for changed in changed_at(chance, contents, places, changes):
-                    run.compare_changed(changed)
-    print(f"{len(files)} files, {variant_count} made of them, {run.runs} runs, {run.failures} failures")
+        if is_media:
+            valid += compare_variants(run, name, data)
+    print(f"{len(files)} files, {len(valid)} valid ones made of them, {run.runs} runs", flush=True)
+    before, run.answers = run.runs, Counter()
+    while valid and run.runs - before < runs:
+        for contents in valid:
+            run.compare_changed(changed_boxes(chance, contents))
+    for answer, times in sorted(run.answers.items()):
+        print(f"{times:6} {answer}")
+    print(f"{run.runs - before} runs on changed files, {run.failures} failures in all")
     sys.exit(run.failures > 0)
 
 

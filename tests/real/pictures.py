@@ -55,7 +55,7 @@ def segment_places(data):
 
 
 def main():
-    program, directory = os.path.abspath(sys.argv[1]), sys.argv[2]
+    program, directory = sys.argv[1:3]
     changes, chance = int(sys.argv[3]) if len(sys.argv) > 3 else 0, random.Random(1)
     run, files, variant_count = Run(program, directory), sorted(os.listdir(directory)), 0
     for name in files:

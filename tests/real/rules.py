@@ -6,6 +6,7 @@ fails, in the order of its cases; so nothing is computed, and no judge is asked,
 
 import hashlib
 
+from fields import BadBinding
 from manifests import (
     ACTIONS,
     BINDINGS,
@@ -22,7 +23,7 @@ from manifests import (
     names_signature,
     read_uri,
 )
-from media import BadBinding, Binding
+from media import Binding
 
 VERDICT_CODES = {
     "mismatch": "claimSignature.mismatch",

@@ -3,6 +3,8 @@
 
     sign.py [C2 [PICTURE]]      runs C2 (the repository's ./c2, where none is given) on a signed PICTURE and on changed ones
 
+PICTURE is a JPEG or a BMFF file, so a film as well.
+
 The key is made and used outside c2, by the Python package `cryptography`. The signed bytes and the bytes of a question are
 joined here from their parts. Each thing that was checked is printed; the first difference ends the run with status 1.
 
@@ -22,7 +24,7 @@ from cryptography.hazmat.primitives import hashes
 from cryptography.hazmat.primitives.asymmetric import ec
 from cryptography.hazmat.primitives.asymmetric.utils import encode_dss_signature
 
-from sign_photo import LABEL, LATER_LABEL, TITLE, Signed, Signer, signed_bytes
+from sign_photo import LABEL, LATER_LABEL, TITLE, UNCOVERED, Signed, Signer, root_boxes, signed_bytes
 
 HERE = os.path.dirname(os.path.abspath(__file__))
 PLAIN_PICTURE = bytes.fromhex("ffd8ffe000104a46494600010200000100010000ffd9")
@@ -96,8 +98,8 @@ class Run:
         """What `questions` prints."""
         self.compare(what, self.told("questions", *names), (0, f"{identity} {LABEL} {verdict}\n"))
 
-    def check_valid(self, what, names, manifests, assertions, covered):
-        line = f"valid manifests={manifests} assertions={assertions} covered={covered} outside=0\n"
+    def check_valid(self, what, names, manifests, assertions, picture):
+        line = f"valid manifests={manifests} assertions={assertions} covered={picture.covered} outside={picture.outside}\n"
         if self.has_validate:
             self.compare(f"valid: {what}", self.told("validate", *names), (0, line))
 
@@ -115,12 +117,12 @@ def check_signed(run, picture):
     check("the signature holds over the signed bytes, outside c2", holds(picture.signer.key, picture.signature, picture.signed_bytes))
     run.write("verdicts", verdict_row(picture).encode())
     run.check("a verdict file that approves it is read", ["signed.jpg", "verdicts"], identity, "approved")
-    run.check_valid("the signed picture, as it was judged outside c2", ["signed.jpg", "verdicts"], 1, 2, len(picture.media))
+    run.check_valid("the signed picture, as it was judged outside c2", ["signed.jpg", "verdicts"], 1, 2, picture)
     run.write("none", b"")
     run.check("a verdict file without rows stays silent", ["signed.jpg", "none"], identity, "silent")
     run.check_failing("nobody has judged it", ["signed.jpg", "none"], "profile.verdict.missing", "c2pa.signature")
     run.check("a silent file before it changes nothing", ["signed.jpg", "none", "verdicts"], identity, "approved")
-    run.check_valid("the same behind a silent file", ["signed.jpg", "none", "verdicts"], 1, 2, len(picture.media))
+    run.check_valid("the same behind a silent file", ["signed.jpg", "none", "verdicts"], 1, 2, picture)
     return identity
 
 
@@ -145,10 +147,9 @@ def check_changed_bytes(run, picture):
     """One byte of the picture changed, and one of an assertion: the signature holds, and the rules fail."""
     places = [place for place in range(len(picture.bytes)) if picture.bytes[place : place + 12] == b"c2pa.created"]
     check("the actions stand once in the picture", len(places) == 1)
-    # the last byte before EOI, or in PLAIN_PICTURE, which has none of a scan, that of APP0
-    last = 19 if picture.media == PLAIN_PICTURE else len(picture.bytes) - 3
+    failing = ("assertion.bmffHash.mismatch", "c2pa.hash.bmff.v2") if picture.is_bmff else ("assertion.dataHash.mismatch", "c2pa.hash.data")
     for what, place, code, box in (
-        ("the picture's last byte", last, "assertion.dataHash.mismatch", "c2pa.hash.data"),
+        ("the picture's last byte", last_place(picture), *failing),
         ("a byte of an assertion", places[0], "assertion.hashedURI.mismatch", "c2pa.actions.v2"),
     ):
         changed = bytearray(picture.bytes)
@@ -157,6 +158,14 @@ def check_changed_bytes(run, picture):
         identity = identity_of(picture, picture.signed_bytes)
         run.check(f"{what} is another: the question is the same", ["changed.jpg", "verdicts"], identity, "approved")
         run.check_failing(f"{what} is another", ["changed.jpg", "verdicts"], code, f"c2pa.assertions/{box}")
+
+
+def last_place(picture):
+    """The place of the last covered byte that isn't a marker or a header; the store of a BMFF file stands behind it."""
+    if picture.is_bmff:
+        return max(start + len(contents) for start, kind, contents in root_boxes(picture.media) if kind not in UNCOVERED) - 1
+    # the last byte before EOI, or in PLAIN_PICTURE, which has none of a scan, that of APP0
+    return 19 if picture.media == PLAIN_PICTURE else len(picture.bytes) - 3
 
 
 def check_chain(run, picture, key):
@@ -168,7 +177,7 @@ def check_chain(run, picture, key):
     run.write("both", "".join(rows).encode())
     if run.has_validate:
         run.compare("both questions are put, the later first", run.told("questions", "later.jpg", "both"), (0, "".join(lines)))
-    run.check_valid("a picture that was signed twice", ["later.jpg", "both"], 2, 5, len(picture.media))
+    run.check_valid("a picture that was signed twice", ["later.jpg", "both"], 2, 5, later)
     run.write("later", rows[0].encode())
     run.check_failing("nobody has judged the earlier", ["later.jpg", "later"], "profile.verdict.missing", "c2pa.signature")
     run.write("refused", (rows[0] + rows[1].replace("approved", "untrusted")).encode())

@@ -41,6 +41,8 @@ from make_store import (
 LABEL = "urn:c2pa:11111111-2222-4333-8444-555555555555"
 LATER_LABEL = "urn:c2pa:22222222-2222-4333-8444-555555555555"
 TITLE = "A picture of a street"
+# Root boxes that the binding to a BMFF file leaves out.
+UNCOVERED = b"ftyp", b"mfra"
 C2PA_BMFF_BOX = bytes.fromhex("d8fec3d61b0e483c92975828877ec481")
 # The names of COSE (RFC 9053, section 2, and RFC 8230), their numbers less the sign and 1, and their hashes.
 ALGORITHMS = {
@@ -88,7 +90,12 @@ class Signed:
     def __init__(self, signer, media, parent=None):
         self.signer, self.media, self.parent = signer, media, parent
         self.label = LABEL if parent is None else LATER_LABEL
-        self.bytes = self.bmff_file() if media[4:8] == b"ftyp" else self.jpeg_file()
+        self.is_bmff = media[4:8] == b"ftyp"
+        # the bytes of the media that the binding covers, and those that it leaves out
+        kept = [contents for _, kind, contents in root_boxes(media) if kind not in UNCOVERED] if self.is_bmff else [media]
+        self.covered = sum(map(len, kept))
+        self.outside = len(media) - self.covered
+        self.bytes = self.bmff_file() if self.is_bmff else self.jpeg_file()
 
     def jpeg_file(self):
         place = after_app0(self.media)
@@ -98,8 +105,12 @@ class Signed:
         return packets(self.store(data_hash(place, length, hashlib.sha256(self.media).digest())))
 
     def bmff_file(self):
+        """The store stands last, before an index of fragments, which is looked for at the end of a file."""
         contents = self.store(bmff_hash(self.media))
-        return self.media + box(b"uuid", C2PA_BMFF_BOX + bytes(4) + b"manifest\0" + bytes(8) + contents)
+        start, kind, _ = list(root_boxes(self.media))[-1]
+        place = start if kind == b"mfra" else len(self.media)
+        own = box(b"uuid", C2PA_BMFF_BOX + bytes(4) + b"manifest\0" + bytes(8) + contents)
+        return self.media[:place] + own + self.media[place:]
 
     def store(self, binding):
         actions = assertion("c2pa.actions.v2", mapping(("actions", array(mapping(("action", text("c2pa.created")))))))
@@ -153,7 +164,7 @@ def bmff_hash(media):
     exclusions = mapping(("data", own), ("xpath", text("/uuid"))), mapping(("xpath", text("/ftyp"))), mapping(("xpath", text("/mfra")))
     digest = hashlib.sha256()
     for start, kind, contents in root_boxes(media):
-        if kind not in (b"ftyp", b"mfra"):
+        if kind not in UNCOVERED:
             digest.update(start.to_bytes(8, "big") + contents)
     fields = ("alg", text("sha256")), ("hash", data(digest.digest())), ("exclusions", array(*exclusions))
     return "c2pa.hash.bmff.v2", assertion("c2pa.hash.bmff.v2", mapping(*fields))
