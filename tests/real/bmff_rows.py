@@ -13,11 +13,11 @@ import sys
 import tempfile
 
 import store
-from bmff import MOST_ROOT_BOXES, Exclusion, covered_parts, covered_text, read_path, root_boxes
+from bmff import MOST_ROOT_BOXES, PROVENANCE, Exclusion, covered_parts, covered_text, read_path, root_boxes
 from built_films import built_rows
 from cbor import read_whole
 from chance_stores import questions_in
-from drafts import ALL_EXCLUDED, Assertion, Bmff, BmffHash, Manifest, exclusion, provenance_box, subset, tested
+from drafts import ALL_EXCLUDED, Assertion, Bmff, BmffHash, DataHash, Manifest, exclusion, provenance_box, subset, tested
 from locate import LARGEST_STORE
 from make_store import NULL, array, box, data, mapping, text, uint
 
@@ -68,10 +68,6 @@ def root_rows():
     yield "one that runs to the end", FTYP + b"\0\0\0\0uuid" + bytes(15), "refused BadBox 16"
     yield "one that is cut as well", FTYP + box(b"uuid", bytes(15))[:-1], "refused Truncated 38"
     yield "one of another user", FTYP + box(b"uuid", bytes(16)), "none"
-    most = FTYP + FREE * (MOST_ROOT_BOXES - 1)
-    yield "as many boxes as there may be", most, "none"
-    yield "and a byte", most + b"\0", "refused TooManyBoxes 1048576"
-    yield "and one box", most + FREE, "refused TooManyBoxes 1048576"
 
 
 # The C2PA box
@@ -111,7 +107,11 @@ def box_rows():
 
 
 def large_rows():
-    """Stores at the limit: what, file, and what `digest` prints."""
+    """Boxes and stores at the limits: what, file, and what `digest` prints."""
+    most = FTYP + FREE * (MOST_ROOT_BOXES - 1)
+    yield "as many boxes as there may be", most, "none"
+    yield "and a byte", most + b"\0", "refused TooManyBoxes 1048576"
+    yield "and one box", most + FREE, "refused TooManyBoxes 1048576"
     for length in LARGEST_STORE, LARGEST_STORE + 1:
         file = FTYP + provenance_box(b"manifest\0" + bytes(8) + length.to_bytes(4, "big") + b"free" + bytes(length - 8))
         told = f"16 33554477 {hashlib.sha256(FTYP).hexdigest()}" if length == LARGEST_STORE else "refused StoreTooLarge 33554433"
@@ -234,6 +234,8 @@ def child_cover_rows():
     left = at + head + first.hex() + free + trak_2 + tkhd(b"2")
     yield "the second in each", film, [exclusion("/moov/trak/tkhd[2]")], left
     yield "one in the second", film, [exclusion("/moov/trak[2]/tkhd[1]")], at + head + first.hex() + free + trak_2 + tkhd(b"3")
+    longer = exclusion("/moov/trak[1]", subset((4, 9), (8, MOST)))
+    yield "a part that is longer than its box", film, [longer], at + head + trak[:8] + free + second.hex()
     yield "a box inside an excluded one", film, [exclusion("/moov/trak"), exclusion("/moov/trak/tkhd"), exclusion("/moov")], ""
     yield "a type at another depth", film, [exclusion("/trak")], at + film.hex()
     yield "a box behind the deepest", film, [exclusion("/moov/trak/mdia/minf")], at + film.hex()
@@ -371,6 +373,22 @@ def unsupported_rows():
     yield "a BMFF hash of version 3", BmffHash([OWN], label="c2pa.hash.bmff.v3"), failing("unsupported.hashKind")[:-1] + "3"
 
 
+def holder_rows():
+    """What, file, and what `validate` prints: how the store's own box meets the test on its bytes."""
+    profile, mismatch = [Manifest("m", BmffHash(ALL_EXCLUDED))], f"failing assertion.bmffHash.mismatch {BINDING}"
+    wide = Bmff(FTYP, MDAT, wide=True)
+    yield "a store's box whose length has 8 bytes, so that the test meets another place", wide.file(profile), mismatch
+    other = [exclusion("/uuid", tested((16, PROVENANCE))), *ALL_EXCLUDED[1:]]
+    yield "a test at that place", wide.file([Manifest("m", BmffHash(other))]), valid(9, 16)
+    last = Bmff(FTYP + MDAT).file(profile)
+    yield "a store's box that runs to the end", changed(last, 25, bytes(4)), valid(9, 16)
+    yield "padding behind the store", Bmff(FTYP, MDAT, padding=bytes(9)).file(profile), valid(9, 16)
+    user = box(b"uuid", bytes(16) + b"A")
+    yield "another user's box", Bmff(FTYP, user).file(profile), valid(25, 16)
+    yield "a box of another purpose", Bmff(FTYP, provenance_box(b"merkle\0") + MDAT).file(profile), valid(9, 51)
+    yield "a data hash", Bmff(FTYP, MDAT).file([Manifest("m", DataHash())]), valid(25, 0)
+
+
 # All rows
 
 
@@ -394,7 +412,7 @@ def rows():
     yield from store_rows()
     for what, draft, told in hash_rows():
         yield what, Bmff(FTYP, MDAT).file([Manifest("m", draft)]), "validate", told
-    for what, contents, told in built_rows():
+    for what, contents, told in [*holder_rows(), *built_rows()]:
         yield what, contents, "validate", told
 
 
