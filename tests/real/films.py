@@ -28,6 +28,7 @@ from chance_stores import questions_in
 from drafts import ACTIONS, ALL_EXCLUDED, Assertion, Bmff, BmffHash, DataHash, Manifest, exclusion, subset
 from fields import BadBinding
 from locate import Refused
+from make_store import box
 from plain_cover import drawn_exclusion
 from sign import certificate_of, verdict_row
 from sign_photo import Signed, Signer
@@ -78,6 +79,15 @@ def is_supported(spelled):
     return True
 
 
+def with_other_headers(data, roots):
+    """A file with a store in which the other boxes have a length in 8 bytes, and the last one none, so that it runs to the end."""
+    first, *others = roots
+    inside = [data[each.inside : each.end] for each in others]
+    rest = b"".join(box(each.kind, payload, wide=True) for each, payload in zip(others[:-1], inside))
+    rest += bytes(4) + others[-1].kind + inside[-1] if others else b""
+    return Bmff(data[: first.end], rest).file(manifest(BmffHash(ALL_EXCLUDED)))
+
+
 def variants(data):
     """Name, contents, what `validate` must begin with, and a verdict file, None for one that approves all."""
     roots = root_boxes(data)
@@ -87,9 +97,10 @@ def variants(data):
     yield "in_front", with_store, VALID, None
     yield "parts", in_front.file(manifest(BmffHash(PARTS))), VALID, None
     yield "drawn", in_front.file(manifest(BmffHash(drawn(data)))), VALID, None
+    yield "headers", with_other_headers(data, roots), VALID, None
     yield "data_hash", in_front.file(manifest(DataHash())), f"{VALID}covered={len(data)} outside=0\n", None
     yield "cut_short", with_store[:-1], "refused Truncated ", None
-    place = next(box.inside for box in reversed(roots) if box.kind not in (b"ftyp", b"mfra") and box.inside < box.end)
+    place = next(it.inside for it in reversed(roots) if it.kind not in (b"ftyp", b"mfra") and it.inside < it.end)
     place += len(with_store) - len(data)
     yield "changed", with_store[:place] + bytes([with_store[place] ^ 1]) + with_store[place + 1 :], TESTED, None
     if int.from_bytes(data[roots[-1].start : roots[-1].start + 4], "big") != 0:
