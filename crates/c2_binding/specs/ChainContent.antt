@@ -1,0 +1,60 @@
+-- The chain content of a store: what its active claim vouches for among its own boxes and in the manifests
+-- below it (C2PA Technical Specification 2.x, "Claims" and "Ingredient"; that these are taken together as one
+-- map is this project's own choice).
+--
+-- The map is given by what stands under its keys: claim bytes under the key of a manifest, contents of boxes
+-- under that and the label of an assertion. Two maps are equal where the same stands under the same keys.
+use Rattle.std.specs.Prelude.{◌≡◌, ◌↔◌, ℕ, true, false, List, [], Option, Some, slice_get, Contains, option_and_then, if◌then◌else◌}
+use Rattle.c2_spec.specs.C2pa.Manifest.{claim_bytes}
+use Rattle.c2_spec.specs.declared.cbor.Ref.{Ref}
+use Rattle.c2_rules.specs.Chains.{label_in, is_active, is_reached, is_redacted, entry_label}
+use Rattle.c2_rules.specs.CheckList.{active_in}
+use Rattle.c2_rules.specs.Readings.{ReadBox, Reading, entries_in}
+use Rattle.c2_rules.specs.Rules.{box_with}
+
+-- the claim bytes of a manifest: the item of its claim box ("Claims")
+abbrev pub claim_bytes_of : Reading → Option (List ℕ)
+claim_bytes_of r = claim_bytes r.manifest.claims
+
+-- the active claim of a store, as bytes: that of the last manifest ("Manifest store")
+abbrev pub active_claim : List Reading → Option (List ℕ)
+active_claim rs = option_and_then claim_bytes_of (active_in rs)
+
+-- the key of the manifest at a place: its label, and for the active one the empty label, so that its own
+-- label doesn't matter (this project's own choice)
+abbrev pub key_at : List Reading → ℕ → Reading → List ℕ
+key_at rs place r = if is_active rs place then [] else label_in r
+
+-- A reached manifest stands at this place and has this key ("Ingredient").
+pub record HasKey (rs : List Reading) (key : List ℕ) (place : ℕ) (r : Reading) : Type 0 where
+  pub at_place : slice_get rs place ≡ Some r
+  pub reached : is_reached rs place ≡ true
+  pub is : key_at rs place r ≡ key
+
+-- The chain content has these claim bytes under this key.
+pub record GivesClaim (rs : List Reading) (key bytes : List ℕ) : Type 0 where
+  pub place : ℕ
+  pub manifest : Reading
+  pub has_key : HasKey rs key place manifest
+  pub is : claim_bytes_of manifest ≡ Some bytes
+
+-- It has these contents under this key and the label of an assertion: an entry of the manifest's claim lists
+-- the label, which isn't redacted there, and these are the contents of the box with this label ("Assertions",
+-- "Redaction of assertions").
+pub record GivesBox (rs : List Reading) (key label contents : List ℕ) : Type 0 where
+  pub place : ℕ
+  pub manifest : Reading
+  pub has_key : HasKey rs key place manifest
+  pub entry : Ref
+  pub lists : Contains (entries_in manifest) entry
+  pub is_label : entry_label manifest.manifest entry ≡ Some label
+  pub unredacted : is_redacted rs place label ≡ false
+  pub box : ReadBox
+  pub has_box : box_with manifest label ≡ Some box
+  pub is : box.boxed.contents ≡ contents
+
+-- Two stores have equal chain contents.
+pub record SameContent (rs ss : List Reading) : Type 0 where
+  pub claims : (key bytes : List ℕ) → GivesClaim rs key bytes ↔ GivesClaim ss key bytes
+  pub boxes : (key label contents : List ℕ) → GivesBox rs key label contents
+      ↔ GivesBox ss key label contents

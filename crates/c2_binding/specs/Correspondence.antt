@@ -1,0 +1,18 @@
+-- Manifests of two stores that correspond to each other and have one claim: the fact that is kept on the way
+-- from the active manifests to those that are reached from them.
+use Rattle.std.specs.Prelude.{◌≡◌, ℕ, true, false, List, Some, slice_get}
+use Rattle.c2_rules.specs.Chains.{label_in, is_active, is_reached}
+use Rattle.c2_rules.specs.Readings.{Reading}
+use Rattle.c2_binding.specs.ChainContent.{claim_bytes_of}
+
+-- Reached manifests at these places, both active or both of one label, have equal claim bytes.
+pub record Correspond (rs ss : List Reading) (n m : ℕ) : Type 0 where
+  pub first : Reading
+  pub first_at : slice_get rs n ≡ Some first
+  pub second : Reading
+  pub second_at : slice_get ss m ≡ Some second
+  pub first_reached : is_reached rs n ≡ true
+  pub second_reached : is_reached ss m ≡ true
+  pub active : is_active rs n ≡ is_active ss m
+  pub label : is_active rs n ≡ false → label_in first ≡ label_in second
+  pub claims : claim_bytes_of first ≡ claim_bytes_of second
