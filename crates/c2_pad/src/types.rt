@@ -1,0 +1,11 @@
+//! The type of the answer of `fill`.
+
+/// How many zero bytes the entries of a filled header have. An entry without a number isn't there.
+#[derive(Clone, Copy, Debug, PartialEq, Eq)]
+pub struct Fill {
+    /// Those of the entry `pad`.
+    pub pad: Option<u32>,
+
+    /// Those of the entry `pad2`.
+    pub pad2: Option<u32>,
+}
