@@ -11,4 +11,5 @@ mod RowLemmas
 mod SearchLemmas
 mod SomeOutcome
 mod StandLemmas
+mod StoreBytes
 mod WalkLemmas

@@ -20,7 +20,8 @@ pub mod types;
 pub use exclusion::{ByteTests, Exclusion, Exclusions};
 pub use header::{BoxHead, HeadError, head};
 pub use laws::{
-    a_bmff_file_comes_to_one_thing, a_file_has_one_list_of_roots, each_bmff_file_comes_to_something,
+    a_bmff_file_comes_to_one_thing, a_file_has_one_list_of_roots, a_test_decides_what_is_excluded,
+    bmff_store_bytes_are_of_the_file, each_bmff_file_comes_to_something,
 };
 pub use matching::{match_path, match_paths};
 pub use paths::{Path, Segment, read_path};
