@@ -1,18 +1,12 @@
 -- The boxes inside another, one at a time; and the siblings that a step matches.
 use Rattle.std.proofs.Common.{◌≡◌, ℕ, zero, suc, ◌+◌, ◌-◌, ◌<◌, ◌≤◌, Bool, true, false, not, cond, ◌&&◌, ◌==◌, List, [], ◌∷◌, ◌++◌, length, get_or, take, drop, is_some, Option, Some, None, option_map, refl, sym, ap, ap₂, ◌∙◌, subst, arith, append_assoc, append-nil}
 use Rattle.std.specs.Prelude.{filter}
-use Rattle.std.specs.Prelude.{All}
 use Rattle.std.specs.List.{flat_map, AllByRecursion}
-use Rattle.std.proofs.lemmas.Grind.{flat_map-append}
-use Rattle.std.proofs.lemmas.List.Elements.{All-from_recursion, recursion_from_All}
-use Rattle.std.specs.Str.{bytes_eq}
-use Rattle.std.proofs.lemmas.Bool.{ne_eqb}
-use Rattle.std.proofs.lemmas.Bool.Decides.{nat_tests}
-use Rattle.std.proofs.lemmas.List.{length-drop, length-take-le, drop-take, drop-drop, drop_all, drop_more, take_more}
+use Rattle.std.proofs.lemmas.List.{length-drop, length-take-le, drop-take, drop-drop, drop_all, drop_more}
 use Rattle.c2_spec.specs.Bmff.Boxes.{box_fault, stated_size, stated_len, stated_kind, stated_header_len}
-use Rattle.c2_spec.specs.Bmff.Paths.{PathStep, is_entered, nth_of}
+use Rattle.c2_spec.specs.Bmff.Paths.{PathStep, is_entered}
 use Rattle.c2_spec.specs.Cbor.Fields.{joined}
-use Rattle.c2_bmff.specs.Children.{ChildWalk, child_row, child_rows, go_on, is_child, kids, matched_in, on_rows, or_none, row_matched, wants}
+use Rattle.c2_bmff.specs.Children.{ChildWalk, child_row, child_rows, go_on, is_child, kids, on_rows, or_none, row_matched}
 use Rattle.c2_bmff.specs.Heads.{IsHead}
 use Rattle.c2_bmff.specs.Headers.{IsHeader, header_fault}
 use Rattle.c2_bmff.specs.Provenance.{payload_at}
@@ -120,23 +114,6 @@ walk_end file parent done rows w end =
     sym (w.are ∙ ap (λ (xs : List ℕ). or_none (option_map (λ (more : List RootBox). rows ++ more) (child_rows w.most (parent.start + parent.header + done) xs))) (drop_all done (payload_at file parent) end)
     ∙ ap (λ (m : Option (List RootBox)). or_none (option_map (λ (more : List RootBox). rows ++ more) m)) (child_end w.most (parent.start + parent.header + done)) ∙ append-nil rows)
 
--- ---- siblings
-
--- equal numbers stay equal one later
-eqb_suc : (n m : ℕ) → (suc n == suc m) ≡ (n == m)
-eqb_suc n m = grind (arith, nat_tests)
-
--- one more sibling of the type
-nth_more : (nth : Option ℕ) (xs : List RootBox) (x : RootBox) → nth_of nth (xs ++ x ∷ []) ≡ nth_of nth xs ++ cond (wants nth (length xs)) (x ∷ []) []
-nth_more None xs x = refl
-nth_more (Some k) xs x = go (k - 1) xs
-  where
-    go : (n : ℕ) (xs : List RootBox) → take 1 (drop n (xs ++ x ∷ [])) ≡ take 1 (drop n xs) ++ cond (n == length xs) (x ∷ []) []
-    go zero [] = refl
-    go zero (y ∷ ys) = ap (λ t. y ∷ cond t (x ∷ []) []) (sym (ne_eqb 0 (suc (length ys)) (λ e. omega (arith, e))))
-    go (suc n) [] = ap (take 1) (drop_all n [] (omega arith)) ∙ ap (λ t. cond t (x ∷ []) []) (sym (ne_eqb (suc n) 0 (λ e. omega (arith, e))))
-    go (suc n) (y ∷ ys) = go n ys ∙ ap (λ t. take 1 (drop n ys) ++ cond t (x ∷ []) []) (sym (eqb_suc n (length ys)))
-
 -- a payload has its length
 pub payload_len : (file : List ℕ) (r : RootBox) → r.start + r.length ≤ length file → r.header ≤ r.length → length (payload_at file r) ≡ r.length - r.header
 payload_len file r inside ordered = length-take-le (r.length - r.header) (drop (r.start + r.header) file) (omega (arith, length-drop (r.start + r.header) file, inside, ordered))
@@ -159,48 +136,10 @@ all_one P zero (x ∷ xs) h = (h.0, tt)
 all_one {A} P (suc n) [] h = subst (λ (ys : List A). AllByRecursion P (take 1 ys)) (sym (drop_all (suc n) [] (omega arith))) tt
 all_one P (suc n) (x ∷ xs) h = all_one P n xs h.1
 
--- those that a step matches
-pub all_matched : (P : RootBox → Type 0) (step : PathStep) (xs : List RootBox) → All P xs → All P (row_matched step xs)
-all_matched P step xs h = All-from_recursion P (row_matched step xs) (go step.nth)
-  where
-    passing : AllByRecursion P (filter (λ (r : RootBox). bytes_eq r.kind step.kind) xs)
-    passing = all_filter P (λ (r : RootBox). bytes_eq r.kind step.kind) xs (recursion_from_All P xs h)
-
-    go : (nth : Option ℕ) → AllByRecursion P (nth_of nth (filter (λ (r : RootBox). bytes_eq r.kind step.kind) xs))
-    go None = passing
-    go (Some k) = all_one P (k - 1) (filter (λ (r : RootBox). bytes_eq r.kind step.kind) xs) passing
-
--- lists of lists of lists
-flat_twice : (f g : RootBox → List RootBox) (xs : List RootBox) → flat_map (λ (x : RootBox). flat_map g (f x)) xs ≡ flat_map g (flat_map f xs)
-flat_twice f g [] = refl
-flat_twice f g (x ∷ xs) = ap (λ (ys : List RootBox). flat_map g (f x) ++ ys) (flat_twice f g xs) ∙ sym (flat_map-append g (f x) (flat_map f xs))
-
--- nothing of each is nothing
-abbrev nothing : RootBox → List RootBox
-nothing r = []
-
--- where each row has no rows below it, all rows together have none
-flat_none : (xs : List RootBox) → flat_map nothing xs ≡ []
-flat_none [] = refl
-flat_none (x ∷ xs) = flat_none xs
-
 -- the first step
 pub path_start : (file : List ℕ) (siblings : List RootBox) (step : PathStep) (steps : List PathStep) → on_rows file siblings (step ∷ steps) ≡ go_on file step steps (row_matched step siblings)
 path_start file siblings step [] = refl
 path_start file siblings step (next ∷ steps) = refl
-
--- the next step, among the children
-pub path_next : (file : List ℕ) (step next : PathStep) (steps : List PathStep) (found : List RootBox) → is_entered step.kind ≡ true → go_on file step (next ∷ steps) found ≡ go_on file next steps (flat_map (matched_in file next) found)
-path_next file step next steps found enters =
-    ap (λ t. cond t (flat_map (λ (p : RootBox). on_rows file (kids file p) (next ∷ steps)) found) []) enters ∙ go steps
-  where
-    go : (steps : List PathStep) → flat_map (λ (p : RootBox). on_rows file (kids file p) (next ∷ steps)) found ≡ go_on file next steps (flat_map (matched_in file next) found)
-    go [] = refl
-    go (n ∷ ns) = by (is_entered next.kind)
-      where
-        by : (t : Bool) → flat_map (λ (p : RootBox). cond t (flat_map (λ (q : RootBox). on_rows file (kids file q) (n ∷ ns)) (matched_in file next p)) []) found ≡ cond t (flat_map (λ (q : RootBox). on_rows file (kids file q) (n ∷ ns)) (flat_map (matched_in file next) found)) []
-        by true = flat_twice (matched_in file next) (λ (q : RootBox). on_rows file (kids file q) (n ∷ ns)) found
-        by false = flat_none found
 
 -- a step that enters nothing
 pub path_stops : (file : List ℕ) (step : PathStep) (rest : List PathStep) (found : List RootBox) → 0 < length rest → is_entered step.kind ≡ false → go_on file step rest found ≡ []
@@ -213,15 +152,6 @@ path_stops file step (next ∷ steps) found some other = ap (λ t. cond t (flat_
 abbrev pub no_row : RootBox
 no_row = record { start = 0; length = 0; header = 0; kind = []; to_end = false }
 
--- what the next row gives
-pub flat_next : (f : RootBox → List RootBox) (rows : List RootBox) (i : ℕ) → i < length rows → flat_map f (take i rows) ++ f (get_or rows i no_row) ≡ flat_map f (take (i + 1) rows)
-flat_next f rows i inside = sym (ap (flat_map f) (take_more rows i no_row inside) ∙ flat_map-append f (take i rows) (get_or rows i no_row ∷ []) ∙ ap (λ (xs : List RootBox). flat_map f (take i rows) ++ xs) (append-nil (f (get_or rows i no_row))))
-
 -- the steps from one on
 pub steps_from : (path : List PathStep) (i : ℕ) (step : PathStep) → i < length path → step ≡ get_or path i step → drop i path ≡ step ∷ drop (i + 1) path
 steps_from path i step inside is = drop_more path i step inside ∙ ap (λ (s : PathStep). s ∷ drop (i + 1) path) (sym is)
-
--- a list that isn't empty
-pub not_empty : (n : ℕ) → (n == 0) ≡ false → 0 < n
-not_empty zero e = absurd (cc (e))
-not_empty (suc n) e = omega arith

@@ -1,5 +1,5 @@
 -- What the search for a store has found, a root box at a time.
-use Rattle.std.proofs.Common.{◌≡◌, ℕ, ◌+◌, ◌≤◌, Bool, true, false, not, cond, ◌&&◌, ◌||◌, List, [], ◌∷◌, ◌++◌, take, drop, is_some, Option, Some, None, ltb, refl, sym, ap, ap₂, ◌∙◌, subst, arith}
+use Rattle.std.proofs.Common.{◌≡◌, ℕ, ◌≤◌, Bool, true, false, not, cond, ◌&&◌, ◌||◌, List, [], ◌∷◌, ◌++◌, take, drop, is_some, Option, Some, None, ltb, refl, sym, ap, ap₂, ◌∙◌, subst, arith}
 use Rattle.std.proofs.lemmas.List.{append_assoc, drop-drop, length-take}
 use Rattle.std.specs.List.{AllByRecursion, list_any}
 use Rattle.std.specs.Str.{bytes_eq}
@@ -10,7 +10,6 @@ use Rattle.c2_spec.specs.Bmff.Boxes.{Box, HasRoots, box_len, boxes_len, uuid_kin
 use Rattle.c2_spec.specs.Bmff.Store.{c2pa_user_type, is_c2pa_box, is_store_box, is_other_box, is_version_zero, is_for_manifest, has_store_box, content_of, store_in, store_len, c2pa_fault, provenance_fault, most_store_bytes, ProvenanceFault}
 use Rattle.c2_spec.proofs.BmffOneStore.{no_both}
 use Rattle.c2_bmff.specs.Provenance.{payload_part}
-use Rattle.c2_bmff.specs.Roots.{FillSource}
 use Rattle.c2_bmff.specs.Search.{FailsBy, Finds, Searched, StepsBy}
 use Rattle.c2_bmff.specs.declared.provenance.Part.{Part}
 use Rattle.c2_bmff.specs.declared.provenance.Part.TheVariants as part
@@ -191,10 +190,3 @@ searched_fails file roots before after b r found e has split h kind start fails 
 -- nothing is found before the first box
 pub searched_none : Searched [] None
 searched_none = record { passing = pass_none; finds = tt }
-
--- ---- rows inside the source
-
--- the rows end at the source's end
-pub fill_end : (size low : ℕ) (rows : List RootBox) → FillSource size low rows → low ≤ size
-fill_end size low [] f = omega (arith, f)
-fill_end size low (r ∷ rs) f = omega (arith, fill_end size (low + r.length) rs f.3)

@@ -1,12 +1,13 @@
 -- The first 16 bytes of what is left of a file tell what a box's tests ask for.
-use Rattle.std.proofs.Common.{◌≡◌, ℕ, ◌+◌, ◌-◌, ◌<◌, ◌≤◌, zero, suc, Bool, true, false, cond, ◌&&◌, List, [], ◌∷◌, length, take, drop, Some, None, option_map, ltb, leb, ◌==◌, refl, sym, ap, ap₂, ◌∙◌, arith}
+use Rattle.std.proofs.Common.{◌≡◌, ℕ, ◌+◌, ◌-◌, ◌<◌, ◌≤◌, ⊎_elim, min, zero, suc, Bool, true, false, cond, ◌&&◌, List, [], ◌∷◌, length, take, drop, Option, Some, None, option_map, ltb, leb, ◌==◌, refl, sym, ap, ap₂, ◌∙◌, arith}
+use Rattle.std.proofs.lemmas.Bool.{lt-ltb, le-ltb, cases_lt}
 use Rattle.std.proofs.lemmas.List.{drop-take, take-take}
 use Rattle.std.specs.Int.{w32, w64, from_be_bytes}
 use Rattle.std.specs.Str.{bytes_eq}
 use Rattle.c2_base.specs.declared.media.MediaError.{MediaError}
 use Rattle.c2_spec.specs.Bmff.Boxes.{box_fault, stated_size, stated_long_size, stated_kind, stated_header_len, uuid_kind}
 use Rattle.c2_spec.proofs.BmffTests.{six, len_by, by, file_by}
-use Rattle.c2_bmff.specs.Headers.{header_fault, header_total, IsHeader}
+use Rattle.c2_bmff.specs.Headers.{head_fault, header_fault, header_total, IsBoxHead, IsHeader, lacks_user_type}
 use Rattle.c2_bmff.specs.Heads.{IsHead, media_error}
 use Rattle.c2_bmff.specs.declared.header.BoxHead.{BoxHead}
 use Rattle.c2_bmff.specs.declared.header.HeadError.{HeadError}
@@ -85,3 +86,68 @@ same_take zero (suc m) (x ∷ xs) h k = absurd (omega (arith, k (omega arith)))
 same_take (suc n) zero xs h k = absurd (omega (arith, h))
 same_take (suc n) (suc m) [] h k = refl
 same_take (suc n) (suc m) (x ∷ xs) h k = ap (λ (ys : List ℕ). x ∷ ys) (same_take n m xs (omega (arith, h)) (λ lt. omega (arith, k (omega (arith, lt)))))
+
+-- ---- the header alone, and the box
+
+-- the first of five tests that fails
+five : Bool → Bool → Bool → Bool → Bool → Option HeadError
+five a b c d e = cond a (Some Short) (cond b (Some Short) (cond c (Some Bad) (cond d (Some Bad) (cond e (Some Short) None))))
+
+-- where one of them fails, it is the first of six
+five_some : (a b c d e f : Bool) (x : HeadError) → five a b c d e ≡ Some x → six a b c d e f Short Bad ≡ Some x
+unfolding five
+five_some true b c d e f x h = h
+five_some false true c d e f x h = h
+five_some false false true d e f x h = h
+five_some false false false true e f x h = h
+five_some false false false false true f x h = h
+five_some false false false false false f x h = absurd (cc (h))
+
+-- where none fails, the sixth decides
+five_none : (a b c d e f : Bool) → five a b c d e ≡ None → six a b c d e f Short Bad ≡ cond f (Some Bad) None
+unfolding five
+five_none true b c d e f h = absurd (cc (h))
+five_none false true c d e f h = absurd (cc (h))
+five_none false false true d e f h = absurd (cc (h))
+five_none false false false true e f h = absurd (cc (h))
+five_none false false false false true f h = absurd (cc (h))
+five_none false false false false false f h = refl
+
+-- the first 16 bytes are too few for a header where those that are left are
+few_same : (count left n : ℕ) → count ≡ min 16 left → n ≤ 16 → ltb (min count left) n ≡ ltb left n
+few_same count left n e small = ⊎_elim
+    (λ l. lt-ltb (min count left) n (omega (arith, l)) ∙ sym (lt-ltb left n l))
+    (λ g. le-ltb (min count left) n (omega (arith, g, e, small)) ∙ sym (le-ltb left n g))
+    (cases_lt left n)
+
+-- a header has at most 16 bytes
+most_header : (t : Bool) → cond t 16 8 ≤ 16
+most_header true = omega arith
+most_header false = omega arith
+
+-- the five tests of the header alone, over the first 16 of the bytes that are left
+head_by : (left : ℕ) (bytes : List ℕ) → length bytes ≡ min 16 left → head_fault left bytes ≡ five (ltb left 8) (ltb left (stated_header_len bytes)) (leb 2 (stated_size bytes) && ltb (stated_size bytes) 8) ((stated_size bytes == 1) && ltb (stated_long_size bytes) 16) (ltb left (header_total left bytes))
+unfolding head_fault five
+head_by left bytes first =
+    ap₂ (λ (a b : Bool). five a b (leb 2 (stated_size bytes) && ltb (stated_size bytes) 8) ((stated_size bytes == 1) && ltb (stated_long_size bytes) 16) (ltb left (header_total left bytes)))
+    (few_same (length bytes) left 8 first (omega arith)) (few_same (length bytes) left (stated_header_len bytes) first (most_header (stated_size bytes == 1)))
+
+-- a header that fails is a box that fails
+pub box_of_bad : (left : ℕ) (bytes : List ℕ) (e : HeadError) → length bytes ≡ min 16 left → head_fault left bytes ≡ Some e → header_fault left bytes ≡ Some e
+box_of_bad left bytes e first fails =
+    header_by left bytes
+    ∙ five_some (ltb left 8) (ltb left (stated_header_len bytes)) (leb 2 (stated_size bytes) && ltb (stated_size bytes) 8) ((stated_size bytes == 1) && ltb (stated_long_size bytes) 16) (ltb left (header_total left bytes)) (bytes_eq (stated_kind bytes) uuid_kind && ltb (header_total left bytes) (stated_header_len bytes + 16)) e (sym (head_by left bytes first) ∙ fails)
+
+-- fewer than 16 bytes stand after the header
+few_after : (n m : ℕ) → m ≤ n → ltb n (m + 16) ≡ ltb (n - m) 16
+few_after n m least = ⊎_elim
+    (λ l. lt-ltb n (m + 16) (omega (arith, l, least)) ∙ sym (lt-ltb (n - m) 16 l))
+    (λ g. le-ltb n (m + 16) (omega (arith, g, least)) ∙ sym (le-ltb (n - m) 16 g))
+    (cases_lt (n - m) 16)
+
+-- a header that passes is a box that passes but for the user type of a `uuid` box
+pub box_of_good : (left : ℕ) (bytes : List ℕ) (h : BoxHead) (t : Bool) → length bytes ≡ min 16 left → IsBoxHead left bytes h → lacks_user_type h ≡ t → header_fault left bytes ≡ cond t (Some Bad) None
+box_of_good left bytes h t first is e =
+    header_by left bytes
+    ∙ five_none (ltb left 8) (ltb left (stated_header_len bytes)) (leb 2 (stated_size bytes) && ltb (stated_size bytes) 8) ((stated_size bytes == 1) && ltb (stated_long_size bytes) 16) (ltb left (header_total left bytes)) (bytes_eq (stated_kind bytes) uuid_kind && ltb (header_total left bytes) (stated_header_len bytes + 16)) (sym (head_by left bytes first) ∙ is.good)
+    ∙ ap (λ (b : Bool). cond b (Some Bad) None) (ap₂ (λ (k : List ℕ) (n : ℕ). bytes_eq k uuid_kind && ltb n (stated_header_len bytes + 16)) (sym is.kind) (sym is.length) ∙ ap (λ (n : ℕ). bytes_eq h.kind uuid_kind && ltb h.length (n + 16)) (sym is.header) ∙ ap (λ (b : Bool). bytes_eq h.kind uuid_kind && b) (few_after h.length h.header is.least) ∙ e)

@@ -12,4 +12,5 @@ mod SearchLemmas
 mod SomeOutcome
 mod StandLemmas
 mod StoreBytes
+mod TrailLemmas
 mod WalkLemmas

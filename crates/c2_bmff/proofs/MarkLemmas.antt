@@ -44,7 +44,7 @@ or_false true = refl
 or_false false = refl
 
 -- some member of a list with one more at its end passes where one of the list or that one does
-any_append : {A : Type 0} (p : A → Bool) (xs : List A) (x : A) → list_any p (xs ++ x ∷ []) ≡ (list_any p xs || p x)
+pub any_append : {A : Type 0} (p : A → Bool) (xs : List A) (x : A) → list_any p (xs ++ x ∷ []) ≡ (list_any p xs || p x)
 any_append p [] x = or_false (p x)
 any_append p (y ∷ ys) x = ap (λ b. p y || b) (any_append p ys x) ∙ sym (or_join (p y) (list_any p ys) (p x))
 

@@ -1,23 +1,21 @@
 -- Boxes on a path and rows on it; and the positions that an exclusion excludes.
-use Rattle.std.proofs.Common.{◌≡◌, ◌⊎◌, inl, inr, ℕ, zero, suc, ◌+◌, ◌-◌, ◌^◌, ◌<◌, ◌≤◌, Bool, true, false, cond, ◌||◌, leb, ltb, List, [], ◌∷◌, ◌++◌, length, get_or, take, drop, map, Option, Some, None, refl, sym, ap, ap₂, ◌∙◌, subst, arith}
+use Rattle.std.proofs.Common.{◌≡◌, ◌⊎◌, inl, inr, ℕ, zero, suc, ◌+◌, ◌-◌, ◌^◌, ◌<◌, ◌≤◌, Bool, true, false, cond, ◌||◌, leb, ltb, List, [], ◌∷◌, ◌++◌, length, get_or, take, drop, map, Option, Some, None, refl, sym, ap, ◌∙◌, subst, arith}
 use Rattle.std.specs.Prelude.{All, Contains, filter, bytes_eq, IfSome}
 use Rattle.std.specs.List.{flat_map, AllByRecursion, list_any, list_all}
 use Rattle.std.proofs.lemmas.Bool.{and_from, and_parts, le-leb, lt-ltb, eq-eqb}
 use borrow.Author.Tests.{leb-true, ltb-true, eqb-true}
-use Rattle.std.proofs.lemmas.List.{append-nil, drop-drop, drop-take, drop_all, take-append-le, take_more}
+use Rattle.std.proofs.lemmas.List.{append-nil, drop-drop, drop-take, drop_all, take-append-le}
 use Rattle.std.proofs.lemmas.Slice.Eq.{bytes_eq-Decides}
-use Rattle.std.proofs.lemmas.List.Elements.{All-from_recursion}
 use Rattle.c2_spec.specs.Bmff.Boxes.{Box, HasRoots, AreBoxForms, IsBox, box_bytes, box_len}
 use Rattle.c2_spec.specs.Bmff.Hash.{ByteTest, Exclusion, IsExcluded, IsExcludedBy, MeetsTest, in_subset}
 use Rattle.c2_spec.specs.Bmff.Paths.{PathStep, PlacedBox, OnPath, last, below, is_entered, matched, nth_of, placed_from}
 use Rattle.c2_spec.proofs.BmffOneList.{first_box, other_boxes}
 use Rattle.c2_bmff.specs.Children.{IsRowWithin, kids, on_rows, row_matched}
 use Rattle.c2_bmff.specs.Marks.{excludes_row, has_length, holds_test, in_row, in_row_subset, marks, stands_at, takes}
-use Rattle.c2_bmff.specs.Roots.{FillSource, row_of, rows_of}
+use Rattle.c2_bmff.specs.Roots.{HasHeader, IsBoxWithin, row_of, rows_of}
 use Rattle.c2_bmff.specs.declared.root_boxes.RootBox.{RootBox}
 use Rattle.c2_bmff.proofs.BoxThere.{AreBytes}
 use Rattle.c2_bmff.proofs.ChildLemmas.{all_filter, all_one}
-use Rattle.c2_bmff.proofs.FoundLemmas.{fill_end}
 use Rattle.c2_bmff.proofs.WalkLemmas.{bytes_size}
 use Rattle.c2_bmff.proofs.StandLemmas.{KidsAre, Stands, all_stand, kids_are, some_children}
 
@@ -287,14 +285,9 @@ excluded_rows file boxes e i bytes h ex =
     (and_from (has_length e.length (row_of ex.at)) (list_all (holds_test file (row_of ex.at)) e.tests) (row_sized e.length ex.at ex.sized) (rows_tests file ex.at e.tests b.stands ex.tests))
     (and_from (in_row i (row_of ex.at)) (in_subset (i - ex.at.at) e.subset) (and_from (leb ex.at.at i) (ltb i (ex.at.at + box_len ex.at.box)) (le-leb ex.at.at i ex.from) (lt-ltb i (ex.at.at + box_len ex.at.box) ex.to)) ex.part))
 
--- rows that fill a source lie inside it
-fill_rows : (size low : ℕ) (rows : List RootBox) → FillSource size low rows → AllByRecursion (IsRowWithin size) rows
-fill_rows size low [] f = tt
-fill_rows size low (r ∷ rs) f = ((omega (arith, f.0, fill_end size (low + r.length) rs f.3), f.1), fill_rows size (low + r.length) rs f.3)
-
--- all rows that fill a source lie inside it
-pub rows_within : (size low : ℕ) (rows : List RootBox) → FillSource size low rows → All (IsRowWithin size) rows
-rows_within size low rows f = All-from_recursion (IsRowWithin size) rows (fill_rows size low rows f)
+-- boxes that end in a source and have headers are rows inside it
+pub rows_within : (size : ℕ) (rows : List RootBox) → All (IsBoxWithin size) rows → All HasHeader rows → All (IsRowWithin size) rows
+rows_within size rows ends headed k d lt = let h : HasHeader (get_or rows k d) = headed k d lt in (ends k d lt, h.0, h.1)
 
 -- a position that one of the exclusions excludes
 pub all_rows_excluded : (file : List ℕ) (boxes : List Box) (es : List Exclusion) (i : ℕ) → AreBytes file → HasRoots file boxes → list_any (excludes_row file (rows_of boxes) i) es ≡ true → IsExcluded boxes es i
@@ -305,14 +298,3 @@ all_rows_excluded file boxes es i bytes h ex =
 -- a position that one of the exclusions excludes is excluded by the rows
 pub all_excluded_rows : (file : List ℕ) (boxes : List Box) (es : List Exclusion) (i : ℕ) → AreBytes file → HasRoots file boxes → IsExcluded boxes es i → list_any (excludes_row file (rows_of boxes) i) es ≡ true
 all_excluded_rows file boxes es i bytes h ex = member_any (excludes_row file (rows_of boxes) i) es ex.exclusion (to_member es ex.exclusion ex.is_one) (excluded_rows file boxes ex.exclusion i bytes h ex.excludes)
-
--- an exclusion of nothing
-abbrev pub no_exclusion : Exclusion
-no_exclusion = record { path = []; length = None; tests = []; subset = None }
-
--- ---- paths that are the same
-
--- as far as the steps are the same, so are the paths
-pub same_more : (xs ys : List PathStep) (i : ℕ) (x y : PathStep) → i < length xs → i < length ys → x ≡ get_or xs i x → y ≡ get_or ys i y → x ≡ y → take i xs ≡ take i ys → take (i + 1) xs ≡ take (i + 1) ys
-same_more xs ys i x y a b at at' e so_far =
-    take_more xs i x a ∙ ap₂ (λ (zs : List PathStep) (z : PathStep). zs ++ z ∷ []) so_far (sym at ∙ e ∙ at') ∙ sym (take_more ys i y b)

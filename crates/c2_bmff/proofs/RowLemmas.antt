@@ -8,26 +8,12 @@ use Rattle.c2_base.specs.declared.media.MediaError.{MediaError}
 use Rattle.c2_spec.specs.Bmff.Boxes.{Box, HasRoots, box_bytes, box_len, boxes_len, uuid_kind}
 use Rattle.c2_spec.specs.Bmff.Store.{ProvenanceFault}
 use Rattle.c2_bmff.specs.Provenance.{payload_at, payload_part}
-use Rattle.c2_bmff.specs.Roots.{AreRootsOf, FillSource, row_of, rows_of}
+use Rattle.c2_bmff.specs.Roots.{AreRootsOf, row_of, rows_of}
 use Rattle.c2_bmff.specs.Search.{FailsBy, IsStoreOr, Searched, SearchedTo, StepsBy}
 use Rattle.c2_bmff.specs.declared.root_boxes.RootBox.{RootBox}
-use Rattle.c2_bmff.proofs.FoundLemmas.{fill_end, searched_fails, searched_none, searched_not, searched_uuid}
+use Rattle.c2_bmff.proofs.FoundLemmas.{searched_fails, searched_none, searched_not, searched_uuid}
 use Rattle.c2_bmff.proofs.SearchLemmas.{BoxAt, box_at, payload_is}
 use Rattle.c2_bmff.proofs.WalkLemmas.{length-rows}
-
--- The next of rows that fill a source, and the others.
-pub record NextRow (size : ℕ) (r : RootBox) (others : List RootBox) : Type 0 where
-  pub inside : r.start + r.length ≤ size
-  pub ordered : r.header ≤ r.length
-  pub low : ℕ
-  pub rest : FillSource size low others
-
--- it lies inside the source
-pub next_row : (size low : ℕ) (rows : List RootBox) (r : RootBox) (others : List RootBox) → FillSource size low rows → rows ≡ r ∷ others → NextRow size r others
-next_row size low rows r others f e = go (subst (FillSource size low) e f)
-  where
-    go : FillSource size low (r ∷ others) → NextRow size r others
-    go g = record { inside = omega (arith, g.0, fill_end size (low + r.length) others g.3); ordered = g.1; low = low + r.length; rest = g.3 }
 
 -- A row, and its box in the file.
 record RowAt (file : List ℕ) (boxes : List Box) (n : ℕ) (r : RootBox) : Type 0 where

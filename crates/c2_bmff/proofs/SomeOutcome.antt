@@ -2,13 +2,13 @@
 use Rattle.std.proofs.Common.{◌≡◌, ◌⊎◌, inl, inr, ⊎_elim, ℕ, zero, suc, ◌+◌, ◌^◌, ◌<◌, ◌≤◌, Bool, true, false, cond, ◌&&◌, leb, ltb, ◌==◌, List, [], ◌∷◌, ◌++◌, length, take, drop, is_some, Option, Some, None, refl, sym, ap, ◌∙◌, subst, arith, append_assoc, append-nil, length-append}
 use Rattle.std.proofs.lemmas.Bool.{cases_lt, ltb-true}
 use Rattle.std.proofs.lemmas.Grind.{flat_map-append}
-use Rattle.std.proofs.lemmas.List.{drop_all, length-drop}
+use Rattle.std.proofs.lemmas.List.{drop_all}
 use Rattle.std.specs.List.{flat_map, AllByRecursion}
 use Rattle.std.specs.Str.{bytes_eq}
 use Rattle.c2_base.specs.declared.media.Found.{Found}
 use Rattle.c2_base.specs.declared.media.MediaError.{MediaError}
 use Rattle.c2_base.specs.declared.media.MediaError.TheVariants.{NotMedia, FileTooLarge, Truncated, TwoStores, BadBox, BadProvenanceBox, StoreTooLarge, TooManyBoxes}
-use Rattle.c2_spec.specs.Bmff.Boxes.{SizeForm, short, long, to_end, Box, IsBox, IsSizedBox, AreBoxForms, HasRoots, RootFault, begins_bmff, box_bytes, box_fault, box_len, boxes_len, header_len, is_to_end, most_roots, root_fault, stated_kind, stated_len, stated_header_len, stated_long_size, stated_size, uuid_kind}
+use Rattle.c2_spec.specs.Bmff.Boxes.{SizeForm, short, long, to_end, Box, IsBox, IsSizedBox, AreBoxForms, HasRoots, RootFault, begins_bmff, box_bytes, box_fault, boxes_len, header_len, most_roots, root_fault, stated_kind, stated_len, stated_header_len, stated_long_size, stated_size, uuid_kind}
 use Rattle.c2_spec.specs.Bmff.Store.{FirstBmffFault, too_large, not_media, root, provenance, ProvenanceFault, IsBmffLocated}
 use Rattle.c2_spec.specs.Located.{Located, refused, absent, here, refusal}
 use Rattle.c2_spec.specs.declared.reason.Reason.{Reason}

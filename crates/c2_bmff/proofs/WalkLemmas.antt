@@ -5,7 +5,9 @@ use Rattle.std.proofs.lemmas.Bool.Decides.{Decides-ltb}
 use Rattle.std.proofs.lemmas.Grind.{flat_map-append}
 use Rattle.std.proofs.lemmas.List.{append-nil, append_assoc, map-append, length-map, drop_all, drop-drop, length-drop, length-take}
 use Rattle.std.proofs.lemmas.Slice.Eq.{bytes_eq-Decides}
+use Rattle.std.specs.Prelude.{All}
 use Rattle.std.specs.List.{flat_map, AllByRecursion}
+use Rattle.std.proofs.lemmas.List.Elements.{All-from_recursion}
 use Rattle.std.specs.Int.{w64, to_be_bytes}
 use Rattle.c2_base.specs.declared.media.MediaError.{MediaError}
 use Rattle.c2_base.specs.declared.media.MediaError.TheVariants.{NotMedia, FileTooLarge, Truncated, BadMarker, BadSegment, BadPacket, TwoStores, BadBox, BadProvenanceBox, StoreTooLarge, TooManyBoxes, ReadFault, NoMemory}
@@ -13,7 +15,7 @@ use Rattle.c2_spec.specs.Bmff.Boxes.{Box, IsBox, IsSizedBox, AreBoxForms, SizeFo
 use Rattle.c2_spec.specs.Bmff.Paths.{PlacedBox, placed_from}
 use Rattle.c2_bmff.specs.Causes.{OrOutside}
 use Rattle.c2_bmff.specs.Heads.{IsHead}
-use Rattle.c2_bmff.specs.Roots.{AreRootsOf, BeginsWith, FillSource, Walks, row_at, row_of, rows_of}
+use Rattle.c2_bmff.specs.Roots.{AreRootsOf, BeginsWith, FillSource, HasHeader, IsBoxWithin, Walks, row_at, row_of, rows_of}
 use Rattle.c2_bmff.specs.declared.header.BoxHead.{BoxHead}
 use Rattle.c2_bmff.specs.declared.root_boxes.RootBox.{RootBox}
 use Rattle.c2_bmff.proofs.BoxThere.{AreBytes, bytes-drop, box_there}
@@ -147,9 +149,32 @@ pub walks_start : (file : List ℕ) → Walks file 0 []
 walks_start file = record { boxes = []; bytes = refl; place = refl; sized = λ more. tt; forms = tt; are = refl }
 
 -- one row more
-pub fill_more : (at low : ℕ) (rows : List RootBox) (r : RootBox) → FillSource at low rows → r.start ≡ at → r.header ≤ r.length → 8 ≤ r.length → FillSource (at + r.length) low (rows ++ r ∷ [])
+pub fill_more : (at low : ℕ) (rows : List RootBox) (r : RootBox) → FillSource at low rows → r.start ≡ at → r.header ≤ r.length → 8 ≤ r.header → FillSource (at + r.length) low (rows ++ r ∷ [])
 fill_more at low [] r f e h l = (e ∙ sym f, h, l, ap (λ n. n + r.length) f)
 fill_more at low (x ∷ xs) r f e h l = (f.0, f.1, f.2, fill_more at (low + x.length) xs r f.3 e h l)
+
+-- rows that fill a source end at its end
+fill_end : (size low : ℕ) (rows : List RootBox) → FillSource size low rows → low ≤ size
+fill_end size low [] f = omega (arith, f)
+fill_end size low (r ∷ rs) f = omega (arith, fill_end size (low + r.length) rs f.3)
+
+-- each of them ends in the source
+fill_within_by : (size low : ℕ) (rows : List RootBox) → FillSource size low rows → AllByRecursion (IsBoxWithin size) rows
+fill_within_by size low [] f = tt
+fill_within_by size low (r ∷ rs) f = (omega (arith, f.0, fill_end size (low + r.length) rs f.3), fill_within_by size (low + r.length) rs f.3)
+
+-- rows that fill a source end in it
+pub fill_within : (size low : ℕ) (rows : List RootBox) → FillSource size low rows → All (IsBoxWithin size) rows
+fill_within size low rows f = All-from_recursion (IsBoxWithin size) rows (fill_within_by size low rows f)
+
+-- each of them has a header
+fill_headed_by : (size low : ℕ) (rows : List RootBox) → FillSource size low rows → AllByRecursion HasHeader rows
+fill_headed_by size low [] f = tt
+fill_headed_by size low (r ∷ rs) f = ((f.1, f.2), fill_headed_by size (low + r.length) rs f.3)
+
+-- rows that fill a source have headers
+pub fill_headed : (size low : ℕ) (rows : List RootBox) → FillSource size low rows → All HasHeader rows
+fill_headed size low rows f = All-from_recursion HasHeader rows (fill_headed_by size low rows f)
 
 -- what follows from a claim follows where the source didn't fail
 pub outside_map : (e : MediaError) {A B : Type 0} → (A → B) → OrOutside e A → OrOutside e B

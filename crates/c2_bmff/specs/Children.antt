@@ -1,6 +1,6 @@
 -- For private clauses: the rows of the boxes inside another, and of the boxes on a path.
-use Rattle.std.specs.Prelude.{◌≡◌, ℕ, zero, suc, ◌+◌, ◌-◌, ◌≤◌, Bool, true, false, not, ◌&&◌, ◌==◌, is_some, List, [], ◌∷◌, ◌++◌, length, drop, filter, Option, Some, None, option_map, if◌then◌else◌}
-use Rattle.std.specs.List.{flat_map}
+use Rattle.std.specs.Prelude.{◌≡◌, ℕ, zero, suc, ◌+◌, ◌≤◌, Bool, false, not, ◌&&◌, ◌==◌, is_some, List, [], ◌∷◌, ◌++◌, length, drop, filter, Option, Some, None, option_map, if◌then◌else◌}
+use Rattle.std.specs.List.{flat_map, sum_by}
 use Rattle.std.specs.Str.{bytes_eq}
 use Rattle.c2_spec.specs.Bmff.Boxes.{box_fault, stated_size, stated_len, stated_kind, stated_header_len}
 use Rattle.c2_spec.specs.Bmff.Paths.{PathStep, is_entered, nth_of}
@@ -58,27 +58,22 @@ IsChildHead rest (Some h) = IsHead 0 rest h × (h.to_end ≡ false)
 
 -- it ends in `left` bytes
 abbrev pub IsHeadWithin : ℕ → BoxHead → Type 0
-IsHeadWithin left h = (8 ≤ h.length) × (h.length ≤ left) × (h.header ≤ h.length)
+IsHeadWithin left h = (8 ≤ h.header) × (h.length ≤ left) × (h.header ≤ h.length)
 
--- the box of a row ends in a source of `len` bytes, and has its header in it
+-- the box of a row ends in a source of `len` bytes, and has a header
 abbrev pub IsRowWithin : ℕ → RootBox → Type 0
-IsRowWithin len r = (r.start + r.length ≤ len) × (r.header ≤ r.length)
+IsRowWithin len r = (r.start + r.length ≤ len) × (r.header ≤ r.length) × (8 ≤ r.header)
+
+-- how many bytes these boxes have together
+abbrev pub rows_len : List RootBox → ℕ
+rows_len rows = sum_by (λ (r : RootBox). r.length) rows
 
 -- ---- paths
-
--- a step with this number takes the sibling of its type before which so many others stand
-abbrev pub wants : Option ℕ → ℕ → Bool
-wants None seen = true
-wants (Some k) seen = k - 1 == seen
 
 -- the rows that a step matches among these siblings
 abbrev pub row_matched : PathStep → List RootBox → List RootBox
 row_matched step siblings =
     nth_of step.nth (filter (λ (r : RootBox). bytes_eq r.kind step.kind) siblings)
-
--- those that it matches among the children of this row
-abbrev pub matched_in : List ℕ → PathStep → RootBox → List RootBox
-matched_in file step r = row_matched step (kids file r)
 
 -- the rows on a path below these siblings
 abbrev pub on_rows : List ℕ → List RootBox → List PathStep → List RootBox

@@ -9,3 +9,4 @@ pub mod PathTexts
 pub mod Provenance
 pub mod Roots
 pub mod Search
+pub mod Trails

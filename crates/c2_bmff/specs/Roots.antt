@@ -35,11 +35,19 @@ abbrev pub AreRootsOr : List ℕ → Result (List RootBox) MediaError → Type 0
 AreRootsOr file (Ok rows) = AreRootsOf file rows
 AreRootsOr file (Err e) = OrOutside e (FirstBmffFault file e)
 
+-- the box ends in a source of `len` bytes
+abbrev pub IsBoxWithin : ℕ → RootBox → Type 0
+IsBoxWithin len r = r.start + r.length ≤ len
+
+-- the box has a header
+abbrev pub HasHeader : RootBox → Type 0
+HasHeader r = (r.header ≤ r.length) × (8 ≤ r.header)
+
 -- Each row begins where the one before it ends, from `low` on, has its header in it, and the last ends at `size`.
 abbrev pub FillSource : ℕ → ℕ → List RootBox → Type 0
 FillSource size low [] = low ≡ size
 FillSource size low (r ∷ rs) =
-    (r.start ≡ low) × (r.header ≤ r.length) × (8 ≤ r.length) × FillSource size (low + r.length) rs
+    (r.start ≡ low) × (r.header ≤ r.length) × (8 ≤ r.header) × FillSource size (low + r.length) rs
 
 -- ---- for private clauses
 

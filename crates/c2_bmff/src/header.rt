@@ -1,7 +1,7 @@
 // Headers of boxes.
 ghost use Rattle.std.specs.Prelude.{◌≡◌, ◌+◌, ◌<◌, ◌≤◌, length, take, drop, min, None, Some, IfOk, IfErr};
 ghost use Rattle.std.specs.Int.{w32, w64, from_be_bytes};
-ghost use Rattle.c2_bmff.specs.Headers.{header_fault, IsHeader};
+ghost use Rattle.c2_bmff.specs.Headers.{head_fault, header_fault, IsBoxHead, IsHeader, lacks_user_type};
 
 // The type of a box that begins with a user type of 16 bytes.
 pub(crate) const UUID: [u8; 4] = *b"uuid";
@@ -19,13 +19,13 @@ pub struct BoxHead {
     pub to_end: bool,
 }
 
-/// Why there is no box. Which comes first where two hold is said at `box_fault` in `c2_spec`, module `Bmff.Boxes`.
+/// Why there is no header of a box.
 #[derive(Clone, Copy, Debug, PartialEq, Eq)]
 pub enum HeadError {
-    /// The file ends before the header or the box does.
+    /// The bytes end before the header does, or the file before the box.
     Short,
 
-    /// The size is below its header's length, or a `uuid` box has no room for its user type.
+    /// The size is below its header's length.
     Bad,
 }
 
@@ -65,21 +65,21 @@ fn kind_in(bytes: &[u8]) -> [u8; 4]
 /// The header of the box that begins with `bytes`, where `left` bytes of the file are left from there. A box of size 0 has the
 /// length `left`.
 ///
-/// `bytes` are the first 16 of those that are left, or all of them where fewer are. Takes no memory.
-#[tactic(auto, unfolding(crate::specs::Headers::header_fault))]
+/// [`HeadError::Short`]: `bytes` or `left` are fewer than the header needs, or the box ends after `left`. [`HeadError::Bad`]: the size
+/// is from 2 to 7, or a 64-bit one below 16. The first that holds in this order: the header's bytes, the size, the box's end. Takes
+/// no memory.
+#[tactic(auto, unfolding(crate::specs::Headers::head_fault))]
 pub fn head(bytes: &[u8], left: u64) -> Result<BoxHead, HeadError>
-    requires first { length bytes.now ≡ min 16 left }
-    ensures ok { IfOk result (IsHeader left bytes.now) }
-    ensures err { IfErr result (λ e. header_fault left bytes.now ≡ Some e) }
+    ensures ok { IfOk result (IsBoxHead left bytes.now) }
+    ensures err { IfErr result (λ e. head_fault left bytes.now ≡ Some e) }
 {
-    if left < 8 {
+    if left < 8 || bytes.len() < 8 {
         return Err(HeadError::Short);
     }
     let size = u32_at(bytes, 0);
     let kind = kind_in(bytes);
-    let is_uuid = kind == UUID;
     if size == 1 {
-        if left < 16 {
+        if left < 16 || bytes.len() < 16 {
             return Err(HeadError::Short);
         }
         let length = u64_at(bytes, 8);
@@ -88,9 +88,6 @@ pub fn head(bytes: &[u8], left: u64) -> Result<BoxHead, HeadError>
         }
         if left < length {
             return Err(HeadError::Short);
-        }
-        if is_uuid && length < 32 {
-            return Err(HeadError::Bad);
         }
         return Ok(BoxHead {
             header: 16,
@@ -106,13 +103,35 @@ pub fn head(bytes: &[u8], left: u64) -> Result<BoxHead, HeadError>
     if left < length {
         return Err(HeadError::Short);
     }
-    if is_uuid && length < 24 {
-        return Err(HeadError::Bad);
-    }
     Ok(BoxHead {
         header: 8,
         length,
         kind,
         to_end: size == 0,
     })
+}
+
+// Whether it is a `uuid` box without room for its user type after its header.
+fn lacks_user_type(head: BoxHead) -> bool
+    requires { head.header ≤ head.length }
+    ensures { result ≡ lacks_user_type head }
+{
+    head.kind == UUID && head.length - head.header < 16
+}
+
+// The same of the first 16 of the bytes that are left, where a `uuid` box also has room for its user type.
+pub(crate) fn box_head(bytes: &[u8], left: u64) -> Result<BoxHead, HeadError>
+    requires first { length bytes.now ≡ min 16 left }
+    ensures ok { IfOk result (IsHeader left bytes.now) }
+    ensures err { IfErr result (λ e. header_fault left bytes.now ≡ Some e) }
+{
+    match head(bytes, left) {
+        Ok(head) => {
+            if lacks_user_type(head) {
+                return Err(HeadError::Bad);
+            }
+            Ok(head)
+        }
+        Err(error) => Err(error),
+    }
 }

@@ -16,6 +16,7 @@ mod root_boxes;
 #[cfg(test)]
 mod tests;
 pub mod types;
+mod walking;
 
 pub use exclusion::{ByteTests, Exclusion, Exclusions};
 pub use header::{BoxHead, HeadError, head};

@@ -198,8 +198,8 @@ fn add_subset(
     Ok(())
 }
 
-// Adds the positions that the exclusion excludes through the box of this row.
-fn mark_row<S: Source>(
+/// Adds the positions that the exclusion excludes through the box of this row.
+pub(crate) fn mark_row<S: Source>(
     source: &mut S,
     entry: &Exclusion,
     row: RootBox,
@@ -220,32 +220,5 @@ fn mark_row<S: Source>(
         return Ok(());
     }
     add_subset(ranges, row, &entry.subset)?;
-    Ok(())
-}
-
-/// Adds the positions that the exclusion excludes through the boxes of these rows.
-pub(crate) fn mark<S: Source>(
-    source: &mut S,
-    entry: &Exclusion,
-    rows: &[RootBox],
-    ranges: &mut Vec<Range>,
-) -> Result<(), MediaError>
-    requires inside { All (IsRowWithin (S.len source.old)) rows.now }
-    requires within { All (IsRangeWithin (S.len source.old)) ranges.old.items }
-    ensures same { OnOk result (ForSome (S.known source.old) (λ file.
-        (i : ℕ) → is_excluded ranges.new.items i
-        ≡ (is_excluded ranges.old.items i || list_any (marks file entry.now i) rows.now))) }
-    ensures within { OnOk result (All (IsRangeWithin (S.len source.old)) ranges.new.items) }
-    ensures stays { StaysSource S.len S.known S.faults source.old source.new }
-    ensures count { OnOk result (S.faults source.new ≡ S.faults source.old) }
-    ensures cause { IfErr result (IsCaused (S.faults source.old) (S.faults source.new)) }
-    ensures outside { IfErr result (λ e. OrOutside e ⊥) }
-{
-    for row in rows {
-        match mark_row(source, entry, *row, ranges) {
-            Ok(()) => {}
-            Err(error) => return Err(error),
-        }
-    }
     Ok(())
 }

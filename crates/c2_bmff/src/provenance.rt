@@ -1,11 +1,12 @@
 // The C2PA box among the root boxes.
-ghost use Rattle.std.specs.Prelude.{◌≡◌, ◌+◌, ◌-◌, ◌<◌, ◌≤◌, length, take, drop, min, ℕ, List, bytes_eq, is_some, IfOk, IfErr, IfSome, OnOk, Ok, Some};
+ghost use Rattle.std.specs.Prelude.{◌≡◌, ◌+◌, ◌-◌, ◌<◌, ◌≤◌, length, take, drop, min, ℕ, List, All, bytes_eq, is_some, IfOk, IfErr, IfSome, OnOk, Ok, Some};
 ghost use Rattle.std.specs.Option.{ForSome};
 ghost use Rattle.c2_base.specs.Causes.{HasCause};
 ghost use Rattle.c2_base.specs.Source.{StaysSource};
 ghost use Rattle.c2_bmff.specs.Causes.{IsCaused, OrOutside};
 ghost use Rattle.c2_bmff.specs.Provenance.{first_part, payload_at, payload_part, store_by};
-ghost use Rattle.c2_bmff.specs.Roots.{AreRootsOf, FillSource};
+ghost use Rattle.c2_bmff.specs.Children.{IsRowWithin};
+ghost use Rattle.c2_bmff.specs.Roots.{AreRootsOf, IsBoxWithin};
 ghost use Rattle.c2_base.specs.declared.limits.TheConstants.{MAX_STORE_LEN};
 ghost use Rattle.c2_bmff.specs.Search.{FailsBy, IsFoundWithin, IsPartWithin, IsStoreOr, StepsBy, SearchedTo};
 
@@ -199,7 +200,7 @@ fn search<S: Source>(
     source: &mut S,
     rows: &[RootBox],
 ) -> Result<Option<Found>, MediaError>
-    requires fill { FillSource (S.len source.old) 0 rows.now }
+    requires inside { All (IsRowWithin (S.len source.old)) rows.now }
     ensures found { ForSome (S.known source.old)
         (λ file. AreRootsOf file rows.now → IsStoreOr file result) }
     ensures within { IfOk result (λ found. IfSome found (IsFoundWithin (S.len source.old))) }
@@ -230,7 +231,7 @@ pub fn locate<S: Source>(
     source: &mut S,
     roots: &Roots,
 ) -> Result<Option<Found>, MediaError>
-    requires fill { FillSource (S.len source.old) 0 roots.now }
+    requires inside { All (IsBoxWithin (S.len source.old)) roots.now }
     ensures found { ForSome (S.known source.old)
         (λ file. AreRootsOf file roots.now → IsStoreOr file result) }
     ensures within { IfOk result (λ found. IfSome found (IsFoundWithin (S.len source.old))) }

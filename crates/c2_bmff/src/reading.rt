@@ -1,9 +1,9 @@
 // The call that reads the root boxes of a file.
-ghost use Rattle.std.specs.Prelude.{◌≡◌, ◌^◌, ◌<◌, OnOk, IfOk, IfErr};
+ghost use Rattle.std.specs.Prelude.{◌≡◌, ◌^◌, ◌<◌, All, OnOk, IfOk, IfErr};
 ghost use Rattle.std.specs.Option.{ForSome};
 ghost use Rattle.c2_base.specs.Source.{StaysSource};
 ghost use Rattle.c2_bmff.specs.Causes.{IsCaused, OrOutside};
-ghost use Rattle.c2_bmff.specs.Roots.{AreRootsOf, FillSource};
+ghost use Rattle.c2_bmff.specs.Roots.{AreRootsOf, FillSource, IsBoxWithin};
 ghost use Rattle.c2_spec.specs.Bmff.Store.{FirstBmffFault};
 
 use crate::root_boxes::{Roots, is_bmff, walk};
@@ -21,6 +21,7 @@ pub fn roots<S: Source>(alloc: Global, source: &mut S) -> Result<Roots, MediaErr
         (λ roots. ForSome (S.known source.old) (λ file. AreRootsOf file roots)) }
     ensures refused { IfErr result
         (λ e. ForSome (S.known source.old) (λ file. OrOutside e (FirstBmffFault file e))) }
+    ensures inside { IfOk result (All (IsBoxWithin (S.len source.old))) }
     ensures fill { IfOk result (FillSource (S.len source.old) 0) }
     ensures small { OnOk result (S.len source.old < 2 ^ 62) }
     ensures stays { StaysSource S.len S.known S.faults source.old source.new }

@@ -1,15 +1,15 @@
 // The root boxes of a file.
-ghost use Rattle.std.specs.Prelude.{◌≡◌, ◌++◌, [], ◌∷◌, ◌+◌, ◌-◌, ◌^◌, ◌<◌, ◌≤◌, true, length, take, drop, ℕ, List, OnOk, IfOk, IfErr};
+ghost use Rattle.std.specs.Prelude.{◌≡◌, ◌++◌, [], ◌∷◌, ◌+◌, ◌-◌, ◌^◌, ◌<◌, ◌≤◌, true, length, take, drop, ℕ, List, All, OnOk, IfOk, IfErr};
 ghost use Rattle.std.specs.Option.{ForSome};
 ghost use Rattle.c2_base.specs.Causes.{HasCause};
 ghost use Rattle.c2_base.specs.Source.{StaysSource};
 ghost use Rattle.c2_bmff.specs.Causes.{IsCaused, OrOutside};
 ghost use Rattle.c2_bmff.specs.Heads.{IsHeadOr};
-ghost use Rattle.c2_bmff.specs.Roots.{AreRootsOf, FillSource, row_at};
+ghost use Rattle.c2_bmff.specs.Roots.{AreRootsOf, FillSource, HasHeader, row_at};
 ghost use Rattle.c2_spec.specs.Bmff.Boxes.{RootFault, begins_bmff};
 ghost use Rattle.c2_spec.specs.Bmff.Store.{FirstBmffFault};
 
-use crate::header::{self, BoxHead, HeadError};
+use crate::header::{BoxHead, HeadError, box_head};
 use c2_base::limits::{FILE_LEN_LIMIT, MAX_ROOT_BOXES};
 use c2_base::{Failed, MediaError, NoMemory, Source, fill_at};
 use std::alloc::Global;
@@ -40,18 +40,22 @@ pub struct Roots {
 }
 
 impl Model for Roots {
-    ghost use Rattle.std.specs.Prelude.{List};
+    ghost use Rattle.std.specs.Prelude.{List, All};
+    ghost use Rattle.c2_bmff.specs.Roots.{HasHeader};
     ghost use Rattle.c2_bmff.specs.declared.root_boxes.RootBox.{RootBox};
 
     ghost Value = { List RootBox };
 
     ghost view = { λ r. r.rows.items };
+
+    ghost invariant = { λ r. All HasHeader r.rows.items };
 }
 
 impl Roots {
     /// The boxes. Takes no memory.
     pub fn as_slice(&self) -> &[RootBox]
-        ensures { result.now ≡ self.now }
+        ensures boxes { result.now ≡ self.now }
+        ensures headers { All HasHeader result.now }
     {
         self.rows.as_slice()
     }
@@ -83,14 +87,14 @@ fn head_at<S: Source>(source: &mut S, at: u64, size: u64) -> Result<BoxHead, Med
     ensures count { OnOk result (S.faults source.new ≡ S.faults source.old) }
     ensures cause { IfErr result (IsCaused (S.faults source.old) (S.faults source.new)) }
     ensures within { IfOk result
-        (λ h. (8 ≤ h.length) × (at + h.length ≤ size) × (h.header ≤ h.length)) }
+        (λ h. (8 ≤ h.header) × (at + h.length ≤ size) × (h.header ≤ h.length)) }
     ensures read { ForSome (S.known source.old) (λ file. IsHeadOr at (drop at file) result) }
 {
     let mut bytes = [0; 16];
     let left = size - at;
     let count = left.min(16) as usize;
     fill_first(source, at, &mut bytes, count)?;
-    match header::head(&bytes[..count], left) {
+    match box_head(&bytes[..count], left) {
         Ok(head) => Ok(head),
         Err(HeadError::Short) => Err(MediaError::Truncated(size)),
         Err(HeadError::Bad) => Err(MediaError::BadBox(at)),

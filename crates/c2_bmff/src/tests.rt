@@ -100,12 +100,30 @@ fn the_first_test_that_fails_is_told(rt: HostRuntime) -> Result<(), Fail> {
 }
 
 #[test]
-fn a_user_type_needs_its_bytes(rt: HostRuntime) {
-    let header = [0, 0, 0, 23, 0x75, 0x75, 0x69, 0x64, 0, 0, 0, 0, 0, 0, 0, 0];
-    assert!(rt; head(&header, 40) == Err(HeadError::Bad));
+fn a_header_is_read_from_the_bytes_that_are_there(rt: HostRuntime) {
+    let header = [0, 0, 0, 23, 0x75, 0x75, 0x69, 0x64];
+    assert!(rt; head(&header, 40).is_ok_and(|head| head.length == 23 && head.kind == *b"uuid"));
     assert!(rt; head(&header, 22) == Err(HeadError::Short));
-    let whole = [0, 0, 0, 24, 0x75, 0x75, 0x69, 0x64, 0, 0, 0, 0, 0, 0, 0, 0];
-    assert!(rt; head(&whole, 40).is_ok_and(|head| head.length == 24 && head.kind == *b"uuid"));
+    assert!(rt; head(&header[..7], 40) == Err(HeadError::Short));
+    let long = [
+        0, 0, 0, 1, 0x6D, 0x64, 0x61, 0x74, 0, 0, 0, 0, 0, 0, 0, 0x0F,
+    ];
+    assert!(rt; head(&long, 40) == Err(HeadError::Bad));
+    assert!(rt; head(&long, 15) == Err(HeadError::Short));
+    assert!(rt; head(&long[..15], 40) == Err(HeadError::Short));
+}
+
+// `ftyp`, and a `uuid` box with 15 bytes after its header.
+const UUID: [u8; 39] = [
+    0, 0, 0, 0x10, 0x66, 0x74, 0x79, 0x70, 0x69, 0x73, 0x6F, 0x6D, 0, 0, 0, 0, 0, 0, 0, 0x17, 0x75,
+    0x75, 0x69, 0x64, 0, 0, 0, 0, 0, 0, 0, 0, 0, 0, 0, 0, 0, 0, 0,
+];
+
+#[test]
+fn a_user_type_needs_its_bytes(rt: HostRuntime) -> Result<(), Fail> {
+    let alloc = rt.alloc();
+    rows_of(&rt, alloc, &UUID, Err(MediaError::BadBox(16)))?;
+    rows_of(&rt, alloc, &UUID[..38], Err(MediaError::Truncated(38)))
 }
 
 // A C2PA box after `ftyp`: user type, version and flags, purpose, offset of the first Merkle box, a bare JUMBF box, two bytes after it.

@@ -1,10 +1,12 @@
-use Rattle.std.proofs.Common.{◌≡◌, ◌∙◌, ◌+◌, ◌-◌, ◌<◌, length, take, drop, subst, sym, ap, arith}
+use Rattle.std.proofs.Common.{◌≡◌, ◌∙◌, ◌+◌, ◌-◌, ◌<◌, ℕ, length, take, drop, subst, sym, ap, arith}
 use Rattle.std.specs.Prelude.{All, IfSome}
 use Rattle.std.specs.declared.option.Option.{Option}
 use Rattle.c2_bmff.specs.declared.header.BoxHead.{BoxHead}
 use Rattle.std.proofs.lemmas.List.{length-drop}
 use Rattle.std.proofs.lemmas.List.Elements.{All-push}
-use Rattle.c2_bmff.specs.Children.{ChildWalk, IsChildHead, IsHeadWithin, IsRowWithin}
+use Rattle.c2_bmff.specs.Children.{ChildWalk, IsChildHead, IsHeadWithin, IsRowWithin, rows_len}
+use Rattle.c2_bmff.specs.declared.root_boxes.RootBox.{RootBox}
+use Rattle.std.proofs.lemmas.List.Sums.{sum_by_push}
 use Rattle.c2_bmff.specs.Provenance.{payload_at}
 use Rattle.c2_bmff.specs.Roots.{row_at}
 use Rattle.c2_bmff.proofs.ChildLemmas.{payload_len, rest_is, walk_none, walk_more, walk_end}
@@ -34,19 +36,20 @@ boxes-preserved g c =
     let h = c.in-Some.head in
     let call = c.in_ok-head.ensures in
     let within : IsHeadWithin (len - c.boxes.done) h = subst (λ (o : Option BoxHead). IfSome o (IsHeadWithin (len - c.boxes.done))) c.in-Some.is call.within in
-    let row : IsRowWithin (g.S.Source.len c.args.source.now) (row_at (base + c.boxes.done) h) = (omega (arith, within.1, c.boxes-test.true, c.requires.inside.0, c.requires.inside.1), within.2) in
+    let row : IsRowWithin (g.S.Source.len c.args.source.now) (row_at (base + c.boxes.done) h) = (omega (arith, within.1, c.boxes-test.true, c.requires.inside.0, c.requires.inside.1), within.2, within.0) in
     record {
       inside = omega (arith, within.1, c.boxes-test.true);
       stays = record { same_len = call.stays.same_len ∙ before.stays.same_len; same_bytes = call.stays.same_bytes ∙ before.stays.same_bytes; later = omega (arith, call.stays.later, before.stays.later) };
       count = call.cause.ok ∙ before.count;
       within = subst (All (IsRowWithin (g.S.Source.len c.args.source.now))) (sym c.in_ok-keep.ensures) (All-push (IsRowWithin (g.S.Source.len c.args.source.now)) c.boxes.rows.items (row_at (base + c.boxes.done) h) before.within row);
+      total = ap rows_len c.in_ok-keep.ensures ∙ sum_by_push (λ (r : RootBox). r.length) c.boxes.rows.items (row_at (base + c.boxes.done) h) ∙ ap (λ (n : ℕ). n + h.length) before.total;
       walked = λ file known.
           let size : length file ≡ g.S.Source.len c.args.source.now = g.met.S.Source.known_len c.args.source.now file known in
           let payload : length (payload_at file parent) ≡ len = payload_len file parent (omega (arith, size, c.requires.inside.0)) c.requires.inside.1 in
           let rest : drop c.boxes.done (payload_at file parent) ≡ take (len - c.boxes.done) (drop (base + c.boxes.done) file) = rest_is file base len c.boxes.done before.inside in
           let some : 0 < length (take (len - c.boxes.done) (drop (base + c.boxes.done) file)) = omega (arith, ap length (sym rest), length-drop c.boxes.done (payload_at file parent), payload, c.boxes-test.true) in
           let head = subst (IsChildHead (take (len - c.boxes.done) (drop (base + c.boxes.done) file))) c.in-Some.is (call.read file (before.stays.same_bytes ∙ known)) in
-          subst (ChildWalk file parent (c.boxes.done + h.length)) (sym c.in_ok-keep.ensures) (walk_more file parent c.boxes.done c.boxes.rows.items (take (len - c.boxes.done) (drop (base + c.boxes.done) file)) h (before.walked file known) rest some head.0 head.1 (omega (arith, within.0)));
+          subst (ChildWalk file parent (c.boxes.done + h.length)) (sym c.in_ok-keep.ensures) (walk_more file parent c.boxes.done c.boxes.rows.items (take (len - c.boxes.done) (drop (base + c.boxes.done) file)) h (before.walked file known) rest some head.0 head.1 (omega (arith, within.0, within.2)));
     }
 
 -- where the boxes fill the payload, their rows are those of the children

@@ -2,7 +2,7 @@ use Rattle.std.proofs.Common.{◌≡◌, ◌-◌, ◌≤◌}
 use Rattle.std.specs.Prelude.{All}
 use Rattle.std.specs.Option.{ForSome}
 use Rattle.c2_base.specs.Source.{StaysSource}
-use Rattle.c2_bmff.specs.Children.{ChildWalk, IsRowWithin}
+use Rattle.c2_bmff.specs.Children.{ChildWalk, IsRowWithin, rows_len}
 use Rattle.c2_bmff.proofs.children.children.Given as goal
 
 -- the rows are those of the boxes in the first `done` bytes of the payload, and lie in the source
@@ -12,6 +12,7 @@ invariant-boxes g l = record {
   stays : StaysSource g.S.Source.len g.S.Source.known g.S.Source.faults l.initial.source l.source;
   count : g.S.Source.faults l.source ≡ g.S.Source.faults l.initial.source;
   within : All (IsRowWithin (g.S.Source.len l.initial.source)) l.rows.items;
+  total : rows_len l.rows.items ≡ l.done;
   walked : ForSome (g.S.Source.known l.initial.source) (λ file. ChildWalk file l.fn.parent l.done l.rows.items);
 }
 

@@ -1,19 +1,18 @@
-use Rattle.std.proofs.Common.{◌≡◌, ◌∙◌, ℕ, List, sym, ap, subst}
+use Rattle.std.proofs.Common.{◌≡◌, ◌∙◌, List, sym, ap, subst}
 use Rattle.std.specs.Prelude.{All}
 use Rattle.std.specs.List.{list_any}
 use Rattle.c2_base.specs.declared.values.Range.{Range}
 use Rattle.c2_spec.specs.Cover.{is_excluded}
-use Rattle.c2_bmff.specs.Children.{IsRowWithin}
 use Rattle.c2_bmff.specs.Marks.{excludes_row}
-use Rattle.c2_bmff.specs.Roots.{rows_of}
+use Rattle.c2_bmff.specs.Roots.{IsBoxWithin, rows_of}
 use Rattle.c2_bmff.specs.declared.root_boxes.RootBox.{RootBox}
 use Rattle.c2_bmff.proofs.BoxThere.{are_bytes}
 use Rattle.c2_bmff.proofs.MatchLemmas.{all_excluded_rows, all_rows_excluded, rows_within}
 use Rattle.c2_bmff.proofs.matching.match_paths.Goals as goal
 
--- root boxes that fill the source lie inside it
+-- root boxes that end in the source are rows inside it
 pub mark_all-requires : goal.mark_all-requires
-mark_all-requires g c = record { inside = subst (All (IsRowWithin (g.S.Source.len c.args.source.now))) (sym c.as_slice.ensures) (rows_within (g.S.Source.len c.args.source.now) 0 c.args.roots.now c.requires.fill) }
+mark_all-requires g c = record { inside = rows_within (g.S.Source.len c.args.source.now) _ (subst (All (IsBoxWithin (g.S.Source.len c.args.source.now))) (sym c.as_slice.ensures.boxes) c.requires.inside) c.as_slice.ensures.headers }
 
 -- the ranges hold exactly the positions that the exclusions exclude together
 pub returns-in-Ok-clause-excluded : goal.returns-in-Ok-clause-excluded
@@ -21,7 +20,7 @@ returns-in-Ok-clause-excluded g c file known boxes has rows i =
     let bytes = are_bytes file (g.met.S.Source.known_bytes c.args.source.now file known) in
     let same : is_excluded c.from_list.result i ≡ list_any (excludes_row file (rows_of boxes) i) c.args.entries.now =
     ap (λ (rs : List Range). is_excluded rs i) c.from_list.ensures ∙ c.in-Ok.ensures.excluded file known i
-    ∙ ap (λ (rs : List RootBox). list_any (excludes_row file rs i) c.args.entries.now) (c.as_slice.ensures ∙ rows) in (
+    ∙ ap (λ (rs : List RootBox). list_any (excludes_row file rs i) c.args.entries.now) (c.as_slice.ensures.boxes ∙ rows) in (
       λ yes. all_rows_excluded file boxes c.args.entries.now i bytes has (sym same ∙ yes),
       λ ex. same ∙ all_excluded_rows file boxes c.args.entries.now i bytes has ex,
     )

@@ -1,11 +1,10 @@
-use Rattle.std.proofs.Common.{◌≡◌, ◌∙◌, ◌+◌, ◌≤◌, ℕ, suc, false, [], ◌∷◌, drop, refl, subst, sym, arith}
+use Rattle.std.proofs.Common.{◌≡◌, ◌∙◌, ℕ, suc, false, [], ◌∷◌, drop, refl, subst, sym, arith}
 use Rattle.std.specs.Prelude.{IfSome, slice_index_or}
 use Rattle.std.proofs.Math.Seq.{drop-cons}
-use Rattle.c2_bmff.specs.Roots.{FillSource}
 use Rattle.c2_bmff.specs.Search.{IsFoundWithin}
 use Rattle.c2_bmff.specs.declared.root_boxes.RootBox.{RootBox}
 use Rattle.c2_bmff.proofs.WalkLemmas.{outside_map}
-use Rattle.c2_bmff.proofs.RowLemmas.{NextRow, next_row, row_fails, row_not, row_uuid, rows_end, rows_start}
+use Rattle.c2_bmff.proofs.RowLemmas.{row_fails, row_not, row_uuid, rows_end, rows_start}
 use Rattle.c2_bmff.proofs.provenance.search.Goals as goal
 use Rattle.c2_bmff.proofs.provenance.search.Goals.{then-eq+in-Ok, else-eq}
 
@@ -13,23 +12,14 @@ use Rattle.c2_bmff.proofs.provenance.search.Goals.{then-eq+in-Ok, else-eq}
 abbrev no_row : RootBox
 no_row = record { start = 0; length = 0; header = 0; kind = []; to_end = false }
 
--- before the first root box nothing is found, and all rows are still to come
+-- before the first root box nothing is found
 pub loop-row-init : goal.loop-row-init
 loop-row-init g c = record {
   stays = record { same_len = refl; same_bytes = refl; later = omega arith };
   count = refl;
-  fill = (0, c.requires.fill);
   within = tt;
   searched = λ file known. rows_start file c.args.rows.now;
 }
-
--- the root box of this row ends in the source
-pub step-requires-clause-inside : goal.step-requires-clause-inside
-step-requires-clause-inside g c =
-    let k = c.loop-row.row-index in
-    let r : RootBox = slice_index_or c.args.rows.now k no_row in
-    let next : NextRow (g.S.Source.len c.args.source.now) r (drop (suc k) c.args.rows.now) = next_row (g.S.Source.len c.args.source.now) c.loop-row.invariant.fill.0 (drop k c.args.rows.now) r (drop (suc k) c.args.rows.now) c.loop-row.invariant.fill.1 (drop-cons c.args.rows.now k no_row c.loop-row-test.true) in
-    subst (λ (n : ℕ). r.start + r.length ≤ n) (sym c.loop-row.invariant.stays.same_len) next.inside
 
 -- a `uuid` root box that isn't passed is the first C2PA box of the file that fails
 pub returns-in-Err-clause-found : goal.returns-in-Err-clause-found
@@ -47,21 +37,16 @@ loop-row-preserved g c =
     let k = c.loop-row.row-index in
     let r : RootBox = slice_index_or c.args.rows.now k no_row in
     let first : drop k c.args.rows.now ≡ r ∷ drop (suc k) c.args.rows.now = drop-cons c.args.rows.now k no_row c.loop-row-test.true in
-    let one : suc k ≡ k + 1 = omega arith in
-    let next : NextRow (g.S.Source.len c.args.source.now) r (drop (suc k) c.args.rows.now) = next_row (g.S.Source.len c.args.source.now) before.fill.0 (drop k c.args.rows.now) r (drop (suc k) c.args.rows.now) before.fill.1 first in
-    let fill : FillSource (g.S.Source.len c.args.source.now) next.low (drop (k + 1) c.args.rows.now) = subst (λ (n : ℕ). FillSource (g.S.Source.len c.args.source.now) next.low (drop n c.args.rows.now)) one next.rest in
     elim c.if-eq.branch [
       | then-eq+in-Ok w ↦ rw w.source-is (rw w.found-is (record {
         stays = record { same_len = w.in-Ok.ensures.stays.same_len ∙ before.stays.same_len; same_bytes = w.in-Ok.ensures.stays.same_bytes ∙ before.stays.same_bytes; later = omega (arith, w.in-Ok.ensures.stays.later, before.stays.later) };
         count = w.in-Ok.ensures.count ∙ before.count;
-        fill = (next.low, fill);
         within = subst (λ (n : ℕ). IfSome w.step.new.found (IsFoundWithin n)) before.stays.same_len w.in-Ok.ensures.after;
         searched = λ file known. row_uuid file c.args.rows.now k r (drop (suc k) c.args.rows.now) c.loop-row.found w.step.new.found first (before.searched file known) (sym w.if-eq.ensures) (w.in-Ok.ensures.steps file (before.stays.same_bytes ∙ known));
       }))
       | else-eq w ↦ rw w.source-is (rw w.found-is (record {
         stays = before.stays;
         count = before.count;
-        fill = (next.low, fill);
         within = before.within;
         searched = λ file known. row_not file c.args.rows.now k r (drop (suc k) c.args.rows.now) c.loop-row.found first (before.searched file known) (sym w.if-eq.ensures);
       }))

@@ -1,7 +1,9 @@
-use Rattle.std.proofs.Common.{◌≡◌, ◌∙◌, length, subst, sym, arith}
+use Rattle.std.proofs.Common.{◌≡◌, ◌∙◌, ℕ, length, subst, sym, arith}
+use Rattle.std.specs.Prelude.{All}
 use Rattle.c2_base.specs.declared.media.MediaError.TheVariants.{FileTooLarge}
 use Rattle.c2_spec.specs.Bmff.Store.{FirstBmffFault, too_large, not_media, root}
-use Rattle.c2_bmff.proofs.WalkLemmas.{outside_map}
+use Rattle.c2_bmff.specs.Roots.{IsBoxWithin}
+use Rattle.c2_bmff.proofs.WalkLemmas.{fill_headed, fill_within, outside_map}
 use Rattle.c2_bmff.proofs.reading.roots.Goals as goal
 
 -- in a file of 2^62 bytes or more, its size is the first test to fail
@@ -24,3 +26,11 @@ returns-in-Err-clause-refused g c file known =
     outside_map c.in-Err.error
     (root c.in-Err.error (omega (arith, len, c.if-size-ge-FILE_LEN_LIMIT.false)) (c.in_ok-is_bmff.ensures.begins file first ∙ c.if-not-branch.false))
     (c.in-Err.ensures.fault file (c.in_ok-is_bmff.ensures.stays.same_bytes ∙ first))
+
+-- root boxes that fill the source have headers
+pub invariant_of-result : goal.invariant_of-result
+invariant_of-result g c = fill_headed _ 0 _ c.in-Ok.ensures.fill
+
+-- and end in it
+pub returns-in-Ok-clause-inside : goal.returns-in-Ok-clause-inside
+returns-in-Ok-clause-inside g c = subst (λ (n : ℕ). All (IsBoxWithin n) c.in-Ok.rows.items) c.in_ok-size.ensures.length (fill_within c.in_ok-size.size 0 c.in-Ok.rows.items c.in-Ok.ensures.fill)

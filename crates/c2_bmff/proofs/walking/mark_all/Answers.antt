@@ -1,0 +1,21 @@
+use Rattle.std.proofs.Common.{◌∙◌, ◌||◌, ◌∷◌, ◌++◌, [], List, ap, ap₂}
+use Rattle.std.specs.List.{list_any}
+use Rattle.c2_base.specs.declared.values.Range.{Range}
+use Rattle.c2_spec.specs.Cover.{is_excluded}
+use Rattle.c2_bmff.specs.Marks.{excludes_row}
+use Rattle.c2_bmff.specs.Trails.{level_ahead}
+use Rattle.c2_bmff.specs.declared.root_boxes.RootBox.{RootBox}
+use Rattle.c2_bmff.specs.declared.walking.Level.{Level}
+use Rattle.c2_bmff.proofs.MarkLemmas.{or_false}
+use Rattle.c2_bmff.proofs.walking.mark_all.Goals as goal
+
+-- from no ranges and the first list of siblings on, the walk ends with what the exclusions exclude
+pub returns-in-Ok-clause-excluded : goal.returns-in-Ok-clause-excluded
+returns-in-Ok-clause-excluded g c file known i =
+    let es = c.args.entries.now in
+    let first : Level = record { rows = c.in_ok-rows.rows; next = 0; trails = c.in_ok-trails.trails } in
+    c.in-Ok.ensures.same file known i
+    ∙ ap₂ (λ (rs : List Range) (ls : List Level). is_excluded rs i || list_any (level_ahead file es i) ls) c.new-ranges.ensures.items (c.in_ok-add_level.ensures ∙ ap (λ (ls : List Level). ls ++ first ∷ []) c.new-levels.ensures.items)
+    ∙ or_false (level_ahead file es i first)
+    ∙ c.in_ok-trails.ensures file i c.in_ok-rows.rows.items
+    ∙ ap (λ (rows : List RootBox). list_any (excludes_row file rows i) es) c.in_ok-rows.ensures

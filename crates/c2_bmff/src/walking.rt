@@ -1,0 +1,437 @@
+// A walk over boxes that visits each of them once for all exclusions.
+ghost use Rattle.std.specs.Prelude.{◌≡◌, ◌||◌, ◌+◌, ◌*◌, ◌<◌, [], ◌∷◌, ◌++◌, ℕ, List, All, OnOk, IfOk, IfErr, IfSome, is_some, cond, get_or, length};
+ghost use Rattle.std.specs.List.{list_any};
+ghost use Rattle.std.specs.Option.{ForSome};
+ghost use Rattle.c2_base.specs.Source.{StaysSource};
+ghost use Rattle.c2_spec.specs.Bmff.Hash.{Exclusion};
+ghost use Rattle.c2_spec.specs.Bmff.Paths.{nth_of};
+ghost use Rattle.c2_spec.specs.Cover.{is_excluded};
+ghost use Rattle.c2_bmff.specs.Causes.{IsCaused, OrOutside};
+ghost use Rattle.c2_bmff.specs.Children.{IsRowWithin, kids};
+ghost use Rattle.c2_bmff.specs.Marks.{IsRangeWithin, excludes_row};
+ghost use Rattle.c2_bmff.specs.Trails.{IsLevelWithin, ahead, arrives, found, from_step, has_step, level_ahead, level_left, levels_left, no_exclusion, picks, through};
+ghost use Rattle.c2_bmff.specs.declared.root_boxes.RootBox.{RootBox};
+
+use crate::children::children;
+use crate::exclusion::Exclusion;
+use crate::marking::mark_row;
+use crate::paths::{Segment, enters};
+use crate::root_boxes::RootBox;
+use c2_base::{MediaError, NoMemory, Range, Source};
+use std::alloc::Global;
+
+// Which of the coming siblings of a step's type the step means.
+#[derive(Clone, Copy, Debug, PartialEq, Eq)]
+pub enum Coming {
+    // All of them.
+    Each,
+    // The one before which so many others come.
+    After(u32),
+    // None any more.
+    Done,
+}
+
+// How far an exclusion came on its path in a list of siblings.
+#[derive(Clone, Copy, Debug)]
+pub struct Trail {
+    // The exclusion's index.
+    entry: usize,
+    // How many steps of its path were taken, with the one that is matched against these siblings.
+    taken: usize,
+    // That step.
+    step: Segment,
+    // Which of the siblings that are still to come it means.
+    coming: Coming,
+}
+
+// Siblings, how many of them were visited, and the exclusions whose paths came to them.
+#[derive(Drop)]
+pub struct Level {
+    rows: Vec<RootBox>,
+    next: usize,
+    trails: Vec<Trail>,
+}
+
+// Which siblings a step with this number means.
+fn coming_of(nth: Option<u32>) -> Coming
+    ensures { (rows : List RootBox) → picks result rows ≡ nth_of nth rows }
+{
+    match nth {
+        Some(k) => Coming::After(k.saturating_sub(1)),
+        None => Coming::Each,
+    }
+}
+
+// Whether the next sibling is meant, and which of those after it.
+fn past(coming: Coming) -> (bool, Coming)
+    ensures { (row : RootBox) (rows : List RootBox)
+        → picks coming (row ∷ rows) ≡ cond result.0 (row ∷ []) [] ++ picks result.1 rows }
+{
+    match coming {
+        Coming::Each => (true, Coming::Each),
+        Coming::After(n) => {
+            if n == 0 {
+                return (true, Coming::Done);
+            }
+            (false, Coming::After(n - 1))
+        }
+        Coming::Done => (false, Coming::Done),
+    }
+}
+
+// The trail of an exclusion of which so many steps were taken, in a list of siblings; None where its path has no further step.
+fn trail_from(entries: &[Exclusion], entry: usize, taken: usize) -> Option<Trail>
+    ensures ahead { IfSome result (λ t. (file : List ℕ) (i : ℕ) (rows : List RootBox)
+        → ahead file entries.now i rows t ≡ from_step file entries.now i rows entry taken) }
+    ensures more { has_step entries.now entry taken ≡ is_some result }
+{
+    let exclusion = entries.get(entry)?;
+    let step = *exclusion.path.segments().get(taken)?;
+    Some(Trail {
+        entry,
+        taken: taken + 1,
+        step,
+        coming: coming_of(step.nth),
+    })
+}
+
+// Where a trail means the box of this row: adds its exclusion to `here` where the path ends there, else its further trail to `below`
+// where the path enters the box.
+fn arrive(
+    entries: &[Exclusion],
+    row: RootBox,
+    at: Trail,
+    here: &mut Vec<usize>,
+    below: &mut Vec<Trail>,
+) -> Result<(), NoMemory>
+    ensures { OnOk result ((file : List ℕ) (i : ℕ)
+        → found file entries.now i row here.new.items below.new.items
+        ≡ (found file entries.now i row here.old.items below.old.items
+        || arrives file entries.now i row at)) }
+{
+    let Some(next) = trail_from(entries, at.entry, at.taken) else {
+        here.push(at.entry)?;
+        return Ok(());
+    };
+    let kind = at.step.kind;
+    if enters(kind) {
+        below.push(next)?;
+    }
+    Ok(())
+}
+
+// Passes the box of this row on a trail.
+fn pass(
+    entries: &[Exclusion],
+    row: RootBox,
+    trail: &mut Trail,
+    here: &mut Vec<usize>,
+    below: &mut Vec<Trail>,
+) -> Result<(), NoMemory>
+    ensures { OnOk result ((file : List ℕ) (i : ℕ) (rows : List RootBox)
+        → (found file entries.now i row here.new.items below.new.items
+        || ahead file entries.now i rows trail.new)
+        ≡ (found file entries.now i row here.old.items below.old.items
+        || ahead file entries.now i (row ∷ rows) trail.old)) }
+{
+    let at = *trail;
+    let kind = at.step.kind;
+    if row.kind == kind {
+        let (is_meant, coming) = past(at.coming);
+        trail.coming = coming;
+        if is_meant {
+            arrive(entries, row, at, here, below)?;
+        }
+    }
+    Ok(())
+}
+
+// Passes the box of this row on all trails.
+fn pass_all(
+    entries: &[Exclusion],
+    row: RootBox,
+    trails: &mut [Trail],
+    here: &mut Vec<usize>,
+    below: &mut Vec<Trail>,
+) -> Result<(), NoMemory>
+    ensures { OnOk result ((file : List ℕ) (i : ℕ) (rows : List RootBox)
+        → (found file entries.now i row here.new.items below.new.items
+        || list_any (ahead file entries.now i rows) trails.new)
+        ≡ (found file entries.now i row here.old.items below.old.items
+        || list_any (ahead file entries.now i (row ∷ rows)) trails.old)) }
+{
+    for k in 0..trails.len() {
+        pass(entries, row, &mut trails[k], here, below)?;
+    }
+    Ok(())
+}
+
+// Adds the positions that these exclusions exclude through the box of this row.
+fn mark_here<S: Source>(
+    source: &mut S,
+    entries: &[Exclusion],
+    here: &[usize],
+    row: RootBox,
+    ranges: &mut Vec<Range>,
+) -> Result<(), MediaError>
+    requires inside { IsRowWithin (S.len source.old) row }
+    requires within { All (IsRangeWithin (S.len source.old)) ranges.old.items }
+    ensures same { OnOk result (ForSome (S.known source.old) (λ file.
+        (i : ℕ) → is_excluded ranges.new.items i
+        ≡ (is_excluded ranges.old.items i || list_any (through file entries.now i row) here.now))) }
+    ensures within { OnOk result (All (IsRangeWithin (S.len source.old)) ranges.new.items) }
+    ensures stays { StaysSource S.len S.known S.faults source.old source.new }
+    ensures count { OnOk result (S.faults source.new ≡ S.faults source.old) }
+    ensures cause { IfErr result (IsCaused (S.faults source.old) (S.faults source.new)) }
+    ensures outside { IfErr result (λ e. OrOutside e ⊥) }
+{
+    for k in here {
+        match mark_entry(source, entries, *k, row, ranges) {
+            Ok(()) => {}
+            Err(error) => return Err(error),
+        }
+    }
+    Ok(())
+}
+
+// The same of the exclusion of this index.
+fn mark_entry<S: Source>(
+    source: &mut S,
+    entries: &[Exclusion],
+    k: usize,
+    row: RootBox,
+    ranges: &mut Vec<Range>,
+) -> Result<(), MediaError>
+    requires inside { IsRowWithin (S.len source.old) row }
+    requires within { All (IsRangeWithin (S.len source.old)) ranges.old.items }
+    ensures same { OnOk result (ForSome (S.known source.old) (λ file.
+        (i : ℕ) → is_excluded ranges.new.items i
+        ≡ (is_excluded ranges.old.items i || through file entries.now i row k))) }
+    ensures within { OnOk result (All (IsRangeWithin (S.len source.old)) ranges.new.items) }
+    ensures stays { StaysSource S.len S.known S.faults source.old source.new }
+    ensures count { OnOk result (S.faults source.new ≡ S.faults source.old) }
+    ensures cause { IfErr result (IsCaused (S.faults source.old) (S.faults source.new)) }
+    ensures outside { IfErr result (λ e. OrOutside e ⊥) }
+{
+    if k >= entries.len() {
+        return Ok(());
+    }
+    match mark_row(source, &entries[k], row, ranges) {
+        Ok(()) => Ok(()),
+        Err(error) => Err(error),
+    }
+}
+
+// Visits the box of this row: adds the positions that are excluded through it, and gives the trails that go on below it.
+fn visit<S: Source>(
+    alloc: Global,
+    source: &mut S,
+    entries: &[Exclusion],
+    row: RootBox,
+    trails: &mut [Trail],
+    ranges: &mut Vec<Range>,
+) -> Result<Vec<Trail>, MediaError>
+    requires inside { IsRowWithin (S.len source.old) row }
+    requires within { All (IsRangeWithin (S.len source.old)) ranges.old.items }
+    ensures same { IfOk result (λ below. ForSome (S.known source.old) (λ file.
+        (i : ℕ) (rows : List RootBox)
+        → ((is_excluded ranges.new.items i
+        || list_any (ahead file entries.now i (kids file row)) below.items)
+        || list_any (ahead file entries.now i rows) trails.new)
+        ≡ (is_excluded ranges.old.items i
+        || list_any (ahead file entries.now i (row ∷ rows)) trails.old))) }
+    ensures within { OnOk result (All (IsRangeWithin (S.len source.old)) ranges.new.items) }
+    ensures stays { StaysSource S.len S.known S.faults source.old source.new }
+    ensures count { OnOk result (S.faults source.new ≡ S.faults source.old) }
+    ensures cause { IfErr result (IsCaused (S.faults source.old) (S.faults source.new)) }
+    ensures outside { IfErr result (λ e. OrOutside e ⊥) }
+{
+    let mut here = Vec::new(alloc);
+    let mut below = Vec::new(alloc);
+    pass_all(entries, row, trails, &mut here, &mut below)?;
+    match mark_here(source, entries, &here, row, ranges) {
+        Ok(()) => Ok(below),
+        Err(error) => Err(error),
+    }
+}
+
+// Adds the trail of the exclusion of this index before its first step, where it has one.
+fn add_first(entries: &[Exclusion], k: usize, trails: &mut Vec<Trail>) -> Result<(), NoMemory>
+    requires { k < length entries.now }
+    ensures { OnOk result ((file : List ℕ) (i : ℕ) (rows : List RootBox)
+        → list_any (ahead file entries.now i rows) trails.new.items
+        ≡ (list_any (ahead file entries.now i rows) trails.old.items
+        || excludes_row file rows i (get_or entries.now k no_exclusion))) }
+{
+    if let Some(first) = trail_from(entries, k, 0) {
+        trails.push(first)?;
+    }
+    Ok(())
+}
+
+// The trails of all exclusions before their first steps.
+fn first_trails(alloc: Global, entries: &[Exclusion]) -> Result<Vec<Trail>, NoMemory>
+    ensures { IfOk result (λ trails. (file : List ℕ) (i : ℕ) (rows : List RootBox)
+        → list_any (ahead file entries.now i rows) trails.items
+        ≡ list_any (excludes_row file rows i) entries.now) }
+{
+    let mut trails = Vec::new(alloc);
+    for k in 0..entries.len() {
+        add_first(entries, k, &mut trails)?;
+    }
+    Ok(trails)
+}
+
+// A copy of these rows.
+fn copied(alloc: Global, rows: &[RootBox]) -> Result<Vec<RootBox>, NoMemory>
+    ensures { IfOk result (λ copy. copy.items ≡ rows.now) }
+{
+    Ok(Vec::from_slice(alloc, rows)?)
+}
+
+// Adds a list of siblings.
+fn add_level(
+    levels: &mut Vec<Level>,
+    rows: Vec<RootBox>,
+    next: usize,
+    trails: Vec<Trail>,
+) -> Result<(), NoMemory>
+    ensures { OnOk result (levels.new.items
+        ≡ levels.old.items ++ record { rows = rows; next = next; trails = trails } ∷ []) }
+{
+    levels.push(Level { rows, next, trails })?;
+    Ok(())
+}
+
+// Adds the list of the children of the box of this row, where trails go on below it.
+fn open_row<S: Source>(
+    alloc: Global,
+    source: &mut S,
+    row: RootBox,
+    below: Vec<Trail>,
+    levels: &mut Vec<Level>,
+) -> Result<(), MediaError>
+    requires inside { IsRowWithin (S.len source.old) row }
+    requires levels { All (IsLevelWithin (S.len source.old)) levels.old.items }
+    ensures ahead { OnOk result (ForSome (S.known source.old) (λ file.
+        (es : List Exclusion) (i : ℕ) → list_any (level_ahead file es i) levels.new.items
+        ≡ (list_any (level_ahead file es i) levels.old.items
+        || list_any (ahead file es i (kids file row)) below.items))) }
+    ensures levels { OnOk result (All (IsLevelWithin (S.len source.old)) levels.new.items) }
+    ensures left { OnOk result
+        (levels_left levels.new.items < levels_left levels.old.items + 2 * row.length) }
+    ensures stays { StaysSource S.len S.known S.faults source.old source.new }
+    ensures count { OnOk result (S.faults source.new ≡ S.faults source.old) }
+    ensures cause { IfErr result (IsCaused (S.faults source.old) (S.faults source.new)) }
+    ensures outside { IfErr result (λ e. OrOutside e ⊥) }
+{
+    if below.is_empty() {
+        return Ok(());
+    }
+    let rows = match children(alloc, source, row) {
+        Ok(rows) => rows,
+        Err(error) => return Err(error),
+    };
+    add_level(levels, rows, 0, below)?;
+    Ok(())
+}
+
+// One turn of the walk: the next box of this list of siblings.
+fn turn<S: Source>(
+    alloc: Global,
+    source: &mut S,
+    entries: &[Exclusion],
+    level: Level,
+    levels: &mut Vec<Level>,
+    ranges: &mut Vec<Range>,
+) -> Result<(), MediaError>
+    requires inside { IsLevelWithin (S.len source.old) level }
+    requires levels { All (IsLevelWithin (S.len source.old)) levels.old.items }
+    requires within { All (IsRangeWithin (S.len source.old)) ranges.old.items }
+    ensures same { OnOk result (ForSome (S.known source.old) (λ file. (i : ℕ)
+        → (is_excluded ranges.new.items i
+        || list_any (level_ahead file entries.now i) levels.new.items)
+        ≡ (is_excluded ranges.old.items i
+        || (list_any (level_ahead file entries.now i) levels.old.items
+        || level_ahead file entries.now i level)))) }
+    ensures levels { OnOk result (All (IsLevelWithin (S.len source.old)) levels.new.items) }
+    ensures left { OnOk result
+        (levels_left levels.new.items < levels_left levels.old.items + level_left level) }
+    ensures within { OnOk result (All (IsRangeWithin (S.len source.old)) ranges.new.items) }
+    ensures stays { StaysSource S.len S.known S.faults source.old source.new }
+    ensures count { OnOk result (S.faults source.new ≡ S.faults source.old) }
+    ensures cause { IfErr result (IsCaused (S.faults source.old) (S.faults source.new)) }
+    ensures outside { IfErr result (λ e. OrOutside e ⊥) }
+{
+    let next = level.next;
+    if next >= level.rows.len() {
+        return Ok(());
+    }
+    let row = level.rows[next];
+    let mut trails = level.trails;
+    let below = match visit(alloc, source, entries, row, &mut trails, ranges) {
+        Ok(below) => below,
+        Err(error) => return Err(error),
+    };
+    add_level(levels, level.rows, next + 1, trails)?;
+    match open_row(alloc, source, row, below, levels) {
+        Ok(()) => Ok(()),
+        Err(error) => Err(error),
+    }
+}
+
+// Walks over these lists of siblings and all below them, the last list first.
+fn walk<S: Source>(
+    alloc: Global,
+    source: &mut S,
+    entries: &[Exclusion],
+    levels: &mut Vec<Level>,
+    ranges: &mut Vec<Range>,
+) -> Result<(), MediaError>
+    requires levels { All (IsLevelWithin (S.len source.old)) levels.old.items }
+    requires within { All (IsRangeWithin (S.len source.old)) ranges.old.items }
+    ensures same { OnOk result (ForSome (S.known source.old) (λ file. (i : ℕ)
+        → is_excluded ranges.new.items i ≡ (is_excluded ranges.old.items i
+        || list_any (level_ahead file entries.now i) levels.old.items))) }
+    ensures within { OnOk result (All (IsRangeWithin (S.len source.old)) ranges.new.items) }
+    ensures stays { StaysSource S.len S.known S.faults source.old source.new }
+    ensures count { OnOk result (S.faults source.new ≡ S.faults source.old) }
+    ensures cause { IfErr result (IsCaused (S.faults source.old) (S.faults source.new)) }
+    ensures outside { IfErr result (λ e. OrOutside e ⊥) }
+{
+    'boxes: while let Some(level) = levels.pop() {
+        match turn(alloc, source, entries, level, levels, ranges) {
+            Ok(()) => {}
+            Err(error) => return Err(error),
+        }
+    }
+    Ok(())
+}
+
+/// The positions that these exclusions exclude together through these siblings and the boxes below them.
+pub(crate) fn mark_all<S: Source>(
+    alloc: Global,
+    source: &mut S,
+    siblings: &[RootBox],
+    entries: &[Exclusion],
+) -> Result<Vec<Range>, MediaError>
+    requires inside { All (IsRowWithin (S.len source.old)) siblings.now }
+    ensures excluded { IfOk result (λ ranges. ForSome (S.known source.old) (λ file.
+        (i : ℕ) → is_excluded ranges.items i
+        ≡ list_any (excludes_row file siblings.now i) entries.now)) }
+    ensures within { IfOk result (λ ranges. All (IsRangeWithin (S.len source.old)) ranges.items) }
+    ensures stays { StaysSource S.len S.known S.faults source.old source.new }
+    ensures count { OnOk result (S.faults source.new ≡ S.faults source.old) }
+    ensures cause { IfErr result (IsCaused (S.faults source.old) (S.faults source.new)) }
+    ensures outside { IfErr result (λ e. OrOutside e ⊥) }
+{
+    let mut ranges = Vec::new(alloc);
+    let mut levels = Vec::new(alloc);
+    let trails = first_trails(alloc, entries)?;
+    let rows = copied(alloc, siblings)?;
+    add_level(&mut levels, rows, 0, trails)?;
+    match walk(alloc, source, entries, &mut levels, &mut ranges) {
+        Ok(()) => Ok(ranges),
+        Err(error) => Err(error),
+    }
+}
