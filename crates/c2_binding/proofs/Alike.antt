@@ -54,7 +54,8 @@ one_parsed law read (Some s) (Value x) NoItem p q = absurd (q p.0 p.1)
 one_parsed law read (Some s) (Value x) NoForm p q =
     no_value (read q.0) x q.2 (ap read (one_item law s q.0 p.0 q.1 p.1) ∙ p.2)
 one_parsed {A} {E} law read (Some s) (Value x) (Value y) p q =
-    let both : ◌≡◌ {A = Result A E} (Ok x) (Ok y) = sym p.2 ∙ ap read (one_item law s p.0 q.0 p.1 q.1) ∙ q.2 in
+    let both : ◌≡◌ {A = Result A E} (Ok x) (Ok y) =
+    sym p.2 ∙ ap read (one_item law s p.0 q.0 p.1 q.1) ∙ q.2 in
     let one : x ≡ y = cc (both) in
     ap Value one
 
@@ -82,7 +83,8 @@ partner R (x ∷ xs) (z ∷ ys) y h c =
     ]
 
 -- a box of a manifest that was read is read so
-pub box_reads : (r : Reading) → IsReading r.manifest r → (b : ReadBox) → Contains r.boxes b → IsReadBox b.boxed b
+pub box_reads : (r : Reading) → IsReading r.manifest r → (b : ReadBox) → Contains r.boxes b
+    → IsReadBox b.boxed b
 box_reads r h b c =
     let z = partner IsReadBox r.manifest.assertions r.boxes b h.boxes c in
     subst (λ x. IsReadBox x b) (sym z.2.same) z.2
@@ -96,7 +98,8 @@ same_ingredient law b c true p q = one_parsed law ingredient_of c.boxed.item b.i
 same_ingredient law b c false p q = p ∙ sym q
 
 -- equal boxes are equal ingredients
-pub ingredients_alike : OneItem → (b c : ReadBox) → IsReadBox b.boxed b → IsReadBox c.boxed c → b.boxed ≡ c.boxed
+pub ingredients_alike : OneItem → (b c : ReadBox) → IsReadBox b.boxed b → IsReadBox c.boxed c
+    → b.boxed ≡ c.boxed
     → b.ingredient ≡ c.ingredient
 ingredients_alike law b c p q e =
     same_ingredient law b c (is_ingredient c.boxed) (subst (λ x. IsReadBox x b) e p).reads q.reads
@@ -160,7 +163,8 @@ target_of own (Some u) label e = by (is_own_label own u.manifest) refl e
         absurd (let bad = sym none ∙ is in cc (bad))
 
 -- an entry lists one label, in whichever manifest it stands
-pub one_label : (m n : Manifest) (e : Ref) (k l : List ℕ) → entry_label m e ≡ Some k → entry_label n e ≡ Some l
+pub one_label : (m n : Manifest) (e : Ref) (k l : List ℕ) → entry_label m e ≡ Some k
+    → entry_label n e ≡ Some l
     → k ≡ l
 one_label m n e k l p q =
     let a = target_of m.label (uri_of e.url) k p in

@@ -39,7 +39,8 @@ pub record TreeFacts (rs : List Reading) : Type 0 where
 pub record SeenAlike (rs ss : List Reading) : Type 0 where
   pub boxes : (n m : ℕ) (r s : Reading) → slice_get rs n ≡ Some r → slice_get ss m ≡ Some s → (b c : ReadBox)
       → Contains r.boxes b → Contains s.boxes c → b.boxed.contents ≡ c.boxed.contents → b.boxed ≡ c.boxed
-  pub signatures : (n m : ℕ) (r s : Reading) → slice_get rs n ≡ Some r → slice_get ss m ≡ Some s → (b c : Superbox)
+  pub signatures : (n m : ℕ) (r s : Reading) → slice_get rs n ≡ Some r → slice_get ss m ≡ Some s
+      → (b c : Superbox)
       → r.manifest.signature ≡ Some b → s.manifest.signature ≡ Some c → b.contents ≡ c.contents → b ≡ c
   pub manifests : (n m : ℕ) (r s : Reading) → slice_get rs n ≡ Some r → slice_get ss m ≡ Some s
       → r.manifest.contents ≡ s.manifest.contents → r.manifest ≡ s.manifest
@@ -60,14 +61,16 @@ pub record IsApproved (said : Question → Verdict) (r : Reading) : Type 0 where
   pub approved : said (question_of parts bytes) ≡ Approved
 
 -- The manifest has a box with this label, whose contents have this digest.
-pub record HasBox (hash : Alg → List ℕ → List ℕ) (alg : Alg) (r : Reading) (label digest : List ℕ) : Type 0 where
+pub record HasBox (hash : Alg → List ℕ → List ℕ) (alg : Alg) (r : Reading) (label digest : List ℕ) : Type
+    0 where
   pub box : ReadBox
   pub has_box : box_with r label ≡ Some box
   pub digested : hash alg box.boxed.contents ≡ digest
 
 -- The rule on entries: an entry lists a label, its algorithm is known, and where the label isn't redacted its
 -- box is there with the digest.
-pub record EntryFact (hash : Alg → List ℕ → List ℕ) (rs : List Reading) (n : ℕ) (r : Reading) (e : Ref) : Type 0 where
+pub record EntryFact (hash : Alg → List ℕ → List ℕ) (rs : List Reading) (n : ℕ) (r : Reading) (e : Ref) : Type
+    0 where
   pub label : List ℕ
   pub is_label : entry_label r.manifest e ≡ Some label
   pub alg : Alg
@@ -95,7 +98,8 @@ is_unredactable kind = false
 -- the rule on redactions: none names an assertion of such a kind
 abbrev pub RedactionFact : List ℕ → Type 0
 RedactionFact text =
-    (manifest label : List ℕ) → uri_of text ≡ Some (record { manifest = Some manifest; target = assertion label })
+    (manifest label : List ℕ)
+    → uri_of text ≡ Some (record { manifest = Some manifest; target = assertion label })
     → is_unredactable (label_kind label) ≡ false
 
 -- The rule on an ingredient with a reference to a signature: the signature box of its manifest has the
@@ -121,7 +125,8 @@ Binds hash r child g (Some reference) = BySignature hash r child reference
 Binds hash r child g None = ByContents hash r child g
 
 -- The rules on what an ingredient names: a manifest of this label stands earlier, and is bound.
-pub record NamedFact (hash : Alg → List ℕ → List ℕ) (rs : List Reading) (n : ℕ) (r : Reading) (g : Ingredient) (label : List ℕ) : Type 0 where
+pub record NamedFact (hash : Alg → List ℕ → List ℕ) (rs : List Reading) (n : ℕ) (r : Reading) (g : Ingredient)
+    (label : List ℕ) : Type 0 where
   pub place : ℕ
   pub earlier : place < n
   pub child : Reading
@@ -130,13 +135,16 @@ pub record NamedFact (hash : Alg → List ℕ → List ℕ) (rs : List Reading) 
   pub binds : Binds hash r child g g.signature
 
 -- The rule on a box with the label of an ingredient: it is read as one.
-pub record IngredientFact (hash : Alg → List ℕ → List ℕ) (rs : List Reading) (n : ℕ) (r : Reading) (b : ReadBox) : Type 0 where
+pub record IngredientFact (hash : Alg → List ℕ → List ℕ) (rs : List Reading) (n : ℕ) (r : Reading)
+    (b : ReadBox) : Type 0 where
   pub ingredient : Ingredient
   pub is : value_in b.ingredient ≡ Some ingredient
-  pub named : (label : List ℕ) → named_by (Some ingredient) ≡ Some label → NamedFact hash rs n r ingredient label
+  pub named : (label : List ℕ) → named_by (Some ingredient) ≡ Some label
+      → NamedFact hash rs n r ingredient label
 
 -- All of these hold of a reached manifest.
-pub record ManifestFacts (hash : Alg → List ℕ → List ℕ) (said : Question → Verdict) (rs : List Reading) (n : ℕ) (r : Reading) : Type 0 where
+pub record ManifestFacts (hash : Alg → List ℕ → List ℕ) (said : Question → Verdict) (rs : List Reading)
+    (n : ℕ) (r : Reading) : Type 0 where
   pub approved : IsApproved said r
   pub entries : (e : Ref) → Contains (entries_in r) e → EntryFact hash rs n r e
   pub boxes : (b : ReadBox) → Contains r.boxes b → BoxFact r b
@@ -145,7 +153,8 @@ pub record ManifestFacts (hash : Alg → List ℕ → List ℕ) (said : Question
       → is_ingredient_kind (label_kind label) ≡ true → IngredientFact hash rs n r b
 
 -- A store of an accepted file.
-pub record StoreFacts (hash : Alg → List ℕ → List ℕ) (said : Question → Verdict) (rs : List Reading) : Type 0 where
+pub record StoreFacts (hash : Alg → List ℕ → List ℕ) (said : Question → Verdict) (rs : List Reading) : Type
+    0 where
   pub tree : TreeFacts rs
   pub manifests : (n : ℕ) (r : Reading) → slice_get rs n ≡ Some r → is_reached rs n ≡ true
       → ManifestFacts hash said rs n r
@@ -177,7 +186,8 @@ pub record BindingFacts (hash : Alg → List ℕ → List ℕ) (s : StoreReading
   pub digested : hash alg value.text ≡ value.hash
 
 -- The file is accepted, as far as the laws use it.
-pub record FileFacts (hash : Alg → List ℕ → List ℕ) (said : Question → Verdict) (s : StoreReading) : Type 0 where
+pub record FileFacts (hash : Alg → List ℕ → List ℕ) (said : Question → Verdict) (s : StoreReading) : Type
+    0 where
   pub store : StoreFacts hash said s.readings
   pub binding : (n : ℕ) (r : Reading) → slice_get s.readings n ≡ Some r → n + 1 ≡ length s.readings
       → BindingFacts hash s r

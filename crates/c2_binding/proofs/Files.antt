@@ -1,5 +1,5 @@
 -- The laws of two accepted files with one active claim.
-use Rattle.std.proofs.Common.{◌≡◌, ◌⊎◌, inl, inr, ℕ, ◌-◌, length, List, [], ◌∷◌, ◌++◌, Option, Some, None, refl, sym, ap, ◌∙◌, subst}
+use Rattle.std.proofs.Common.{◌≡◌, ◌⊎◌, inl, inr, ℕ, ◌-◌, length, List, [], ◌∷◌, ◌++◌, Some, None, sym, ap, ◌∙◌, subst}
 use Rattle.std.specs.List.{find}
 use Rattle.c2_base.specs.declared.values.Question.{Question}
 use Rattle.c2_spec.specs.C2pa.Manifest.{store_refusal, manifests_of}
@@ -37,16 +37,22 @@ one_tree : (a b c d : ℕ) (t u : Tree) → ◌≡◌ {A = Opening Tree} (here a
 one_tree a b c d t u e = cc (e)
 
 -- by what the store's bytes are as a box tree
-of_store : (s n : ℕ) (store : List ℕ) (what : Opening Tree) (start len : ℕ) (t : Tree) → IsBoxTree s n store what
+of_store : (s n : ℕ) (store : List ℕ) (what : Opening Tree) (start len : ℕ) (t : Tree)
+    → IsBoxTree s n store what
     → Opens IsManifestTree what (here start len t) → IsStoreTree t
 of_store s n store (refused reason number) start len t boxes opens = absurd (cc (opens))
 of_store s n store absent start len t boxes opens = absurd (cc (opens))
 of_store s n store (here a b u) start len t boxes opens =
     let same : t ≡ u = one_tree start len a b t u opens.1 in
-    record { legal = subst (IsLegalTree 1) (sym same) boxes.0.legal; accepted = ap store_refusal same ∙ opens.0 }
+    record {
+      legal = subst (IsLegalTree 1) (sym same) boxes.0.legal;
+      accepted =
+          ap store_refusal same ∙ opens.0;
+    }
 
 -- by what the file is as a container
-of_located : (l : Located) (start len : ℕ) (t : Tree) → Opens IsManifestStore l (here start len t) → IsStoreTree t
+of_located : (l : Located) (start len : ℕ) (t : Tree) → Opens IsManifestStore l (here start len t)
+    → IsStoreTree t
 of_located (refused reason number) start len t opens = absurd (cc (opens))
 of_located absent start len t opens = absurd (cc (opens))
 of_located (here s n store) start len t opens = of_store s n store opens.0 start len t opens.1 opens.2
@@ -62,22 +68,26 @@ stored file s o =
     record { legal = t.legal; accepted = t.accepted; readings = o.reads.reads.each }
 
 -- all that the laws use of an accepted file
-pub facts : (hash : Alg → List ℕ → List ℕ) (said : Question → Verdict) (file : List ℕ) (s : StoreReading) → IsAccepted hash said file s
+pub facts : (hash : Alg → List ℕ → List ℕ) (said : Question → Verdict) (file : List ℕ) (s : StoreReading)
+    → IsAccepted hash said file s
     → FileFacts hash said s
 facts hash said file s h =
     file_facts hash said h.opened.reads.media (manifests_of h.opened.tree) s h.opened.reads.reads
     (tree_facts h.opened.tree s.readings (stored file s h.opened)) h.valid
 
 -- equal contents are seen alike in both
-pub alike : (hash : Alg → List ℕ → List ℕ) (said : Question → Verdict) (first second : List ℕ) (s t : StoreReading) → HaveOneClaim hash said first second s t
+pub alike : (hash : Alg → List ℕ → List ℕ) (said : Question → Verdict) (first second : List ℕ)
+    (s t : StoreReading) → HaveOneClaim hash said first second s t
     → SeenAlike s.readings t.readings
 alike hash said first second s t h =
-    seen_alike h.first_accepted.opened.tree h.second_accepted.opened.tree s.readings t.readings (stored first s h.first_accepted.opened)
+    seen_alike h.first_accepted.opened.tree h.second_accepted.opened.tree s.readings t.readings
+    (stored first s h.first_accepted.opened)
     (stored second t h.second_accepted.opened)
 
 -- ---- the laws
 
-module _ (law : OneItem) (hash : Alg → List ℕ → List ℕ) (said : Question → Verdict) (first second : List ℕ) (s t : StoreReading)
+module _ (law : OneItem) (hash : Alg → List ℕ → List ℕ) (said : Question → Verdict) (first second : List ℕ)
+    (s t : StoreReading)
     (h : HaveOneClaim hash said first second s t) where
   -- the facts of the first file
   own : FileFacts hash said s
@@ -92,17 +102,20 @@ module _ (law : OneItem) (hash : Alg → List ℕ → List ℕ) (said : Question
   both = alike hash said first second s t h
 
   -- the step to a child
-  pub step_of : (n m : ℕ) → Correspond s.readings t.readings n m → find do_differ (leading_at s.readings t.readings n) ≡ None → (j : ℕ) → IsChild s.readings n j
+  pub step_of : (n m : ℕ) → Correspond s.readings t.readings n m
+      → find do_differ (leading_at s.readings t.readings n) ≡ None → (j : ℕ) → IsChild s.readings n j
       → (i : ℕ) × Correspond s.readings t.readings j i × IsChild t.readings m i
   step_of = step law hash said s.readings t.readings own.store other.store both
 
   -- and back
-  pub step_back_of : (n m : ℕ) → Correspond s.readings t.readings n m → find do_differ (leading_at s.readings t.readings n) ≡ None → (i : ℕ) → IsChild t.readings m i
+  pub step_back_of : (n m : ℕ) → Correspond s.readings t.readings n m
+      → find do_differ (leading_at s.readings t.readings n) ≡ None → (i : ℕ) → IsChild t.readings m i
       → (j : ℕ) × Correspond s.readings t.readings j i × IsChild s.readings n j
   step_back_of = step_back law hash said s.readings t.readings own.store other.store both
 
   -- or evidence
-  pub leading_real_of : (n m : ℕ) → Correspond s.readings t.readings n m → (p : ListPair) → find do_differ (leading_at s.readings t.readings n) ≡ Some p → IsReal hash said p
+  pub leading_real_of : (n m : ℕ) → Correspond s.readings t.readings n m → (p : ListPair)
+      → find do_differ (leading_at s.readings t.readings n) ≡ Some p → IsReal hash said p
   leading_real_of = leading_real law hash said s.readings t.readings own.store other.store both
 
   -- the active manifests correspond
@@ -110,39 +123,52 @@ module _ (law : OneItem) (hash : Alg → List ℕ → List ℕ) (said : Question
   root_of = root law hash said s.readings t.readings own.store other.store both h.claims
 
   -- and all that are reached in the first file
-  pub forth_of : find do_differ (all_leading s.readings t.readings) ≡ None → (n : ℕ) → Reached s.readings n → (m : ℕ) × Correspond s.readings t.readings n m
+  pub forth_of : find do_differ (all_leading s.readings t.readings) ≡ None → (n : ℕ) → Reached s.readings n
+      → (m : ℕ) × Correspond s.readings t.readings n m
   forth_of = forth law hash said s.readings t.readings own.store other.store both h.claims
 
   -- and in the second
-  pub back_of : find do_differ (all_leading s.readings t.readings) ≡ None → (m : ℕ) → Reached t.readings m → (n : ℕ) × Correspond s.readings t.readings n m
+  pub back_of : find do_differ (all_leading s.readings t.readings) ≡ None → (m : ℕ) → Reached t.readings m
+      → (n : ℕ) × Correspond s.readings t.readings n m
   back_of = back law hash said s.readings t.readings own.store other.store both h.claims
 
   -- with the same redactions
-  pub redacted_of : find do_differ (all_leading s.readings t.readings) ≡ None → (n m : ℕ) → Correspond s.readings t.readings n m → (label : List ℕ)
+  pub redacted_of : find do_differ (all_leading s.readings t.readings) ≡ None → (n m : ℕ)
+      → Correspond s.readings t.readings n m → (label : List ℕ)
       → is_redacted s.readings n label ≡ is_redacted t.readings m label
   redacted_of = redacted_alike law hash said s.readings t.readings own.store other.store both h.claims
 
   -- the first difference is real evidence
   pub difference_is_real : (p : ListPair) → first_difference s t ≡ Some p → IsReal hash said p
   difference_is_real p found =
-      elim (found_append do_differ (all_leading s.readings t.readings) (all_unredacted s.readings t.readings ++ covered_pair s t ∷ []) p found) [
-        | inl leads ↦ all_leading_real law hash said s.readings t.readings own.store other.store both h.claims p leads
-        | inr rest ↦ elim (found_append do_differ (all_unredacted s.readings t.readings) (covered_pair s t ∷ []) p rest.1) [
-          | inl kept ↦ all_unredacted_real law hash said s.readings t.readings own.store other.store both h.claims rest.0 p kept
-          | inr last ↦
-              let covered = found_only (covered_pair s t) p last.1 in
-              let c = covered_alike law hash said s t own other both h.claims rest.0 last.0 in
-              subst (IsReal hash said) covered.0 (record { alg = c.alg; known = c.known; differ = covered.1; same_digest = c.same_digest })
-        ]
+      elim (found_append do_differ (all_leading s.readings t.readings)
+      (all_unredacted s.readings t.readings ++ covered_pair s t ∷ []) p found) [
+        | inl leads ↦ all_leading_real law hash said s.readings t.readings own.store other.store both h.claims
+            p leads
+        | inr rest ↦ elim (found_append do_differ (all_unredacted s.readings t.readings)
+            (covered_pair s t ∷ []) p rest.1) [
+              | inl kept ↦ all_unredacted_real law hash said s.readings t.readings own.store other.store both
+                  h.claims rest.0 p kept
+              | inr last ↦
+                  let covered = found_only (covered_pair s t) p last.1 in
+                  let c = covered_alike law hash said s t own other both h.claims rest.0 last.0 in
+                  subst (IsReal hash said) covered.0
+                  (record { alg = c.alg; known = c.known; differ = covered.1; same_digest = c.same_digest })
+            ]
       ]
 
   -- without a difference chain contents and covered texts are equal
   pub no_difference : first_difference s t ≡ None → AreSame s t
   no_difference none =
-      let leads = none_append do_differ (all_leading s.readings t.readings) (all_unredacted s.readings t.readings ++ covered_pair s t ∷ []) none in
-      let rest = none_append do_differ (all_unredacted s.readings t.readings) (covered_pair s t ∷ []) leads.1 in
+      let leads =
+      none_append do_differ (all_leading s.readings t.readings)
+      (all_unredacted s.readings t.readings ++ covered_pair s t ∷ []) none in
+      let rest =
+      none_append do_differ (all_unredacted s.readings t.readings) (covered_pair s t ∷ []) leads.1 in
       record {
-        content = same_content law hash said s.readings t.readings own.store other.store both h.claims leads.0 rest.0;
+        content =
+            same_content law hash said s.readings t.readings own.store other.store both h.claims leads.0
+            rest.0;
         covered = (none_pair (covered_pair s t) [] rest.1).0;
       }
 
@@ -155,7 +181,8 @@ module _ (law : OneItem) (hash : Alg → List ℕ → List ℕ) (said : Question
       ]
 
   -- where chain contents or covered texts differ there is a first difference, and it is real
-  pub difference_is_found : (AreSame s t → ⊥) → (p : ListPair) × (first_difference s t ≡ Some p) × IsReal hash said p
+  pub difference_is_found : (AreSame s t → ⊥)
+      → (p : ListPair) × (first_difference s t ≡ Some p) × IsReal hash said p
   difference_is_found differ =
       elim (option_cases (first_difference s t)) [
         | inl none ↦ absurd (differ (no_difference none))

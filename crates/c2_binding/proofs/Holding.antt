@@ -21,7 +21,8 @@ hold_more t ts first rest (suc i) u e = rest i u e
 -- those of the first list hold
 pub hold_front : (xs ys : List Test) → AllHold (xs ++ ys) → AllHold xs
 hold_front [] ys h = λ i u e. absurd cc
-hold_front (x ∷ xs) ys h = hold_more x xs (hold_head x (xs ++ ys) h) (hold_front xs ys (hold_tail x (xs ++ ys) h))
+hold_front (x ∷ xs) ys h =
+    hold_more x xs (hold_head x (xs ++ ys) h) (hold_front xs ys (hold_tail x (xs ++ ys) h))
 
 -- those of the second list hold
 pub hold_back : (xs ys : List Test) → AllHold (xs ++ ys) → AllHold ys
@@ -34,7 +35,11 @@ pub hold_each : {X : Type 0} (tests : ℕ → X → List Test) (k : ℕ) (xs : L
 hold_each tests k [] h x c = absurd (contains_none x c)
 hold_each tests k (y ∷ ys) h x c =
     elim (contains_cons y x ys c) [
-      | inl same ↦ (k, subst (λ z. AllHold (tests k z)) same (hold_front (tests k y) (each tests (k + 1) ys) h))
+      | inl same ↦ (
+        k,
+        subst (λ z. AllHold (tests k z)) same
+            (hold_front (tests k y) (each tests (k + 1) ys) h),
+      )
       | inr rest ↦ hold_each tests (k + 1) ys (hold_back (tests k y) (each tests (k + 1) ys) h) x rest
     ]
 
@@ -44,18 +49,23 @@ pub hold_over : {X : Type 0} (test_of : ℕ → X → Test) (k : ℕ) (xs : List
 hold_over test_of k [] h x c = absurd (contains_none x c)
 hold_over test_of k (y ∷ ys) h x c =
     elim (contains_cons y x ys c) [
-      | inl same ↦
-          (k, ap (λ z. (test_of k z).fails) (sym same) ∙ hold_head (test_of k y) (over_all test_of (k + 1) ys) h)
+      | inl same ↦ (
+        k,
+        ap (λ z. (test_of k z).fails) (sym same)
+            ∙ hold_head (test_of k y) (over_all test_of (k + 1) ys) h,
+      )
       | inr rest ↦
           hold_over test_of (k + 1) ys (hold_tail (test_of k y) (over_all test_of (k + 1) ys) h) x rest
     ]
 
 -- those of one place hold
-pub hold_place : (tests_at : ℕ → List Test) (n k : ℕ) → AllHold (downward tests_at n) → k < n → AllHold (tests_at k)
+pub hold_place : (tests_at : ℕ → List Test) (n k : ℕ) → AllHold (downward tests_at n) → k < n
+    → AllHold (tests_at k)
 hold_place tests_at zero k h lt = absurd (omega arith)
 hold_place tests_at (suc n) k h lt =
     elim (cases_eq k n) [
-      | inl same ↦ subst (λ j. AllHold (tests_at j)) (sym same) (hold_front (tests_at n) (downward tests_at n) h)
+      | inl same ↦ subst (λ j. AllHold (tests_at j)) (sym same)
+          (hold_front (tests_at n) (downward tests_at n) h)
       | inr other ↦ hold_place tests_at n k (hold_back (tests_at n) (downward tests_at n) h) (omega arith)
     ]
 

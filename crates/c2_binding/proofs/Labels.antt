@@ -1,5 +1,5 @@
 -- Superboxes side by side have different labels: two of one label stand at one place.
-use Rattle.std.proofs.Common.{◌≡◌, ◌≢◌, ℕ, zero, suc, ◌<◌, Bool, true, false, cond, List, [], ◌∷◌, map, Option, Some, None, slice_get, refl, sym, ap, ◌∙◌, arith}
+use Rattle.std.proofs.Common.{◌≡◌, ◌≢◌, ℕ, zero, suc, ◌<◌, Bool, true, false, cond, List, [], ◌∷◌, map, Option, Some, None, slice_get, refl, sym, ap, ◌∙◌}
 use Rattle.std.specs.List.{AllByRecursion, filter}
 use Rattle.std.proofs.lemmas.Option.{same_Some}
 use Rattle.c2_spec.specs.Jumbf.Tree.{Tree, IsLegalTree, IsNewLabel, AreDistinctLabels}
@@ -14,7 +14,8 @@ AreApart f xs =
     → f j ≡ Some label → p ≡ q
 
 -- a label that is new to a list is that of none of its members
-unlike : (f : ℕ → Option (List ℕ)) (o : Option (List ℕ)) (xs : List ℕ) (q j : ℕ) (label : List ℕ) → IsNewLabel o (map f xs)
+unlike : (f : ℕ → Option (List ℕ)) (o : Option (List ℕ)) (xs : List ℕ) (q j : ℕ) (label : List ℕ)
+    → IsNewLabel o (map f xs)
     → o ≡ Some label → slice_get xs q ≡ Some j → f j ≡ Some label → ⊥
 unlike f None xs q j label new is at same = cc (is)
 unlike f (Some t) xs q j label new is at same = by xs q new at
@@ -32,25 +33,30 @@ apart f (x ∷ xs) h zero (suc q) i j label at_p at_q e g =
     absurd (unlike f (f x) xs q j label h.0 (ap f (same_Some x i at_p) ∙ e) at_q g)
 apart f (x ∷ xs) h (suc p) zero i j label at_p at_q e g =
     absurd (unlike f (f x) xs p i label h.0 (ap f (same_Some x j at_q) ∙ g) at_p e)
-apart f (x ∷ xs) h (suc p) (suc q) i j label at_p at_q e g = ap suc (apart f xs h.1 p q i j label at_p at_q e g)
+apart f (x ∷ xs) h (suc p) (suc q) i j label at_p at_q e g =
+    ap suc (apart f xs h.1 p q i j label at_p at_q e g)
 
 -- a label that is new to a list is new to what is kept of it
-new_filtered : (f : ℕ → Option (List ℕ)) (d : ℕ → Bool) (o : Option (List ℕ)) (xs : List ℕ) → IsNewLabel o (map f xs)
+new_filtered : (f : ℕ → Option (List ℕ)) (d : ℕ → Bool) (o : Option (List ℕ)) (xs : List ℕ)
+    → IsNewLabel o (map f xs)
     → IsNewLabel o (map f (filter d xs))
 new_filtered f d None xs h = tt
 new_filtered f d (Some t) xs h = by xs h
   where
-    more : (y : ℕ) (ys : List ℕ) (b : Bool) → f y ≢ Some t → AllByRecursion (λ x. x ≢ Some t) (map f (filter d ys))
+    more : (y : ℕ) (ys : List ℕ) (b : Bool) → f y ≢ Some t
+        → AllByRecursion (λ x. x ≢ Some t) (map f (filter d ys))
         → AllByRecursion (λ x. x ≢ Some t) (map f (cond b (y ∷ filter d ys) (filter d ys)))
     more y ys true own rest = (own, rest)
     more y ys false own rest = rest
 
-    by : (ys : List ℕ) → AllByRecursion (λ x. x ≢ Some t) (map f ys) → AllByRecursion (λ x. x ≢ Some t) (map f (filter d ys))
+    by : (ys : List ℕ) → AllByRecursion (λ x. x ≢ Some t) (map f ys)
+        → AllByRecursion (λ x. x ≢ Some t) (map f (filter d ys))
     by [] g = tt
     by (y ∷ ys) g = more y ys (d y) g.0 (by ys g.1)
 
 -- by whether the first is kept
-distinct_more : (f : ℕ → Option (List ℕ)) (x : ℕ) (ys : List ℕ) (b : Bool) → IsNewLabel (f x) (map f ys) → AreDistinctLabels (map f ys)
+distinct_more : (f : ℕ → Option (List ℕ)) (x : ℕ) (ys : List ℕ) (b : Bool) → IsNewLabel (f x) (map f ys)
+    → AreDistinctLabels (map f ys)
     → AreDistinctLabels (map f (cond b (x ∷ ys) ys))
 distinct_more f x ys true new rest = (new, rest)
 distinct_more f x ys false new rest = rest
@@ -63,7 +69,8 @@ distinct_filtered f d (x ∷ xs) h =
     distinct_more f x (filter d xs) (d x) (new_filtered f d (f x) xs h.0) (distinct_filtered f d xs h.1)
 
 -- the superboxes of a box of a legal tree are apart
-pub superboxes_apart : (t : Tree) (i : ℕ) → IsLegalTree 1 t → i < tree_count t → AreApart (label_at t) (superboxes t i)
+pub superboxes_apart : (t : Tree) (i : ℕ) → IsLegalTree 1 t → i < tree_count t
+    → AreApart (label_at t) (superboxes t i)
 superboxes_apart t i legal lt =
     apart (label_at t) (superboxes t i)
     (distinct_filtered (label_at t) (is_superbox t) (child_indices t i) (distinct_children t i lt legal))

@@ -17,3 +17,6 @@ mod Files
 mod Answers
 mod OneStore
 mod OneComparison
+mod BindingRows
+mod Decided
+mod EachComparison

@@ -1,5 +1,5 @@
 -- The first member that passes a test, in lists that are made of lists; and members by their places.
-use Rattle.std.proofs.Common.{◌≡◌, ◌≢◌, ◌⊎◌, inl, inr, ℕ, zero, suc, ◌<◌, Bool, true, false, cond, List, [], ◌∷◌, ◌++◌, Option, Some, None, Contains, slice_get, length, take, refl, sym, ap, ◌∙◌, subst, arith}
+use Rattle.std.proofs.Common.{◌≡◌, ◌⊎◌, inl, inr, ℕ, zero, suc, ◌<◌, Bool, true, false, cond, List, [], ◌∷◌, ◌++◌, Option, Some, None, Contains, slice_get, take, refl, sym, ap, ◌∙◌, subst, arith}
 use Rattle.std.specs.List.{find, filter, flat_map}
 use Rattle.std.specs.Option.{option_or}
 use Rattle.std.proofs.lemmas.Bool.{cases_eq}
@@ -50,7 +50,8 @@ find_says d [] x e = absurd cc
 find_says d (y ∷ ys) x e = find_head d y ys x (d y) refl e (find_says d ys x)
 
 -- the member at the one place that passes is found
-pub find_only : {X : Type 0} (d : X → Bool) (xs : List X) (i : ℕ) (x : X) → slice_get xs i ≡ Some x → d x ≡ true
+pub find_only : {X : Type 0} (d : X → Bool) (xs : List X) (i : ℕ) (x : X) → slice_get xs i ≡ Some x
+    → d x ≡ true
     → ((j : ℕ) (y : X) → slice_get xs j ≡ Some y → d y ≡ true → j ≡ i) → find d xs ≡ Some x
 find_only d [] i x e t one = absurd cc
 find_only d (y ∷ ys) zero x e t one =
@@ -88,7 +89,8 @@ pub found_append : {X : Type 0} (d : X → Bool) (xs ys : List X) (p : X) → fi
     → (find d xs ≡ Some p) ⊎ ((find d xs ≡ None) × (find d ys ≡ Some p))
 found_append {X} d xs ys p e = by (find d xs) (sym (find-append d xs ys) ∙ e)
   where
-    by : (o : Option X) → option_or o (find d ys) ≡ Some p → (o ≡ Some p) ⊎ ((o ≡ None) × (find d ys ≡ Some p))
+    by : (o : Option X) → option_or o (find d ys) ≡ Some p
+        → (o ≡ Some p) ⊎ ((o ≡ None) × (find d ys ≡ Some p))
     by None found = inr (refl, found)
     by (Some x) found = inl found
 
@@ -158,10 +160,12 @@ pub found_downward : {X : Type 0} (d : X → Bool) (list_at : ℕ → List X) (n
     → find d (downward list_at n) ≡ Some p → FoundBelow d list_at n p
 found_downward d list_at zero p e = absurd cc
 found_downward d list_at (suc n) p e =
-    below_more d list_at n p (found_append d (list_at n) (downward list_at n) p e) (found_downward d list_at n p)
+    below_more d list_at n p (found_append d (list_at n) (downward list_at n) p e)
+    (found_downward d list_at n p)
 
 -- where none passes from the last place down, none does at any
-pub none_downward : {X : Type 0} (d : X → Bool) (list_at : ℕ → List X) (n : ℕ) → find d (downward list_at n) ≡ None
+pub none_downward : {X : Type 0} (d : X → Bool) (list_at : ℕ → List X) (n : ℕ)
+    → find d (downward list_at n) ≡ None
     → (j : ℕ) → j < n → find d (list_at j) ≡ None
 none_downward d list_at zero e j lt = absurd (omega arith)
 none_downward d list_at (suc n) e j lt =
@@ -193,7 +197,8 @@ filter_says d (y ∷ ys) x c = filter_head d y ys x (d y) refl c (filter_says d 
 -- by whether the first is kept
 keep_head : {X : Type 0} (d : X → Bool) (y : X) (ys : List X) (x : X) (b : Bool) → d y ≡ b → d x ≡ true
     → (y ≡ x) ⊎ Contains (filter d ys) x → Contains (cond b (y ∷ filter d ys) (filter d ys)) x
-keep_head d y ys x true t passes (inl same) = subst (Contains (y ∷ filter d ys)) same (contains_head y (filter d ys))
+keep_head d y ys x true t passes (inl same) =
+    subst (Contains (y ∷ filter d ys)) same (contains_head y (filter d ys))
 keep_head d y ys x true t passes (inr rest) = contains_tail y x (filter d ys) rest
 keep_head d y ys x false t passes (inl same) = never (d y) (ap d same ∙ passes) t
 keep_head d y ys x false t passes (inr rest) = rest
@@ -222,7 +227,8 @@ pub none_cons : {X : Type 0} (d : X → Bool) (x : X) (xs : List X) → find d (
 none_cons d x xs e = none_head d x xs (d x) refl e
 
 -- none at any place does
-pub none_at : {X : Type 0} (d : X → Bool) (xs : List X) → find d xs ≡ None → (i : ℕ) (x : X) → slice_get xs i ≡ Some x
+pub none_at : {X : Type 0} (d : X → Bool) (xs : List X) → find d xs ≡ None → (i : ℕ) (x : X)
+    → slice_get xs i ≡ Some x
     → d x ≡ false
 none_at d [] e i x is = absurd cc
 none_at d (y ∷ ys) e zero x is = ap d (sym (same_Some y x is)) ∙ (none_cons d y ys e).0

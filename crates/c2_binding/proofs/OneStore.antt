@@ -3,7 +3,7 @@ use Rattle.std.proofs.Common.{◌≡◌, ℕ, Bool, true, false, not, ◌&&◌, 
 use Rattle.std.specs.List.{AllZip}
 use Rattle.c2_base.specs.declared.values.Question.{Question}
 use Rattle.c2_spec.proofs.BmffOneList.{roots_once}
-use Rattle.c2_spec.specs.Bmff.Boxes.{Box, begins_bmff}
+use Rattle.c2_spec.specs.Bmff.Boxes.{begins_bmff}
 use Rattle.c2_spec.specs.C2pa.Claim.{claim_of}
 use Rattle.c2_spec.specs.C2pa.Manifest.{Manifest, Superbox, claim_bytes, manifests_of}
 use Rattle.c2_spec.specs.C2pa.Sign1.{SignParts}
@@ -18,8 +18,7 @@ use Rattle.c2_spec.specs.declared.panel.Verdict.{Verdict}
 use Rattle.c2_rules.proofs.BindingLaws.{one_binding}
 use Rattle.c2_rules.specs.Binding.{Binding, Media, IsMedia, IsItemOf, IsLabelledBinding, binding_label, binding_payload}
 use Rattle.c2_rules.specs.CheckList.{StoreReading, IsStoreReading, HasBindingOf, active_in, store_answer}
-use Rattle.c2_rules.specs.Opened.{IsOpened}
-use Rattle.c2_rules.specs.Readings.{IsMessageOf, ReadBox, IsReadBox, Reading, IsReading, AreReadings, signature_item}
+use Rattle.c2_rules.specs.Readings.{IsMessageOf, ReadBox, IsReadBox, Reading, IsReading, signature_item}
 use Rattle.c2_rules.specs.Rules.{label_kind}
 use Rattle.c2_rules.specs.Validated.{IsFileReading, IsOpenedAnswer, IsAnswer}
 use Rattle.c2_rules.specs.declared.answer.Answer.{Answer}
@@ -41,7 +40,8 @@ one_item_of law (Some s) (Some v) None p q = absurd (q v p)
 one_item_of law (Some s) (Some v) (Some w) p q = ap Some (one_item law s v w p q)
 
 -- a payload is one message, or none
-one_message_of : OneItem → (o : Option (List ℕ)) (a b : Option SignParts) → IsMessageOf o a → IsMessageOf o b → a ≡ b
+one_message_of : OneItem → (o : Option (List ℕ)) (a b : Option SignParts) → IsMessageOf o a → IsMessageOf o b
+    → a ≡ b
 one_message_of law None None None p q = refl
 one_message_of law None None (Some y) p q = absurd q
 one_message_of law None (Some x) b p q = absurd p
@@ -55,10 +55,12 @@ one_box : OneItem → (b : Superbox) (x y : ReadBox) → IsReadBox b x → IsRea
 one_box law b x y p q =
     let boxed : x.boxed ≡ y.boxed = p.same ∙ sym q.same in
     ap₂ (λ (z : Superbox) (i : Parsed _). record { boxed = z; ingredient = i }) boxed
-    (ingredients_alike law x y (subst (λ z. IsReadBox z x) (sym p.same) p) (subst (λ z. IsReadBox z y) (sym q.same) q) boxed)
+    (ingredients_alike law x y (subst (λ z. IsReadBox z x) (sym p.same) p)
+    (subst (λ z. IsReadBox z y) (sym q.same) q) boxed)
 
 -- where each member comes to one thing, a list comes to one list
-one_list : {A B : Type 0} (R : A → B → Type 0) → ((x : A) (y z : B) → R x y → R x z → y ≡ z) → (xs : List A) (ys zs : List B)
+one_list : {A B : Type 0} (R : A → B → Type 0) → ((x : A) (y z : B) → R x y → R x z → y ≡ z)
+    → (xs : List A) (ys zs : List B)
     → AllZip R xs ys → AllZip R xs zs → ys ≡ zs
 one_list R once [] [] [] p q = refl
 one_list R once [] [] (z ∷ zs) p q = absurd q
@@ -76,12 +78,16 @@ reading m claim message boxes = record { manifest = m; claim = claim; message = 
 one_reading : OneItem → (m : Manifest) (r s : Reading) → IsReading m r → IsReading m s → r ≡ s
 one_reading law m r s p q =
     ap (λ (x : Manifest). reading x r.claim r.message r.boxes) (p.same ∙ sym q.same)
-    ∙ ap (λ (x : Parsed Claim). reading s.manifest x r.message r.boxes) (one_parsed law claim_of (claim_bytes m.claims) r.claim s.claim p.claim q.claim)
-    ∙ ap (λ (x : Option SignParts). reading s.manifest s.claim x r.boxes) (one_message_of law (signature_item m) r.message s.message p.message q.message)
-    ∙ ap (λ (x : List ReadBox). reading s.manifest s.claim s.message x) (one_list IsReadBox (one_box law) m.assertions r.boxes s.boxes p.boxes q.boxes)
+    ∙ ap (λ (x : Parsed Claim). reading s.manifest x r.message r.boxes)
+    (one_parsed law claim_of (claim_bytes m.claims) r.claim s.claim p.claim q.claim)
+    ∙ ap (λ (x : Option SignParts). reading s.manifest s.claim x r.boxes)
+    (one_message_of law (signature_item m) r.message s.message p.message q.message)
+    ∙ ap (λ (x : List ReadBox). reading s.manifest s.claim s.message x)
+    (one_list IsReadBox (one_box law) m.assertions r.boxes s.boxes p.boxes q.boxes)
 
 -- a label and an item come to one binding
-one_labelled : (m : Media) (label : Option (List ℕ)) (item : Option Item) (a b : Option (Result Binding FieldError))
+one_labelled : (m : Media) (label : Option (List ℕ)) (item : Option Item)
+    (a b : Option (Result Binding FieldError))
     → IsLabelledBinding m label item a → IsLabelledBinding m label item b → a ≡ b
 one_labelled m None item a b p q = p ∙ sym q
 one_labelled m (Some l) None a b p q = p ∙ sym q
@@ -90,25 +96,32 @@ one_labelled m (Some l) (Some v) (Some x) None p q = absurd q
 one_labelled m (Some l) (Some v) (Some x) (Some y) p q = ap Some (one_binding m (label_kind l) v x y p q)
 
 -- an active manifest has one binding
-one_bound : OneItem → (m : Media) (o : Option Reading) (a b : Option (Result Binding FieldError)) → HasBindingOf m o a → HasBindingOf m o b → a ≡ b
+one_bound : OneItem → (m : Media) (o : Option Reading) (a b : Option (Result Binding FieldError))
+    → HasBindingOf m o a → HasBindingOf m o b → a ≡ b
 one_bound law m None a b p q = p ∙ sym q
 one_bound law m (Some r) a b p q =
     let item : q.item ≡ p.item = one_item_of law (binding_payload r) q.item p.item q.is_item p.is_item in
-    one_labelled m (binding_label r) p.item a b p.is (subst (λ v. IsLabelledBinding m (binding_label r) v b) item q.is)
+    one_labelled m (binding_label r) p.item a b p.is
+    (subst (λ v. IsLabelledBinding m (binding_label r) v b) item q.is)
 
 -- a store is read as one thing
-one_store : OneItem → (m : Media) (ms : List Manifest) (s t : StoreReading) → IsStoreReading m ms s → IsStoreReading m ms t → s ≡ t
+one_store : OneItem → (m : Media) (ms : List Manifest) (s t : StoreReading) → IsStoreReading m ms s
+    → IsStoreReading m ms t → s ≡ t
 one_store law m ms s t p q =
-    let each : s.readings ≡ t.readings = one_list IsReading (one_reading law) ms s.readings t.readings p.each q.each in
-    let bound : HasBindingOf m (active_in t.readings) s.binding = subst (λ (rs : List Reading). HasBindingOf m (active_in rs) s.binding) each p.binding in
-    ap₂ (λ (rs : List Reading) (v : Option (Result Binding FieldError)). record { readings = rs; binding = v }) each
+    let each : s.readings ≡ t.readings =
+    one_list IsReading (one_reading law) ms s.readings t.readings p.each q.each in
+    let bound : HasBindingOf m (active_in t.readings) s.binding =
+    subst (λ (rs : List Reading). HasBindingOf m (active_in rs) s.binding) each p.binding in
+    ap₂ (λ (rs : List Reading) (v : Option (Result Binding FieldError)).
+    record { readings = rs; binding = v }) each
     (one_bound law m (active_in t.readings) s.binding t.binding bound q.binding)
 
 -- ---- the media file
 
 -- no file begins as a JPEG and counts as a BMFF file
 not_both : (file : List ℕ) → begins_jpeg file ≡ true → is_bmff file ≡ true → ⊥
-not_both file p q = let bad : false ≡ is_bmff file = sym (ap (λ (b : Bool). not b && begins_bmff file) p) in cc (bad ∙ q)
+not_both file p q = let bad : false ≡ is_bmff file =
+    sym (ap (λ (b : Bool). not b && begins_bmff file) p) in cc (bad ∙ q)
 
 -- a file has one container
 one_container : (file : List ℕ) (c d : Container) → IsContainer file c → IsContainer file d → c ≡ d
@@ -124,10 +137,12 @@ one_media file m n p q =
     (one_container file m.container n.container p.container q.container)
 
 -- its store is read in one way
-one_file_reading : OneItem → (file : List ℕ) (t : Tree) (a b : StoreReading) → IsFileReading file t a → IsFileReading file t b → a ≡ b
+one_file_reading : OneItem → (file : List ℕ) (t : Tree) (a b : StoreReading) → IsFileReading file t a
+    → IsFileReading file t b → a ≡ b
 one_file_reading law file t a b p q =
     let media : q.media ≡ p.media = one_media file q.media p.media q.is_media p.is_media in
-    one_store law p.media (manifests_of t) a b p.reads (subst (λ m. IsStoreReading m (manifests_of t) b) media q.reads)
+    one_store law p.media (manifests_of t) a b p.reads
+    (subst (λ m. IsStoreReading m (manifests_of t) b) media q.reads)
 
 -- ---- one opening
 
@@ -144,13 +159,15 @@ one_tree : (a b c d : ℕ) (t u : Tree) → ◌≡◌ {A = Opening Tree} (here a
 one_tree a b c d t u e = cc (e)
 
 -- A file is opened as a store in one place, and read in one way.
-pub record OneReading (file : List ℕ) (s t : StoreReading) (o : IsOpenedAs file s) (p : IsOpenedAs file t) : Type 0 where
+pub record OneReading (file : List ℕ) (s t : StoreReading) (o : IsOpenedAs file s)
+    (p : IsOpenedAs file t) : Type 0 where
   pub store : s ≡ t
   pub start : o.start ≡ p.start
   pub len : o.len ≡ p.len
 
 -- where it is opened as one thing
-pub one_opened_as : OneItem → (file : List ℕ) → IsOpenedOnce file → (s t : StoreReading) (o : IsOpenedAs file s) (p : IsOpenedAs file t) → OneReading file s t o p
+pub one_opened_as : OneItem → (file : List ℕ) → IsOpenedOnce file
+    → (s t : StoreReading) (o : IsOpenedAs file s) (p : IsOpenedAs file t) → OneReading file s t o p
 one_opened_as law file once s t o p =
     let e = once (here o.start o.len o.tree) (here p.start p.len p.tree) o.is_opened p.is_opened in
     let tree : p.tree ≡ o.tree = sym (one_tree o.start o.len p.start p.len o.tree p.tree e) in
@@ -161,15 +178,20 @@ one_opened_as law file once s t o p =
     }
 
 -- what is answered over one opening is one answer
-one_opened_answer : OneItem → (hash : Alg → List ℕ → List ℕ) (said : Question → Verdict) (file : List ℕ) (o : Opening Tree) (a b : Answer)
+one_opened_answer : OneItem
+    → (hash : Alg → List ℕ → List ℕ) (said : Question → Verdict) (file : List ℕ) (o : Opening Tree)
+    (a b : Answer)
     → IsOpenedAnswer hash said file o a → IsOpenedAnswer hash said file o b → a ≡ b
 one_opened_answer law hash said file (refused reason number) a b p q = p ∙ sym q
 one_opened_answer law hash said file absent a b p q = p ∙ sym q
 one_opened_answer law hash said file (here start len t) a b p q =
-    p.2 ∙ ap (store_answer hash said (length file) start len) (one_file_reading law file t p.0 q.0 p.1 q.1) ∙ sym q.2
+    p.2 ∙ ap (store_answer hash said (length file) start len) (one_file_reading law file t p.0 q.0 p.1 q.1)
+    ∙ sym q.2
 
 -- a file that is opened as one thing has one answer
-pub one_answer : OneItem → (hash : Alg → List ℕ → List ℕ) (said : Question → Verdict) (file : List ℕ) → IsOpenedOnce file → (a b : Answer)
+pub one_answer : OneItem → (hash : Alg → List ℕ → List ℕ) (said : Question → Verdict) (file : List ℕ)
+    → IsOpenedOnce file → (a b : Answer)
     → IsAnswer hash said file a → IsAnswer hash said file b → a ≡ b
 one_answer law hash said file once a b p q =
-    one_opened_answer law hash said file p.0 a b p.2 (subst (λ o. IsOpenedAnswer hash said file o b) (once q.0 p.0 q.1 p.1) q.2)
+    one_opened_answer law hash said file p.0 a b p.2
+    (subst (λ o. IsOpenedAnswer hash said file o b) (once q.0 p.0 q.1 p.1) q.2)

@@ -1,5 +1,5 @@
 -- The first pair of different lists: in a list, among the pairs of entries, and at a place.
-use Rattle.std.proofs.Common.{◌≡◌, ◌≢◌, ◌⊎◌, inl, inr, ℕ, Bool, true, false, not, cond, bytes_eq, List, [], ◌∷◌, Option, Some, None, Contains, slice_get, refl, sym, ap, ◌∙◌, subst}
+use Rattle.std.proofs.Common.{◌≡◌, ◌≢◌, ◌⊎◌, inl, inr, ℕ, Bool, true, false, not, cond, bytes_eq, List, [], ◌∷◌, Option, Some, None, Contains, slice_get, refl, sym, ap, ◌∙◌}
 use Rattle.std.specs.List.{find}
 use Rattle.std.specs.Option.{option_and_then, option_map_or}
 use Rattle.std.proofs.lemmas.Bool.Decides.{not_from_Decides}
@@ -60,21 +60,25 @@ pub record FoundEntry (pairs : Ref → List ℕ → List ListPair) (r : Reading)
 pub found_entry : (pairs : Ref → List ℕ → List ListPair) (r : Reading) (p : ListPair)
     → find do_differ (entry_pairs pairs r) ≡ Some p → FoundEntry pairs r p
 found_entry pairs r p e =
-    let f = found_flat do_differ (λ (x : Ref). option_map_or (pairs x) (entry_label r.manifest x) []) (entries_in r) p e in
+    let f = found_flat do_differ (λ (x : Ref). option_map_or (pairs x) (entry_label r.manifest x) [])
+    (entries_in r) p e in
     by f.0 f.1 (entry_label r.manifest f.0) refl f.2
   where
     by : (x : Ref) → Contains (entries_in r) x → (o : Option (List ℕ)) → entry_label r.manifest x ≡ o
         → find do_differ (option_map_or (pairs x) o []) ≡ Some p → FoundEntry pairs r p
     by x c None is found = absurd (cc (found))
-    by x c (Some label) is found = record { entry = x; lists = c; label = label; is_label = is; found = found }
+    by x c (Some label) is found =
+        record { entry = x; lists = c; label = label; is_label = is; found = found }
 
 -- without a difference none is among the pairs of any
-pub none_entry : (pairs : Ref → List ℕ → List ListPair) (r : Reading) → find do_differ (entry_pairs pairs r) ≡ None
+pub none_entry : (pairs : Ref → List ℕ → List ListPair) (r : Reading)
+    → find do_differ (entry_pairs pairs r) ≡ None
     → (x : Ref) (label : List ℕ) → Contains (entries_in r) x → entry_label r.manifest x ≡ Some label
     → find do_differ (pairs x label) ≡ None
 none_entry pairs r e x label c is =
     sym (ap (λ o. find do_differ (option_map_or (pairs x) o [])) is)
-    ∙ none_flat do_differ (λ (y : Ref). option_map_or (pairs y) (entry_label r.manifest y) []) (entries_in r) e x c
+    ∙ none_flat do_differ (λ (y : Ref). option_map_or (pairs y) (entry_label r.manifest y) []) (entries_in r)
+    e x c
 
 -- ---- the pairs at a place
 
@@ -83,18 +87,22 @@ pub pairs_are : (pairs : ℕ → Reading → Reading → List ListPair) (rs ss :
     → is_reached rs n ≡ true → slice_get rs n ≡ Some r → counterpart rs ss n r ≡ Some s
     → pairs_at pairs rs ss n ≡ pairs n r s
 pairs_are pairs rs ss n r s reached at is =
-    ap (λ b. cond b (pairs_between (pairs n) (slice_get rs n) (option_and_then (counterpart rs ss n) (slice_get rs n))) []) reached
+    ap (λ b. cond b (pairs_between (pairs n) (slice_get rs n)
+    (option_and_then (counterpart rs ss n) (slice_get rs n))) []) reached
     ∙ ap (λ o. pairs_between (pairs n) o (option_and_then (counterpart rs ss n) o)) at
     ∙ ap (pairs_between (pairs n) (Some r)) is
 
 -- where there is a difference at a place, its manifest is reached
-pub found_reached : (pairs : ℕ → Reading → Reading → List ListPair) (rs ss : List Reading) (n : ℕ) (p : ListPair)
+pub found_reached : (pairs : ℕ → Reading → Reading → List ListPair) (rs ss : List Reading) (n : ℕ)
+    (p : ListPair)
     → find do_differ (pairs_at pairs rs ss n) ≡ Some p → is_reached rs n ≡ true
 found_reached pairs rs ss n p e =
     elim (bool_cases (is_reached rs n)) [
       | inl reached ↦ reached
       | inr other ↦
           let none : find do_differ (pairs_at pairs rs ss n) ≡ None =
-          ap (λ b. find do_differ (cond b (pairs_between (pairs n) (slice_get rs n) (option_and_then (counterpart rs ss n) (slice_get rs n))) [])) other in
+          ap (λ b. find do_differ
+          (cond b (pairs_between (pairs n) (slice_get rs n)
+          (option_and_then (counterpart rs ss n) (slice_get rs n))) [])) other in
           absurd (let bad = sym none ∙ e in cc (bad))
     ]

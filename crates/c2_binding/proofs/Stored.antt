@@ -1,14 +1,13 @@
 -- A box tree that is a store of manifests, and what these are read as: labels differ, a box is found by its
 -- label, and equal contents are seen alike.
-use Rattle.std.proofs.Common.{◌≡◌, ◌≢◌, inl, inr, ℕ, zero, suc, ◌<◌, Bool, true, false, List, [], ◌∷◌, ◌++◌, map, length, Option, Some, None, unwrap_or, Contains, slice_get, refl, sym, ap, ◌∙◌, subst, arith, eqb}
+use Rattle.std.proofs.Common.{◌≡◌, ◌≢◌, inl, inr, ℕ, zero, suc, ◌<◌, true, false, List, [], ◌∷◌, ◌++◌, map, length, Option, Some, None, unwrap_or, Contains, slice_get, refl, sym, ap, ◌∙◌, subst, arith, eqb}
 use Rattle.std.specs.List.{AllByRecursion, AllZip, find, flat_map}
 use Rattle.std.specs.Option.{option_map}
 use Rattle.std.proofs.lemmas.Bool.Decides.{Decides-eqb}
 use Rattle.std.proofs.lemmas.Option.{same_Some}
 use Rattle.c2_spec.specs.C2pa.Manifest.{StoreTest, first_refusal, store_tests, store_refusal, manifest_tests, count_tests, is_manifest_label, is_superbox, superboxes, inside, signature_in, assertion_store_in, store_of, manifest_boxes, Superbox, superbox_at, Manifest, manifest_at, manifests_of}
-use Rattle.c2_spec.specs.Jumbf.Boxes.{tree_count, box_at, any_contents, child_indices}
+use Rattle.c2_spec.specs.Jumbf.Boxes.{tree_count, child_indices}
 use Rattle.c2_spec.specs.Jumbf.Tree.{Tree, IsLegalTree}
-use Rattle.c2_spec.specs.declared.store.ManifestBoxes.{ManifestBoxes}
 use Rattle.c2_spec.proofs.JumbfBoxes.{some_box}
 use Rattle.c2_spec.proofs.JumbfChildren.{label_at, children_inside}
 use Rattle.c2_rules.proofs.ListLemmas.{contains_none, contains_cons}
@@ -63,7 +62,8 @@ partner_at R (x ∷ xs) (z ∷ ys) zero y h e = (x, refl, subst (R x) (same_Some
 partner_at R (x ∷ xs) (z ∷ ys) (suc n) y h e = partner_at R xs ys n y h.1 e
 
 -- they have one length
-partner_length : {A B : Type 0} (R : A → B → Type 0) (xs : List A) (ys : List B) → AllZip R xs ys → length xs ≡ length ys
+partner_length : {A B : Type 0} (R : A → B → Type 0) (xs : List A) (ys : List B) → AllZip R xs ys
+    → length xs ≡ length ys
 partner_length R [] [] h = refl
 partner_length R [] (z ∷ ys) h = absurd h
 partner_length R (x ∷ xs) [] h = absurd h
@@ -85,32 +85,46 @@ none_fails ts e = by (find (λ (x : StoreTest). x.fails) ts) e
     by (Some x) is = absurd cc
 
 -- the tests of each manifest, and those of their number
-parts_hold : (t : Tree) → store_refusal t ≡ None → (find (λ (x : StoreTest). x.fails) (flat_map (manifest_tests t) (superboxes t 0)) ≡ None)
+parts_hold : (t : Tree) → store_refusal t ≡ None
+    → (find (λ (x : StoreTest). x.fails) (flat_map (manifest_tests t) (superboxes t 0)) ≡ None)
     × (find (λ (x : StoreTest). x.fails) (count_tests (length (superboxes t 0))) ≡ None)
 parts_hold t e =
-    none_append (λ (x : StoreTest). x.fails) (flat_map (manifest_tests t) (superboxes t 0)) (count_tests (length (superboxes t 0)))
-    (none_cons (λ (x : StoreTest). x.fails) _ (flat_map (manifest_tests t) (superboxes t 0) ++ count_tests (length (superboxes t 0))) (none_fails (store_tests t) e)).1
+    none_append (λ (x : StoreTest). x.fails) (flat_map (manifest_tests t) (superboxes t 0))
+    (count_tests (length (superboxes t 0)))
+    (none_cons (λ (x : StoreTest). x.fails) _
+    (flat_map (manifest_tests t) (superboxes t 0) ++ count_tests (length (superboxes t 0)))
+    (none_fails (store_tests t) e)).1
 
 -- there is a manifest
 count_some : (t : Tree) → store_refusal t ≡ None → 0 < length (superboxes t 0)
 count_some t e =
     let test : eqb (length (superboxes t 0)) 0 ≡ false =
-    none_at (λ (x : StoreTest). x.fails) (count_tests (length (superboxes t 0))) (parts_hold t e).1 0 _ refl in
-    let some : length (superboxes t 0) ≢ 0 = λ z. never (eqb (length (superboxes t 0)) 0) ((Decides-eqb (length (superboxes t 0)) 0).1 z) test in
+    none_at (λ (x : StoreTest). x.fails) (count_tests (length (superboxes t 0))) (parts_hold t e).1 0 _
+    refl in
+    let some : length (superboxes t 0) ≢ 0 =
+    λ z. never (eqb (length (superboxes t 0)) 0) ((Decides-eqb (length (superboxes t 0)) 0).1 z) test in
     omega (arith, some)
 
 -- a label that a manifest may have is there and isn't empty
-label_there : (o : Option (List ℕ)) → is_manifest_label o ≡ true → (label : List ℕ) × (o ≡ Some label) × (label ≢ [])
+label_there : (o : Option (List ℕ)) → is_manifest_label o ≡ true
+    → (label : List ℕ) × (o ≡ Some label) × (label ≢ [])
 label_there None e = absurd cc
-label_there (Some label) e =
-    (label, refl, λ empty. never (is_manifest_label (Some label)) e (ap (λ l. is_manifest_label (Some l)) empty))
+label_there (Some label) e = (
+  label,
+  refl,
+  λ empty. never (is_manifest_label (Some label)) e
+      (ap (λ l. is_manifest_label (Some l)) empty),
+)
 
 -- a manifest has such a label
-has_label : (t : Tree) (i : ℕ) → store_refusal t ≡ None → Contains (superboxes t 0) i → (label : List ℕ) × (label_at t i ≡ Some label) × (label ≢ [])
+has_label : (t : Tree) (i : ℕ) → store_refusal t ≡ None → Contains (superboxes t 0) i
+    → (label : List ℕ) × (label_at t i ≡ Some label) × (label ≢ [])
 has_label t i e c =
-    let own = none_flat (λ (x : StoreTest). x.fails) (manifest_tests t) (superboxes t 0) (parts_hold t e).0 i c in
+    let own =
+    none_flat (λ (x : StoreTest). x.fails) (manifest_tests t) (superboxes t 0) (parts_hold t e).0 i c in
     label_there (label_at t i)
-    (holds (is_manifest_label (label_at t i)) (none_at (λ (x : StoreTest). x.fails) (manifest_tests t i) own 1 _ refl))
+    (holds (is_manifest_label (label_at t i))
+    (none_at (λ (x : StoreTest). x.fails) (manifest_tests t i) own 1 _ refl))
 
 -- ---- superboxes
 
@@ -121,7 +135,8 @@ super_in t k i lt c =
     is_super t i (all_member (λ j. j < tree_count t) (child_indices t k) i (children_inside t k lt) f.0) f.1
 
 -- and so does one inside a box that may be missing
-super_inside : (t : Tree) (o : Option ℕ) → ((j : ℕ) → o ≡ Some j → j < tree_count t) → (p k : ℕ) → slice_get (inside t o) p ≡ Some k → StandsSuper t k
+super_inside : (t : Tree) (o : Option ℕ) → ((j : ℕ) → o ≡ Some j → j < tree_count t) → (p k : ℕ)
+    → slice_get (inside t o) p ≡ Some k → StandsSuper t k
 super_inside t None lt p k e = absurd (cc (e))
 super_inside t (Some j) lt p k e = super_in t j k (lt j refl) (member_at (superboxes t j) p k e)
 
@@ -161,7 +176,8 @@ module _ (t : Tree) (rs : List Reading) (h : IsStored t rs) where
       }
 
   -- its assertion store, where it has one, is a box of the tree
-  store_inside : (n : ℕ) (r : Reading) (a : Placed n r) (j : ℕ) → assertion_store_in t (superboxes t a.index) ≡ Some j → j < tree_count t
+  store_inside : (n : ℕ) (r : Reading) (a : Placed n r) (j : ℕ)
+      → assertion_store_in t (superboxes t a.index) ≡ Some j → j < tree_count t
   store_inside n r a j e =
       (super_in t a.index j a.super.stands.inside (find_says _ (superboxes t a.index) j e).0).stands.inside
 
@@ -173,9 +189,11 @@ module _ (t : Tree) (rs : List Reading) (h : IsStored t rs) where
     super : StandsSuper t index
 
   -- each assertion box that was read has one
-  box_placed : (n : ℕ) (r : Reading) (a : Placed n r) (p : ℕ) (b : ReadBox) → slice_get r.boxes p ≡ Some b → BoxPlaced n r a p b
+  box_placed : (n : ℕ) (r : Reading) (a : Placed n r) (p : ℕ) (b : ReadBox) → slice_get r.boxes p ≡ Some b
+      → BoxPlaced n r a p b
   box_placed n r a p b e =
-      let x = partner_at IsReadBox (manifest_at t (manifest_boxes t a.index)).assertions r.boxes p b a.reading.boxes e in
+      let x = partner_at IsReadBox (manifest_at t (manifest_boxes t a.index)).assertions r.boxes p b
+      a.reading.boxes e in
       let y = mapped_at (superbox_at t) (inside t (assertion_store_in t (superboxes t a.index))) p x.0 x.1 in
       record {
         index = y.0;
@@ -185,7 +203,8 @@ module _ (t : Tree) (rs : List Reading) (h : IsStored t rs) where
       }
 
   -- manifests have different labels
-  differ : (n m : ℕ) (r s : Reading) → slice_get rs n ≡ Some r → slice_get rs m ≡ Some s → label_in r ≡ label_in s → n ≡ m
+  differ : (n m : ℕ) (r s : Reading) → slice_get rs n ≡ Some r → slice_get rs m ≡ Some s
+      → label_in r ≡ label_in s → n ≡ m
   differ n m r s e f same =
       let a = placed n r e in
       let b = placed m s f in
@@ -193,7 +212,8 @@ module _ (t : Tree) (rs : List Reading) (h : IsStored t rs) where
       (b.has ∙ ap Some (sym b.is_label ∙ sym same ∙ a.is_label))
 
   -- a box is found by its label
-  one_box : (n : ℕ) (r : Reading) → slice_get rs n ≡ Some r → (b : ReadBox) → Contains r.boxes b → (label : List ℕ)
+  one_box : (n : ℕ) (r : Reading) → slice_get rs n ≡ Some r → (b : ReadBox) → Contains r.boxes b
+      → (label : List ℕ)
       → b.boxed.label ≡ Some label → box_with r label ≡ Some b
   one_box n r e b c label labelled =
       let a = placed n r e in
@@ -202,7 +222,8 @@ module _ (t : Tree) (rs : List Reading) (h : IsStored t rs) where
       find_only (is_labelled label) r.boxes p.0 b p.1 (says_given b.boxed.label label labelled)
       (λ q y at given.
       let z = box_placed n r a q y at in
-      inside_apart t (assertion_store_in t (superboxes t a.index)) h.legal (store_inside n r a) q p.0 z.index x.index label z.at x.at
+      inside_apart t (assertion_store_in t (superboxes t a.index)) h.legal (store_inside n r a) q p.0 z.index
+      x.index label z.at x.at
       (sym (ap (λ (b : Superbox). b.label) z.is) ∙ given_says y.boxed.label label given)
       (sym (ap (λ (b : Superbox). b.label) x.is) ∙ labelled))
 
@@ -212,7 +233,9 @@ module _ (t : Tree) (rs : List Reading) (h : IsStored t rs) where
     some =
         let count = count_some t h.accepted in
         let same : length (superboxes t 0) ≡ length rs =
-        sym (mapped_length (manifest_boxes t) (superboxes t 0)) ∙ sym (mapped_length (manifest_at t) (store_of t)) ∙ partner_length IsReading (manifests_of t) rs h.readings in
+        sym (mapped_length (manifest_boxes t) (superboxes t 0))
+        ∙ sym (mapped_length (manifest_at t) (store_of t))
+        ∙ partner_length IsReading (manifests_of t) rs h.readings in
         subst (λ k. 0 < k) same count;
     differ = differ;
     named = λ n r e empty. let a = placed n r e in a.some (sym a.is_label ∙ empty);
@@ -221,21 +244,29 @@ module _ (t : Tree) (rs : List Reading) (h : IsStored t rs) where
   }
 
   -- the signature box of a manifest that was read, by its superbox
-  signature_placed : (n : ℕ) (r : Reading) → slice_get rs n ≡ Some r → (b : Superbox) → r.manifest.signature ≡ Some b
+  signature_placed : (n : ℕ) (r : Reading) → slice_get rs n ≡ Some r → (b : Superbox)
+      → r.manifest.signature ≡ Some b
       → (i : ℕ) × StandsSuper t i × (b ≡ superbox_at t i)
   signature_placed n r e b is =
       let a = placed n r e in
-      let x = mapped_option (superbox_at t) (signature_in t (superboxes t a.index)) b (sym (ap (λ (m : Manifest). m.signature) a.reading.same) ∙ is) in
-      (x.0, super_in t a.index x.0 a.super.stands.inside (find_says _ (superboxes t a.index) x.0 x.1).0, sym x.2)
+      let x = mapped_option (superbox_at t) (signature_in t (superboxes t a.index)) b
+      (sym (ap (λ (m : Manifest). m.signature) a.reading.same) ∙ is) in (
+        x.0,
+        super_in t a.index x.0 a.super.stands.inside (find_says _ (superboxes t a.index) x.0 x.1).0,
+        sym
+            x.2,
+      )
 
 -- ---- two stores
 
 module _ (t u : Tree) (rs ss : List Reading) (h : IsStored t rs) (k : IsStored u ss) where
   -- superboxes with equal contents are equal
-  one_seen : (b c : Superbox) (i j : ℕ) → StandsSuper t i → StandsSuper u j → b ≡ superbox_at t i → c ≡ superbox_at u j → b.contents ≡ c.contents → b ≡ c
+  one_seen : (b c : Superbox) (i j : ℕ) → StandsSuper t i → StandsSuper u j → b ≡ superbox_at t i
+      → c ≡ superbox_at u j → b.contents ≡ c.contents → b ≡ c
   one_seen b c i j p q at_b at_c e =
       at_b
-      ∙ contents_seen t u i j h.legal k.legal p q (sym (ap (λ (x : Superbox). x.contents) at_b) ∙ e ∙ ap (λ (x : Superbox). x.contents) at_c)
+      ∙ contents_seen t u i j h.legal k.legal p q
+      (sym (ap (λ (x : Superbox). x.contents) at_b) ∙ e ∙ ap (λ (x : Superbox). x.contents) at_c)
       ∙ sym at_c
 
   -- boxes and manifests with equal contents are seen alike
@@ -258,6 +289,7 @@ module _ (t u : Tree) (rs ss : List Reading) (h : IsStored t rs) (k : IsStored u
         let z = placed u ss k m s f in
         a.reading.same
         ∙ contents_manifest t u a.index z.index h.legal k.legal a.super z.super
-        (sym (ap (λ (x : Manifest). x.contents) a.reading.same) ∙ same ∙ ap (λ (x : Manifest). x.contents) z.reading.same)
+        (sym (ap (λ (x : Manifest). x.contents) a.reading.same) ∙ same
+        ∙ ap (λ (x : Manifest). x.contents) z.reading.same)
         ∙ sym z.reading.same;
   }

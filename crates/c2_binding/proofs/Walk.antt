@@ -1,6 +1,6 @@
 -- The walk over two accepted stores with one active claim: from the active manifests, step by step, to all
 -- that are reached.
-use Rattle.std.proofs.Common.{◌≡◌, inl, inr, ℕ, zero, suc, ◌+◌, ◌-◌, ◌<◌, Bool, true, false, List, [], ◌∷◌, Option, Some, None, Contains, slice_get, length, refl, sym, ap, ◌∙◌, subst, arith}
+use Rattle.std.proofs.Common.{◌≡◌, inl, inr, ℕ, zero, suc, ◌+◌, ◌-◌, ◌<◌, true, false, List, [], ◌∷◌, Some, None, Contains, slice_get, length, refl, sym, ap, ◌∙◌, subst, arith}
 use Rattle.std.specs.List.{find}
 use Rattle.std.specs.Option.{option_and_then}
 use Rattle.std.proofs.lemmas.Bool.Decides.{Decides-eqb}
@@ -9,8 +9,8 @@ use Rattle.c2_base.specs.declared.values.Question.{Question}
 use Rattle.c2_spec.specs.C2pa.Uri.{assertion}
 use Rattle.c2_spec.specs.declared.digest.Alg.{Alg}
 use Rattle.c2_spec.specs.declared.panel.Verdict.{Verdict}
-use Rattle.c2_rules.proofs.ReachLemmas.{reached_decides, reached_within, redacted_decides}
-use Rattle.c2_rules.specs.Chains.{label_in, IsChild, Reached, Reaches, is_active, is_reached, is_redacted, IsRedacted}
+use Rattle.c2_rules.proofs.ReachLemmas.{reached_decides, redacted_decides}
+use Rattle.c2_rules.specs.Chains.{label_in, Reached, Reaches, is_active, is_redacted, IsRedacted}
 use Rattle.c2_rules.specs.Chains.Reached.{active, below}
 use Rattle.c2_rules.specs.Chains.Reaches.{child, through}
 use Rattle.c2_rules.specs.Readings.{Reading, value_in, redactions_of}
@@ -41,12 +41,14 @@ reached_inactive rs a n (child _ _ c) =
     let within = slice_get_within rs a c.user c.is_user in
     let lt = c.earlier in
     elim (bool_cases (is_active rs n)) [
-      | inl last ↦ let at : n + 1 ≡ length rs = (Decides-eqb (n + 1) (length rs)).0 last in absurd (omega arith)
+      | inl last ↦ let at : n + 1 ≡ length rs =
+          (Decides-eqb (n + 1) (length rs)).0 last in absurd (omega arith)
       | inr other ↦ other
     ]
 reached_inactive rs a n (through _ c _ there rest) = reached_inactive rs c n rest
 
-module _ (law : OneItem) (hash : Alg → List ℕ → List ℕ) (said : Question → Verdict) (rs ss : List Reading) (f : StoreFacts hash said rs)
+module _ (law : OneItem) (hash : Alg → List ℕ → List ℕ) (said : Question → Verdict) (rs ss : List Reading)
+    (f : StoreFacts hash said rs)
     (g : StoreFacts hash said ss) (alike : SeenAlike rs ss) (claims : active_claim rs ≡ active_claim ss) where
   -- the active manifests correspond
   pub root : Correspond rs ss (length rs - 1) (length ss - 1)
@@ -57,30 +59,38 @@ module _ (law : OneItem) (hash : Alg → List ℕ → List ℕ) (said : Question
       let some_second = g.tree.some in
       let end_first : length rs - 1 + 1 ≡ length rs = omega arith in
       let end_second : length ss - 1 + 1 ≡ length ss = omega arith in
-      let active_first : is_active rs (length rs - 1) ≡ true = (Decides-eqb (length rs - 1 + 1) (length rs)).1 end_first in
-      let active_second : is_active ss (length ss - 1) ≡ true = (Decides-eqb (length ss - 1 + 1) (length ss)).1 end_second in
+      let active_first : is_active rs (length rs - 1) ≡ true =
+      (Decides-eqb (length rs - 1 + 1) (length rs)).1 end_first in
+      let active_second : is_active ss (length ss - 1) ≡ true =
+      (Decides-eqb (length ss - 1 + 1) (length ss)).1 end_second in
       record {
         first = a.0;
         first_at = a.1;
         second = b.0;
         second_at = b.1;
-        first_reached = (reached_decides rs f.tree.differ (length rs - 1)).1 (active (length rs - 1) end_first);
-        second_reached = (reached_decides ss g.tree.differ (length ss - 1)).1 (active (length ss - 1) end_second);
+        first_reached =
+            (reached_decides rs f.tree.differ (length rs - 1)).1 (active (length rs - 1) end_first);
+        second_reached =
+            (reached_decides ss g.tree.differ (length ss - 1)).1 (active (length ss - 1) end_second);
         active = active_first ∙ sym active_second;
         label = λ other. never (is_active rs (length rs - 1)) active_first other;
-        claims = sym (ap (option_and_then claim_bytes_of) a.1) ∙ claims ∙ ap (option_and_then claim_bytes_of) b.1;
+        claims = sym (ap (option_and_then claim_bytes_of) a.1) ∙ claims
+            ∙ ap (option_and_then claim_bytes_of) b.1;
       }
 
   -- the active manifest of the first corresponds to one of the second
   root_first : (n : ℕ) → n + 1 ≡ length rs → (m : ℕ) × Correspond rs ss n m
-  root_first n e = let at : length rs - 1 ≡ n = omega arith in (length ss - 1, subst (λ k. Correspond rs ss k (length ss - 1)) at root)
+  root_first n e = let at : length rs - 1 ≡ n =
+      omega arith in (length ss - 1, subst (λ k. Correspond rs ss k (length ss - 1)) at root)
 
   -- and the other way round
   root_second : (m : ℕ) → m + 1 ≡ length ss → (n : ℕ) × Correspond rs ss n m
-  root_second m e = let at : length ss - 1 ≡ m = omega arith in (length rs - 1, subst (λ k. Correspond rs ss (length rs - 1) k) at root)
+  root_second m e = let at : length ss - 1 ≡ m =
+      omega arith in (length rs - 1, subst (λ k. Correspond rs ss (length rs - 1) k) at root)
 
   -- where no pairs of later manifests differ, a reached manifest corresponds to one
-  has_counterpart : (n : ℕ) → Reached rs n → ((k : ℕ) → n < k → k < length rs → find do_differ (leading_at rs ss k) ≡ None)
+  has_counterpart : (n : ℕ) → Reached rs n
+      → ((k : ℕ) → n < k → k < length rs → find do_differ (leading_at rs ss k) ≡ None)
       → (m : ℕ) × Correspond rs ss n m
   has_counterpart n (active _ e) none = root_first n e
   has_counterpart n (below k _ up c) none =
@@ -93,19 +103,23 @@ module _ (law : OneItem) (hash : Alg → List ℕ → List ℕ) (said : Question
   -- the first difference among the pairs that lead on is real evidence
   pub all_leading_real : (p : ListPair) → find do_differ (all_leading rs ss) ≡ Some p → IsReal hash said p
   all_leading_real p found =
-      let x : FoundBelow do_differ (leading_at rs ss) (length rs) p = found_downward do_differ (leading_at rs ss) (length rs) p found in
-      let reached = found_reached (λ place r s. entry_pairs (leading_pairs rs ss r s) r) rs ss x.place p x.found in
+      let x : FoundBelow do_differ (leading_at rs ss) (length rs) p =
+      found_downward do_differ (leading_at rs ss) (length rs) p found in
+      let reached =
+      found_reached (λ place r s. entry_pairs (leading_pairs rs ss r s) r) rs ss x.place p x.found in
       let w = has_counterpart x.place ((reached_decides rs f.tree.differ x.place).0 reached) x.none_later in
       leading_real law hash said rs ss f g alike x.place w.0 w.1 p x.found
 
 -- ---- where none of these pairs differs
 
-module _ (law : OneItem) (hash : Alg → List ℕ → List ℕ) (said : Question → Verdict) (rs ss : List Reading) (f : StoreFacts hash said rs)
+module _ (law : OneItem) (hash : Alg → List ℕ → List ℕ) (said : Question → Verdict) (rs ss : List Reading)
+    (f : StoreFacts hash said rs)
     (g : StoreFacts hash said ss) (alike : SeenAlike rs ss) (claims : active_claim rs ≡ active_claim ss)
     (none : find do_differ (all_leading rs ss) ≡ None) where
   -- none differs at a manifest that corresponds to one
   none_at : (n m : ℕ) → Correspond rs ss n m → find do_differ (leading_at rs ss n) ≡ None
-  none_at n m w = none_downward do_differ (leading_at rs ss) (length rs) none n (slice_get_within rs n w.first w.first_at)
+  none_at n m w =
+      none_downward do_differ (leading_at rs ss) (length rs) none n (slice_get_within rs n w.first w.first_at)
 
   -- each reached manifest of the first store corresponds to one
   pub forth : (n : ℕ) → Reached rs n → (m : ℕ) × Correspond rs ss n m
@@ -124,7 +138,8 @@ module _ (law : OneItem) (hash : Alg → List ℕ → List ℕ) (said : Question
       (r.0, r.1)
 
   -- what a manifest reaches corresponds to what its counterpart reaches
-  reaches_forth : (a n : ℕ) → Reaches rs a n → (b : ℕ) → Correspond rs ss a b → (m : ℕ) × Correspond rs ss n m × Reaches ss b m
+  reaches_forth : (a n : ℕ) → Reaches rs a n → (b : ℕ) → Correspond rs ss a b
+      → (m : ℕ) × Correspond rs ss n m × Reaches ss b m
   reaches_forth a n (child _ _ c) b w =
       let r = step law hash said rs ss f g alike a b w (none_at a b w) n c in
       (r.0, r.1, child b r.0 r.2)
@@ -134,7 +149,8 @@ module _ (law : OneItem) (hash : Alg → List ℕ → List ℕ) (said : Question
       (q.0, q.1, through b r.0 q.0 r.2 q.2)
 
   -- and the other way round
-  reaches_back : (b m : ℕ) → Reaches ss b m → (a : ℕ) → Correspond rs ss a b → (n : ℕ) × Correspond rs ss n m × Reaches rs a n
+  reaches_back : (b m : ℕ) → Reaches ss b m → (a : ℕ) → Correspond rs ss a b
+      → (n : ℕ) × Correspond rs ss n m × Reaches rs a n
   reaches_back b m (child _ _ c) a w =
       let r = step_back law hash said rs ss f g alike a b w (none_at a b w) m c in
       (r.0, r.1, child a r.0 r.2)
@@ -152,7 +168,8 @@ module _ (law : OneItem) (hash : Alg → List ℕ → List ℕ) (said : Question
             let b : k + 1 ≡ length rs = (Decides-eqb (k + 1) (length rs)).0 (v.active ∙ last) in
             omega arith
         | inr other ↦
-            let same : w.second ≡ v.second = one_of (slice_get ss m) w.second v.second w.second_at v.second_at in
+            let same : w.second ≡ v.second =
+            one_of (slice_get ss m) w.second v.second w.second_at v.second_at in
             f.tree.differ n k w.first v.first w.first_at v.first_at
             (w.label (w.active ∙ other) ∙ ap label_in same ∙ sym (v.label (v.active ∙ other)))
       ]
@@ -167,21 +184,26 @@ module _ (law : OneItem) (hash : Alg → List ℕ → List ℕ) (said : Question
             omega arith
         | inr other ↦
             let same : w.first ≡ v.first = one_of (slice_get rs n) w.first v.first w.first_at v.first_at in
-            g.tree.differ m k w.second v.second w.second_at v.second_at (sym (w.label other) ∙ ap label_in same ∙ v.label other)
+            g.tree.differ m k w.second v.second w.second_at v.second_at
+            (sym (w.label other) ∙ ap label_in same ∙ v.label other)
       ]
 
   -- ---- redactions
 
   -- what is redacted in a manifest is redacted in its counterpart
-  redacted_forth : (n m : ℕ) → Correspond rs ss n m → (label : List ℕ) → IsRedacted rs n label → IsRedacted ss m label
+  redacted_forth : (n m : ℕ) → Correspond rs ss n m → (label : List ℕ) → IsRedacted rs n label
+      → IsRedacted ss m label
   redacted_forth n m w label r =
       let v = forth r.place r.reached in
       let x = reaches_forth r.place n r.reaches v.0 v.1 in
       let place : x.0 ≡ m = one_second n x.0 m x.1 w in
       let target : r.target ≡ w.first = one_of (slice_get rs n) r.target w.first r.at_target w.first_at in
-      let name : label_in r.target ≡ label_in w.second = ap label_in target ∙ w.label (reached_inactive rs r.place n r.reaches) in
-      let who : r.redactor ≡ v.1.first = one_of (slice_get rs r.place) r.redactor v.1.first r.at_place v.1.first_at in
-      let claim = ap (λ (z : Reading). z.claim) who ∙ one_claim law hash said rs ss f g alike r.place v.0 v.1 in
+      let name : label_in r.target ≡ label_in w.second =
+      ap label_in target ∙ w.label (reached_inactive rs r.place n r.reaches) in
+      let who : r.redactor ≡ v.1.first =
+      one_of (slice_get rs r.place) r.redactor v.1.first r.at_place v.1.first_at in
+      let claim =
+      ap (λ (z : Reading). z.claim) who ∙ one_claim law hash said rs ss f g alike r.place v.0 v.1 in
       record {
         place = v.0;
         reached = (reached_decides ss g.tree.differ v.0).0 v.1.second_reached;
@@ -196,7 +218,8 @@ module _ (law : OneItem) (hash : Alg → List ℕ → List ℕ) (said : Question
       }
 
   -- and the other way round
-  redacted_back : (n m : ℕ) → Correspond rs ss n m → (label : List ℕ) → IsRedacted ss m label → IsRedacted rs n label
+  redacted_back : (n m : ℕ) → Correspond rs ss n m → (label : List ℕ) → IsRedacted ss m label
+      → IsRedacted rs n label
   redacted_back n m w label r =
       let v = back r.place r.reached in
       let x = reaches_back r.place m r.reaches v.0 v.1 in
@@ -204,8 +227,10 @@ module _ (law : OneItem) (hash : Alg → List ℕ → List ℕ) (said : Question
       let target : r.target ≡ w.second = one_of (slice_get ss m) r.target w.second r.at_target w.second_at in
       let inactive : is_active rs n ≡ false = w.active ∙ reached_inactive ss r.place m r.reaches in
       let name : label_in r.target ≡ label_in w.first = ap label_in target ∙ sym (w.label inactive) in
-      let who : r.redactor ≡ v.1.second = one_of (slice_get ss r.place) r.redactor v.1.second r.at_place v.1.second_at in
-      let claim = ap (λ (z : Reading). z.claim) who ∙ sym (one_claim law hash said rs ss f g alike v.0 r.place v.1) in
+      let who : r.redactor ≡ v.1.second =
+      one_of (slice_get ss r.place) r.redactor v.1.second r.at_place v.1.second_at in
+      let claim =
+      ap (λ (z : Reading). z.claim) who ∙ sym (one_claim law hash said rs ss f g alike v.0 r.place v.1) in
       record {
         place = v.0;
         reached = (reached_decides rs f.tree.differ v.0).0 v.1.first_reached;
@@ -220,15 +245,19 @@ module _ (law : OneItem) (hash : Alg → List ℕ → List ℕ) (said : Question
       }
 
   -- the same labels are redacted in both
-  pub redacted_alike : (n m : ℕ) → Correspond rs ss n m → (label : List ℕ) → is_redacted rs n label ≡ is_redacted ss m label
+  pub redacted_alike : (n m : ℕ) → Correspond rs ss n m → (label : List ℕ)
+      → is_redacted rs n label ≡ is_redacted ss m label
   redacted_alike n m w label =
       elim (bool_cases (is_redacted rs n label)) [
         | inl first ↦
             first
-            ∙ sym ((redacted_decides ss g.tree.differ m label).1 (redacted_forth n m w label ((redacted_decides rs f.tree.differ n label).0 first)))
+            ∙ sym ((redacted_decides ss g.tree.differ m label).1
+            (redacted_forth n m w label ((redacted_decides rs f.tree.differ n label).0 first)))
         | inr neither ↦ elim (bool_cases (is_redacted ss m label)) [
           | inl second ↦
-              let first = (redacted_decides rs f.tree.differ n label).1 (redacted_back n m w label ((redacted_decides ss g.tree.differ m label).0 second)) in
+              let first =
+              (redacted_decides rs f.tree.differ n label).1
+              (redacted_back n m w label ((redacted_decides ss g.tree.differ m label).0 second)) in
               never (is_redacted rs n label) first neither
           | inr other ↦ neither ∙ sym other
         ]

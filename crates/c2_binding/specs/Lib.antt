@@ -5,5 +5,6 @@ pub mod Evidence
 pub mod Differences
 pub mod Accepted
 pub mod Correspondence
+pub mod Deciding
 pub mod EvidenceText
 pub mod Comparison

@@ -4,18 +4,21 @@
 //! other. A step from manifests that correspond to their children keeps equal claim bytes, or two different
 //! lists have one digest, or two different claims one signature. So all reached manifests correspond, and
 //! with them redactions, assertions, exclusions and covered texts.
-ghost use Rattle.std.specs.Prelude.{◌≡◌, ◌⊎◌, ◌-◌, ℕ, List, Some, None, find, length};
+ghost use Rattle.std.specs.Prelude.{◌≡◌, ◌↔◌, ◌⊎◌, ◌-◌, ℕ, true, List, Some, None, find, length};
 ghost use Rattle.c2_base.specs.declared.values.Question.{Question};
 ghost use Rattle.c2_spec.specs.declared.digest.Alg.{Alg};
 ghost use Rattle.c2_spec.specs.declared.panel.Verdict.{Verdict};
 ghost use Rattle.c2_rules.specs.Chains.{IsChild, Reached, is_redacted};
 ghost use Rattle.c2_rules.specs.CheckList.{StoreReading};
 ghost use Rattle.c2_rules.specs.Validated.{IsAnswer};
+ghost use Rattle.c2_rules.specs.declared.answer.Answer.{Answer as AnyAnswer};
 ghost use Rattle.c2_rules.specs.declared.answer.Answer.TheVariants as answer;
 ghost use Rattle.c2_rules.specs.declared.answer.Summary.{Summary as Counted};
 ghost use Rattle.c2_binding.specs.Accepted.{IsAccepted, HaveOneClaim, AreSame, summary_in};
+ghost use Rattle.c2_binding.specs.ChainContent.{SameContent};
 ghost use Rattle.c2_binding.specs.Comparison.{IsOpenedOnce, IsComparison};
 ghost use Rattle.c2_binding.specs.Correspondence.{Correspond};
+ghost use Rattle.c2_binding.specs.Deciding.{has_same_content};
 ghost use Rattle.c2_binding.specs.Differences.{leading_at, all_leading, first_difference};
 ghost use Rattle.c2_binding.specs.Evidence.{ListPair, do_differ, IsReal};
 ghost use Rattle.c2_binding.specs.declared.compared.Compared.{Compared as AnyCompared};
@@ -118,6 +121,26 @@ pub fn accepted_is_valid()
         (s : StoreReading) → (h : IsAccepted hash said file s)
         → IsAnswer hash said file (answer.Valid (summary_in file s h.opened)) }
 {}
+
+/// For the stores of accepted files a test decides whether their chain contents are equal.
+pub fn a_test_decides_content()
+    ensures { (hash : Alg → List ℕ → List ℕ) (said : Question → Verdict)
+        (first second : List ℕ) (s t : StoreReading) → IsAccepted hash said first s
+        → IsAccepted hash said second t
+        → (has_same_content s.readings t.readings ≡ true) ↔ SameContent s.readings t.readings }
+{}
+
+/// Two files whose checks answer come to an answer.
+pub fn each_comparison()
+    ensures { (hash : Alg → List ℕ → List ℕ) (said : Question → Verdict)
+        (first second : List ℕ) (a b : AnyAnswer) → IsAnswer hash said first a
+        → IsAnswer hash said second b
+        → (what : AnyCompared) × (text : List ℕ)
+        × IsComparison hash said first second what text }
+{
+    // Only the prover needs this law.
+    one_item();
+}
 
 /// Two files that are opened as one thing at most come to one answer and one text.
 pub fn one_comparison()

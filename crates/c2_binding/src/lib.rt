@@ -10,6 +10,6 @@ mod laws;
 pub use compared::{Compared, EvidenceKind, Side};
 pub use laws::{
     a_difference_is_found, a_first_difference_is_real, a_step_keeps_equal_claims,
-    accepted_is_valid, each_reached_manifest_corresponds, one_claim_binds_or_there_is_evidence,
-    one_comparison,
+    a_test_decides_content, accepted_is_valid, each_comparison, each_reached_manifest_corresponds,
+    one_claim_binds_or_there_is_evidence, one_comparison,
 };
