@@ -1,5 +1,7 @@
 -- Worked pairs of stores: the first difference of each, that it is real, and its text.
-use Rattle.std.proofs.Common.{◌≡◌, ℕ, ◌+◌, Bool, true, false, List, [], ◌∷◌, ◌++◌, map, Option, Some, None, Ok, codes, refl}
+use Rattle.std.proofs.Common.{◌≡◌, ℕ, ◌+◌, Bool, true, false, List, [], ◌∷◌, ◌++◌, map, bytes_eq, Option, Some, None, Ok, codes, refl}
+use Rattle.std.proofs.lemmas.Bool.Decides.{not_from_Decides}
+use Rattle.std.proofs.lemmas.Slice.Eq.{bytes_eq-Decides}
 use Rattle.c2_base.specs.declared.values.Question.{Question}
 use Rattle.c2_spec.specs.C2pa.Manifest.{Superbox}
 use Rattle.c2_spec.specs.Cbor.Item.{dict, no_pairs}
@@ -9,9 +11,11 @@ use Rattle.c2_spec.specs.declared.digest.Alg.{Alg}
 use Rattle.c2_spec.specs.declared.digest.Alg.TheVariants.{Sha256}
 use Rattle.c2_spec.specs.declared.panel.Verdict.{Verdict}
 use Rattle.c2_spec.specs.declared.panel.Verdict.TheVariants.{Approved}
-use Rattle.c2_rules.specs.CheckList.{StoreReading}
+use Rattle.c2_rules.specs.CheckList.{StoreReading, check_list}
 use Rattle.c2_rules.specs.Readings.{ReadBox, Reading}
 use Rattle.c2_rules.specs.Rules.{label_kind}
+use Rattle.c2_rules.specs.Tests.{first_failing}
+use Rattle.c2_rules.specs.declared.answer.Failing.{Failing}
 use Rattle.c2_rules.specs.declared.parsed.Parsed.TheVariants.{NoItem, Value}
 use Rattle.c2_binding.specs.ChainContent.{active_claim}
 use Rattle.c2_binding.specs.Differences.{first_difference}
@@ -325,3 +329,44 @@ approve q = Approved
 -- under that hash the pair of the pictures is real
 picture_real : IsReal weak approve picture_pair
 picture_real = record { alg = Sha256; known = refl; differ = λ e. cc (e); same_digest = refl }
+
+-- ---- such stores are accepted
+
+-- a hash that gives one digest of all lists, as all references of these stores have it
+abbrev one_digest : Alg → List ℕ → List ℕ
+one_digest alg list = []
+
+-- the first condition that fails of a store
+abbrev failing : StoreReading → Option Failing
+failing s = first_failing (check_list one_digest approve s)
+
+-- the file holds
+file_holds : failing file ≡ None
+unfolding label_kind
+file_holds = refl
+
+-- so does the one with another note
+other_note_holds : failing other_note ≡ None
+unfolding label_kind
+other_note_holds = refl
+
+-- and the pair of their notes is real under that hash
+note_real : IsReal one_digest approve note_pair
+note_real = record {
+  alg = Sha256;
+  known = refl;
+  differ = not_from_Decides (bytes_eq note_pair.left note_pair.right)
+      (bytes_eq-Decides note_pair.left note_pair.right) refl;
+  same_digest = refl;
+}
+
+-- the two whose claims differ under one signature hold
+redacting_holds : (failing (redacting (codes "c") (codes "s")) ≡ None) × (failing
+    (redacting (codes "d") (codes "s")) ≡ None)
+unfolding label_kind
+redacting_holds = (refl, refl)
+
+-- their active claims are equal
+redacting_claims : active_claim (redacting (codes "c") (codes "s")).readings ≡ active_claim
+    (redacting (codes "d") (codes "s")).readings
+redacting_claims = refl

@@ -244,14 +244,24 @@ module _ (law : OneItem) (hash : Alg → List ℕ → List ℕ) (said : Question
   -- ---- the step, both ways
 
   -- what a link names in the first store is the manifest with this label
-  landed : (n m : ℕ) (w : Correspond rs ss n m) (label : List ℕ) (l : Linked n m w label) (name : List ℕ)
-      → named_by (Some l.ingredient) ≡ Some name
-      → (j : ℕ) (child : Reading) → slice_get rs j ≡ Some child → label_in child ≡ name
+  landed : (n m : ℕ) (w : Correspond rs ss n m) (label : List ℕ) (l : Linked n m w label) (b : ReadBox)
+      → box_with w.first label ≡ Some b → (own : Ingredient) → value_in b.ingredient ≡ Some own
+      → (name : List ℕ) → named_by (Some own) ≡ Some name → (j : ℕ) (child : Reading)
+      → slice_get rs j ≡ Some child → label_in child ≡ name
       → (i : ℕ) × Correspond rs ss j i × IsChild ss m i
-  landed n m w label l name names j child at is = by (l.named name names)
+  landed n m w label l b found own reads name names j child at is =
+      by (l.named name (ap (λ z. named_by (Some z)) same ∙ names))
     where
-      by : (c : Targets law hash said rs ss f g alike n m w l.ingredient name) × Correspond rs ss
-          c.first.place c.second.place
+      box : l.left ≡ b
+      box = one_of (box_with w.first label) l.left b l.left_found found
+
+      same : l.ingredient ≡ own
+      same =
+          one_of (value_in b.ingredient) l.ingredient own
+          (sym (ap (λ (x : ReadBox). value_in x.ingredient) box) ∙ l.left_is) reads
+
+      by : (c : Targets law hash said rs ss f g alike n m w l.ingredient name)
+          × Correspond rs ss c.first.place c.second.place
           → (i : ℕ) × Correspond rs ss j i × IsChild ss m i
       by r =
           let place : r.0.first.place ≡ j =
@@ -260,14 +270,24 @@ module _ (law : OneItem) (hash : Alg → List ℕ → List ℕ) (said : Question
           (r.0.second.place, subst (λ k. Correspond rs ss k r.0.second.place) place r.1, r.0.second_child)
 
   -- and in the second
-  landed_back : (n m : ℕ) (w : Correspond rs ss n m) (label : List ℕ) (l : Linked n m w label) (name : List ℕ)
-      → named_by (Some l.ingredient) ≡ Some name
-      → (i : ℕ) (child : Reading) → slice_get ss i ≡ Some child → label_in child ≡ name
+  landed_back : (n m : ℕ) (w : Correspond rs ss n m) (label : List ℕ) (l : Linked n m w label) (b : ReadBox)
+      → box_with w.second label ≡ Some b → (own : Ingredient) → value_in b.ingredient ≡ Some own
+      → (name : List ℕ) → named_by (Some own) ≡ Some name → (i : ℕ) (child : Reading)
+      → slice_get ss i ≡ Some child → label_in child ≡ name
       → (j : ℕ) × Correspond rs ss j i × IsChild rs n j
-  landed_back n m w label l name names i child at is = by (l.named name names)
+  landed_back n m w label l b found own reads name names i child at is =
+      by (l.named name (ap (λ z. named_by (Some z)) same ∙ names))
     where
-      by : (c : Targets law hash said rs ss f g alike n m w l.ingredient name) × Correspond rs ss
-          c.first.place c.second.place
+      box : l.right ≡ b
+      box = one_of (box_with w.second label) l.right b l.right_found found
+
+      same : l.ingredient ≡ own
+      same =
+          one_of (value_in b.ingredient) l.ingredient own
+          (sym (ap (λ (x : ReadBox). value_in x.ingredient) box) ∙ l.right_is) reads
+
+      by : (c : Targets law hash said rs ss f g alike n m w l.ingredient name)
+          × Correspond rs ss c.first.place c.second.place
           → (j : ℕ) × Correspond rs ss j i × IsChild rs n j
       by r =
           let place : r.0.second.place ≡ i =
@@ -286,12 +306,7 @@ module _ (law : OneItem) (hash : Alg → List ℕ → List ℕ) (said : Question
       let by = names_by c.box (label_in c.child) c.names in
       let x = entered hash said rs f n w.first w.first_at w.first_reached c.box by.0 listed by.1 in
       let l = leading_same n m w none x.entry x.label x.lists x.is_label x.kind in
-      let box : l.left ≡ c.box = one_of (box_with w.first x.label) l.left c.box l.left_found x.found in
-      let same : l.ingredient ≡ by.0 =
-      one_of (value_in c.box.ingredient) l.ingredient by.0
-      (sym (ap (λ (b : ReadBox). value_in b.ingredient) box) ∙ l.left_is) by.1 in
-      landed n m w x.label l (label_in c.child) (ap (λ z. named_by (Some z)) same ∙ by.2) j c.child c.is_child
-      refl
+      landed n m w x.label l c.box x.found by.0 by.1 (label_in c.child) by.2 j c.child c.is_child refl
 
   -- from its counterpart in the second to a child
   pub step_back : (n m : ℕ) → Correspond rs ss n m → find do_differ (leading_at rs ss n) ≡ None → (i : ℕ)
@@ -307,9 +322,4 @@ module _ (law : OneItem) (hash : Alg → List ℕ → List ℕ) (said : Question
       one_entry w.second w.first x.entry (sym (one_claim law hash said rs ss f g alike n m w)) x.lists in
       let l = leading_same n m w none x.entry x.label first
       (label_first law hash said rs ss f g alike n m w x.entry x.label x.lists x.is_label) x.kind in
-      let box : l.right ≡ c.box = one_of (box_with w.second x.label) l.right c.box l.right_found x.found in
-      let same : l.ingredient ≡ by.0 =
-      one_of (value_in c.box.ingredient) l.ingredient by.0
-      (sym (ap (λ (b : ReadBox). value_in b.ingredient) box) ∙ l.right_is) by.1 in
-      landed_back n m w x.label l (label_in c.child) (ap (λ z. named_by (Some z)) same ∙ by.2) i c.child
-      c.is_child refl
+      landed_back n m w x.label l c.box x.found by.0 by.1 (label_in c.child) by.2 i c.child c.is_child refl
