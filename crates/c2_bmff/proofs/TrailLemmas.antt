@@ -1,16 +1,16 @@
 -- What exclusions exclude through siblings, a box at a time.
-use Rattle.std.proofs.Common.{◌≡◌, ⊎_elim, ℕ, ◌+◌, ◌<◌, ◌≤◌, Bool, true, false, cond, ◌||◌, ltb, List, [], ◌∷◌, ◌++◌, length, get_or, take, drop, Option, Some, None, refl, sym, ap, ap₂, ◌∙◌, arith, append-nil}
+use Rattle.std.proofs.Common.{◌≡◌, ⊎_elim, ℕ, ◌+◌, ◌-◌, ◌<◌, ◌≤◌, Bool, true, false, cond, ◌||◌, ltb, List, [], ◌∷◌, ◌++◌, length, get_or, take, drop, Option, Some, None, refl, sym, ap, ap₂, ◌∙◌, arith, append-nil}
 use Rattle.std.specs.Prelude.{bytes_eq}
 use Rattle.std.specs.List.{flat_map, list_any, slice_get}
-use Rattle.std.proofs.lemmas.Bool.{cases_lt, le-ltb, lt-ltb}
+use Rattle.std.proofs.lemmas.Bool.{and_parts, cases_lt, le-ltb, lt-ltb}
 use Rattle.std.proofs.lemmas.Grind.{flat_map-append}
-use Rattle.std.proofs.lemmas.List.{drop_all, drop_more, length-drop}
+use Rattle.std.proofs.lemmas.List.{drop_all, drop_more, length-drop, take-append-drop}
 use Rattle.std.proofs.lemmas.List.Folds.{list_any-append}
 use Rattle.std.proofs.lemmas.Option.{slice_get_within, slice_get-get_or, get_or_from_slice_get}
-use Rattle.c2_spec.specs.Bmff.Hash.{Exclusion}
+use Rattle.c2_spec.specs.Bmff.Hash.{Exclusion, in_subset}
 use Rattle.c2_spec.specs.Bmff.Paths.{PathStep, is_entered, nth_of}
 use Rattle.c2_bmff.specs.Children.{go_on, kids, on_rows}
-use Rattle.c2_bmff.specs.Marks.{excludes_row, marks}
+use Rattle.c2_bmff.specs.Marks.{excludes_row, in_row, in_row_subset, marks, takes}
 use Rattle.c2_bmff.specs.Trails.{ahead, arrives, from_step, has_step, no_exclusion, of_entry, of_kind, of_option, picks, rows_ahead, through}
 use Rattle.c2_bmff.specs.declared.root_boxes.RootBox.{RootBox}
 use Rattle.c2_bmff.specs.declared.walking.Coming.{Coming}
@@ -222,3 +222,30 @@ pub rest_same : (k : ℕ) (xs ys : List Trail) (d : Trail) → k < length xs →
 rest_same k xs ys d a b h =
     let e : get_or xs k d ∷ drop (k + 1) xs ≡ get_or ys k d ∷ drop (k + 1) ys = sym (drop_more xs k d a) ∙ h ∙ drop_more ys k d b in
     (ap (λ (zs : List Trail). get_or zs 0 d) e, ap (drop 1) e)
+
+-- what an exclusion excludes through a box lies in the box
+through_inside : (file : List ℕ) (es : List Exclusion) (i : ℕ) (r : RootBox) (k : ℕ) → through file es i r k ≡ true → in_row i r ≡ true
+through_inside file es i r k h = go (slice_get es k) h
+  where
+    go : (o : Option Exclusion) → of_option o (λ (e : Exclusion). marks file e i r) ≡ true → in_row i r ≡ true
+    go None n = absurd (cc (n))
+    go (Some e) n = let both = and_parts (takes file e r) (in_row_subset i r e.subset) n in (and_parts (in_row i r) (in_subset (i - r.start) e.subset) both.1).0
+
+-- so does what some of them do
+any_inside : (file : List ℕ) (es : List Exclusion) (i : ℕ) (r : RootBox) (ks : List ℕ) → list_any (through file es i r) ks ≡ true → in_row i r ≡ true
+any_inside file es i r [] h = absurd (cc (h))
+any_inside file es i r (k ∷ ks) h = go (through file es i r k) refl h (λ n. any_inside file es i r ks n)
+  where
+    go : (b : Bool) → through file es i r k ≡ b → (b || list_any (through file es i r) ks) ≡ true → (list_any (through file es i r) ks ≡ true → in_row i r ≡ true) → in_row i r ≡ true
+    go true e n others = through_inside file es i r k e
+    go false e n others = others n
+
+-- where a box is excluded whole after some exclusions, the others change nothing
+pub whole_same : (file : List ℕ) (es : List Exclusion) (i : ℕ) (r : RootBox) (ks : List ℕ) (n : ℕ) (now old : Bool) → (in_row i r ≡ true → now ≡ true) → now ≡ (old || list_any (through file es i r) (take n ks)) → now ≡ (old || list_any (through file es i r) ks)
+whole_same file es i r ks n now old whole so_far =
+    so_far ∙ by (list_any (through file es i r) (drop n ks)) refl (old || list_any (through file es i r) (take n ks)) (sym so_far) ∙ or_join3 old (list_any (through file es i r) (take n ks)) (list_any (through file es i r) (drop n ks))
+    ∙ ap (λ (b : Bool). old || b) (sym (list_any-append (through file es i r) (take n ks) (drop n ks)) ∙ ap (list_any (through file es i r)) (take-append-drop n ks))
+  where
+    by : (rest : Bool) → list_any (through file es i r) (drop n ks) ≡ rest → (b : Bool) → b ≡ now → b ≡ (b || rest)
+    by false e b h = sym (or_false' b)
+    by true e b h = let yes : b ≡ true = h ∙ whole (any_inside file es i r (drop n ks) e) in yes ∙ sym (ap (λ (x : Bool). x || true) yes)

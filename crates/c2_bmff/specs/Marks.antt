@@ -1,5 +1,5 @@
 -- For private clauses: the positions that an exclusion excludes through the boxes of these rows.
-use Rattle.std.specs.Prelude.{ℕ, ◌+◌, ◌-◌, ◌≤◌, Bool, true, ◌&&◌, ◌==◌, nat_le, nat_lt, List, length, take, drop, Option, Some, None}
+use Rattle.std.specs.Prelude.{◌≡◌, ℕ, ◌+◌, ◌-◌, ◌≤◌, Bool, true, ◌&&◌, ◌==◌, nat_le, nat_lt, List, length, take, drop, Option, Some, None}
 use Rattle.std.specs.List.{list_any, list_all}
 use Rattle.std.specs.Str.{bytes_eq}
 use Rattle.c2_base.specs.declared.values.Range.{Range}
@@ -10,6 +10,10 @@ use Rattle.c2_bmff.specs.declared.root_boxes.RootBox.{RootBox}
 -- these bytes stand at a place of the file
 abbrev pub stands_at : List ℕ → ℕ → List ℕ → Bool
 stands_at file at value = bytes_eq (take (length value) (drop at file)) value
+
+-- these are first bytes of the box of this row
+abbrev pub IsFront : List ℕ → RootBox → List ℕ → Type 0
+IsFront file r front = front ≡ take (length front) (drop r.start file)
 
 -- a byte test holds of the box of this row
 abbrev pub holds_test : List ℕ → RootBox → ByteTest → Bool

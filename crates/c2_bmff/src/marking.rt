@@ -1,5 +1,5 @@
 // The positions that an exclusion excludes.
-ghost use Rattle.std.specs.Prelude.{◌≡◌, ◌||◌, ◌&&◌, ◌+◌, ◌-◌, ◌<◌, ◌≤◌, ◌^◌, ℕ, map, All, OnOk, IfOk, IfErr, length, take, bytes_eq};
+ghost use Rattle.std.specs.Prelude.{◌≡◌, true, ◌||◌, ◌&&◌, ◌+◌, ◌-◌, ◌<◌, ◌≤◌, ◌^◌, ℕ, map, All, OnOk, IfOk, IfErr, IfSome, length, take, drop, bytes_eq};
 ghost use Rattle.std.specs.List.{list_all, list_any};
 ghost use Rattle.std.specs.Option.{ForSome};
 ghost use Rattle.c2_base.specs.Causes.{HasCause};
@@ -8,7 +8,7 @@ ghost use Rattle.c2_spec.specs.Cover.{holds, is_excluded};
 ghost use Rattle.c2_bmff.specs.Causes.{IsCaused, OrOutside};
 ghost use Rattle.c2_bmff.specs.Children.{IsRowWithin};
 ghost use Rattle.c2_bmff.specs.Exclusions.{byte_test};
-ghost use Rattle.c2_bmff.specs.Marks.{IsRangeWithin, has_length, holds_test, in_row_part, in_row_subset, marks, stands_at, takes};
+ghost use Rattle.c2_bmff.specs.Marks.{IsFront, IsRangeWithin, has_length, holds_test, in_row, in_row_part, in_row_subset, marks, stands_at, takes};
 
 use crate::exclusion::Exclusion;
 use crate::root_boxes::{RootBox, fill_first};
@@ -47,9 +47,31 @@ fn stands<S: Source>(source: &mut S, pos: u64, value: &[u8]) -> Result<bool, Fai
     Ok(true)
 }
 
-// Whether a byte test holds of the box of this row.
-fn meets<S: Source>(source: &mut S, row: RootBox, test: &(u64, Blob)) -> Result<bool, Failed>
+// Whether these bytes stand at an offset in the first bytes of a box; None where those end before.
+fn stands_in(front: &[u8], offset: u64, value: &[u8]) -> Option<bool>
+    ensures inside { IfSome result (λ b. offset + length value.now ≤ length front.now) }
+    ensures same { IfSome result
+        (λ b. b ≡ bytes_eq (take (length value.now) (drop offset front.now)) value.now) }
+{
+    if offset > 64 {
+        return None;
+    }
+    let at = offset as usize;
+    if at > front.len() || value.len() > front.len() - at {
+        return None;
+    }
+    Some(&front[at..at + value.len()] == value)
+}
+
+// Whether a byte test holds of the box of this row, which begins with `front`.
+fn meets<S: Source>(
+    source: &mut S,
+    row: RootBox,
+    front: &[u8],
+    test: &(u64, Blob),
+) -> Result<bool, Failed>
     requires inside { IsRowWithin (S.len source.old) row }
+    requires front { ForSome (S.known source.old) (λ file. IsFront file row front.now) }
     ensures meets { IfOk result
         (λ b. ForSome (S.known source.old) (λ file. b ≡ holds_test file row (byte_test test.now))) }
     ensures stays { StaysSource S.len S.known S.faults source.old source.new }
@@ -60,19 +82,28 @@ fn meets<S: Source>(source: &mut S, row: RootBox, test: &(u64, Blob)) -> Result<
     if offset > row.length || value.len() as u64 > row.length - offset {
         return Ok(false);
     }
+    if let Some(same) = stands_in(front, offset, value) {
+        return Ok(same);
+    }
     stands(source, row.start + offset, value)
 }
 
 // Whether all byte tests hold of the box of this row.
-fn meets_all<S: Source>(source: &mut S, row: RootBox, tests: &[(u64, Blob)]) -> Result<bool, Failed>
+fn meets_all<S: Source>(
+    source: &mut S,
+    row: RootBox,
+    front: &[u8],
+    tests: &[(u64, Blob)],
+) -> Result<bool, Failed>
     requires inside { IsRowWithin (S.len source.old) row }
+    requires front { ForSome (S.known source.old) (λ file. IsFront file row front.now) }
     ensures meets { IfOk result (λ b. ForSome (S.known source.old) (λ file.
         b ≡ list_all (holds_test file row) (map byte_test tests.now))) }
     ensures stays { StaysSource S.len S.known S.faults source.old source.new }
     ensures cause { HasCause (S.faults source.old) (S.faults source.new) result }
 {
     for test in tests {
-        if !meets(source, row, test)? {
+        if !meets(source, row, front, test)? {
             return Ok(false);
         }
     }
@@ -90,8 +121,14 @@ fn is_sized(length: Option<u64>, row: RootBox) -> bool
 }
 
 // Whether the exclusion takes the box of this row.
-fn takes_row<S: Source>(source: &mut S, entry: &Exclusion, row: RootBox) -> Result<bool, Failed>
+fn takes_row<S: Source>(
+    source: &mut S,
+    entry: &Exclusion,
+    row: RootBox,
+    front: &[u8],
+) -> Result<bool, Failed>
     requires inside { IsRowWithin (S.len source.old) row }
+    requires front { ForSome (S.known source.old) (λ file. IsFront file row front.now) }
     ensures takes { IfOk result
         (λ b. ForSome (S.known source.old) (λ file. b ≡ takes file entry.now row)) }
     ensures stays { StaysSource S.len S.known S.faults source.old source.new }
@@ -100,7 +137,7 @@ fn takes_row<S: Source>(source: &mut S, entry: &Exclusion, row: RootBox) -> Resu
     if !is_sized(entry.length, row) {
         return Ok(false);
     }
-    meets_all(source, row, entry.tests.as_slice())
+    meets_all(source, row, front, entry.tests.as_slice())
 }
 
 // Adds a range, to the last of the others where it begins in that or at its end.
@@ -156,6 +193,26 @@ fn part_in(row: RootBox, part: Range) -> Range
     }
 }
 
+/// Whether the last of these ranges holds the box of this row whole.
+pub(crate) fn is_whole(ranges: &[Range], row: RootBox) -> bool
+    ensures { result ≡ true → (i : ℕ) → in_row i row ≡ true → is_excluded ranges.now i ≡ true }
+{
+    if ranges.is_empty() {
+        return false;
+    }
+    let last = ranges[ranges.len() - 1];
+    holds_row(last, row)
+}
+
+// Whether a range holds the box of this row whole.
+fn holds_row(range: Range, row: RootBox) -> bool
+    ensures { result ≡ true → (i : ℕ) → in_row i row ≡ true → holds i range ≡ true }
+{
+    range.start <= row.start
+        && row.length <= range.length
+        && row.start - range.start <= range.length - row.length
+}
+
 // Adds these parts of the box of this row.
 fn add_parts(ranges: &mut Vec<Range>, row: RootBox, parts: &[Range]) -> Result<(), NoMemory>
     requires fits { row.start + row.length < 2 ^ 64 }
@@ -198,14 +255,16 @@ fn add_subset(
     Ok(())
 }
 
-/// Adds the positions that the exclusion excludes through the box of this row.
+/// Adds the positions that the exclusion excludes through the box of this row, which begins with `front`.
 pub(crate) fn mark_row<S: Source>(
     source: &mut S,
     entry: &Exclusion,
     row: RootBox,
+    front: &[u8],
     ranges: &mut Vec<Range>,
 ) -> Result<(), MediaError>
     requires inside { IsRowWithin (S.len source.old) row }
+    requires front { ForSome (S.known source.old) (λ file. IsFront file row front.now) }
     requires within { All (IsRangeWithin (S.len source.old)) ranges.old.items }
     ensures same { OnOk result (ForSome (S.known source.old) (λ file.
         (i : ℕ) → is_excluded ranges.new.items i
@@ -216,7 +275,7 @@ pub(crate) fn mark_row<S: Source>(
     ensures cause { IfErr result (IsCaused (S.faults source.old) (S.faults source.new)) }
     ensures outside { IfErr result (λ e. OrOutside e ⊥) }
 {
-    if !takes_row(source, entry, row)? {
+    if !takes_row(source, entry, row, front)? {
         return Ok(());
     }
     add_subset(ranges, row, &entry.subset)?;

@@ -8,15 +8,15 @@ ghost use Rattle.c2_spec.specs.Bmff.Paths.{nth_of};
 ghost use Rattle.c2_spec.specs.Cover.{is_excluded};
 ghost use Rattle.c2_bmff.specs.Causes.{IsCaused, OrOutside};
 ghost use Rattle.c2_bmff.specs.Children.{IsRowWithin, kids};
-ghost use Rattle.c2_bmff.specs.Marks.{IsRangeWithin, excludes_row};
+ghost use Rattle.c2_bmff.specs.Marks.{IsFront, IsRangeWithin, excludes_row};
 ghost use Rattle.c2_bmff.specs.Trails.{IsLevelWithin, ahead, arrives, found, from_step, has_step, level_ahead, level_left, levels_left, no_exclusion, picks, through};
 ghost use Rattle.c2_bmff.specs.declared.root_boxes.RootBox.{RootBox};
 
 use crate::children::children;
 use crate::exclusion::Exclusion;
-use crate::marking::mark_row;
+use crate::marking::{is_whole, mark_row};
 use crate::paths::{Segment, enters};
-use crate::root_boxes::RootBox;
+use crate::root_boxes::{RootBox, fill_first};
 use c2_base::{MediaError, NoMemory, Range, Source};
 use std::alloc::Global;
 
@@ -166,7 +166,19 @@ fn pass_all(
     Ok(())
 }
 
-// Adds the positions that these exclusions exclude through the box of this row.
+// Whether one of these exclusions has a byte test.
+fn has_tests(entries: &[Exclusion], here: &[usize]) -> bool {
+    for k in here {
+        if let Some(entry) = entries.get(*k) {
+            if !entry.tests.as_slice().is_empty() {
+                return true;
+            }
+        }
+    }
+    false
+}
+
+// Adds the positions that these exclusions exclude through the box of this row. Byte tests read its first 64 bytes once.
 fn mark_here<S: Source>(
     source: &mut S,
     entries: &[Exclusion],
@@ -185,8 +197,44 @@ fn mark_here<S: Source>(
     ensures cause { IfErr result (IsCaused (S.faults source.old) (S.faults source.new)) }
     ensures outside { IfErr result (λ e. OrOutside e ⊥) }
 {
+    let mut bytes = [0; 64];
+    let mut count = 0;
+    if has_tests(entries, here) {
+        count = row.length.min(64) as usize;
+    }
+    fill_first(source, row.start, &mut bytes, count)?;
+    match mark_each(source, entries, here, row, &bytes[..count], ranges) {
+        Ok(()) => Ok(()),
+        Err(error) => Err(error),
+    }
+}
+
+// The same, where the box begins with `front`.
+fn mark_each<S: Source>(
+    source: &mut S,
+    entries: &[Exclusion],
+    here: &[usize],
+    row: RootBox,
+    front: &[u8],
+    ranges: &mut Vec<Range>,
+) -> Result<(), MediaError>
+    requires inside { IsRowWithin (S.len source.old) row }
+    requires front { ForSome (S.known source.old) (λ file. IsFront file row front.now) }
+    requires within { All (IsRangeWithin (S.len source.old)) ranges.old.items }
+    ensures same { OnOk result (ForSome (S.known source.old) (λ file.
+        (i : ℕ) → is_excluded ranges.new.items i
+        ≡ (is_excluded ranges.old.items i || list_any (through file entries.now i row) here.now))) }
+    ensures within { OnOk result (All (IsRangeWithin (S.len source.old)) ranges.new.items) }
+    ensures stays { StaysSource S.len S.known S.faults source.old source.new }
+    ensures count { OnOk result (S.faults source.new ≡ S.faults source.old) }
+    ensures cause { IfErr result (IsCaused (S.faults source.old) (S.faults source.new)) }
+    ensures outside { IfErr result (λ e. OrOutside e ⊥) }
+{
     for k in here {
-        match mark_entry(source, entries, *k, row, ranges) {
+        if is_whole(ranges, row) {
+            return Ok(());
+        }
+        match mark_entry(source, entries, *k, row, front, ranges) {
             Ok(()) => {}
             Err(error) => return Err(error),
         }
@@ -200,9 +248,11 @@ fn mark_entry<S: Source>(
     entries: &[Exclusion],
     k: usize,
     row: RootBox,
+    front: &[u8],
     ranges: &mut Vec<Range>,
 ) -> Result<(), MediaError>
     requires inside { IsRowWithin (S.len source.old) row }
+    requires front { ForSome (S.known source.old) (λ file. IsFront file row front.now) }
     requires within { All (IsRangeWithin (S.len source.old)) ranges.old.items }
     ensures same { OnOk result (ForSome (S.known source.old) (λ file.
         (i : ℕ) → is_excluded ranges.new.items i
@@ -216,7 +266,7 @@ fn mark_entry<S: Source>(
     if k >= entries.len() {
         return Ok(());
     }
-    match mark_row(source, &entries[k], row, ranges) {
+    match mark_row(source, &entries[k], row, front, ranges) {
         Ok(()) => Ok(()),
         Err(error) => Err(error),
     }

@@ -3,10 +3,12 @@ use Rattle.std.specs.Prelude.{All}
 use Rattle.std.specs.List.{list_any}
 use Rattle.std.proofs.lemmas.List.{take_all}
 use Rattle.c2_spec.specs.Cover.{is_excluded}
+use Rattle.c2_base.specs.declared.values.Range.{Range}
 use Rattle.c2_bmff.specs.Marks.{IsRangeWithin}
 use Rattle.c2_bmff.specs.Trails.{through}
 use Rattle.c2_bmff.proofs.MarkLemmas.{any_more}
-use Rattle.c2_bmff.proofs.walking.mark_here.Goals as goal
+use Rattle.c2_bmff.proofs.TrailLemmas.{whole_same}
+use Rattle.c2_bmff.proofs.walking.mark_each.Goals as goal
 
 -- with one exclusion more, the ranges hold also what it excludes
 pub loop-k-preserved : goal.loop-k-preserved
@@ -27,3 +29,8 @@ loop-k-preserved g c =
 pub returns-clause-same : goal.returns-clause-same
 returns-clause-same g c file known i =
     c.loop-k.invariant.same file known i ∙ ap (λ (ks : List ℕ). is_excluded c.args.ranges.now.items i || list_any (through file c.args.entries.now i c.args.row) ks) (take_all c.loop-k.k-index c.args.here.now c.loop-k-test.false)
+
+-- where the ranges hold the box whole, the other exclusions add nothing
+pub returns-then-is_whole-clause-same : goal.returns-then-is_whole-clause-same
+returns-then-is_whole-clause-same g c file known i =
+    whole_same file c.args.entries.now i c.args.row c.args.here.now c.loop-k.k-index (is_excluded c.loop-k.ranges.items i) (is_excluded c.args.ranges.now.items i) (λ inside. ap (λ (rs : List Range). is_excluded rs i) (sym c.deref.ensures.value) ∙ c.is_whole.ensures c.if-is_whole.true i inside) (c.loop-k.invariant.same file known i)

@@ -6,7 +6,7 @@ use Rattle.c2_base.specs.Source.{StaysSource}
 use Rattle.c2_spec.specs.Cover.{is_excluded}
 use Rattle.c2_bmff.specs.Marks.{IsRangeWithin}
 use Rattle.c2_bmff.specs.Trails.{through}
-use Rattle.c2_bmff.proofs.walking.mark_here.Given as goal
+use Rattle.c2_bmff.proofs.walking.mark_each.Given as goal
 
 -- the ranges hold what they held and what the exclusions so far exclude, and lie inside the source
 abbrev pub invariant-loop-k : goal.invariant-loop-k
