@@ -1,5 +1,5 @@
 -- Two files whose checks answer come to an answer when they are compared.
-use Rattle.std.proofs.Common.{◌≡◌, ◌≢◌, ◌⊎◌, inl, inr, ℕ, Bool, true, false, bytes_eq, List, [], Option, Some, None, refl, ap}
+use Rattle.std.proofs.Common.{◌≡◌, ◌≢◌, ◌⊎◌, inl, inr, ℕ, Bool, true, false, bytes_eq, List, [], Option, Some, None, refl, ap, ◌++◌}
 use Rattle.std.proofs.lemmas.Bool.Decides.{not_from_Decides}
 use Rattle.std.proofs.lemmas.Option.{same_Some}
 use Rattle.std.proofs.lemmas.Slice.Eq.{bytes_eq-Decides}
@@ -7,12 +7,12 @@ use Rattle.c2_base.specs.declared.values.Question.{Question}
 use Rattle.c2_spec.specs.declared.digest.Alg.{Alg}
 use Rattle.c2_spec.specs.declared.panel.Verdict.{Verdict}
 use Rattle.c2_rules.specs.CheckList.{StoreReading}
-use Rattle.c2_rules.specs.Validated.{IsAnswer}
+use Rattle.c2_rules.specs.Validated.{IsAnswer, CheckAsks}
 use Rattle.c2_rules.specs.declared.answer.Answer.{Answer}
 use Rattle.c2_rules.specs.declared.answer.Answer.TheVariants as answer
 use Rattle.c2_binding.specs.Accepted.{IsAccepted, HaveOneClaim, AreSame, summary_in}
 use Rattle.c2_binding.specs.ChainContent.{SameContent, active_claim}
-use Rattle.c2_binding.specs.Comparison.{is_valid, evidence_kind, IsComparison}
+use Rattle.c2_binding.specs.Comparison.{is_valid, evidence_kind, IsComparison, SecondAsks, CompareAsks}
 use Rattle.c2_binding.specs.Deciding.{has_same_content}
 use Rattle.c2_binding.specs.Differences.{covered_text}
 use Rattle.c2_binding.specs.EvidenceText.{evidence_text}
@@ -140,3 +140,33 @@ module _ (law : OneItem) (hash : Alg → List ℕ → List ℕ) (said : Question
   each_comparison (answer.Failing failing) b p q = refused_first (answer.Failing failing) refl p
   each_comparison (answer.Refused reason number) b p q = refused_first (answer.Refused reason number) refl p
   each_comparison answer.NoStore b p q = refused_first answer.NoStore refl p
+
+-- two files whose checks answer and ask are asked a list of questions
+pub each_asked : (hash : Alg → List ℕ → List ℕ) (said : Question → Verdict) (first second : List ℕ)
+    (a : Answer)
+    (ps qs : List Question) → IsAnswer hash said first a → CheckAsks hash said first ps
+    → CheckAsks hash said second qs → (all : List Question) × CompareAsks hash said first second all
+each_asked hash said first second a ps qs is asks others = by a is
+  where
+    with_second : (b : Answer) → IsAnswer hash said first b → (rest : List Question)
+        → SecondAsks hash said second b rest → (all : List Question) × CompareAsks hash said first second all
+    with_second b h rest k = (
+      ps ++ rest,
+      record {
+        answer = b;
+        is_answer = h;
+        of_first = ps;
+        first_asks = asks;
+        of_second =
+            rest;
+        second_asks = k;
+        are = refl;
+      },
+    )
+
+    by : (b : Answer) → IsAnswer hash said first b
+        → (all : List Question) × CompareAsks hash said first second all
+    by (answer.Valid summary) h = with_second (answer.Valid summary) h qs others
+    by (answer.Failing failing) h = with_second (answer.Failing failing) h [] refl
+    by (answer.Refused reason number) h = with_second (answer.Refused reason number) h [] refl
+    by answer.NoStore h = with_second answer.NoStore h [] refl

@@ -1,5 +1,5 @@
 -- Two files, each opened as one thing at most, come to one answer and one text.
-use Rattle.std.proofs.Common.{◌≡◌, ◌≢◌, ℕ, false, List, length, refl, sym, ap, ◌∙◌, subst}
+use Rattle.std.proofs.Common.{◌≡◌, ◌≢◌, ℕ, false, List, length, refl, sym, ap, ◌∙◌, subst, ap₂, ◌++◌}
 use Rattle.c2_base.specs.declared.values.Question.{Question}
 use Rattle.c2_spec.specs.declared.digest.Alg.{Alg}
 use Rattle.c2_spec.specs.declared.panel.Verdict.{Verdict}
@@ -10,7 +10,7 @@ use Rattle.c2_rules.specs.declared.answer.Answer.TheVariants as answer
 use Rattle.c2_rules.specs.declared.answer.Summary.{Summary}
 use Rattle.c2_binding.specs.Accepted.{IsOpenedAs, IsAccepted, AreSame, summary_in}
 use Rattle.c2_binding.specs.ChainContent.{active_claim}
-use Rattle.c2_binding.specs.Comparison.{IsOpenedOnce, is_valid, evidence_kind, HaveTwoClaims, HaveEvidence, IsSame, IsComparison}
+use Rattle.c2_binding.specs.Comparison.{IsOpenedOnce, is_valid, evidence_kind, HaveTwoClaims, HaveEvidence, IsSame, IsComparison, SecondAsks, CompareAsks}
 use Rattle.c2_binding.specs.Differences.{first_difference}
 use Rattle.c2_binding.specs.Evidence.{ListPair}
 use Rattle.c2_binding.specs.EvidenceText.{evidence_text}
@@ -21,7 +21,7 @@ use Rattle.c2_binding.specs.declared.compared.Side.TheVariants.{First, Second}
 use Rattle.c2_binding.proofs.Alike.{OneItem}
 use Rattle.c2_binding.proofs.Answers.{accepted_valid}
 use Rattle.c2_binding.proofs.Lists.{one_of}
-use Rattle.c2_binding.proofs.OneStore.{one_opened_as, one_answer}
+use Rattle.c2_binding.proofs.OneStore.{one_opened_as, one_answer, one_asks}
 
 module _ (law : OneItem) (hash : Alg → List ℕ → List ℕ) (said : Question → Verdict) where
   -- an accepted file is read in one way
@@ -171,3 +171,28 @@ module _ (law : OneItem) (hash : Alg → List ℕ → List ℕ) (said : Question
   one_comparison (Same x) DifferentClaims t u p q = claims_or_same x q.0 p.0
   one_comparison (Same x) (Evidence k) t u p q = evidence_or_same k u x q p.0
   one_comparison (Same x) (Same y) t u p q = (ap Same (same_summary x y p.0 q.0), p.1 ∙ sym q.1)
+
+  -- ---- questions
+
+  -- where the first file has one answer, the check of the second asks one list
+  one_second : (a b : Answer) (ps qs : List Question) → a ≡ b → SecondAsks hash said second a ps
+      → SecondAsks hash said second b qs → ps ≡ qs
+  one_second a b ps qs e p q = by a p (subst (λ x. SecondAsks hash said second x qs) (sym e) q)
+    where
+      by : (x : Answer) → SecondAsks hash said second x ps → SecondAsks hash said second x qs → ps ≡ qs
+      by (answer.Valid summary) h k = one_asks law hash said second twice ps qs h k
+      by (answer.Failing failing) h k = h ∙ sym k
+      by (answer.Refused reason number) h k = h ∙ sym k
+      by answer.NoStore h k = h ∙ sym k
+
+  -- a comparison asks one list of questions
+  pub one_asked : (ps qs : List Question) → CompareAsks hash said first second ps
+      → CompareAsks hash said first second qs → ps ≡ qs
+  one_asked ps qs p q =
+      let same : p.answer ≡ q.answer =
+      one_answer law hash said first once p.answer q.answer p.is_answer q.is_answer in
+      let own : p.of_first ≡ q.of_first =
+      one_asks law hash said first once p.of_first q.of_first p.first_asks q.first_asks in
+      let other : p.of_second ≡ q.of_second =
+      one_second p.answer q.answer p.of_second q.of_second same p.second_asks q.second_asks in
+      p.are ∙ ap₂ (λ (x y : List Question). x ++ y) own other ∙ sym q.are

@@ -17,10 +17,10 @@ use Rattle.c2_spec.specs.declared.digest.Alg.{Alg}
 use Rattle.c2_spec.specs.declared.panel.Verdict.{Verdict}
 use Rattle.c2_rules.proofs.BindingLaws.{one_binding}
 use Rattle.c2_rules.specs.Binding.{Binding, Media, IsMedia, IsItemOf, IsLabelledBinding, binding_label, binding_payload}
-use Rattle.c2_rules.specs.CheckList.{StoreReading, IsStoreReading, HasBindingOf, active_in, store_answer}
+use Rattle.c2_rules.specs.CheckList.{StoreReading, IsStoreReading, HasBindingOf, active_in, store_answer, check_asks}
 use Rattle.c2_rules.specs.Readings.{IsMessageOf, ReadBox, IsReadBox, Reading, IsReading, signature_item}
 use Rattle.c2_rules.specs.Rules.{label_kind}
-use Rattle.c2_rules.specs.Validated.{IsFileReading, IsOpenedAnswer, IsAnswer}
+use Rattle.c2_rules.specs.Validated.{IsFileReading, IsOpenedAnswer, IsAnswer, OpenedAsks, CheckAsks}
 use Rattle.c2_rules.specs.declared.answer.Answer.{Answer}
 use Rattle.c2_rules.specs.declared.parsed.Parsed.{Parsed}
 use Rattle.c2_binding.specs.Accepted.{IsOpenedAs}
@@ -195,3 +195,21 @@ pub one_answer : OneItem → (hash : Alg → List ℕ → List ℕ) (said : Ques
 one_answer law hash said file once a b p q =
     one_opened_answer law hash said file p.0 a b p.2
     (subst (λ o. IsOpenedAnswer hash said file o b) (once q.0 p.0 q.1 p.1) q.2)
+
+-- ---- questions
+
+-- what is asked over one opening is one list
+one_opened_asks : OneItem → (asks : List Reading → List Question) (o : Opening Tree) (ps qs : List Question)
+    → OpenedAsks asks o ps → OpenedAsks asks o qs → ps ≡ qs
+one_opened_asks law asks (refused reason number) ps qs p q = p ∙ sym q
+one_opened_asks law asks absent ps qs p q = p ∙ sym q
+one_opened_asks law asks (here start len t) ps qs p q =
+    p.2 ∙ ap asks (one_list IsReading (one_reading law) (manifests_of t) p.0 q.0 p.1 q.1) ∙ sym q.2
+
+-- the check of a file that is opened as one thing asks one list of questions
+pub one_asks : OneItem → (hash : Alg → List ℕ → List ℕ) (said : Question → Verdict) (file : List ℕ)
+    → IsOpenedOnce file → (ps qs : List Question) → CheckAsks hash said file ps → CheckAsks hash said file qs
+    → ps ≡ qs
+one_asks law hash said file once ps qs p q =
+    one_opened_asks law (check_asks hash said) p.0 ps qs p.2
+    (subst (λ o. OpenedAsks (check_asks hash said) o qs) (once q.0 p.0 q.1 p.1) q.2)

@@ -10,13 +10,13 @@ ghost use Rattle.c2_spec.specs.declared.digest.Alg.{Alg};
 ghost use Rattle.c2_spec.specs.declared.panel.Verdict.{Verdict};
 ghost use Rattle.c2_rules.specs.Chains.{IsChild, Reached, is_redacted};
 ghost use Rattle.c2_rules.specs.CheckList.{StoreReading};
-ghost use Rattle.c2_rules.specs.Validated.{IsAnswer};
+ghost use Rattle.c2_rules.specs.Validated.{IsAnswer, CheckAsks};
 ghost use Rattle.c2_rules.specs.declared.answer.Answer.{Answer as AnyAnswer};
 ghost use Rattle.c2_rules.specs.declared.answer.Answer.TheVariants as answer;
 ghost use Rattle.c2_rules.specs.declared.answer.Summary.{Summary as Counted};
 ghost use Rattle.c2_binding.specs.Accepted.{IsAccepted, HaveOneClaim, AreSame, summary_in};
 ghost use Rattle.c2_binding.specs.ChainContent.{SameContent};
-ghost use Rattle.c2_binding.specs.Comparison.{IsOpenedOnce, IsComparison};
+ghost use Rattle.c2_binding.specs.Comparison.{IsOpenedOnce, IsComparison, CompareAsks};
 ghost use Rattle.c2_binding.specs.Correspondence.{Correspond};
 ghost use Rattle.c2_binding.specs.Deciding.{has_same_content};
 ghost use Rattle.c2_binding.specs.Differences.{leading_at, all_leading, first_difference};
@@ -130,24 +130,34 @@ pub fn a_test_decides_content()
         → (has_same_content s.readings t.readings ≡ true) ↔ SameContent s.readings t.readings }
 {}
 
-/// Two files whose checks answer come to an answer.
+/// Two files whose checks answer come to an answer and a text, and to a list of questions.
 pub fn each_comparison()
-    ensures { (hash : Alg → List ℕ → List ℕ) (said : Question → Verdict)
+    ensures answer { (hash : Alg → List ℕ → List ℕ) (said : Question → Verdict)
         (first second : List ℕ) (a b : AnyAnswer) → IsAnswer hash said first a
         → IsAnswer hash said second b
         → (what : AnyCompared) × (text : List ℕ)
         × IsComparison hash said first second what text }
+    ensures asks { (hash : Alg → List ℕ → List ℕ) (said : Question → Verdict)
+        (first second : List ℕ) (a : AnyAnswer) (ps qs : List Question)
+        → IsAnswer hash said first a → CheckAsks hash said first ps
+        → CheckAsks hash said second qs
+        → (all : List Question) × CompareAsks hash said first second all }
 {
     // Only the prover needs this law.
     one_item();
 }
 
-/// Two files that are opened as one thing at most come to one answer and one text.
+/// Two files that are opened as one thing at most come to one answer and one text, and to one list of
+/// questions.
 pub fn one_comparison()
-    ensures { (hash : Alg → List ℕ → List ℕ) (said : Question → Verdict)
+    ensures answer { (hash : Alg → List ℕ → List ℕ) (said : Question → Verdict)
         (first second : List ℕ) → IsOpenedOnce first → IsOpenedOnce second
         → (a b : AnyCompared) (t u : List ℕ) → IsComparison hash said first second a t
         → IsComparison hash said first second b u → (a ≡ b) × (t ≡ u) }
+    ensures asks { (hash : Alg → List ℕ → List ℕ) (said : Question → Verdict)
+        (first second : List ℕ) → IsOpenedOnce first → IsOpenedOnce second
+        → (ps qs : List Question) → CompareAsks hash said first second ps
+        → CompareAsks hash said first second qs → ps ≡ qs }
 {
     // Only the prover needs this law.
     one_item();

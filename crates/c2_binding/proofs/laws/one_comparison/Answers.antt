@@ -1,6 +1,10 @@
-use Rattle.c2_binding.proofs.OneComparison.{one_comparison}
+use Rattle.c2_binding.proofs.OneComparison.{one_comparison, one_asked}
 use Rattle.c2_binding.proofs.laws.one_comparison.Goals as goal
 
 -- by both answers
-pub returns : goal.returns
-returns c = one_comparison c.one_item.ensures
+pub returns-clause-answer : goal.returns-clause-answer
+returns-clause-answer c = one_comparison c.one_item.ensures
+
+-- and by both lists
+pub returns-clause-asks : goal.returns-clause-asks
+returns-clause-asks c = one_asked c.one_item.ensures
