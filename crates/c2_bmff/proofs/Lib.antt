@@ -6,6 +6,7 @@ mod MarkLemmas
 mod MatchLemmas
 mod PartLemmas
 mod PathLemmas
+mod PathWritten
 mod Pieces
 mod RowLemmas
 mod SearchLemmas

@@ -1,9 +1,9 @@
--- For private clauses: numbers in the brackets of a path.
-use Rattle.std.specs.Prelude.{ℕ, List, not, ◌&&◌, ◌==◌, get_or, nat_le, if◌then◌else◌, Option, Some, None}
+-- Texts of paths, and for private clauses the numbers in their brackets.
+use Rattle.std.specs.Prelude.{◌≡◌, ℕ, List, not, ◌&&◌, ◌==◌, get_or, nat_le, if◌then◌else◌, Option, Some, None}
 use Rattle.std.specs.Char.{is_ascii_digit}
 use Rattle.std.specs.List.{list_all}
 use Rattle.std.specs.Str.Parse.{digits_value}
-use Rattle.c2_spec.specs.Bmff.Paths.{most_nth}
+use Rattle.c2_spec.specs.Bmff.Paths.{PathStep, most_nth, path_of, steps_text}
 
 -- the number that these digits write, where it may stand in brackets
 abbrev pub number_of_digits : List ℕ → Option ℕ
@@ -12,3 +12,7 @@ number_of_digits digits =
     && nat_le 1 (digits_value 10 digits) && nat_le (digits_value 10 digits) most_nth
     then Some (digits_value 10 digits)
     else None
+
+-- the text is how the path is written, and is read as the path
+abbrev pub IsPathText : List PathStep → List ℕ → Type 0
+IsPathText steps text = (text ≡ steps_text steps) × (path_of text ≡ Some steps)

@@ -3,9 +3,9 @@ ghost use Rattle.std.specs.Prelude.{◌≡◌, IfOk, option_map};
 ghost use Rattle.std.specs.List.{slice_split};
 ghost use Rattle.c2_spec.specs.C2pa.Uri.{after_piece, is_slash};
 ghost use Rattle.c2_spec.specs.Bmff.Paths.{each_step, enters_other, is_entered, is_step_kind, nth_of_text, path_of, step_of};
-ghost use Rattle.c2_bmff.specs.PathTexts.{number_of_digits};
+ghost use Rattle.c2_bmff.specs.PathTexts.{IsPathText, number_of_digits};
 
-use c2_base::NoMemory;
+use c2_base::{NoMemory, Text};
 use std::alloc::Global;
 use std::marker::Model;
 
@@ -34,15 +34,19 @@ impl Model for Segment {
 #[derive(Debug, Drop)]
 pub struct Path {
     segments: Vec<Segment>,
+    text: Text,
 }
 
 impl Model for Path {
     ghost use Rattle.std.specs.Prelude.{List};
     ghost use Rattle.c2_spec.specs.Bmff.Paths.{PathStep};
+    ghost use Rattle.c2_bmff.specs.PathTexts.{IsPathText};
 
     ghost Value = { List PathStep };
 
     ghost view = { λ p. p.segments.items };
+
+    ghost invariant = { λ p. IsPathText p.segments.items p.text };
 }
 
 impl Path {
@@ -51,6 +55,13 @@ impl Path {
         ensures { result.now ≡ self.now }
     {
         self.segments.as_slice()
+    }
+
+    /// The text of the path, which is read as this path. Takes no memory.
+    pub fn text(&self) -> &str
+        ensures { IsPathText self.now result.now }
+    {
+        self.text.as_str()
     }
 
     /// Whether a step before the last has a type that no path enters. Takes no memory.
@@ -157,10 +168,11 @@ pub fn read_path(alloc: Global, text: &str) -> Result<Option<Path>, NoMemory>
     let Some(parts) = strip("/", text) else {
         return Ok(None);
     };
-    match segments_of(alloc, parts)? {
-        Some(segments) => Ok(Some(Path { segments })),
-        None => Ok(None),
-    }
+    let Some(segments) = segments_of(alloc, parts)? else {
+        return Ok(None);
+    };
+    let text = Text::copied(alloc, text)?;
+    Ok(Some(Path { segments, text }))
 }
 
 // The types of the boxes that a path enters.
