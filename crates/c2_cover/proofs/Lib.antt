@@ -1,3 +1,4 @@
+mod BmffTexts
 mod CountLemmas
 mod KeptCount
 mod MergedLemmas
@@ -5,4 +6,6 @@ mod MergingSteps
 mod PassingLemmas
 mod ReadingLemmas
 mod StretchLemmas
+mod TellingLemmas
+mod ToldLemmas
 mod UnreadLemmas

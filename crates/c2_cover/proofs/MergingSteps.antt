@@ -11,6 +11,8 @@ use Rattle.c2_base.specs.declared.values.Range.{Range}
 use Rattle.c2_spec.specs.Cover.{bad_range, holds, is_bad_after, is_excluded, range_end}
 use Rattle.c2_cover.specs.Covers.{AreMerged, IsCoverOf}
 use Rattle.c2_cover.specs.Refused.{bad_from}
+use Rattle.c2_cover.specs.Words.{told_from}
+use Rattle.c2_cover.specs.declared.words.Word.{Word}
 use Rattle.c2_spec.proofs.Kept.{kept_same}
 use Rattle.c2_cover.specs.Merging.{InOrder, EndBelow, with_open, Merges}
 use Rattle.c2_cover.proofs.MergedLemmas.{or_none, or_join, closed_merged, closed_below, closed_same, below_more, holds_in, holds_before, holds_after}
@@ -156,11 +158,12 @@ pub filter_same : (f g : ℕ → Bool) (xs : List ℕ) → ((i : ℕ) → f i �
 filter_same f g [] h = refl
 filter_same f g (x ∷ xs) h = ap (λ b. cond b (x ∷ filter f xs) (filter f xs)) (h x) ∙ ap (λ (ys : List ℕ). cond (g x) (x ∷ ys) ys) (filter_same f g xs h)
 
--- ranges that exclude the same positions make the cover
-pub cover_of : (size : ℕ) (ranges merged : List Range) → ((i : ℕ) → is_excluded merged i ≡ is_excluded ranges i) → IsCoverOf size ranges (record { size = size; ranges = merged })
-cover_of size ranges merged same = record {
+-- ranges that exclude the same positions make the cover, without words
+pub cover_of : (size : ℕ) (ranges merged : List Range) (words : List Word) → words ≡ [] → ((i : ℕ) → is_excluded merged i ≡ is_excluded ranges i) → IsCoverOf size ranges (record { size = size; ranges = merged; words = words })
+cover_of size ranges merged words none same = record {
   size = refl;
   same = same;
   excluded = filter_same (is_excluded merged) (is_excluded ranges) (range_with_len 0 size) same;
-  text = λ file. kept_same (is_excluded merged) (is_excluded ranges) 0 file (λ i l. same i);
+  words = none;
+  text = λ file. ap (λ (ws : List Word). told_from (is_excluded merged) ws 0 file) none ∙ kept_same (is_excluded merged) (is_excluded ranges) 0 file (λ i l. same i);
 }

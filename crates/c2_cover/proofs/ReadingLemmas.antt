@@ -4,32 +4,17 @@ use Rattle.std.proofs.lemmas.List.{take-append-drop, length-take-le, length-drop
 use Rattle.c2_base.specs.declared.values.Range.{Range}
 use Rattle.c2_spec.specs.Cover.{is_excluded, kept_from}
 use Rattle.c2_cover.specs.Covers.{AreMerged, kept_count}
-use Rattle.c2_spec.proofs.Kept.{kept_append, kept_whole, kept_none, kept_same}
+use Rattle.c2_spec.proofs.Kept.{kept_append}
 use Rattle.c2_cover.proofs.PassingLemmas.{passing_split, passing_all, passing_none, passing_same}
 use Rattle.c2_cover.proofs.MergedLemmas.{excluded_none, excluded_first, excluded_after}
 
 -- the rest of a text, in two parts
-rest_split : (ex : ℕ → Bool) (at n : ℕ) (file : List ℕ) → at + n ≤ length file → kept_from ex at (drop at file) ≡ kept_from ex at (take n (drop at file)) ++ kept_from ex (at + n) (drop (at + n) file)
+pub rest_split : (ex : ℕ → Bool) (at n : ℕ) (file : List ℕ) → at + n ≤ length file → kept_from ex at (drop at file) ≡ kept_from ex at (take n (drop at file)) ++ kept_from ex (at + n) (drop (at + n) file)
 rest_split ex at n file l =
     let size : length (take n (drop at file)) ≡ n = length-take-le n (drop at file) (omega (arith, length-drop at file)) in
     ap (kept_from ex at) (sym (take-append-drop n (drop at file))) ∙ kept_append ex at (take n (drop at file)) (drop n (drop at file))
     ∙ ap (λ k. kept_from ex at (take n (drop at file)) ++ kept_from ex (at + k) (drop n (drop at file))) size
     ∙ ap (λ (ys : List ℕ). kept_from ex at (take n (drop at file)) ++ kept_from ex (at + n) ys) (drop-drop n at file)
-
--- a piece that nothing excludes
-pub piece_first : (size low at n : ℕ) (rs : List Range) (file : List ℕ) → AreMerged size low rs → at + n ≤ low → at + n ≤ length file → kept_from (is_excluded rs) at (drop at file) ≡ take n (drop at file) ++ kept_from (is_excluded rs) (at + n) (drop (at + n) file)
-piece_first size low at n rs file m l i =
-    let len : length (take n (drop at file)) ≡ n = length-take-le n (drop at file) (omega (arith, length-drop at file)) in
-    rest_split (is_excluded rs) at n file i
-    ∙ ap (λ (xs : List ℕ). xs ++ kept_from (is_excluded rs) (at + n) (drop (at + n) file)) (kept_whole (is_excluded rs) at (take n (drop at file)) (λ k a b. excluded_none size low rs m k (omega (arith, len))))
-
--- past a range that begins here
-pub range_first : (r : Range) (rs : List Range) (at : ℕ) (file : List ℕ) → at ≡ r.start → r.start + r.length ≤ length file → kept_from (is_excluded (r ∷ rs)) at (drop at file) ≡ kept_from (is_excluded rs) (r.start + r.length) (drop (r.start + r.length) file)
-range_first r rs at file e i =
-    let len : length (take r.length (drop r.start file)) ≡ r.length = length-take-le r.length (drop r.start file) (omega (arith, length-drop r.start file)) in
-    ap (λ k. kept_from (is_excluded (r ∷ rs)) k (drop k file)) e ∙ rest_split (is_excluded (r ∷ rs)) r.start r.length file i
-    ∙ ap (λ (xs : List ℕ). xs ++ kept_from (is_excluded (r ∷ rs)) (r.start + r.length) (drop (r.start + r.length) file)) (kept_none (is_excluded (r ∷ rs)) r.start (take r.length (drop r.start file)) (λ k a b. excluded_first r rs k a (omega (arith, len))))
-    ∙ kept_same (is_excluded (r ∷ rs)) (is_excluded rs) (r.start + r.length) (drop (r.start + r.length) file) (λ k a. excluded_after r rs k a)
 
 -- a piece that nothing excludes, counted
 pub piece_count : (size low at n : ℕ) (rs : List Range) → AreMerged size low rs → at + n ≤ low → at + n ≤ size → kept_count (is_excluded rs) at (size - at) ≡ n + kept_count (is_excluded rs) (at + n) (size - (at + n))

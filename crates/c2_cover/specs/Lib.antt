@@ -1,7 +1,10 @@
+pub mod Words
 pub mod Covers
 pub mod Digests
 pub mod Refused
+pub mod BmffCovers
 pub mod Counted
 pub mod Merging
 pub mod Stretches
+pub mod Telling
 pub mod Unread

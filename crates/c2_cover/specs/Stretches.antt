@@ -1,19 +1,61 @@
 -- For private clauses: what a reader reads next.
-use Rattle.std.specs.Prelude.{◌≡◌, ℕ, ◌-◌, ◌≤◌, List, length, drop}
+use Rattle.std.specs.Prelude.{◌≡◌, ℕ, ◌+◌, ◌-◌, ◌<◌, ◌≤◌, List, [], ◌∷◌, length, take, drop}
+use Rattle.std.specs.Int.{w64, to_be_bytes}
 use Rattle.c2_base.specs.declared.values.Range.{Range}
-use Rattle.c2_spec.specs.Cover.{is_excluded, kept_from}
+use Rattle.c2_spec.specs.Cover.{is_excluded}
 use Rattle.c2_cover.specs.Covers.{Reading, AreMerged, rest_of, left_of, kept_count}
+use Rattle.c2_cover.specs.Words.{AreWords, told_from}
+use Rattle.c2_cover.specs.declared.words.Word.{Word}
 
--- `end` is where the first of the ranges begins, or the end of the file
-pub record IsUpTo (size from end : ℕ) (ahead : List Range) : Type 0 where
-  pub ordered : from ≤ end
-  pub inside : end ≤ size
-  pub merged : AreMerged size end ahead
-  pub last : from ≡ end → from ≡ size
+-- the bytes of a box's start that aren't given yet, where `done` of the 8 are
+abbrev pub due_of : ℕ → ℕ → List ℕ
+due_of start done = drop done (to_be_bytes w64 start)
 
--- the covered positions from `from` up to `end` come next, and then what these ranges leave
-pub record IsStretch (r : Reading) (from end : ℕ) (ahead : List Range) : Type 0 where
-  pub up_to : IsUpTo r.size from end ahead
+-- what a reader at this place has before it
+abbrev pub reading : ℕ → ℕ → List Range → List Word → ℕ → ℕ → Reading
+reading size at ranges words start done = record {
+  size = size;
+  at = at;
+  ranges = ranges;
+  words = words;
+  due = due_of start done;
+}
+
+-- This place comes next: no range begins here, and what these ranges leave of the file from here on is what the reader has before it.
+pub record IsSpot (r : Reading) (at : ℕ) (ahead : List Range) : Type 0 where
+  pub inside : at ≤ r.size
+  pub merged : AreMerged r.size (at + 1) ahead
+  pub words : AreWords r.size ahead at r.words
   pub text : (file : List ℕ) → r.size ≤ length file
-      → rest_of r file ≡ kept_from (is_excluded ahead) from (drop from file)
-  pub left : left_of r ≡ kept_count (is_excluded ahead) from (r.size - from)
+      → told_from (is_excluded r.ranges) r.words r.at file
+      ≡ told_from (is_excluded ahead) r.words at file
+  pub left : kept_count (is_excluded r.ranges) r.at (r.size - r.at)
+      ≡ kept_count (is_excluded ahead) at (r.size - at)
+
+-- The same is still to come, no range begins here, and no word does where none is due.
+pub record IsReady (old new : Reading) : Type 0 where
+  pub size : new.size ≡ old.size
+  pub inside : new.at ≤ old.size
+  pub merged : AreMerged old.size (new.at + 1) new.ranges
+  pub words : AreWords old.size new.ranges new.at new.words
+  pub text : (file : List ℕ) → old.size ≤ length file → rest_of old file ≡ rest_of new file
+  pub left : left_of old ≡ left_of new
+  pub later : length new.due ≡ 0 → AreWords old.size new.ranges (new.at + 1) new.words
+
+-- where the first of the ranges begins, or the end of the file
+abbrev pub range_place : ℕ → List Range → ℕ
+range_place size [] = size
+range_place size (r ∷ rs) = r.start
+
+-- where the first of the words stands, or the end of the file
+abbrev pub word_place : ℕ → List Word → ℕ
+word_place size [] = size
+word_place size (w ∷ ws) = w.at
+
+-- the first `n` bytes of the buffer are the first of those that are due, some where there is room, and the rest is as it was
+pub record IsGiven (due old new : List ℕ) (n : ℕ) : Type 0 where
+  pub bytes : take n new ≡ take n due
+  pub room : n ≤ length new
+  pub most : n ≤ length due
+  pub some : 0 < length old → 0 < n
+  pub same_room : length new ≡ length old

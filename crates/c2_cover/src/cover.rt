@@ -5,29 +5,38 @@ ghost use Rattle.c2_cover.specs.Covers.{AreMerged, IsCoverOf};
 ghost use Rattle.c2_cover.specs.Merging.{InOrder, with_open};
 ghost use Rattle.c2_cover.specs.Refused.{IsCause};
 
-use c2_base::{NoMemory, Range};
+use crate::words::Word;
+use c2_base::{Failed, NoMemory, Range};
 use std::alloc::{AllocError, Global};
 use std::marker::Model;
 use thiserror::Error;
 
 /// What a hash covers of a file of a given size: all bytes but some ranges.
 ///
-/// The ranges rise, none of them is empty, and between two of them there is a byte, however they were given.
+/// The ranges rise, none of them is empty, and between two of them there is a byte, however they were given. The cover of a BMFF hash
+/// has the starts of root boxes besides, which its text has between the bytes of the file.
 #[derive(Debug, Drop)]
 pub struct Cover {
     pub(crate) size: u64,
     pub(crate) ranges: Vec<Range>,
+    pub(crate) words: Vec<Word>,
 }
 
 impl Model for Cover {
     ghost use Rattle.std.specs.Prelude.{◌<◌, ◌^◌};
     ghost use Rattle.c2_cover.specs.Covers.{Covered, AreMerged};
+    ghost use Rattle.c2_cover.specs.Words.{AreWords};
 
     ghost Value = { Covered };
 
-    ghost view = { λ c. record { size = c.size; ranges = c.ranges.items } };
+    ghost view = { λ c. record {
+      size = c.size;
+      ranges = c.ranges.items;
+      words = c.words.items;
+    } };
 
-    ghost invariant = { λ c. (c.size < 2 ^ 64) × AreMerged c.size 0 c.ranges.items };
+    ghost invariant = { λ c. (c.size < 2 ^ 64) × AreMerged c.size 0 c.ranges.items
+        × AreWords c.size c.ranges.items 0 c.words.items };
 }
 
 /// Why there is no cover.
@@ -37,9 +46,35 @@ pub enum CoverError {
     #[error("range {0} begins before the end of the one before it, or ends after the file")]
     BadRange(usize),
 
+    /// The source failed.
+    #[error("the source failed")]
+    ReadFault,
+
     /// Memory ran out.
     #[error("memory ran out")]
     NoMemory,
+}
+
+impl From<Failed> for CoverError {
+    ghost use Rattle.std.specs.Prelude.{◌≡◌};
+    ghost use Rattle.c2_cover.specs.declared.cover.CoverError.TheVariants.{ReadFault};
+
+    ghost from_gives = { λ _ e. e ≡ ReadFault };
+
+    fn from(_error: Failed) -> CoverError {
+        CoverError::ReadFault
+    }
+}
+
+impl From<NoMemory> for CoverError {
+    ghost use Rattle.std.specs.Prelude.{◌≡◌};
+    ghost use Rattle.c2_cover.specs.declared.cover.CoverError.TheVariants as error;
+
+    ghost from_gives = { λ _ e. e ≡ error.NoMemory };
+
+    fn from(_error: NoMemory) -> CoverError {
+        CoverError::NoMemory
+    }
 }
 
 impl From<AllocError> for CoverError {
@@ -118,7 +153,12 @@ pub fn data_cover(alloc: Global, ranges: &[Range], size: u64) -> Result<Cover, C
         Err(index) => return Err(CoverError::BadRange(index)),
     }
     let ranges = merged(alloc, ranges, size)?;
-    Ok(Cover { size, ranges })
+    let words = Vec::new(alloc);
+    Ok(Cover {
+        size,
+        ranges,
+        words,
+    })
 }
 
 /// The cover that leaves out all positions of these ranges, which may come in any order, overlap, touch and be empty.
@@ -130,5 +170,10 @@ pub fn cover_without(alloc: Global, ranges: &mut [Range], size: u64) -> Result<C
 {
     ranges.sort_unstable_by_key(|range| range.start);
     let ranges = merged(alloc, ranges, size)?;
-    Ok(Cover { size, ranges })
+    let words = Vec::new(alloc);
+    Ok(Cover {
+        size,
+        ranges,
+        words,
+    })
 }

@@ -1,9 +1,13 @@
-//! The bytes of a media file that a hash covers (C2PA Technical Specification 2.x, "Data hash"), and their digest.
+//! The bytes of a media file that a hash covers (C2PA Technical Specification 2.x, "Data hash" and "BMFF-based hash"), and their
+//! digest.
 //!
-//! Which bytes these are is a filter over positions, in `c2_spec`, module `Cover`. Here a cover keeps the ranges that are left out,
-//! merged, and its text is read in pieces as long as the caller's buffer.
+//! Which bytes these are is a filter over positions, in `c2_spec`, modules `Cover` and `Bmff.Cover`. Here a cover keeps the ranges
+//! that are left out, merged, and for a BMFF hash the starts of root boxes; its text is read in pieces as long as the caller's buffer.
 #![tactic(auto)]
 
+mod bmff;
+#[cfg(test)]
+mod bmff_tests;
 mod counts;
 mod cover;
 mod digest;
@@ -12,7 +16,9 @@ mod reader;
 mod same;
 #[cfg(test)]
 mod tests;
+mod words;
 
+pub use bmff::bmff_cover;
 pub use counts::{covered_count, outside_count};
 pub use cover::{Cover, CoverError, check_ranges, cover_without, data_cover};
 pub use digest::digest_cover;

@@ -1,13 +1,17 @@
 // Reading a covered text in pieces.
-ghost use Rattle.std.specs.Prelude.{◌≡◌, ◌<◌, ◌≤◌, ◌+◌, ℕ, List, Some, length, OnErr, IfOk};
+ghost use Rattle.std.specs.Prelude.{◌≡◌, ◌<◌, ◌≤◌, ◌+◌, min, ℕ, List, Some, length, OnErr, IfOk};
 ghost use Rattle.c2_base.specs.Causes.{HasCause};
 ghost use Rattle.c2_base.specs.Source.{StaysSource};
 ghost use Rattle.c2_cover.specs.Covers.{AreMerged, IsStart, ReadsNext};
-ghost use Rattle.c2_cover.specs.Stretches.{IsStretch, IsUpTo};
+ghost use Rattle.c2_cover.specs.Stretches.{IsGiven, IsReady, IsSpot, due_of, range_place, reading, word_place};
 
 use crate::cover::Cover;
+use crate::words::Word;
 use c2_base::{Failed, Range, Source, fill_at};
 use std::marker::Model;
+
+// How many bytes a box's start has in the text.
+const WORD_LEN: usize = 8;
 
 /// Reads the covered text of a file from its start, a piece at a time.
 ///
@@ -15,43 +19,73 @@ use std::marker::Model;
 #[derive(Drop)]
 pub struct CoveredReader<'c> {
     size: u64,
+    place: Place<'c>,
+}
+
+// Where a reader stands.
+#[derive(Clone, Copy)]
+struct Place<'c> {
     at: u64,
     // the ranges that aren't passed yet
     ahead: &'c [Range],
+    // the words that aren't begun yet
+    words: &'c [Word],
+    // the box's start that was begun, and how many of its bytes were given
+    start: u64,
+    done: usize,
 }
 
 impl<'c> Model for CoveredReader<'c> {
-    ghost use Rattle.std.specs.Prelude.{◌≤◌};
+    ghost use Rattle.std.specs.Prelude.{◌<◌, ◌≤◌, ◌^◌};
     ghost use Rattle.c2_cover.specs.Covers.{Reading, AreMerged};
+    ghost use Rattle.c2_cover.specs.Stretches.{due_of};
+    ghost use Rattle.c2_cover.specs.Words.{AreWords};
 
     ghost Value = { Reading };
 
-    ghost view = { λ r. record { size = r.size; at = r.at; ranges = r.ahead.now } };
+    ghost view = { λ r. record {
+      size = r.size;
+      at = r.place.at;
+      ranges = r.place.ahead.now;
+      words = r.place.words.now;
+      due = due_of r.place.start r.place.done;
+    } };
 
-    ghost invariant = { λ r. (r.at ≤ r.size) × AreMerged r.size r.at r.ahead.now };
+    ghost invariant = { λ r. (r.place.at ≤ r.size) × AreMerged r.size r.place.at r.place.ahead.now
+        × AreWords r.size r.place.ahead.now r.place.at r.place.words.now × (r.size < 2 ^ 64) };
 }
 
-// The covered positions up to the next range or the end of the file: those from `from` up to `end`.
-#[derive(Drop)]
-struct Stretch<'c> {
-    from: u64,
-    end: u64,
+// A place of the file, and the ranges after it.
+#[derive(Clone, Copy)]
+struct Spot<'c> {
+    at: u64,
     ahead: &'c [Range],
 }
 
-// The stretch from here to the first of these ranges, which all begin later.
-fn up_to<'c>(size: u64, from: u64, ahead: &'c [Range]) -> Stretch<'c>
-    requires inside { from ≤ size }
-    requires later { AreMerged size (from + 1) ahead.now }
-    ensures from { result.from ≡ from }
-    ensures ahead { result.ahead.now ≡ ahead.now }
-    ensures end { IsUpTo size from result.end ahead.now }
+// Where the first of these ranges begins or the first of these words stands, or the end of the file.
+fn stretch_end(size: u64, ahead: &[Range], words: &[Word]) -> u64
+    ensures { result ≡ min (range_place size ahead.now) (word_place size words.now) }
 {
-    let end = match ahead.first() {
+    let range = match ahead.first() {
         Some(range) => range.start,
         None => size,
     };
-    Stretch { from, end, ahead }
+    let word = match words.first() {
+        Some(word) => word.at,
+        None => size,
+    };
+    range.min(word)
+}
+
+// Puts bytes of this start into the first places of `buf`, from the first on that isn't given yet, and says how many.
+fn give(start: u64, done: usize, buf: &mut [u8]) -> usize
+    requires { done < 8 }
+    ensures { IsGiven (due_of start done) buf.old buf.new result }
+{
+    let bytes = start.to_be_bytes();
+    let count = (WORD_LEN - done).min(buf.len());
+    buf[..count].copy_from_slice(&bytes[done..done + count]);
+    count
 }
 
 impl<'c> CoveredReader<'c> {
@@ -61,21 +95,63 @@ impl<'c> CoveredReader<'c> {
     {
         CoveredReader {
             size: cover.size,
-            at: 0,
-            ahead: &cover.ranges,
+            place: Place {
+                at: 0,
+                ahead: &cover.ranges,
+                words: &cover.words,
+                start: 0,
+                done: WORD_LEN,
+            },
         }
     }
 
-    // What is read next.
-    fn stretch(&self) -> Stretch<'c>
-        ensures { IsStretch self.now result.from result.end result.ahead.now }
+    // The place after the range that begins here.
+    fn spot(&self) -> Spot<'c>
+        ensures { IsSpot self.now result.at result.ahead.now }
     {
-        if let Some((first, others)) = self.ahead.split_first() {
-            if first.start == self.at {
-                return up_to(self.size, first.start + first.length, others);
+        if let Some((first, others)) = self.place.ahead.split_first() {
+            if first.start == self.place.at {
+                return Spot {
+                    at: first.start + first.length,
+                    ahead: others,
+                };
             }
         }
-        up_to(self.size, self.at, self.ahead)
+        Spot {
+            at: self.place.at,
+            ahead: self.place.ahead,
+        }
+    }
+
+    // The place after the range that begins here, where the word that stands there is begun.
+    fn ready(&self) -> Place<'c>
+        ensures { IsReady self.now (reading self.now.size result.at result.ahead.now
+            result.words.now result.start result.done) }
+    {
+        let Spot { at, ahead } = self.spot();
+        let words = self.place.words;
+        let start = self.place.start;
+        let done = self.place.done;
+        if done >= WORD_LEN {
+            if let Some((first, others)) = words.split_first() {
+                if first.at == at {
+                    return Place {
+                        at,
+                        ahead,
+                        words: others,
+                        start: first.start,
+                        done: 0,
+                    };
+                }
+            }
+        }
+        Place {
+            at,
+            ahead,
+            words,
+            start,
+            done,
+        }
     }
 
     /// Puts the next piece of the covered text into the first bytes of `buf` and says how long it is: 0 exactly at the end.
@@ -91,11 +167,18 @@ impl<'c> CoveredReader<'c> {
         ensures stays { StaysSource S.len S.known S.faults source.old source.new }
         ensures cause { HasCause (S.faults source.old) (S.faults source.new) result }
     {
-        let stretch = self.stretch();
-        let count = (stretch.end - stretch.from).min(buf.len() as u64) as usize;
-        fill_at(source, stretch.from, &mut buf[..count])?;
-        self.at = stretch.from + count as u64;
-        self.ahead = stretch.ahead;
+        let mut place = self.ready();
+        if place.done < WORD_LEN {
+            let given = give(place.start, place.done, buf);
+            place.done += given;
+            self.place = place;
+            return Ok(given);
+        }
+        let end = stretch_end(self.size, place.ahead, place.words);
+        let count = (end - place.at).min(buf.len() as u64) as usize;
+        fill_at(source, place.at, &mut buf[..count])?;
+        place.at += count as u64;
+        self.place = place;
         Ok(count)
     }
 }

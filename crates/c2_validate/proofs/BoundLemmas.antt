@@ -167,6 +167,7 @@ pub range_refused : {E : Type 0} (hash : Alg → List ℕ → List ℕ) (alg : A
 range_refused hash alg kind uri d ranges file size len e (Err x) same long sized cause memory h = tt
 range_refused {E} hash alg kind uri d ranges file size len (cover_error.BadRange i) (Ok b) same long sized cause memory h =
     refused_at {E = E} hash alg kind uri d file size i (Ok b) (long ∙ sym sized) (subst (λ (x : List Range). bad_range size x ≡ Some i) same cause) h
+range_refused hash alg kind uri d ranges file size len cover_error.ReadFault (Ok b) same long sized cause memory h = absurd cause
 range_refused hash alg kind uri d ranges file size len cover_error.NoMemory (Ok b) same long sized cause memory h = absurd (let no = memory refl in cc (no))
 
 -- the rules on a binding, by its algorithm

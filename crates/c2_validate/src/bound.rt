@@ -196,7 +196,8 @@ fn check_cover(
 {
     match error {
         CoverError::BadRange(_) => fails(alloc, own, name, Code::ProfileHashForm),
-        CoverError::NoMemory => Err(ValidateError::NoMemory),
+        // The cover of a data hash reads nothing of the file.
+        _ => Err(ValidateError::NoMemory),
     }
 }
 

@@ -17,5 +17,5 @@ merged-requires c =
 -- the merged ranges exclude what the given ones do in their old order, so they make the cover
 pub returns : goal.returns
 returns c =
-    cover_of c.args.size c.args.ranges.now _
+    cover_of c.args.size c.args.ranges.now _ _ c.new-words.ensures.items
     (λ i. c.in_ok-ranges.ensures.same i ∙ sym (list_any-IsPermutation (holds i) c.args.ranges.now c.sort_unstable_by_key.new.self c.sort_unstable_by_key.ensures.permutation))

@@ -8,4 +8,4 @@ merged-requires c = in_order c.args.size 0 0 c.args.ranges.now (bad_all c.args.s
 
 -- the merged ranges exclude what the given ones do, so they make the cover
 pub returns-clause-cover : goal.returns-clause-cover
-returns-clause-cover c = cover_of c.args.size c.args.ranges.now _ c.in_ok-ranges.ensures.same
+returns-clause-cover c = cover_of c.args.size c.args.ranges.now _ _ c.new-words.ensures.items c.in_ok-ranges.ensures.same

@@ -1,36 +1,44 @@
-use Rattle.std.proofs.Common.{◌≡◌, ◌≤◌, ◌-◌, ◌+◌, ◌∙◌, sym, ap, subst, length, arith, ◌++◌}
+use Rattle.std.proofs.Common.{◌≡◌, ◌≤◌, ◌<◌, ◌-◌, ◌+◌, ◌^◌, ◌∙◌, min, sym, ap, subst, length, arith, ◌++◌, drop}
 use Rattle.std.proofs.lemmas.Grind.{common_steps}
-use Rattle.c2_cover.specs.Covers.{Reading, AreMerged, rest_of, left_of}
-use Rattle.c2_cover.proofs.StretchLemmas.{stretch_piece, stretch_left, stretch_end, stretch_nothing, stretch_after, prefix_filled, after}
+use Rattle.c2_cover.specs.Covers.{Reading, AreMerged, ReadsNext}
+use Rattle.c2_cover.specs.Stretches.{due_of, range_place, reading, word_place}
+use Rattle.c2_cover.specs.Words.{AreWords}
+use Rattle.c2_cover.proofs.StretchLemmas.{UpTo, due_none, given_next, prefix_filled, ready_stays, stretch_next, up_to}
 use Rattle.c2_cover.proofs.reader.CoveredReader.next.Goals as goal
 
--- after a piece the reader stands in the file, with merged ranges that begin there or later
+-- where a word is begun, the reader's place is one that it may have
 pub invariant_of-self : goal.invariant_of-self
 invariant_of-self g c =
-    let small : c.min-count.result ≤ c.stretch-stretch.result.end - c.stretch-stretch.result.from = grind (arith, common_steps) in
-    subst (λ size. (c.stretch-stretch.result.from + c.min-count.result ≤ size) × AreMerged size (c.stretch-stretch.result.from + c.min-count.result) c.stretch-stretch.result.ahead.now) (ap (λ (v : Reading). v.size) (sym c.self.view_is))
-    (stretch_after c.args.self.now c.stretch-stretch.result.from c.stretch-stretch.result.end c.min-count.result c.stretch-stretch.result.ahead.now c.stretch-stretch.ensures small)
+    let place = c.ready-place.result in
+    let stays = ready_stays c.args.self.now place.at place.start place.done place.ahead.now place.words.now c.ready-place.ensures in
+    subst (λ size. (place.at ≤ size) × AreMerged size place.at place.ahead.now × AreWords size place.ahead.now place.at place.words.now × (c.self.inside.size < 2 ^ 64)) (ap (λ (v : Reading). v.size) (sym c.self.view_is)) (stays.0, stays.1, stays.2, c.self.invariant.3)
 
--- the buffer begins with the next piece of the covered text, which is empty only at the end
+-- the buffer begins with the next bytes of the word
+pub returns-then-place-lt-WORD_LEN-clause-piece : goal.returns-then-place-lt-WORD_LEN-clause-piece
+returns-then-place-lt-WORD_LEN-clause-piece g c =
+    let place = c.ready-place.result in
+    let n = c.give-given.result in
+    subst (λ size. ReadsNext (g.S.Source.known c.args.source.now) c.args.self.now (reading size place.at place.ahead.now place.words.now place.start (place.done + n)) c.give-given.new.buf n) (ap (λ (v : Reading). v.size) (sym c.self.view_is))
+    (given_next (g.S.Source.known c.args.source.now) c.args.self.now place.at place.start place.done n place.ahead.now place.words.now c.args.buf.now c.give-given.new.buf
+    (λ file known. g.met.S.Source.known_len c.args.source.now file known ∙ c.requires.size) c.ready-place.ensures c.give-given.ensures c.requires.room)
+
+-- the buffer begins with the next piece of the file, which is empty only at the end
 pub returns-clause-piece : goal.returns-clause-piece
 returns-clause-piece g c =
-    let stretch = c.stretch-stretch.result in
-    let is = c.stretch-stretch.ensures in
+    let place = c.ready-place.result in
     let n = c.min-count.result in
-    let small : n ≤ stretch.end - stretch.from = grind (arith, common_steps) in
-    let room : n ≤ length c.args.buf.now = grind (arith, common_steps) in
+    let old = c.args.self.now in
+    let end = c.stretch_end-end.result in
+    let size : c.self.inside.size ≡ old.size = ap (λ (v : Reading). v.size) c.self.view_is in
+    let none : length (due_of place.start place.done) ≡ 0 = ap length (due_none place.start place.done c.if-place-lt-WORD_LEN.false) in
+    let last : end ≡ min (range_place old.size place.ahead.now) (word_place old.size place.words.now) = c.stretch_end-end.ensures ∙ ap (λ k. min (range_place k place.ahead.now) (word_place k place.words.now)) size in
+    let up : UpTo old.size place.at end place.ahead.now place.words.now = up_to old.size place.at end place.ahead.now place.words.now c.ready-place.ensures.inside c.ready-place.ensures.merged (c.ready-place.ensures.later none) last in
+    let small : n ≤ end - place.at = grind (arith, common_steps) in
     let count : length c.fill_at.new.buf ≡ n = grind (arith, common_steps) in
-    let size : c.self.inside.size ≡ c.args.self.now.size = ap (λ (v : Reading). v.size) c.self.view_is in
-    record {
-      piece = λ file known.
-          let len : length file ≡ g.S.Source.len c.args.source.now = g.met.S.Source.known_len c.args.source.now file known in
-          stretch_piece c.args.self.now stretch.from stretch.end n stretch.ahead.now file is small (len ∙ c.requires.size)
-          ∙ ap (λ xs. xs ++ rest_of (after c.args.self.now stretch.from n stretch.ahead.now) file) (prefix_filled _ _ _ n count (c.in_ok-fill_at.ensures.filled file known));
-      left = stretch_left c.args.self.now stretch.from stretch.end n stretch.ahead.now is small
-          ∙ ap (λ size. n + left_of (record { size = size; at = stretch.from + n; ranges = stretch.ahead.now })) (sym size);
-      in_buf = grind (arith, common_steps);
-      end = λ none. stretch_nothing c.args.self.now stretch.from stretch.end stretch.ahead.now is (grind (arith, common_steps, none, is.up_to.ordered));
-      nothing = λ none file known.
-          let len : length file ≡ g.S.Source.len c.args.source.now = g.met.S.Source.known_len c.args.source.now file known in
-          stretch_end c.args.self.now stretch.from stretch.end stretch.ahead.now file is (grind (arith, common_steps, none, is.up_to.ordered)) (len ∙ c.requires.size);
-    }
+    let buf = c.fill_at.new.buf ++ drop n c.args.buf.now in
+    let room : n ≤ length (c.fill_at.new.buf ++ drop n c.args.buf.now) = grind (arith, common_steps) in
+    subst (λ k. ReadsNext (g.S.Source.known c.args.source.now) old (reading k (place.at + n) place.ahead.now place.words.now place.start place.done) buf n) (sym size)
+    (stretch_next (g.S.Source.known c.args.source.now) old place.at place.start place.done end n place.ahead.now place.words.now buf
+    (λ file known. g.met.S.Source.known_len c.args.source.now file known ∙ c.requires.size) c.ready-place.ensures none up small room
+    (λ z. grind (arith, common_steps, z, up.ordered))
+    (λ file known. prefix_filled _ _ _ n count (c.in_ok-fill_at.ensures.filled file known)))

@@ -1,0 +1,58 @@
+// The cover of a BMFF hash.
+ghost use Rattle.std.specs.Prelude.{◌≡◌, ℕ, OnOk, IfOk, IfErr};
+ghost use Rattle.std.specs.Option.{ForSome};
+ghost use Rattle.c2_base.specs.Source.{StaysSource};
+ghost use Rattle.c2_bmff.specs.Causes.{IsCaused, OrOutside};
+ghost use Rattle.c2_bmff.specs.Roots.{FillSource};
+ghost use Rattle.c2_cover.specs.BmffCovers.{IsBmffCoverOf};
+ghost use Rattle.c2_cover.specs.Refused.{IsBmffCause};
+ghost use Rattle.c2_cover.specs.Words.{AreWords};
+
+use crate::cover::{Cover, CoverError, cover_without};
+use crate::words::with_words;
+use c2_base::{MediaError, Source};
+use c2_bmff::types::Roots;
+use c2_bmff::{Exclusion, match_paths};
+use std::alloc::Global;
+
+// The same cause, of the two that the match of paths has.
+fn matching_error(error: MediaError) -> CoverError
+    requires { OrOutside error ⊥ }
+    ensures { (before now : ℕ) → IsCaused before now error → IsBmffCause before now result }
+{
+    match error {
+        MediaError::ReadFault => CoverError::ReadFault,
+        _ => CoverError::NoMemory,
+    }
+}
+
+/// The cover of a BMFF hash with these exclusions, of the file with these root boxes (C2PA Technical Specification 2.x,
+/// "BMFF-based hash"): of each root box of which a byte is left, its start in 8 bytes, and then what is left of it.
+///
+/// [`CoverError::ReadFault`] comes only where the source failed, [`CoverError::NoMemory`] where memory ran out, and no other error
+/// comes. The cover takes 16 bytes for each range that is left out and for each root box of which a byte is left.
+pub fn bmff_cover<S: Source>(
+    alloc: Global,
+    source: &mut S,
+    roots: &Roots,
+    entries: &[Exclusion],
+) -> Result<Cover, CoverError>
+    requires fill { FillSource (S.len source.old) 0 roots.now }
+    ensures cover { IfOk result (λ c. ForSome (S.known source.old) (λ file.
+        IsBmffCoverOf file roots.now entries.now c)) }
+    ensures size { IfOk result (λ c. c.size ≡ S.len source.old) }
+    ensures words { IfOk result (λ c. AreWords c.size c.ranges 0 c.words) }
+    ensures stays { StaysSource S.len S.known S.faults source.old source.new }
+    ensures count { OnOk result (S.faults source.new ≡ S.faults source.old) }
+    ensures cause { IfErr result (IsBmffCause (S.faults source.old) (S.faults source.new)) }
+{
+    let size = source.size()?;
+    let ranges = match match_paths(alloc, source, roots, entries) {
+        Ok(ranges) => ranges,
+        Err(error) => return Err(matching_error(error)),
+    };
+    let mut sorted = Vec::from_slice(alloc, ranges.as_slice())?;
+    let cover = cover_without(alloc, sorted.as_mut_slice(), size)?;
+    let told = with_words(alloc, cover, roots.as_slice())?;
+    Ok(told)
+}

@@ -1,0 +1,90 @@
+// The starts of root boxes, which a covered text has between the bytes of the file.
+ghost use Rattle.std.specs.Prelude.{◌≡◌, ◌+◌, not, nat_le, IfOk};
+ghost use Rattle.c2_spec.specs.Cover.{is_excluded};
+ghost use Rattle.c2_bmff.specs.Roots.{FillSource};
+ghost use Rattle.c2_cover.specs.Telling.{IsToldBy, ending_after, skipped};
+ghost use Rattle.c2_cover.specs.Words.{words_of};
+
+use crate::cover::Cover;
+use c2_base::Range;
+use c2_bmff::RootBox;
+use std::alloc::{AllocError, Global};
+
+/// The start of a root box, which stands in 8 bytes before the byte at the position `at`.
+#[derive(Clone, Copy, Debug)]
+pub(crate) struct Word {
+    pub(crate) at: u64,
+    pub(crate) start: u64,
+}
+
+// Whether a range ends after this position. Its end may pass 2^64 - 1.
+fn ends_after(range: Range, at: u64) -> bool
+    ensures { result ≡ not (nat_le (range.start + range.length) at) }
+{
+    range.start > at || range.length > at - range.start
+}
+
+// The ranges from the first on that ends after this position.
+fn from_end_after<'c>(ranges: &'c [Range], at: u64) -> &'c [Range]
+    ensures { result.now ≡ ending_after at ranges.now }
+{
+    let mut ahead = ranges;
+    'passed: while let Some((first, others)) = ahead.split_first() {
+        if ends_after(*first, at) {
+            return ahead;
+        }
+        ahead = others;
+    }
+    ahead
+}
+
+// How many positions from this one on the first of the ranges excludes.
+fn skip(ranges: &[Range], at: u64) -> u64
+    ensures { result ≡ skipped at ranges.now }
+{
+    match ranges.first() {
+        Some(range) => {
+            if range.start <= at {
+                range.length.saturating_sub(at - range.start)
+            } else {
+                0
+            }
+        }
+        None => 0,
+    }
+}
+
+// The words of these root boxes, under the ranges of a cover.
+fn words_under(alloc: Global, cover: &Cover, rows: &[RootBox]) -> Result<Vec<Word>, AllocError>
+    requires { FillSource cover.now.size 0 rows.now }
+    ensures { IfOk result
+        (λ words. words.items ≡ words_of (is_excluded cover.now.ranges) rows.now) }
+{
+    let mut words = Vec::new(alloc);
+    let mut ahead = cover.ranges.as_slice();
+    for row in rows {
+        ahead = from_end_after(ahead, row.start);
+        let skipped = skip(ahead, row.start);
+        if skipped < row.length {
+            words.push(Word {
+                at: row.start + skipped,
+                start: row.start,
+            })?;
+        }
+    }
+    Ok(words)
+}
+
+/// The cover with the words of these root boxes, which fill the file.
+pub(crate) fn with_words(alloc: Global, cover: Cover, rows: &[RootBox]) -> Result<Cover, AllocError>
+    requires { FillSource cover.size 0 rows.now }
+    ensures { IfOk result (IsToldBy rows.now cover) }
+{
+    let words = words_under(alloc, &cover, rows)?;
+    let Cover { size, ranges, .. } = cover;
+    Ok(Cover {
+        size,
+        ranges,
+        words,
+    })
+}
