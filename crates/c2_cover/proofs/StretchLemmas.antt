@@ -12,7 +12,7 @@ use Rattle.c2_cover.specs.declared.words.Word.{Word}
 use Rattle.c2_cover.proofs.MergedLemmas.{merged_lower}
 use Rattle.c2_cover.proofs.PassingLemmas.{kept_others}
 use Rattle.c2_cover.proofs.ReadingLemmas.{piece_count, range_count}
-use Rattle.c2_cover.proofs.ToldLemmas.{told_past, told_piece, words_later, words_lower, words_past, words_rise}
+use Rattle.c2_cover.proofs.ToldLemmas.{told_past, told_piece, words_lower, words_past, words_rise}
 
 -- ---- past a range
 
@@ -30,21 +30,6 @@ spot_past r first others e a m w =
       text = λ file l. ap (λ (rs : List Range). told_from (is_excluded rs) r.words r.at file) e ∙ told_past first others r.words r.at file a (words_rise r.size (first.start + first.length) others r.words later) (omega (arith, l, i));
       left = ap (λ (rs : List Range). kept_count (is_excluded rs) r.at (r.size - r.at)) e ∙ range_count first others r.at r.size a i;
     }
-
--- where no range begins here, all begin later
-merged_later : (size at : ℕ) (rs : List Range) → ((first : Range) (others : List Range) → rs ≡ first ∷ others → first.start ≡ at → ⊥) → AreMerged size at rs → AreMerged size (at + 1) rs
-merged_later size at [] none m = tt
-merged_later size at (r ∷ rs) none m = (omega (arith, m.0, none r rs refl), m.1, m.2, m.3)
-
--- the place itself
-pub spot_here : (r : Reading) → ((first : Range) (others : List Range) → r.ranges ≡ first ∷ others → first.start ≡ r.at → ⊥) → r.at ≤ r.size → AreMerged r.size r.at r.ranges → AreWords r.size r.ranges r.at r.words → IsSpot r r.at r.ranges
-spot_here r none i m w = record {
-  inside = i;
-  merged = merged_later r.size r.at r.ranges none m;
-  words = w;
-  text = λ file l. refl;
-  left = refl;
-}
 
 -- ---- a word begun
 
@@ -69,18 +54,6 @@ ready_word r at ahead w others s e here none =
           omega (arith, no_due, one_more, s.left);
       later = λ z. absurd (omega (arith, z));
     }
-
--- no word that stands here isn't begun, or one is due
-pub ready_here : (r : Reading) (at start done : ℕ) (ahead : List Range) → IsSpot r at ahead → r.due ≡ due_of start done → (length r.due ≡ 0 → (w : Word) (others : List Word) → r.words ≡ w ∷ others → w.at ≡ at → ⊥) → IsReady r (reading r.size at ahead r.words start done)
-ready_here r at start done ahead s e none_here = record {
-  size = refl;
-  inside = s.inside;
-  merged = s.merged;
-  words = s.words;
-  text = λ file l. ap₂ (λ (xs ys : List ℕ). xs ++ ys) e (s.text file l);
-  left = omega (arith, ap length e, s.left);
-  later = λ z. words_later r.size at ahead r.words (none_here (ap length e ∙ z)) s.words;
-}
 
 -- ---- the bytes of a word
 
@@ -164,10 +137,6 @@ stretch_next known old at start done end n ahead words buf fits ready none u l r
         let empty : words ≡ [] = no_words z words refl in
         let gone : drop at file ≡ [] = nil_from_length (drop at file) (omega (arith, length-drop at file, len, at_size z)) in
         ap (λ (xs : List Word). told_from (is_excluded ahead) xs at file) empty ∙ ap (kept_from (is_excluded ahead) at) gone
-
--- where the reader stands after a piece, no range is passed and no word
-pub stretch_after : (size at end n : ℕ) (ahead : List Range) (words : List Word) → UpTo size at end ahead words → n ≤ end - at → (at + n ≤ size) × AreMerged size (at + n) ahead × AreWords size ahead (at + n) words
-stretch_after size at end n ahead words u l = (omega (arith, l, u.ordered, u.inside), merged_lower size end (at + n) ahead (omega (arith, l, u.ordered)) u.merged, words_lower size end (at + n) ahead words (omega (arith, l, u.ordered)) u.words)
 
 -- where it is ready, none is
 pub ready_stays : (old : Reading) (at start done : ℕ) (ahead : List Range) (words : List Word) → IsReady old (reading old.size at ahead words start done) → (at ≤ old.size) × AreMerged old.size at ahead × AreWords old.size ahead at words

@@ -246,7 +246,3 @@ pub row_inside : (size : ℕ) (ranges : List Range) (rows : List RootBox) (n : �
 row_inside size ranges rows n ahead words row t d =
     let fill : FillSource size t.from (row ∷ drop (n + 1) rows) = subst (λ (xs : List RootBox). FillSource size t.from xs) d t.fill in
     omega (arith, fill.0, fill_low size (t.from + row.length) (drop (n + 1) rows) fill.3)
-
--- before the first box
-pub tells_start : (size : ℕ) (ranges : List Range) (rows : List RootBox) → FillSource size 0 rows → AreMerged size 0 ranges → TellsTo size ranges rows 0 ranges []
-tells_start size ranges rows f m = record { from = 0; fill = f; merged = m; same = λ i l. refl; are = refl }

@@ -1,5 +1,5 @@
 -- Words between the bytes of a file: a text in two parts, past a range, and its length.
-use Rattle.std.proofs.Common.{◌≡◌, ℕ, ◌+◌, ◌-◌, ◌*◌, ◌≤◌, ⊎_elim, Bool, List, [], ◌∷◌, ◌++◌, length, take, drop, refl, sym, ap, ap₂, ◌∙◌, arith, append_assoc, length-append}
+use Rattle.std.proofs.Common.{◌≡◌, ℕ, ◌+◌, ◌-◌, ◌*◌, ◌≤◌, ⊎_elim, Bool, List, [], ◌∷◌, ◌++◌, length, take, drop, sym, ap, ap₂, ◌∙◌, arith, append_assoc, length-append}
 use Rattle.std.proofs.Math.Seq.{take-add}
 use Rattle.std.proofs.lemmas.Bool.{cases_lt, false≢true}
 use Rattle.std.proofs.lemmas.List.{length-take-le, length-drop, drop-drop}
@@ -42,11 +42,6 @@ words_past size r rs [] a = tt
 words_past size r rs (w ∷ ws) a =
     let past : r.start + r.length ≤ w.at = ⊎_elim (λ inside. absurd (false≢true (sym a.2 ∙ excluded_first r rs w.at a.0 inside))) (λ m. m) (cases_lt w.at (r.start + r.length)) in
     (past, a.1, sym (excluded_after r rs w.at past) ∙ a.2, words_others size w.at r rs ws past a.3)
-
--- where no word stands here, all stand later
-pub words_later : (size at : ℕ) (rs : List Range) (ws : List Word) → ((w : Word) (others : List Word) → ws ≡ w ∷ others → w.at ≡ at → ⊥) → AreWords size rs at ws → AreWords size rs (at + 1) ws
-words_later size at rs [] none_here a = tt
-words_later size at rs (w ∷ ws) none_here a = (omega (arith, a.0, none_here w ws refl), a.1, a.2, a.3)
 
 -- a text in two parts, where no word of it stands before the second
 pub told_split : (ex : ℕ → Bool) (ws : List Word) (at mid : ℕ) (file : List ℕ) → Rise mid ws → at ≤ mid → mid ≤ length file → told_from ex ws at file ≡ kept_from ex at (take (mid - at) (drop at file)) ++ told_from ex ws mid file

@@ -1,8 +1,8 @@
 // Worked covers of BMFF hashes. What is expected was worked out by hand.
 ghost use Rattle.std.specs.Prelude.{◌<◌};
 
-use crate::{CoverError, bmff_cover, covered_count, digest_cover, outside_count};
-use c2_base::{Blob, MemSource, Range, Ranges};
+use crate::{CoverError, CoveredReader, bmff_cover, covered_count, digest_cover, outside_count};
+use c2_base::{Blob, Failed, MemSource, Range, Ranges};
 use c2_bmff::{ByteTests, Exclusion, read_path, roots};
 use c2_hash::{Alg, Digest, Sha, digest_of};
 use std::alloc::Global;
@@ -173,5 +173,32 @@ fn a_failed_source_is_told(rt: HostRuntime) -> Result<(), Fail> {
     };
     let found = bmff_cover(alloc, &mut source, &boxes, &entries);
     assert!(rt; found.err() == Some(CoverError::ReadFault));
+    Ok(())
+}
+
+// A box's place is given in pieces, and takes no read; the read after it fails, and the text goes on without a gap.
+#[test]
+fn a_failed_read_after_a_place_changes_nothing(rt: HostRuntime) -> Result<(), Fail> {
+    let alloc = rt.alloc();
+    let mut source = MemSource::new(Blob::copied(alloc, &TWO)?, 65_536, 6);
+    let entries = exclusions(alloc, &[("/ftyp", None)])?;
+    let Ok(boxes) = roots(alloc, &mut source) else {
+        return Ok(assert!(rt; false));
+    };
+    let Ok(cover) = bmff_cover(alloc, &mut source, &boxes, &entries) else {
+        return Ok(assert!(rt; false));
+    };
+    let mut reader = CoveredReader::new(&cover);
+    let mut buf = [99; 5];
+    assert!(rt; reader.next(&mut source, &mut buf) == Ok(5));
+    assert!(rt; buf == [0, 0, 0, 0, 0]);
+    assert!(rt; reader.next(&mut source, &mut buf) == Ok(3));
+    assert!(rt; buf == [0, 0, 0x10, 0, 0]);
+    assert!(rt; reader.next(&mut source, &mut buf) == Err(Failed));
+    assert!(rt; reader.next(&mut source, &mut buf) == Ok(5));
+    assert!(rt; buf == [0, 0, 0, 9, 0x6D]);
+    assert!(rt; reader.next(&mut source, &mut buf) == Ok(4));
+    assert!(rt; buf == [0x64, 0x61, 0x74, 0x41, 0x6D]);
+    assert!(rt; reader.next(&mut source, &mut buf) == Ok(0));
     Ok(())
 }
