@@ -1,13 +1,14 @@
 -- The words of root boxes: each at the first position of its box that is left.
 use Rattle.std.proofs.Common.{◌≡◌, ℕ, zero, suc, ◌+◌, ◌-◌, ◌<◌, ◌≤◌, ◌⊎◌, inl, inr, ⊎_elim, Bool, true, false, cond, List, [], ◌∷◌, ◌++◌, length, get_or, take, drop, refl, sym, ap, subst, ◌∙◌, arith}
-use Rattle.std.specs.Prelude.{filter, not}
-use Rattle.std.specs.List.{range_with_len}
+use Rattle.std.specs.Prelude.{All, filter, not}
+use Rattle.std.specs.List.{AllByRecursion, range_with_len}
 use Rattle.std.proofs.Math.Seq.{drop-cons}
 use Rattle.std.proofs.lemmas.Bool.{cases_lt, false≢true, le-leb, lt-leb}
 use Rattle.std.proofs.lemmas.Grind.{flat_map-append}
 use Rattle.std.proofs.lemmas.List.{append-nil}
+use Rattle.std.proofs.lemmas.List.Elements.{All-from_recursion}
 use Rattle.c2_base.specs.declared.values.Range.{Range}
-use Rattle.c2_bmff.specs.Roots.{FillSource}
+use Rattle.c2_bmff.specs.Roots.{FillSource, IsBoxWithin}
 use Rattle.c2_bmff.specs.declared.root_boxes.RootBox.{RootBox}
 use Rattle.c2_spec.specs.Cover.{is_excluded}
 use Rattle.c2_cover.specs.Covers.{AreMerged, Covered}
@@ -88,6 +89,15 @@ word_some ex row k f = ap (at_first row.start) f.is
 pub fill_low : (size low : ℕ) (rows : List RootBox) → FillSource size low rows → low ≤ size
 fill_low size low [] f = omega (arith, f)
 fill_low size low (row ∷ rows) f = omega (arith, fill_low size (low + row.length) rows f.3)
+
+-- and so does each of them
+fill_each : (size low : ℕ) (rows : List RootBox) → FillSource size low rows → AllByRecursion (IsBoxWithin size) rows
+fill_each size low [] f = tt
+fill_each size low (row ∷ rows) f = (omega (arith, f.0, fill_low size (low + row.length) rows f.3), fill_each size (low + row.length) rows f.3)
+
+-- the same by index
+pub fill_within : (size low : ℕ) (rows : List RootBox) → FillSource size low rows → All (IsBoxWithin size) rows
+fill_within size low rows f = All-from_recursion (IsBoxWithin size) rows (fill_each size low rows f)
 
 -- their words rise, at positions that are left
 pub words_are : (size low : ℕ) (rs : List Range) (rows : List RootBox) → FillSource size low rows → AreWords size rs low (words_of (is_excluded rs) rows)
