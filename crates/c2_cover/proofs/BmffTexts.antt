@@ -1,11 +1,11 @@
 -- The text that words and ranges tell is the covered text of the root boxes.
-use Rattle.std.proofs.Common.{◌≡◌, ℕ, ◌+◌, ◌-◌, ◌<◌, ◌≤◌, ◌⊎◌, inl, inr, Bool, true, false, cond, not, List, [], ◌∷◌, ◌++◌, length, map, take, drop, sym, ap, ap₂, subst, ◌∙◌, arith, append_assoc, length-append}
+use Rattle.std.proofs.Common.{◌≡◌, ℕ, ◌+◌, ◌-◌, ◌<◌, ◌≤◌, ◌⊎◌, inl, inr, Bool, true, false, cond, not, List, [], ◌∷◌, ◌++◌, length, map, take, drop, refl, sym, ap, ap₂, subst, ◌∙◌, arith, append_assoc, length-append}
 use Rattle.std.specs.Prelude.{◌↔◌}
 use Rattle.std.specs.Int.{w64, to_be_bytes}
 use Rattle.std.specs.List.{flat_map}
 use Rattle.std.proofs.lemmas.List.{take_at, drop_at, drop-take, take-append-drop, length-take-le, length-drop, drop-drop}
 use Rattle.c2_base.specs.declared.values.Range.{Range}
-use Rattle.c2_bmff.specs.Roots.{FillSource, row_of, rows_of}
+use Rattle.c2_bmff.specs.Roots.{row_of, rows_of}
 use Rattle.c2_bmff.specs.declared.root_boxes.RootBox.{RootBox}
 use Rattle.c2_spec.specs.Bmff.Boxes.{Box, IsBox, AreBoxForms, HasRoots, SizeForm, short, long, to_end, box_bytes, box_len, header_bytes, header_len}
 use Rattle.c2_spec.specs.Bmff.Cover.{IsBmffCover, after_offset, bmff_text, root_text}
@@ -14,11 +14,11 @@ use Rattle.c2_spec.specs.Bmff.Paths.{placed_from}
 use Rattle.c2_spec.specs.Cover.{excluded_positions, is_excluded, kept_from}
 use Rattle.c2_spec.proofs.Kept.{kept_append, kept_cons, kept_none}
 use Rattle.c2_cover.specs.Covers.{Covered, IsCoverOf, excluded_of, text_of}
-use Rattle.c2_cover.specs.Telling.{IsToldBy}
+use Rattle.c2_cover.specs.Telling.{Follow, IsToldBy}
 use Rattle.c2_cover.specs.Words.{told_from, word_of, words_of}
 use Rattle.c2_cover.specs.declared.words.Word.{Word}
-use Rattle.c2_cover.proofs.TellingLemmas.{FirstLeft, NoneLeft, first_left, word_none, word_some, words_are}
-use Rattle.c2_cover.proofs.ToldLemmas.{Rise, told_split, words_rise}
+use Rattle.c2_cover.proofs.TellingLemmas.{FirstLeft, NoneLeft, first_left, follow_rise, word_none, word_some}
+use Rattle.c2_cover.proofs.ToldLemmas.{Rise, told_split}
 
 -- a header has its length
 header_size : (f : SizeForm) (n : ℕ) (k : List ℕ) → length k ≡ 4 → length (header_bytes f n k) ≡ header_len f
@@ -101,13 +101,18 @@ box_some ex ws p n k file text rise i f more =
         let f : p + (k - p) ≡ k = omega arith in
         sym (ap (λ j. drop (k - p) (take j (drop p file))) e ∙ drop-take (k - p) (p + n - k) (drop p file) ∙ ap (take (p + n - k)) (drop-drop (k - p) p file ∙ ap (λ j. drop j file) f))
 
+-- the rows of boxes follow each other
+follow_rows : (p : ℕ) (bs : List Box) → Follow p (rows_from p bs)
+follow_rows p [] = tt
+follow_rows p (b ∷ bs) = (refl, follow_rows (p + box_len b) bs)
+
 -- words and ranges tell what the boxes give
-told_boxes : (ranges : List Range) (size p : ℕ) (bs : List Box) (file : List ℕ) → AreBoxForms bs → FillSource size p (rows_from p bs) → p ≤ length file → drop p file ≡ flat_map box_bytes bs → told_from (is_excluded ranges) (words_of (is_excluded ranges) (rows_from p bs)) p file ≡ flat_map (root_text (is_excluded ranges)) (placed_from p bs)
-told_boxes ranges size p [] file forms fill l e = ap (kept_from (is_excluded ranges) p) e
-told_boxes ranges size p (b ∷ bs) file forms fill l e =
+told_boxes : (ranges : List Range) (p : ℕ) (bs : List Box) (file : List ℕ) → AreBoxForms bs → p ≤ length file → drop p file ≡ flat_map box_bytes bs → told_from (is_excluded ranges) (words_of (is_excluded ranges) (rows_from p bs)) p file ≡ flat_map (root_text (is_excluded ranges)) (placed_from p bs)
+told_boxes ranges p [] file forms l e = ap (kept_from (is_excluded ranges) p) e
+told_boxes ranges p (b ∷ bs) file forms l e =
     let is : IsBox b × AreBoxForms bs = first_form b bs forms in
     let first : BoxFirst p b bs file = box_first p b bs file is.0 l e in
-    let more = told_boxes ranges size (p + box_len b) bs file is.1 fill.3 first.inside first.others in
+    let more = told_boxes ranges (p + box_len b) bs file is.1 first.inside first.others in
     go first more (first_left (is_excluded ranges) p (box_len b))
   where
     ex : ℕ → Bool
@@ -123,7 +128,7 @@ told_boxes ranges size p (b ∷ bs) file forms fill l e =
     text = flat_map (root_text (is_excluded ranges)) (placed_from (p + box_len b) bs)
 
     rise : Rise (p + box_len b) ws
-    rise = words_rise size (p + box_len b) ranges ws (words_are size (p + box_len b) ranges (rows_from (p + box_len b) bs) fill.3)
+    rise = follow_rise (is_excluded ranges) (p + box_len b) (rows_from (p + box_len b) bs) (follow_rows (p + box_len b) bs)
 
     go : BoxFirst p b bs file → told_from ex ws (p + box_len b) file ≡ text → NoneLeft ex p (box_len b) ⊎ ((k : ℕ) × FirstLeft ex p (box_len b) k) → told_from ex (word_of ex row ++ ws) p file ≡ root_text ex (record { at = p; box = b }) ++ text
     go first more (inl none) =
@@ -136,20 +141,21 @@ told_boxes ranges size p (b ∷ bs) file forms fill l e =
         ∙ ap (λ (xs : List ℕ). after_offset p (kept_from ex p xs) ++ text) first.first
 
 -- of all root boxes of a file
-pub told_roots : (ranges : List Range) (size : ℕ) (boxes : List Box) (file : List ℕ) (words : List Word) → HasRoots file boxes → FillSource size 0 (rows_of boxes) → words ≡ words_of (is_excluded ranges) (rows_of boxes) → told_from (is_excluded ranges) words 0 file ≡ bmff_text (is_excluded ranges) boxes
-told_roots ranges size boxes file words has fill e =
-    ap (λ (ws : List Word). told_from (is_excluded ranges) ws 0 file) e ∙ told_boxes ranges size 0 boxes file has.forms fill (omega arith) has.bytes
+pub told_roots : (ranges : List Range) (boxes : List Box) (file : List ℕ) (words : List Word) → HasRoots file boxes → words ≡ words_of (is_excluded ranges) (rows_of boxes) → told_from (is_excluded ranges) words 0 file ≡ bmff_text (is_excluded ranges) boxes
+told_roots ranges boxes file words has e =
+    ap (λ (ws : List Word). told_from (is_excluded ranges) ws 0 file) e ∙ told_boxes ranges 0 boxes file has.forms (omega arith) has.bytes
 
 -- a cover with the words of a file's root boxes, whose ranges exclude what the exclusions do, is what these leave of the file
-pub bmff_cover_of : (file : List ℕ) (boxes : List Box) (rows : List RootBox) (exclusions : List Exclusion) (size : ℕ) (ranges given : List Range) (c d : Covered) → length file ≡ size → IsCoverOf size ranges c → ranges ≡ given → IsToldBy rows c d → FillSource size 0 rows
+pub bmff_cover_of : (file : List ℕ) (boxes : List Box) (rows : List RootBox) (exclusions : List Exclusion) (size : ℕ) (ranges given : List Range) (c d : Covered) → length file ≡ size → IsCoverOf size ranges c → ranges ≡ given → IsToldBy rows c d
     → ((i : ℕ) → (is_excluded given i ≡ true) ↔ IsExcluded boxes exclusions i) → HasRoots file boxes → rows ≡ rows_of boxes → IsBmffCover boxes (length file) exclusions (excluded_of d) (text_of d file)
-bmff_cover_of file boxes rows exclusions size ranges given c d len cover e told fill exact has are =
+bmff_cover_of file boxes rows exclusions size ranges given c d len cover e told exact has are =
     let same : (i : ℕ) → is_excluded d.ranges i ≡ is_excluded given i = λ i. ap (λ (rs : List Range). is_excluded rs i) told.ranges ∙ cover.same i ∙ ap (λ (rs : List Range). is_excluded rs i) e in
     let sized : d.size ≡ length file = told.size ∙ cover.size ∙ sym len in
-    let words : d.words ≡ words_of (is_excluded d.ranges) (rows_of boxes) = told.words ∙ ap₂ (λ (rs : List Range) (xs : List RootBox). words_of (is_excluded rs) xs) (sym told.ranges) are in
+    let follow : Follow 0 rows = subst (λ (xs : List RootBox). Follow 0 xs) (sym are) (follow_rows 0 boxes) in
+    let words : d.words ≡ words_of (is_excluded d.ranges) (rows_of boxes) = told.all follow ∙ ap₂ (λ (rs : List Range) (xs : List RootBox). words_of (is_excluded rs) xs) (sym told.ranges) are in
     record {
       excludes = is_excluded d.ranges;
       exactly = λ i. (λ yes. (exact i).0 (sym (same i) ∙ yes), λ ex. same i ∙ (exact i).1 ex);
       positions = ap (excluded_positions d.ranges) sized;
-      bytes = told_roots d.ranges size boxes file d.words has (subst (λ (xs : List RootBox). FillSource size 0 xs) are fill) words;
+      bytes = told_roots d.ranges boxes file d.words has words;
     }

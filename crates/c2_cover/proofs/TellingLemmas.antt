@@ -1,22 +1,20 @@
 -- The words of root boxes: each at the first position of its box that is left.
 use Rattle.std.proofs.Common.{◌≡◌, ℕ, zero, suc, ◌+◌, ◌-◌, ◌<◌, ◌≤◌, ◌⊎◌, inl, inr, ⊎_elim, Bool, true, false, cond, List, [], ◌∷◌, ◌++◌, length, get_or, take, drop, refl, sym, ap, subst, ◌∙◌, arith}
-use Rattle.std.specs.Prelude.{All, filter, not}
-use Rattle.std.specs.List.{AllByRecursion, range_with_len}
+use Rattle.std.specs.Prelude.{filter, not}
+use Rattle.std.specs.List.{range_with_len}
 use Rattle.std.proofs.Math.Seq.{drop-cons}
 use Rattle.std.proofs.lemmas.Bool.{cases_lt, false≢true, le-leb, lt-leb}
 use Rattle.std.proofs.lemmas.Grind.{flat_map-append}
 use Rattle.std.proofs.lemmas.List.{append-nil}
-use Rattle.std.proofs.lemmas.List.Elements.{All-from_recursion}
 use Rattle.c2_base.specs.declared.values.Range.{Range}
-use Rattle.c2_bmff.specs.Roots.{FillSource, IsBoxWithin}
 use Rattle.c2_bmff.specs.declared.root_boxes.RootBox.{RootBox}
 use Rattle.c2_spec.specs.Cover.{is_excluded}
-use Rattle.c2_cover.specs.Covers.{AreMerged, Covered}
-use Rattle.c2_cover.specs.Telling.{IsToldBy, TellsTo, ending_after, skipped}
+use Rattle.c2_cover.specs.Covers.{AreMerged}
+use Rattle.c2_cover.specs.Telling.{Follow, StandBy, TellsAll, TellsTo, ending_after, skipped}
 use Rattle.c2_cover.specs.Words.{AreWords, at_first, word_of, words_of}
 use Rattle.c2_cover.specs.declared.words.Word.{Word}
 use Rattle.c2_cover.proofs.MergedLemmas.{excluded_none, excluded_first, excluded_after, merged_lower}
-use Rattle.c2_cover.proofs.ToldLemmas.{words_lower}
+use Rattle.c2_cover.proofs.ToldLemmas.{Rise, rise_lower}
 
 -- the positions of `n` from `s` on that aren't excluded
 abbrev pub left_in : (ℕ → Bool) → ℕ → ℕ → List ℕ
@@ -85,40 +83,32 @@ word_some ex row k f = ap (at_first row.start) f.is
 
 -- ---- the words of all boxes
 
--- boxes that fill a source from `low` on end in it
-pub fill_low : (size low : ℕ) (rows : List RootBox) → FillSource size low rows → low ≤ size
-fill_low size low [] f = omega (arith, f)
-fill_low size low (row ∷ rows) f = omega (arith, fill_low size (low + row.length) rows f.3)
-
--- and so does each of them
-fill_each : (size low : ℕ) (rows : List RootBox) → FillSource size low rows → AllByRecursion (IsBoxWithin size) rows
-fill_each size low [] f = tt
-fill_each size low (row ∷ rows) f = (omega (arith, f.0, fill_low size (low + row.length) rows f.3), fill_each size (low + row.length) rows f.3)
-
--- the same by index
-pub fill_within : (size low : ℕ) (rows : List RootBox) → FillSource size low rows → All (IsBoxWithin size) rows
-fill_within size low rows f = All-from_recursion (IsBoxWithin size) rows (fill_each size low rows f)
-
--- their words rise, at positions that are left
-pub words_are : (size low : ℕ) (rs : List Range) (rows : List RootBox) → FillSource size low rows → AreWords size rs low (words_of (is_excluded rs) rows)
-words_are size low rs [] f = tt
-words_are size low rs (row ∷ rows) f = go (words_are size (low + row.length) rs rows f.3) (first_left (is_excluded rs) row.start row.length)
+-- of boxes that follow each other the words rise
+pub follow_rise : (ex : ℕ → Bool) (low : ℕ) (rows : List RootBox) → Follow low rows → Rise low (words_of ex rows)
+follow_rise ex low [] f = tt
+follow_rise ex low (row ∷ rows) f = go (follow_rise ex (low + row.length) rows f.1) (first_left ex row.start row.length)
   where
     more : List Word
-    more = words_of (is_excluded rs) rows
+    more = words_of ex rows
 
-    go : AreWords size rs (low + row.length) more → NoneLeft (is_excluded rs) row.start row.length ⊎ ((k : ℕ) × FirstLeft (is_excluded rs) row.start row.length k) → AreWords size rs low (word_of (is_excluded rs) row ++ more)
-    go a (inl none) = subst (λ (xs : List Word). AreWords size rs low (xs ++ more)) (sym (word_none (is_excluded rs) row none)) (words_lower size (low + row.length) low rs more (omega arith) a)
-    go a (inr (k, x)) = subst (λ (xs : List Word). AreWords size rs low (xs ++ more)) (sym (word_some (is_excluded rs) row k x))
-        (omega (arith, x.from, f.0), omega (arith, x.to, f.0, fill_low size (low + row.length) rows f.3), x.here, words_lower size (low + row.length) k rs more (omega (arith, x.to, f.0)) a)
+    go : Rise (low + row.length) more → NoneLeft ex row.start row.length ⊎ ((k : ℕ) × FirstLeft ex row.start row.length k) → Rise low (word_of ex row ++ more)
+    go r (inl none) = subst (λ (xs : List Word). Rise low (xs ++ more)) (sym (word_none ex row none)) (rise_lower (low + row.length) low more (omega arith) r)
+    go r (inr (k, x)) = subst (λ (xs : List Word). Rise low (xs ++ more)) (sym (word_some ex row k x)) (omega (arith, x.from, f.0), rise_lower (low + row.length) k more (omega (arith, x.to, f.0)) r)
 
--- those of a cover that is told by them do
-pub told_words : (size : ℕ) (rows : List RootBox) (c d : Covered) → c.size ≡ size → IsToldBy rows c d → FillSource size 0 rows → AreWords d.size d.ranges 0 d.words
-told_words size rows c d e told f =
-    let all : AreWords size c.ranges 0 (words_of (is_excluded c.ranges) rows) = words_are size 0 c.ranges rows f in
-    subst (λ n. AreWords n d.ranges 0 d.words) (sym (told.size ∙ e))
-    (subst (λ (rs : List Range). AreWords size rs 0 d.words) (sym told.ranges)
-    (subst (λ (ws : List Word). AreWords size c.ranges 0 ws) (sym told.words) all))
+-- one word more, after all others
+words_snoc : (size low : ℕ) (rs : List Range) (ws : List Word) (w : Word) → AreWords size rs low ws → StandBy w.at ws → low ≤ w.at → w.at < size → is_excluded rs w.at ≡ false → AreWords size rs low (ws ++ w ∷ [])
+words_snoc size low rs [] w a s l i e = (l, i, e, tt)
+words_snoc size low rs (v ∷ vs) w a s l i e = (a.0, a.1, a.2, words_snoc size v.at rs vs w a.3 s.1 s.0 i e)
+
+-- no word stands after a later position
+stand_later : (low low' : ℕ) (ws : List Word) → low ≤ low' → StandBy low ws → StandBy low' ws
+stand_later low low' [] l s = tt
+stand_later low low' (w ∷ ws) l s = (omega (arith, s.0), stand_later low low' ws l s.1)
+
+-- and none after the last word
+stand_snoc : (ws : List Word) (w : Word) → StandBy w.at ws → StandBy w.at (ws ++ w ∷ [])
+stand_snoc [] w s = (omega arith, tt)
+stand_snoc (v ∷ vs) w s = (s.0, stand_snoc vs w s.1)
 
 -- ---- as the code finds them
 
@@ -208,51 +198,72 @@ record Passed (size : ℕ) (ranges ahead : List Range) (row : RootBox) (ds : Lis
   pub here : is_excluded ranges (row.start + k) ≡ false
 
 -- where the ranges ahead are passed up to this box
-passed : (size : ℕ) (ranges : List Range) (rows : List RootBox) (n : ℕ) (ahead : List Range) (words : List Word) (row : RootBox) (ds : List Range) (k : ℕ) → TellsTo size ranges rows n ahead words → drop n rows ≡ row ∷ drop (n + 1) rows → Finds ahead row ds k → Passed size ranges ahead row ds k
-passed size ranges rows n ahead words row ds k t d found =
-    let fill : FillSource size t.from (row ∷ drop (n + 1) rows) = subst (λ (xs : List RootBox). FillSource size t.from xs) d t.fill in
+passed : (size : ℕ) (ranges : List Range) (rows : List RootBox) (n : ℕ) (ahead : List Range) (low : ℕ) (words : List Word) (row : RootBox) (ds : List Range) (k : ℕ) → TellsTo size ranges rows n ahead low words → low ≤ row.start → Finds ahead row ds k → Passed size ranges ahead row ds k
+passed size ranges rows n ahead low words row ds k t l found =
     let e : Ends size 0 row.start ahead ds = subst (Ends size 0 row.start ahead) (sym found.ends) (ends_after size 0 row.start ahead t.merged) in
     let s : Skips ds row.start k = subst (Skips ds row.start) (sym found.skips) (skips size 0 row.start ds e.merged e.first) in
     record {
       ends = e;
-      before = λ i a b. sym (e.same i a ∙ t.same i (omega (arith, a, fill.0))) ∙ s.before i a b;
-      here = sym (e.same (row.start + k) (omega arith) ∙ t.same (row.start + k) (omega (arith, fill.0))) ∙ s.here;
+      before = λ i a b. sym (e.same i a ∙ t.same i (omega (arith, a, l))) ∙ s.before i a b;
+      here = sym (e.same (row.start + k) (omega arith) ∙ t.same (row.start + k) (omega (arith, l))) ∙ s.here;
     }
 
--- one box more
-tells_next : (size : ℕ) (ranges : List Range) (rows : List RootBox) (n : ℕ) (ahead : List Range) (words more : List Word) (row : RootBox) (ds : List Range) (k : ℕ) → TellsTo size ranges rows n ahead words → drop n rows ≡ row ∷ drop (n + 1) rows → take (n + 1) rows ≡ take n rows ++ row ∷ []
-    → Passed size ranges ahead row ds k → word_of (is_excluded ranges) row ≡ more → TellsTo size ranges rows (n + 1) ds (words ++ more)
-tells_next size ranges rows n ahead words more row ds k t d l p w =
-    let fill : FillSource size t.from (row ∷ drop (n + 1) rows) = subst (λ (xs : List RootBox). FillSource size t.from xs) d t.fill in
+-- the words of one box more, where the boxes follow each other
+all_more : (ex : ℕ → Bool) (rows : List RootBox) (n low low' : ℕ) (words more : List Word) (row : RootBox) → TellsAll ex rows n low words → drop n rows ≡ row ∷ drop (n + 1) rows → take (n + 1) rows ≡ take n rows ++ row ∷ [] → word_of ex row ≡ more → low' ≤ row.start + row.length → TellsAll ex rows (n + 1) low' (words ++ more)
+all_more ex rows n low low' words more row t d l w later =
+    let follow : Follow t.from (row ∷ drop (n + 1) rows) = subst (λ (xs : List RootBox). Follow t.from xs) d t.follow in
     record {
       from = t.from + row.length;
-      fill = fill.3;
-      merged = p.ends.merged;
-      same = λ i a. p.ends.same i (omega (arith, a, fill.0)) ∙ t.same i (omega (arith, a));
-      are = words_more (is_excluded ranges) rows n row words more l t.are w;
+      follow = follow.1;
+      later = omega (arith, later, follow.0);
+      are = words_more ex rows n row words more l t.are w;
     }
 
--- with its word
-pub tells_word : (size : ℕ) (ranges : List Range) (rows : List RootBox) (n : ℕ) (ahead : List Range) (words : List Word) (row : RootBox) (ds : List Range) (k : ℕ) → TellsTo size ranges rows n ahead words → drop n rows ≡ row ∷ drop (n + 1) rows → take (n + 1) rows ≡ take n rows ++ row ∷ []
-    → Finds ahead row ds k → k < row.length → TellsTo size ranges rows (n + 1) ds (words ++ record { at = row.start + k; start = row.start } ∷ [])
-tells_word size ranges rows n ahead words row ds k t d l found less =
-    let p : Passed size ranges ahead row ds k = passed size ranges rows n ahead words row ds k t d found in
-    tells_next size ranges rows n ahead words (record { at = row.start + k; start = row.start } ∷ []) row ds k t d l p (word_skips (is_excluded ranges) row k p.before p.here less)
+-- a box with its word
+pub tells_word : (size : ℕ) (ranges : List Range) (rows : List RootBox) (n : ℕ) (ahead : List Range) (low : ℕ) (words : List Word) (row : RootBox) (ds : List Range) (k : ℕ) → TellsTo size ranges rows n ahead low words → drop n rows ≡ row ∷ drop (n + 1) rows → take (n + 1) rows ≡ take n rows ++ row ∷ []
+    → low ≤ row.start → Finds ahead row ds k → k < row.length → row.start + row.length ≤ size → TellsTo size ranges rows (n + 1) ds (row.start + k) (words ++ record { at = row.start + k; start = row.start } ∷ [])
+tells_word size ranges rows n ahead low words row ds k t d l from found less inside =
+    let p : Passed size ranges ahead row ds k = passed size ranges rows n ahead low words row ds k t from found in
+    let word : Word = record { at = row.start + k; start = row.start } in
+    let by : StandBy (row.start + k) words = stand_later low (row.start + k) words (omega (arith, from)) t.by in
+    record {
+      merged = p.ends.merged;
+      same = λ i a. p.ends.same i (omega (arith, a)) ∙ t.same i (omega (arith, a, from));
+      rise = words_snoc size 0 ranges words word t.rise by (omega arith) (omega (arith, less, inside)) p.here;
+      by = stand_snoc words word by;
+      all = λ f. all_more (is_excluded ranges) rows n low (row.start + k) words (word ∷ []) row (t.all f) d l (word_skips (is_excluded ranges) row k p.before p.here less) (omega (arith, less));
+    }
 
--- and where it has none
-pub tells_none : (size : ℕ) (ranges : List Range) (rows : List RootBox) (n : ℕ) (ahead : List Range) (words : List Word) (row : RootBox) (ds : List Range) (k : ℕ) → TellsTo size ranges rows n ahead words → drop n rows ≡ row ∷ drop (n + 1) rows → take (n + 1) rows ≡ take n rows ++ row ∷ []
-    → Finds ahead row ds k → row.length ≤ k → TellsTo size ranges rows (n + 1) ds words
-tells_none size ranges rows n ahead words row ds k t d l found most =
-    let p : Passed size ranges ahead row ds k = passed size ranges rows n ahead words row ds k t d found in
-    subst (TellsTo size ranges rows (n + 1) ds) (append-nil words)
-    (tells_next size ranges rows n ahead words [] row ds k t d l p (word_skipped (is_excluded ranges) row k p.before most))
+-- a box that has none
+pub tells_none : (size : ℕ) (ranges : List Range) (rows : List RootBox) (n : ℕ) (ahead : List Range) (low : ℕ) (words : List Word) (row : RootBox) (ds : List Range) (k : ℕ) → TellsTo size ranges rows n ahead low words → drop n rows ≡ row ∷ drop (n + 1) rows → take (n + 1) rows ≡ take n rows ++ row ∷ []
+    → low ≤ row.start → Finds ahead row ds k → row.length ≤ k → TellsTo size ranges rows (n + 1) ds row.start words
+tells_none size ranges rows n ahead low words row ds k t d l from found most =
+    let p : Passed size ranges ahead row ds k = passed size ranges rows n ahead low words row ds k t from found in
+    record {
+      merged = p.ends.merged;
+      same = λ i a. p.ends.same i a ∙ t.same i (omega (arith, a, from));
+      rise = t.rise;
+      by = stand_later low row.start words from t.by;
+      all = λ f. subst (TellsAll (is_excluded ranges) rows (n + 1) row.start) (append-nil words)
+          (all_more (is_excluded ranges) rows n low row.start words [] row (t.all f) d l (word_skipped (is_excluded ranges) row k p.before most) (omega arith));
+    }
+
+-- a box that begins before the last word, which none of boxes does that follow each other
+pub tells_over : (size : ℕ) (ranges : List Range) (rows : List RootBox) (n : ℕ) (ahead : List Range) (low : ℕ) (words : List Word) (row : RootBox) → TellsTo size ranges rows n ahead low words → drop n rows ≡ row ∷ drop (n + 1) rows → row.start < low → TellsTo size ranges rows (n + 1) ahead low words
+tells_over size ranges rows n ahead low words row t d less = record {
+  merged = t.merged;
+  same = t.same;
+  rise = t.rise;
+  by = t.by;
+  all = λ f. absurd (no_follow f);
+}
+  where
+    no_follow : Follow 0 rows → ⊥
+    no_follow f =
+        let a : TellsAll (is_excluded ranges) rows n low words = t.all f in
+        let follow : Follow a.from (row ∷ drop (n + 1) rows) = subst (λ (xs : List RootBox). Follow a.from xs) d a.follow in
+        omega (arith, follow.0, a.later, less)
 
 -- the next of the boxes, and the others
 pub next_row : (rows : List RootBox) (n : ℕ) → n < length rows → drop n rows ≡ get_or rows n no_row ∷ drop (n + 1) rows
 next_row rows n l = let one : suc n ≡ n + 1 = omega arith in drop-cons rows n no_row l ∙ ap (λ m. get_or rows n no_row ∷ drop m rows) one
-
--- no box ends after the source
-pub row_inside : (size : ℕ) (ranges : List Range) (rows : List RootBox) (n : ℕ) (ahead : List Range) (words : List Word) (row : RootBox) → TellsTo size ranges rows n ahead words → drop n rows ≡ row ∷ drop (n + 1) rows → row.start + row.length ≤ size
-row_inside size ranges rows n ahead words row t d =
-    let fill : FillSource size t.from (row ∷ drop (n + 1) rows) = subst (λ (xs : List RootBox). FillSource size t.from xs) d t.fill in
-    omega (arith, fill.0, fill_low size (t.from + row.length) (drop (n + 1) rows) fill.3)

@@ -21,6 +21,11 @@ abbrev pub Rise : ℕ → List Word → Type 0
 Rise low [] = Unit {0}
 Rise low (w ∷ ws) = (low ≤ w.at) × Rise w.at ws
 
+-- words that rise from a position rise from a lower one
+pub rise_lower : (low low' : ℕ) (ws : List Word) → low' ≤ low → Rise low ws → Rise low' ws
+rise_lower low low' [] l r = tt
+rise_lower low low' (w ∷ ws) l r = (omega (arith, r.0), r.1)
+
 -- those of a cover do
 pub words_rise : (size low : ℕ) (rs : List Range) (ws : List Word) → AreWords size rs low ws → Rise low ws
 words_rise size low rs [] a = tt

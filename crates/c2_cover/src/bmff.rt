@@ -1,9 +1,9 @@
 // The cover of a BMFF hash.
-ghost use Rattle.std.specs.Prelude.{◌≡◌, ℕ, OnOk, IfOk, IfErr};
+ghost use Rattle.std.specs.Prelude.{◌≡◌, ℕ, All, OnOk, IfOk, IfErr};
 ghost use Rattle.std.specs.Option.{ForSome};
 ghost use Rattle.c2_base.specs.Source.{StaysSource};
 ghost use Rattle.c2_bmff.specs.Causes.{IsCaused, OrOutside};
-ghost use Rattle.c2_bmff.specs.Roots.{FillSource};
+ghost use Rattle.c2_bmff.specs.Roots.{IsBoxWithin};
 ghost use Rattle.c2_cover.specs.BmffCovers.{IsBmffCoverOf};
 ghost use Rattle.c2_cover.specs.Refused.{IsBmffCause};
 ghost use Rattle.c2_cover.specs.Words.{AreWords};
@@ -37,7 +37,7 @@ pub fn bmff_cover<S: Source>(
     roots: &Roots,
     entries: &[Exclusion],
 ) -> Result<Cover, CoverError>
-    requires fill { FillSource (S.len source.old) 0 roots.now }
+    requires inside { All (IsBoxWithin (S.len source.old)) roots.now }
     ensures cover { IfOk result (λ c. ForSome (S.known source.old) (λ file.
         IsBmffCoverOf file roots.now entries.now c)) }
     ensures size { IfOk result (λ c. c.size ≡ S.len source.old) }

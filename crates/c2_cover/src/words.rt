@@ -1,9 +1,9 @@
 // The starts of root boxes, which a covered text has between the bytes of the file.
-ghost use Rattle.std.specs.Prelude.{◌≡◌, ◌+◌, not, nat_le, IfOk};
+ghost use Rattle.std.specs.Prelude.{◌≡◌, ◌+◌, not, nat_le, All, IfOk};
 ghost use Rattle.c2_spec.specs.Cover.{is_excluded};
-ghost use Rattle.c2_bmff.specs.Roots.{FillSource};
-ghost use Rattle.c2_cover.specs.Telling.{IsToldBy, ending_after, skipped};
-ghost use Rattle.c2_cover.specs.Words.{words_of};
+ghost use Rattle.c2_bmff.specs.Roots.{IsBoxWithin};
+ghost use Rattle.c2_cover.specs.Telling.{Follow, IsToldBy, ending_after, skipped};
+ghost use Rattle.c2_cover.specs.Words.{AreWords, words_of};
 
 use crate::cover::Cover;
 use c2_base::Range;
@@ -54,30 +54,37 @@ fn skip(ranges: &[Range], at: u64) -> u64
     }
 }
 
-// The words of these root boxes, under the ranges of a cover.
+// The words of these root boxes, under the ranges of a cover. A box that begins before the last word has none.
 fn words_under(alloc: Global, cover: &Cover, rows: &[RootBox]) -> Result<Vec<Word>, AllocError>
-    requires { FillSource cover.now.size 0 rows.now }
-    ensures { IfOk result
-        (λ words. words.items ≡ words_of (is_excluded cover.now.ranges) rows.now) }
+    requires { All (IsBoxWithin cover.now.size) rows.now }
+    ensures rise { IfOk result
+        (λ words. AreWords cover.now.size cover.now.ranges 0 words.items) }
+    ensures all { IfOk result (λ words. Follow 0 rows.now
+        → words.items ≡ words_of (is_excluded cover.now.ranges) rows.now) }
 {
     let mut words = Vec::new(alloc);
     let mut ahead = cover.ranges.as_slice();
+    let mut low = 0;
     for row in rows {
-        ahead = from_end_after(ahead, row.start);
-        let skipped = skip(ahead, row.start);
-        if skipped < row.length {
-            words.push(Word {
-                at: row.start + skipped,
-                start: row.start,
-            })?;
+        if row.start >= low {
+            ahead = from_end_after(ahead, row.start);
+            let skipped = skip(ahead, row.start);
+            low = row.start;
+            if skipped < row.length {
+                low += skipped;
+                words.push(Word {
+                    at: low,
+                    start: row.start,
+                })?;
+            }
         }
     }
     Ok(words)
 }
 
-/// The cover with the words of these root boxes, which fill the file.
+/// The cover with the words of these root boxes, which end inside the file.
 pub(crate) fn with_words(alloc: Global, cover: Cover, rows: &[RootBox]) -> Result<Cover, AllocError>
-    requires { FillSource cover.size 0 rows.now }
+    requires { All (IsBoxWithin cover.size) rows.now }
     ensures { IfOk result (IsToldBy rows.now cover) }
 {
     let words = words_under(alloc, &cover, rows)?;
