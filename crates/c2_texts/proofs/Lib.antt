@@ -1,3 +1,5 @@
 pub mod BoxLines
 pub mod Characters
+pub mod Hex
 pub mod Pieces
+pub mod Plain

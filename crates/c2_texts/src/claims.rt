@@ -7,7 +7,7 @@ ghost use Rattle.serde_json.specs.Written.{comma_if, compact_text};
 ghost use Rattle.c2_texts.specs.Items.{Appends, AppendsItems, items_inside};
 ghost use Rattle.c2_texts.specs.Show as form;
 
-use crate::json::{comma, push_value};
+use crate::json::{comma, push_text, push_value};
 use c2_base::Text;
 use c2_spec::{Claim, Ref};
 use serde_json::{Value, json};
@@ -70,15 +70,6 @@ fn push_assertions(alloc: Global, out: &mut String, claim: &Claim) -> Result<(),
     let later = push_entries(alloc, out, false, claim.created.as_slice())?;
     push_entries(alloc, out, later, claim.gathered.as_slice())?;
     out.push(']')?;
-    Ok(())
-}
-
-// Appends a text.
-fn push_text(alloc: Global, out: &mut String, before: &str, text: &str) -> Result<(), AllocError>
-    ensures { OnOk result (Appends out.old out.new (before.now ++ compact_text (string text.now))) }
-{
-    let value = Value::try_from_str(alloc, text)?;
-    push_value(alloc, out, before, &value)?;
     Ok(())
 }
 

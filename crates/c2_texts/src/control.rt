@@ -1,5 +1,6 @@
 // Texts without control bytes.
-ghost use Rattle.std.specs.Prelude.{◌≡◌, IfOk, string_bytes};
+ghost use Rattle.std.specs.Prelude.{◌≡◌, IfOk, OnOk, string_bytes};
+ghost use Rattle.c2_texts.specs.Items.{Appends};
 ghost use Rattle.c2_texts.specs.Texts as form;
 
 use std::alloc::{AllocError, Global};
@@ -9,10 +10,18 @@ pub fn printable(alloc: Global, text: &str) -> Result<String, AllocError>
     ensures { IfOk result (λ copy. string_bytes copy ≡ form.printable text.now) }
 {
     let mut copy = String::with_capacity(alloc, text.len())?;
-    for c in text.chars() {
-        copy.push(printable_char(c))?;
-    }
+    push_printable(&mut copy, text)?;
     Ok(copy)
+}
+
+/// Appends a text, with `?` for each control byte.
+pub fn push_printable(out: &mut String, text: &str) -> Result<(), AllocError>
+    ensures { OnOk result (Appends out.old out.new (form.printable text.now)) }
+{
+    for c in text.chars() {
+        out.push(printable_char(c))?;
+    }
+    Ok(())
 }
 
 // A control byte is a character of its own.
