@@ -14,10 +14,10 @@ use Rattle.c2_rules.specs.Rules.{box_with}
 use Rattle.c2_binding.specs.ChainContent.{claim_bytes_of, active_claim, key_at, GivesClaim, GivesBox, SameContent}
 use Rattle.c2_binding.specs.Correspondence.{Correspond}
 use Rattle.c2_binding.specs.Differences.{box_pair, unredacted_pairs, entry_pairs, unredacted_at, all_leading, all_unredacted}
-use Rattle.c2_binding.specs.Evidence.{ListPair, do_differ, IsReal}
+use Rattle.c2_binding.specs.Evidence.{ListPair, do_differ}
 use Rattle.c2_binding.proofs.Alike.{OneItem}
-use Rattle.c2_binding.proofs.Facts.{SeenAlike, StoreFacts}
-use Rattle.c2_binding.proofs.Links.{BothBoxes, contents_are, one_claim, one_entry, label_first, label_second, counterpart_is, both_boxes, box_real}
+use Rattle.c2_binding.proofs.Facts.{SeenAlike, StoreFacts, IsShown}
+use Rattle.c2_binding.proofs.Links.{BothBoxes, contents_are, one_claim, one_entry, label_first, label_second, counterpart_is, both_boxes, box_shown}
 use Rattle.c2_binding.proofs.Lists.{bool_cases, one_of, FoundBelow, found_downward, none_downward}
 use Rattle.c2_binding.proofs.Pairs.{FoundEntry, found_only, none_pair, found_entry, none_entry, found_reached, pairs_are}
 use Rattle.c2_binding.proofs.Walk.{forth, back, redacted_alike}
@@ -45,7 +45,7 @@ module _ (law : OneItem) (hash : Alg → List ℕ → List ℕ) (said : Question
 
   -- the first difference among assertions is real evidence
   pub all_unredacted_real : (p : ListPair) → find do_differ (all_unredacted rs ss) ≡ Some p
-      → IsReal hash said p
+      → IsShown hash said rs ss p
   all_unredacted_real p found =
       let x : FoundBelow do_differ (unredacted_at rs ss) (length rs) p =
       found_downward do_differ (unredacted_at rs ss) (length rs) p found in
@@ -62,12 +62,12 @@ module _ (law : OneItem) (hash : Alg → List ℕ → List ℕ) (said : Question
           (y : FoundEntry (unredacted_pairs rs n w.first w.second) w.first p) (b : Bool)
           → is_redacted rs n y.label ≡ b
           → find do_differ (cond b [] (box_pair w.first w.second y.entry y.label ∷ [])) ≡ Some p
-          → IsReal hash said p
+          → IsShown hash said rs ss p
       by n m w y true redacted e = absurd (cc (e))
       by n m w y false kept e =
           let own = found_only (box_pair w.first w.second y.entry y.label) p e in
-          subst (IsReal hash said) own.0
-          (box_real law hash said rs ss f g alike n m w y.entry y.label
+          subst (IsShown hash said rs ss) own.0
+          (box_shown law hash said rs ss f g alike n m w y.entry y.label
           (kept_boxes n m w y.entry y.label y.lists y.is_label kept) own.1)
 
   -- ---- where these don't differ either

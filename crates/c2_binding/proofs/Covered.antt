@@ -19,6 +19,8 @@ use Rattle.c2_binding.specs.ChainContent.{active_claim}
 use Rattle.c2_binding.specs.Correspondence.{Correspond}
 use Rattle.c2_binding.specs.Differences.{all_leading, all_unredacted, covered_text, binding_alg, covered_alg}
 use Rattle.c2_binding.specs.Evidence.{do_differ}
+use Rattle.c2_binding.specs.Lists.{IsListOf}
+use Rattle.c2_binding.specs.Lists.IsListOf.{covered}
 use Rattle.c2_binding.proofs.Alike.{OneItem, one_item}
 use Rattle.c2_binding.proofs.Facts.{SeenAlike, BindingFacts, FileFacts}
 use Rattle.c2_binding.proofs.Links.{binding_stays, stays, one_alg, one_claim, label_second, one_entry, BothBoxes, both_boxes, box_same}
@@ -31,6 +33,8 @@ pub record CoveredAlike (hash : Alg → List ℕ → List ℕ) (s t : StoreReadi
   pub alg : Alg
   pub known : alg_named (covered_alg s) ≡ Some alg
   pub same_digest : hash alg (covered_text s) ≡ hash alg (covered_text t)
+  pub left : IsListOf s (covered_text s)
+  pub right : IsListOf t (covered_text t)
 
 -- the covered text is that of the binding
 text_is : (s : StoreReading) (v : Binding) → binding_value s.binding ≡ Some v → covered_text s ≡ v.text
@@ -55,6 +59,8 @@ covered_alike law hash said s t f g alike claims none same = record {
   same_digest =
       ap (hash a.alg) (text_is s a.value a.is_value) ∙ a.digested ∙ values.1 ∙ sym b.digested
       ∙ ap (λ x. hash x b.value.text) (sym one) ∙ ap (hash a.alg) (sym (text_is t b.value b.is_value));
+  left = subst (IsListOf s) (sym (text_is s a.value a.is_value)) (covered a.value a.is_value);
+  right = subst (IsListOf t) (sym (text_is t b.value b.is_value)) (covered b.value b.is_value);
 }
   where
     rs : List Reading

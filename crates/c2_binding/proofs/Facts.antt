@@ -22,6 +22,8 @@ use Rattle.c2_rules.specs.Ingredients.{is_ingredient_kind}
 use Rattle.c2_rules.specs.Readings.{ReadBox, Reading, IsReading, value_in, entries_in, redactions_in}
 use Rattle.c2_rules.specs.Rules.{alg_in, box_with, is_binding, label_kind}
 use Rattle.c2_binding.specs.ChainContent.{claim_bytes_of}
+use Rattle.c2_binding.specs.Evidence.{ListPair, IsReal}
+use Rattle.c2_binding.specs.Lists.{IsListIn}
 
 -- ---- the box tree
 
@@ -191,3 +193,12 @@ pub record FileFacts (hash : Alg → List ℕ → List ℕ) (said : Question →
   pub store : StoreFacts hash said s.readings
   pub binding : (n : ℕ) (r : Reading) → slice_get s.readings n ≡ Some r → n + 1 ≡ length s.readings
       → BindingFacts hash s r
+
+-- ---- evidence
+
+-- A pair is real evidence, and its lists are lists of both stores.
+pub record IsShown (hash : Alg → List ℕ → List ℕ) (said : Question → Verdict) (rs ss : List Reading)
+    (p : ListPair) : Type 0 where
+  pub real : IsReal hash said p
+  pub left : IsListIn rs p.left
+  pub right : IsListIn ss p.right

@@ -14,10 +14,12 @@ use Rattle.c2_binding.specs.Accepted.{IsOpenedAs, IsAccepted, HaveOneClaim, AreS
 use Rattle.c2_binding.specs.Correspondence.{Correspond}
 use Rattle.c2_binding.specs.Differences.{leading_at, all_leading, all_unredacted, covered_pair, first_difference}
 use Rattle.c2_binding.specs.Evidence.{ListPair, do_differ, IsReal}
+use Rattle.c2_binding.specs.Lists.{IsListOf}
+use Rattle.c2_binding.specs.Lists.IsListOf.{in_store}
 use Rattle.c2_binding.proofs.Alike.{OneItem}
 use Rattle.c2_binding.proofs.Contents.{all_unredacted_real, same_content}
 use Rattle.c2_binding.proofs.Covered.{covered_alike}
-use Rattle.c2_binding.proofs.Facts.{SeenAlike, FileFacts}
+use Rattle.c2_binding.proofs.Facts.{SeenAlike, FileFacts, IsShown}
 use Rattle.c2_binding.proofs.Lists.{option_cases, found_append, none_append}
 use Rattle.c2_binding.proofs.Pairs.{found_only, none_pair}
 use Rattle.c2_binding.proofs.Stored.{IsStored, tree_facts, seen_alike}
@@ -116,7 +118,8 @@ module _ (law : OneItem) (hash : Alg → List ℕ → List ℕ) (said : Question
   -- or evidence
   pub leading_real_of : (n m : ℕ) → Correspond s.readings t.readings n m → (p : ListPair)
       → find do_differ (leading_at s.readings t.readings n) ≡ Some p → IsReal hash said p
-  leading_real_of = leading_real law hash said s.readings t.readings own.store other.store both
+  leading_real_of n m w p found =
+      (leading_real law hash said s.readings t.readings own.store other.store both n m w p found).real
 
   -- the active manifests correspond
   pub root_of : Correspond s.readings t.readings (length s.readings - 1) (length t.readings - 1)
@@ -138,24 +141,58 @@ module _ (law : OneItem) (hash : Alg → List ℕ → List ℕ) (said : Question
       → is_redacted s.readings n label ≡ is_redacted t.readings m label
   redacted_of = redacted_alike law hash said s.readings t.readings own.store other.store both h.claims
 
-  -- the first difference is real evidence
-  pub difference_is_real : (p : ListPair) → first_difference s t ≡ Some p → IsReal hash said p
-  difference_is_real p found =
+  -- The first difference is real evidence, and its lists are lists of both files.
+  record IsFirst (p : ListPair) : Type 0 where
+    real : IsReal hash said p
+    left : IsListOf s p.left
+    right : IsListOf t p.right
+
+  -- what is shown of both stores
+  shown : (p : ListPair) → IsShown hash said s.readings t.readings p → IsFirst p
+  shown p e = record { real = e.real; left = in_store p.left e.left; right = in_store p.right e.right }
+
+  -- by the part of the list of pairs
+  first_is : (p : ListPair) → first_difference s t ≡ Some p → IsFirst p
+  first_is p found =
       elim (found_append do_differ (all_leading s.readings t.readings)
       (all_unredacted s.readings t.readings ++ covered_pair s t ∷ []) p found) [
-        | inl leads ↦ all_leading_real law hash said s.readings t.readings own.store other.store both h.claims
-            p leads
+        | inl leads ↦
+            shown p (all_leading_real law hash said s.readings t.readings own.store other.store both h.claims
+            p leads)
         | inr rest ↦ elim (found_append do_differ (all_unredacted s.readings t.readings)
-            (covered_pair s t ∷ []) p rest.1) [
-              | inl kept ↦ all_unredacted_real law hash said s.readings t.readings own.store other.store both
-                  h.claims rest.0 p kept
+            (covered_pair s t ∷ []) p
+            rest.1) [
+              | inl kept ↦
+                  shown p
+                  (all_unredacted_real law hash said s.readings t.readings own.store other.store both h.claims
+                  rest.0 p
+                  kept)
               | inr last ↦
                   let covered = found_only (covered_pair s t) p last.1 in
                   let c = covered_alike law hash said s t own other both h.claims rest.0 last.0 in
-                  subst (IsReal hash said) covered.0
-                  (record { alg = c.alg; known = c.known; differ = covered.1; same_digest = c.same_digest })
+                  subst IsFirst covered.0
+                  (record {
+                    real = record {
+                      alg = c.alg;
+                      known = c.known;
+                      differ = covered.1;
+                      same_digest =
+                          c.same_digest;
+                    };
+                    left = c.left;
+                    right = c.right;
+                  })
             ]
       ]
+
+  -- the first difference is real evidence
+  pub difference_is_real : (p : ListPair) → first_difference s t ≡ Some p → IsReal hash said p
+  difference_is_real p found = (first_is p found).real
+
+  -- its lists are lists of both files
+  pub lists_are_theirs : (p : ListPair) → first_difference s t ≡ Some p
+      → IsListOf s p.left × IsListOf t p.right
+  lists_are_theirs p found = let x = first_is p found in (x.left, x.right)
 
   -- without a difference chain contents and covered texts are equal
   pub no_difference : first_difference s t ≡ None → AreSame s t

@@ -26,8 +26,10 @@ use Rattle.c2_binding.specs.ChainContent.{claim_bytes_of}
 use Rattle.c2_binding.specs.Correspondence.{Correspond}
 use Rattle.c2_binding.specs.Differences.{other_named, counterpart, no_superbox, contents_with, signature_box, claim_list, whole_contents, box_pair, signature_pair, claim_pair, whole_pair, target_pairs, ingredient_with}
 use Rattle.c2_binding.specs.Evidence.{ListPair, do_differ, IsReal}
+use Rattle.c2_binding.specs.Lists.{IsReachedAt, IsListIn}
+use Rattle.c2_binding.specs.Lists.IsListIn.{of_box, of_signature, of_claim, of_manifest}
 use Rattle.c2_binding.proofs.Alike.{OneItem, claims_alike, box_reads, ingredients_alike, one_message, given_says, one_label}
-use Rattle.c2_binding.proofs.Facts.{SeenAlike, IsApproved, HasBox, is_unredactable, BySignature, ByContents, Binds, NamedFact, StoreFacts}
+use Rattle.c2_binding.proofs.Facts.{SeenAlike, IsApproved, HasBox, is_unredactable, BySignature, ByContents, Binds, NamedFact, StoreFacts, IsShown}
 use Rattle.c2_binding.proofs.Lists.{bool_cases, one_of, never, find_says, find_only, in_front, front_at}
 use Rattle.c2_binding.proofs.Pairs.{found_pair, found_only, none_pair}
 
@@ -237,6 +239,24 @@ module _ (law : OneItem) (hash : Alg → List ℕ → List ℕ) (said : Question
         ∙ ap (hash h.alg) (sym (contents_are w.second label h.right h.right_is));
   }
 
+  -- and the lists are those of the boxes
+  pub box_shown : (n m : ℕ) (w : Correspond rs ss n m) (e : Ref) (label : List ℕ)
+      → BothBoxes hash w.first w.second e label
+      → (box_pair w.first w.second e label).left ≢ (box_pair w.first w.second e label).right
+      → IsShown hash said rs ss (box_pair w.first w.second e label)
+  box_shown n m w e label h differ =
+      let a : IsReachedAt rs n w.first = record { at_place = w.first_at; reached = w.first_reached } in
+      let b : IsReachedAt ss m w.second = record { at_place = w.second_at; reached = w.second_reached } in
+      record {
+        real = box_real n m w e label h differ;
+        left =
+            subst (IsListIn rs) (sym (contents_are w.first label h.left h.left_is))
+            (of_box n w.first a h.left (box_says w.first label h.left h.left_is).0);
+        right =
+            subst (IsListIn ss) (sym (contents_are w.second label h.right h.right_is))
+            (of_box m w.second b h.right (box_says w.second label h.right h.right_is).0);
+      }
+
   -- where they are equal, they are equal boxes and equal ingredients
   pub box_same : (n m : ℕ) (w : Correspond rs ss n m) (e : Ref) (label : List ℕ)
       (h : BothBoxes hash w.first w.second e label)
@@ -442,25 +462,86 @@ module _ (law : OneItem) (hash : Alg → List ℕ → List ℕ) (said : Question
 
   -- ---- either way
 
-  -- the first difference of what an ingredient binds is real evidence
-  pub target_real : (n m : ℕ) (w : Correspond rs ss n m) (i : Ingredient) (name : List ℕ)
-      (c : Targets n m w i name) (o : Option Ref)
-      → Binds hash w.first c.first.child i o → Binds hash w.second c.second.child i o → (p : ListPair)
+  -- the manifests that are named are reached
+  first_target : (n m : ℕ) (w : Correspond rs ss n m) (i : Ingredient) (name : List ℕ)
+      (c : Targets n m w i name)
+      → IsReachedAt rs c.first.place c.first.child
+  first_target n m w i name c = record { at_place = c.first.at_place; reached = c.first_reached }
+
+  -- in both stores
+  second_target : (n m : ℕ) (w : Correspond rs ss n m) (i : Ingredient) (name : List ℕ)
+      (c : Targets n m w i name)
+      → IsReachedAt ss c.second.place c.second.child
+  second_target n m w i name c = record { at_place = c.second.at_place; reached = c.second_reached }
+
+  -- the signature boxes as evidence
+  signature_shown : (n m : ℕ) (w : Correspond rs ss n m) (i : Ingredient) (name : List ℕ)
+      (c : Targets n m w i name) (ref : Ref) → BySignature hash w.first c.first.child ref
+      → BySignature hash w.second c.second.child ref
+      → (signature_box (Some c.first.child)).contents ≢ (signature_box (Some c.second.child)).contents
+      → IsShown hash said rs ss (signature_pair w.first ref name (Some c.first.child) (Some c.second.child))
+  signature_shown n m w i name c ref x y differ = record {
+    real = signature_real n m w name c.first.child c.second.child ref x y differ;
+    left =
+        subst (λ (z : Superbox). IsListIn rs z.contents) (sym (box_of c.first.child x.box x.has_box))
+        (of_signature c.first.place c.first.child (first_target n m w i name c) x.box x.has_box);
+    right =
+        subst (λ (z : Superbox). IsListIn ss z.contents) (sym (box_of c.second.child y.box y.has_box))
+        (of_signature c.second.place c.second.child (second_target n m w i name c) y.box y.has_box);
+  }
+
+  -- the claims as evidence
+  claims_shown : (n m : ℕ) (w : Correspond rs ss n m) (i : Ingredient) (name : List ℕ)
+      (c : Targets n m w i name) (ref : Ref) → BySignature hash w.first c.first.child ref
+      → BySignature hash w.second c.second.child ref
+      → (signature_box (Some c.first.child)).contents ≡ (signature_box (Some c.second.child)).contents
+      → claim_list (Some c.first.child) ≢ claim_list (Some c.second.child)
+      → IsShown hash said rs ss (claim_pair name (Some c.first.child) (Some c.second.child))
+  claims_shown n m w i name c ref x y same differ =
+      let p : IsApproved said c.first.child =
+      (f.manifests c.first.place c.first.child c.first.at_place c.first_reached).approved in
+      let q : IsApproved said c.second.child =
+      (g.manifests c.second.place c.second.child c.second.at_place c.second_reached).approved in
+      record {
+        real = claims_real n m w i name c ref x y same differ;
+        left =
+            subst (IsListIn rs) (sym (list_of c.first.child p.bytes p.has_bytes))
+            (of_claim c.first.place c.first.child (first_target n m w i name c) p.bytes p.has_bytes);
+        right =
+            subst (IsListIn ss) (sym (list_of c.second.child q.bytes q.has_bytes))
+            (of_claim c.second.place c.second.child (second_target n m w i name c) q.bytes q.has_bytes);
+      }
+
+  -- the contents as evidence
+  whole_shown : (n m : ℕ) (w : Correspond rs ss n m) (i : Ingredient) (name : List ℕ)
+      (c : Targets n m w i name) → ByContents hash w.first c.first.child i
+      → ByContents hash w.second c.second.child i
+      → whole_contents (Some c.first.child) ≢ whole_contents (Some c.second.child)
+      → IsShown hash said rs ss (whole_pair w.first (option_and_then (λ (ref : Ref). ref.alg) i.manifest) name
+      (Some c.first.child) (Some c.second.child))
+  whole_shown n m w i name c x y differ = record {
+    real = whole_real n m w i name c.first.child c.second.child x y differ;
+    left = of_manifest c.first.place c.first.child (first_target n m w i name c);
+    right = of_manifest c.second.place c.second.child (second_target n m w i name c);
+  }
+
+  -- the first difference of what an ingredient binds is evidence
+  pub target_shown : (n m : ℕ) (w : Correspond rs ss n m) (i : Ingredient) (name : List ℕ)
+      (c : Targets n m w i name) (o : Option Ref) → Binds hash w.first c.first.child i o
+      → Binds hash w.second c.second.child i o → (p : ListPair)
       → find do_differ (target_pairs w.first i o name (Some c.first.child) (Some c.second.child)) ≡ Some p
-      → IsReal hash said p
-  target_real n m w i name c None x y p e =
-      let own =
-      found_only (whole_pair w.first (option_and_then (λ (ref : Ref). ref.alg) i.manifest) name
+      → IsShown hash said rs ss p
+  target_shown n m w i name c None x y p e =
+      let own = found_only (whole_pair w.first (option_and_then (λ (ref : Ref). ref.alg) i.manifest) name
       (Some c.first.child) (Some c.second.child)) p e in
-      subst (IsReal hash said) own.0 (whole_real n m w i name c.first.child c.second.child x y own.1)
-  target_real n m w i name c (Some ref) x y p e =
+      subst (IsShown hash said rs ss) own.0 (whole_shown n m w i name c x y own.1)
+  target_shown n m w i name c (Some ref) x y p e =
       elim (found_pair (signature_pair w.first ref name (Some c.first.child) (Some c.second.child))
       (claim_pair name (Some c.first.child) (Some c.second.child) ∷ []) p e) [
-        | inl own ↦ subst (IsReal hash said) own.0
-            (signature_real n m w name c.first.child c.second.child ref x y own.1)
+        | inl own ↦ subst (IsShown hash said rs ss) own.0 (signature_shown n m w i name c ref x y own.1)
         | inr rest ↦
             let own = found_only (claim_pair name (Some c.first.child) (Some c.second.child)) p rest.1 in
-            subst (IsReal hash said) own.0 (claims_real n m w i name c ref x y rest.0 own.1)
+            subst (IsShown hash said rs ss) own.0 (claims_shown n m w i name c ref x y rest.0 own.1)
       ]
 
   -- without a difference the claim bytes are equal

@@ -15,10 +15,10 @@ use Rattle.c2_rules.specs.Rules.{box_with, label_kind}
 use Rattle.c2_rules.specs.declared.parsed.Parsed.TheVariants.{NoItem}
 use Rattle.c2_binding.specs.Correspondence.{Correspond}
 use Rattle.c2_binding.specs.Differences.{other_named, box_pair, target_pairs, label_pairs, ingredient_pairs, ingredient_with, leading_pairs, entry_pairs, leading_at}
-use Rattle.c2_binding.specs.Evidence.{ListPair, do_differ, IsReal}
+use Rattle.c2_binding.specs.Evidence.{ListPair, do_differ}
 use Rattle.c2_binding.proofs.Alike.{OneItem, box_reads}
-use Rattle.c2_binding.proofs.Facts.{SeenAlike, StoreFacts}
-use Rattle.c2_binding.proofs.Links.{ingredient_stays, box_says, ingredient_is, stays, BothBoxes, one_claim, one_entry, label_first, counterpart_is, both_boxes, box_real, box_same, Targets, targets, targets_correspond, target_real, target_same}
+use Rattle.c2_binding.proofs.Facts.{SeenAlike, StoreFacts, IsShown}
+use Rattle.c2_binding.proofs.Links.{ingredient_stays, box_says, ingredient_is, stays, BothBoxes, one_claim, one_entry, label_first, counterpart_is, both_boxes, box_shown, box_same, Targets, targets, targets_correspond, target_shown, target_same}
 use Rattle.c2_binding.proofs.Lists.{one_of}
 use Rattle.c2_binding.proofs.Pairs.{found_pair, none_pair, FoundEntry, found_entry, none_entry, pairs_are}
 
@@ -130,13 +130,13 @@ module _ (law : OneItem) (hash : Alg → List ℕ → List ℕ) (said : Question
       → (p : ListPair)
       → find do_differ (box_pair w.first w.second e label ∷ ingredient_pairs rs ss w.first
       (ingredient_with w.first label)) ≡ Some p
-      → IsReal hash said p
+      → IsShown hash said rs ss p
   ingredient_real n m w e label listed is kind p found =
       let h = ingredient_boxes n m w e label listed is kind in
       elim (found_pair (box_pair w.first w.second e label)
       (ingredient_pairs rs ss w.first (ingredient_with w.first label)) p found) [
-        | inl own ↦ subst (IsReal hash said) own.0
-            (box_real law hash said rs ss f g alike n m w e label h own.1)
+        | inl own ↦ subst (IsShown hash said rs ss) own.0
+            (box_shown law hash said rs ss f g alike n m w e label h own.1)
         | inr rest ↦
             let x = one_ingredient n m w e label h kind rest.0 in
             by h x (named_by (Some x.ingredient)) refl (sym (ap (find do_differ) x.pairs_are) ∙ rest.1)
@@ -144,12 +144,12 @@ module _ (law : OneItem) (hash : Alg → List ℕ → List ℕ) (said : Question
     where
       by : (h : BothBoxes hash w.first w.second e label) (x : OneIngredient n m w e label h)
           (o : Option (List ℕ)) → named_by (Some x.ingredient) ≡ o
-          → find do_differ (label_pairs rs ss w.first x.ingredient o) ≡ Some p → IsReal hash said p
+          → find do_differ (label_pairs rs ss w.first x.ingredient o) ≡ Some p → IsShown hash said rs ss p
       by h x None names more = absurd (cc (more))
       by h x (Some name) names more =
           let c = targets law hash said rs ss f g alike n m w e label h x.ingredient name x.left_is x.right_is
           kind names in
-          target_real law hash said rs ss f g alike n m w x.ingredient name c x.ingredient.signature
+          target_shown law hash said rs ss f g alike n m w x.ingredient name c x.ingredient.signature
           c.first.binds c.second.binds p
           (sym (ap (find do_differ) (label_pairs_are n m w x.ingredient name c)) ∙ more)
 
@@ -211,7 +211,7 @@ module _ (law : OneItem) (hash : Alg → List ℕ → List ℕ) (said : Question
 
   -- the first difference among them is real evidence
   pub leading_real : (n m : ℕ) (w : Correspond rs ss n m) (p : ListPair)
-      → find do_differ (leading_at rs ss n) ≡ Some p → IsReal hash said p
+      → find do_differ (leading_at rs ss n) ≡ Some p → IsShown hash said rs ss p
   leading_real n m w p found =
       let x = found_entry (leading_pairs rs ss w.first w.second) w.first p
       (sym (ap (find do_differ) (leading_are n m w)) ∙ found) in
@@ -222,7 +222,7 @@ module _ (law : OneItem) (hash : Alg → List ℕ → List ℕ) (said : Question
           → find do_differ (cond b
           (box_pair w.first w.second x.entry x.label ∷ ingredient_pairs rs ss w.first
           (ingredient_with w.first x.label)) []) ≡ Some p
-          → IsReal hash said p
+          → IsShown hash said rs ss p
       by x true kind own = ingredient_real n m w x.entry x.label x.lists x.is_label kind p own
       by x false kind own = absurd (cc (own))
 

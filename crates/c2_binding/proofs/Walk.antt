@@ -17,9 +17,9 @@ use Rattle.c2_rules.specs.Readings.{Reading, value_in, redactions_of}
 use Rattle.c2_binding.specs.ChainContent.{claim_bytes_of, active_claim}
 use Rattle.c2_binding.specs.Correspondence.{Correspond}
 use Rattle.c2_binding.specs.Differences.{leading_pairs, entry_pairs, leading_at, all_leading}
-use Rattle.c2_binding.specs.Evidence.{ListPair, do_differ, IsReal}
+use Rattle.c2_binding.specs.Evidence.{ListPair, do_differ}
 use Rattle.c2_binding.proofs.Alike.{OneItem}
-use Rattle.c2_binding.proofs.Facts.{SeenAlike, StoreFacts}
+use Rattle.c2_binding.proofs.Facts.{SeenAlike, StoreFacts, IsShown}
 use Rattle.c2_binding.proofs.Links.{one_claim}
 use Rattle.c2_binding.proofs.Lists.{bool_cases, one_of, never, FoundBelow, found_downward, none_downward}
 use Rattle.c2_binding.proofs.Pairs.{found_reached}
@@ -101,7 +101,8 @@ module _ (law : OneItem) (hash : Alg → List ℕ → List ℕ) (said : Question
       (r.0, r.1)
 
   -- the first difference among the pairs that lead on is real evidence
-  pub all_leading_real : (p : ListPair) → find do_differ (all_leading rs ss) ≡ Some p → IsReal hash said p
+  pub all_leading_real : (p : ListPair) → find do_differ (all_leading rs ss) ≡ Some p
+      → IsShown hash said rs ss p
   all_leading_real p found =
       let x : FoundBelow do_differ (leading_at rs ss) (length rs) p =
       found_downward do_differ (leading_at rs ss) (length rs) p found in

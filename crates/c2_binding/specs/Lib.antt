@@ -3,6 +3,7 @@
 pub mod ChainContent
 pub mod Evidence
 pub mod Differences
+pub mod Lists
 pub mod Accepted
 pub mod Correspondence
 pub mod Deciding

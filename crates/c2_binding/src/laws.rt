@@ -21,6 +21,7 @@ ghost use Rattle.c2_binding.specs.Correspondence.{Correspond};
 ghost use Rattle.c2_binding.specs.Deciding.{has_same_content};
 ghost use Rattle.c2_binding.specs.Differences.{leading_at, all_leading, first_difference};
 ghost use Rattle.c2_binding.specs.Evidence.{ListPair, do_differ, IsReal};
+ghost use Rattle.c2_binding.specs.Lists.{IsListOf};
 ghost use Rattle.c2_binding.specs.declared.compared.Compared.{Compared as AnyCompared};
 
 use c2_cbor::one_item;
@@ -77,9 +78,14 @@ pub fn each_reached_manifest_corresponds()
 /// The first difference of two accepted files with one active claim is real: two different lists under one
 /// digest, or two different claims under one signature.
 pub fn a_first_difference_is_real()
-    ensures { (hash : Alg → List ℕ → List ℕ) (said : Question → Verdict)
+    ensures real { (hash : Alg → List ℕ → List ℕ) (said : Question → Verdict)
         (first second : List ℕ) (s t : StoreReading) → HaveOneClaim hash said first second s t
         → (p : ListPair) → first_difference s t ≡ Some p → IsReal hash said p }
+    // The lists are there: each is one of its own file.
+    ensures theirs { (hash : Alg → List ℕ → List ℕ) (said : Question → Verdict)
+        (first second : List ℕ) (s t : StoreReading) → HaveOneClaim hash said first second s t
+        → (p : ListPair) → first_difference s t ≡ Some p
+        → IsListOf s p.left × IsListOf t p.right }
 {
     // Only the prover needs this law.
     one_item();
