@@ -5,6 +5,7 @@
 #![tactic(auto)]
 
 mod bmff_hash;
+mod bmff_written;
 mod data_hash;
 mod ingredient;
 mod kinds;
@@ -13,6 +14,7 @@ mod tests;
 pub mod types;
 
 pub use bmff_hash::{BmffHash, read_bmff_hash};
+pub use bmff_written::write_bmff_hash;
 pub use c2_spec::{DataHash, FieldError, Ingredient, Kind, Relationship};
 pub use data_hash::read_data_hash;
 pub use ingredient::read_ingredient;

@@ -1,0 +1,186 @@
+// Writing a BMFF hash.
+ghost use Rattle.std.specs.Prelude.{◌≡◌, ◌++◌, [], ◌∷◌, ℕ, List, codes, OnOk, IfOk, map};
+ghost use Rattle.c2_base.specs.declared.values.Range.{Range};
+ghost use Rattle.c2_spec.specs.Bmff.Hash as form;
+ghost use Rattle.c2_spec.specs.Bmff.Paths.{steps_text};
+ghost use Rattle.c2_spec.specs.Cbor.Item as item;
+ghost use Rattle.c2_spec.specs.Cbor.View.{view};
+ghost use Rattle.c2_bmff.specs.Exclusions.{byte_test};
+ghost use Rattle.c2_assertion.specs.Written.{bmff_hash_item, exclusion_item, field, field_if, pair_view, part_item, parts_item, test_item, tests_field};
+
+use crate::bmff_hash::BmffHash;
+use c2_base::{Blob, NoMemory, Range, Ranges, Text};
+use c2_bmff::{ByteTests, Exclusion};
+use c2_cbor::Cbor;
+use std::alloc::Global;
+
+// Adds a field of this name.
+fn add_field(
+    alloc: Global,
+    fields: &mut Vec<(Cbor, Cbor)>,
+    name: &str,
+    value: Cbor,
+) -> Result<(), NoMemory>
+    ensures { OnOk result (map pair_view fields.new.items
+        ≡ map pair_view fields.old.items ++ field name.now (view value) ∷ []) }
+{
+    let key = Cbor::Text(Text::copied(alloc, name)?);
+    fields.push((key, value))?;
+    Ok(())
+}
+
+// A byte string.
+fn byte_string(alloc: Global, bytes: &Blob) -> Result<Cbor, NoMemory>
+    ensures { IfOk result (λ v. view v ≡ item.bytes bytes.now) }
+{
+    Ok(Cbor::Bytes(Blob::copied(alloc, bytes.as_slice())?))
+}
+
+// The item of a byte test.
+fn test_written(alloc: Global, test: &(u64, Blob)) -> Result<Cbor, NoMemory>
+    ensures { IfOk result (λ v. view v ≡ test_item (byte_test test.now)) }
+{
+    let mut fields = Vec::new(alloc);
+    let value = byte_string(alloc, &test.1)?;
+    add_field(alloc, &mut fields, "value", value)?;
+    add_field(alloc, &mut fields, "offset", Cbor::Uint(test.0))?;
+    Ok(Cbor::Map(fields))
+}
+
+// The item of a part of a box.
+fn part_written(alloc: Global, part: Range) -> Result<Cbor, NoMemory>
+    ensures { IfOk result (λ v. view v ≡ part_item part) }
+{
+    let mut fields = Vec::new(alloc);
+    add_field(alloc, &mut fields, "length", Cbor::Uint(part.length))?;
+    add_field(alloc, &mut fields, "offset", Cbor::Uint(part.start))?;
+    Ok(Cbor::Map(fields))
+}
+
+// The items of these byte tests.
+fn tests_written(alloc: Global, tests: &[(u64, Blob)]) -> Result<Vec<Cbor>, NoMemory>
+    ensures { IfOk result
+        (λ vs. map view vs.items ≡ map test_item (map byte_test tests.now)) }
+{
+    let mut items = Vec::new(alloc);
+    for test in tests {
+        items.push(test_written(alloc, test)?)?;
+    }
+    Ok(items)
+}
+
+// The items of these parts.
+fn parts_written(alloc: Global, parts: &[Range]) -> Result<Vec<Cbor>, NoMemory>
+    ensures { IfOk result (λ vs. map view vs.items ≡ map part_item parts.now) }
+{
+    let mut items = Vec::new(alloc);
+    for part in parts {
+        items.push(part_written(alloc, *part)?)?;
+    }
+    Ok(items)
+}
+
+// Adds the byte tests, where there are some.
+fn add_tests(
+    alloc: Global,
+    fields: &mut Vec<(Cbor, Cbor)>,
+    tests: &ByteTests,
+) -> Result<(), NoMemory>
+    ensures { OnOk result (map pair_view fields.new.items
+        ≡ map pair_view fields.old.items ++ tests_field tests.now) }
+{
+    let tests = tests.as_slice();
+    if tests.is_empty() {
+        return Ok(());
+    }
+    let items = tests_written(alloc, tests)?;
+    add_field(alloc, fields, "data", Cbor::List(items))
+}
+
+// Adds the length, where one is stated.
+fn add_length(
+    alloc: Global,
+    fields: &mut Vec<(Cbor, Cbor)>,
+    length: Option<u64>,
+) -> Result<(), NoMemory>
+    ensures { OnOk result (map pair_view fields.new.items
+        ≡ map pair_view fields.old.items ++ field_if (codes "length") item.uint length) }
+{
+    match length {
+        Some(n) => add_field(alloc, fields, "length", Cbor::Uint(n)),
+        None => Ok(()),
+    }
+}
+
+// Adds the subset, where there is one.
+fn add_subset(
+    alloc: Global,
+    fields: &mut Vec<(Cbor, Cbor)>,
+    subset: &Option<Ranges>,
+) -> Result<(), NoMemory>
+    ensures { OnOk result (map pair_view fields.new.items
+        ≡ map pair_view fields.old.items ++ field_if (codes "subset") parts_item subset.now) }
+{
+    let Some(parts) = subset else {
+        return Ok(());
+    };
+    let items = parts_written(alloc, parts.as_slice())?;
+    add_field(alloc, fields, "subset", Cbor::List(items))
+}
+
+// The item of an exclusion.
+fn exclusion_written(alloc: Global, exclusion: &Exclusion) -> Result<Cbor, NoMemory>
+    ensures { IfOk result (λ v. view v ≡ exclusion_item exclusion.now) }
+{
+    let mut fields = Vec::new(alloc);
+    add_tests(alloc, &mut fields, &exclusion.tests)?;
+    let path = Cbor::Text(Text::copied(alloc, exclusion.path.text())?);
+    add_field(alloc, &mut fields, "xpath", path)?;
+    add_length(alloc, &mut fields, exclusion.length)?;
+    add_subset(alloc, &mut fields, &exclusion.subset)?;
+    Ok(Cbor::Map(fields))
+}
+
+// The items of these exclusions.
+fn exclusions_written(alloc: Global, exclusions: &[Exclusion]) -> Result<Vec<Cbor>, NoMemory>
+    ensures { IfOk result (λ vs. map view vs.items ≡ map exclusion_item exclusions.now) }
+{
+    let mut items = Vec::new(alloc);
+    for exclusion in exclusions {
+        items.push(exclusion_written(alloc, exclusion)?)?;
+    }
+    Ok(items)
+}
+
+// Adds the algorithm, where one is named.
+fn add_alg(
+    alloc: Global,
+    fields: &mut Vec<(Cbor, Cbor)>,
+    alg: &Option<Text>,
+) -> Result<(), NoMemory>
+    ensures { OnOk result (map pair_view fields.new.items
+        ≡ map pair_view fields.old.items ++ field_if (codes "alg") item.text alg.now) }
+{
+    let Some(name) = alg else {
+        return Ok(());
+    };
+    let name = Cbor::Text(Text::copied(alloc, name.as_str())?);
+    add_field(alloc, fields, "alg", name)
+}
+
+/// The item of a BMFF hash (C2PA Technical Specification 2.x, "BMFF-based hash", version 2): `alg` where one is named, `hash`, and
+/// `exclusions`, each of them `data` where it has byte tests, `xpath`, `length` where one is stated, and `subset` where there is one.
+///
+/// It is read as the same hash where that has at most 1,024 exclusions, no empty subset, and no path that enters a box which no path
+/// enters.
+pub fn write_bmff_hash(alloc: Global, value: &BmffHash) -> Result<Cbor, NoMemory>
+    ensures { IfOk result (λ v. view v ≡ bmff_hash_item value.now) }
+{
+    let mut fields = Vec::new(alloc);
+    add_alg(alloc, &mut fields, &value.alg)?;
+    let hash = byte_string(alloc, &value.hash)?;
+    add_field(alloc, &mut fields, "hash", hash)?;
+    let exclusions = exclusions_written(alloc, value.exclusions.as_slice())?;
+    add_field(alloc, &mut fields, "exclusions", Cbor::List(exclusions))?;
+    Ok(Cbor::Map(fields))
+}
