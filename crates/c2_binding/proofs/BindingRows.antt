@@ -18,6 +18,7 @@ use Rattle.c2_rules.specs.Tests.{first_failing}
 use Rattle.c2_rules.specs.declared.answer.Failing.{Failing}
 use Rattle.c2_rules.specs.declared.parsed.Parsed.TheVariants.{NoItem, Value}
 use Rattle.c2_binding.specs.ChainContent.{active_claim}
+use Rattle.c2_binding.specs.Deciding.{has_same_content}
 use Rattle.c2_binding.specs.Differences.{first_difference}
 use Rattle.c2_binding.specs.Evidence.{digest, signed, ListPair, IsReal}
 use Rattle.c2_binding.specs.EvidenceText.{evidence_text}
@@ -370,3 +371,44 @@ redacting_holds = (refl, refl)
 redacting_claims : active_claim (redacting (codes "c") (codes "s")).readings ≡ active_claim
     (redacting (codes "d") (codes "s")).readings
 redacting_claims = refl
+
+-- ---- the order of manifests, and contents as such
+
+-- a box of an ingredient with these contents, which names the manifest m or none
+abbrev ingredient_box : List ℕ → Option Ref → ReadBox
+ingredient_box contents manifest = record {
+  boxed = record { label = Some ingredient_label; contents = contents; item = None };
+  ingredient = Value (record { relationship = ComponentOf; manifest = manifest; signature = None });
+}
+
+-- m with such a box, and an active manifest with one that names m
+abbrev two_boxes : List ℕ → List ℕ → StoreReading
+two_boxes lower upper = store (
+    manifest (codes "m") (codes "m!") (codes "c") (codes "s") (codes "c2pa.hash.data" ∷ ingredient_label ∷ [])
+    []
+    (data_hash ∷ ingredient_box lower None ∷ [])
+    ∷ manifest (codes "A") (codes "whole") (codes "active") (codes "s")
+    (codes "c2pa.hash.data" ∷ ingredient_label ∷ []) []
+    (data_hash ∷ ingredient_box upper (Some (reference (codes "self#jumbf=/c2pa/m"))) ∷ [])
+    ∷ []) picture
+
+-- both boxes differ: that of the last manifest comes first
+last_manifest_first : first_difference (two_boxes (codes "1") (codes "2")) (two_boxes (codes "3") (codes "4"))
+    ≡ Some (record {
+      bond = digest (codes "sha256");
+      place = codes "self#jumbf=/c2pa/A/c2pa.assertions/c2pa.ingredient.v3";
+      left = codes "2";
+      right = codes "4";
+    })
+unfolding label_kind
+last_manifest_first = refl
+
+-- chain contents are equal where active manifests have other labels
+labels_same : has_same_content file.readings (manifest (codes "n") (codes "other") (codes "claim") (codes "t")
+    (codes "c2pa.hash.data" ∷ codes "test.note" ∷ []) []
+    (data_hash ∷ plain_box (codes "test.note") (note_contents (codes "\"ab\"")) ∷ []) ∷ []) ≡ true
+labels_same = refl
+
+-- and differ where a note does
+notes_differ : has_same_content file.readings other_note.readings ≡ false
+notes_differ = refl
