@@ -1,8 +1,8 @@
 //! Items that another encoder made, field by field, and labels of each kind.
 
-use crate::{kind, read_bmff_hash, read_data_hash, read_ingredient};
+use crate::{kind, read_bmff_hash, read_data_hash, read_ingredient, write_bmff_hash};
 use c2_bmff::Exclusion;
-use c2_cbor::{Ref, decode_whole};
+use c2_cbor::{Ref, decode_whole, encode};
 use std::alloc::{AllocError, Global};
 use std::test::Fail;
 
@@ -356,6 +356,38 @@ fn labels_have_these_kinds(rt: HostRuntime) -> Result<(), Fail> {
             let got = format!(in alloc; "{found:?}")?;
             assert_eq!(rt; got.as_str(), want, "{label}");
         }
+    }
+    Ok(())
+}
+
+// A hash with every field, and the one that this program's own manifests will have, in deterministic bytes.
+const WRITTEN: &str =
+    r#"a363616c676673686132353664686173684201026a6578636c7573696f6e7383a2646461746181a26576616c756550d8fec3d61b0e483c92975828877ec481666f666673657408657870617468652f75756964a1657870617468652f66747970a36578706174686d2f6d6f6f762f7472616b5b325d666c656e677468096673756273657482a2666c656e67746800666f666673657408a2666c656e6774681b0000000100000000666f666673657400
+a363616c67667368613235366468617368582000000000000000000000000000000000000000000000000000000000000000006a6578636c7573696f6e7383a2646461746181a26576616c756550d8fec3d61b0e483c92975828877ec481666f666673657408657870617468652f75756964a1657870617468652f66747970a1657870617468652f6d667261"#;
+
+// What is written of the hash that is read.
+fn rewritten(alloc: Global, hex: &str) -> Result<String, AllocError> {
+    let bytes = unhex(alloc, hex)?;
+    let mut out = String::new(alloc);
+    let Ok(item) = decode_whole(alloc, bytes.as_slice()) else {
+        return Ok(out);
+    };
+    if let Ok(value) = read_bmff_hash(alloc, &item) {
+        if let Ok(again) = write_bmff_hash(alloc, &value) {
+            if let Ok(bytes) = encode(alloc, &again) {
+                show_hex(&mut out, bytes.as_slice())?;
+            }
+        }
+    }
+    Ok(out)
+}
+
+#[test]
+fn bmff_hashes_are_written_as_they_are_read(rt: HostRuntime) -> Result<(), Fail> {
+    let alloc = rt.alloc();
+    for hex in WRITTEN.lines() {
+        let got = rewritten(alloc, hex)?;
+        assert_eq!(rt; got.as_str(), hex);
     }
     Ok(())
 }
