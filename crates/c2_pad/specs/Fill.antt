@@ -6,6 +6,7 @@ use Rattle.std.specs.declared.option.Option.{Option}
 use Rattle.c2_spec.specs.Cbor.Item.{text, bytes, Pairs, no_pairs, pair}
 use Rattle.c2_spec.specs.Cbor.Deterministic.{preferred_pairs}
 use Rattle.c2_pad.specs.declared.types.Fill.{Fill}
+use Rattle.c2_pad.specs.declared.types.TheConstants.{MAX_FILL}
 
 -- ---- what a fill costs
 
@@ -18,15 +19,12 @@ zeros_before key (Some n) ps = pair (text key) (bytes (replicate n 0)) ps
 abbrev pub fill_pairs : Fill → Pairs
 fill_pairs f = zeros_before (codes "pad") f.pad (zeros_before (codes "pad2") f.pad2 no_pairs)
 
--- how many bytes they have where they are written
+-- how many bytes they have where they are written: where the header has at most 21 entries before, the number of its entries
+-- is still told in one byte, and the message is longer by just these
 abbrev pub fill_cost : Fill → ℕ
 fill_cost f = length (preferred_pairs (fill_pairs f))
 
 -- ---- which fill is taken
-
--- the greatest number of bytes that is filled: a message has no more
-abbrev pub most_fill : ℕ
-most_fill = 1048576
 
 -- `pad` alone
 abbrev pub one_entry : ℕ → Option Fill
@@ -49,21 +47,21 @@ fill_of need =
     else if nat_le need 65542 then one_entry (need - 7)
     else if need == 65543 then two_entries 65530
     else if need == 65544 then two_entries 65531
-    else if nat_le need most_fill then one_entry (need - 9)
+    else if nat_le need MAX_FILL then one_entry (need - 9)
     else None
 
 -- ---- laws
 
--- a need without a fill: the shortest entry has 5 bytes
+-- a need without a fill: fewer bytes than the shortest entry has, or more than the limit
 abbrev pub HasNoFill : ℕ → Type 0
-HasNoFill need = ((1 ≤ need) × (need ≤ 4)) ⊎ (most_fill < need)
+HasNoFill need = ((1 ≤ need) × (need ≤ 4)) ⊎ (MAX_FILL < need)
 
 -- it costs what is needed, and the need has a fill
 pub record IsFill (need : ℕ) (f : Fill) : Type 0 where
   pub cost : fill_cost f ≡ need
   pub some : HasNoFill need → ⊥
 
--- each fill costs what is needed, and there is none exactly where there can be none
+-- each fill costs what is needed, and the needs without one are those that are too small or above the limit
 abbrev pub FillsAreExact : Type 0
 FillsAreExact = (need : ℕ) → MatchOption (fill_of need) (HasNoFill need) (IsFill need)
 

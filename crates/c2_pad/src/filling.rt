@@ -2,13 +2,13 @@
 ghost use Rattle.std.specs.Prelude.{◌≡◌, ◌≤◌};
 ghost use Rattle.c2_pad.specs.Fill as spec;
 ghost use Rattle.c2_pad.specs.Fill.{fill_of};
+ghost use Rattle.c2_pad.specs.declared.types.TheConstants.{MAX_FILL};
 
-use crate::types::Fill;
-use c2_base::limits::MAX_INPUT_LEN;
+use crate::types::{Fill, MAX_FILL};
 
 // The fill with the entry `pad` alone, of this many zero bytes.
 fn one_entry(zeros: u64) -> Option<Fill>
-    requires { zeros ≤ 1048576 }
+    requires { zeros ≤ MAX_FILL }
     ensures { result ≡ spec.one_entry zeros }
 {
     Some(Fill {
@@ -28,8 +28,8 @@ fn two_entries(zeros: u32) -> Option<Fill>
 }
 
 #[tactic(auto, unfolding(crate::specs::Fill::fill_of))]
-/// The entries of zero bytes that make a message `need` bytes longer. None exactly for 1 to 4, which no entry is short
-/// enough for, and above 1,048,576. Takes no memory.
+/// The padding that adds `need` bytes to a header of at most 21 other entries: how many zero bytes each entry of it has. There is
+/// none for a need that is shorter than any entry, which is 1 to 4, and for one above `MAX_FILL`. Takes no memory.
 pub fn fill(need: u64) -> Option<Fill>
     ensures { result ≡ fill_of need }
 {
@@ -45,7 +45,7 @@ pub fn fill(need: u64) -> Option<Fill>
         263..=65_542 => one_entry(need - 7),
         65_543 => two_entries(65_530),
         65_544 => two_entries(65_531),
-        65_545..=MAX_INPUT_LEN => one_entry(need - 9),
+        65_545..=MAX_FILL => one_entry(need - 9),
         _ => None,
     }
 }

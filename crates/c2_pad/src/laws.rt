@@ -2,7 +2,7 @@
 
 ghost use Rattle.c2_pad.specs.Fill.{FillsAreExact, TwoOnlyWhereNeeded};
 
-/// Each fill costs what is needed, and there is none exactly for 1 to 4 and above 1,048,576.
+/// Each fill costs what is needed, and the needs without one are those below the shortest entry's length and above the limit.
 pub fn fills_are_exact()
     ensures { FillsAreExact }
 {}
