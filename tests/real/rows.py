@@ -4,7 +4,7 @@
     rows.py write [COMMAND..]  writes the tables of crates/c2_tests, those that are there or those of the commands: a comment line
                                that says what a row shows, then the store in hex, ` => `, and status and line of `show`, of
                                `questions` without verdict files, or of `validate` with a judge who approves every question,
-                               and how often he is asked
+                               and how often he is asked; `films` are films in hex and `validate`
     rows.py check              fails where a table there isn't the one that would be written
     rows.py files DIRECTORY    writes a JPEG around each of these stores and of those of rule_rows.py, and the verdicts on the latter
 """
@@ -14,6 +14,7 @@ import pathlib
 import re
 import sys
 
+import film_rows
 import question_rows
 import rule_rows
 import show_rows
@@ -95,8 +96,27 @@ def module(command):
     return path, text
 
 
+def film_module():
+    """The module with the films, and its text: what `validate` must say is written by hand, and store.py must come to it."""
+    path = pathlib.Path(__file__).resolve().parent.parent.parent / "crates" / "c2_tests" / "src" / "film_rows.rt"
+    table = ""
+    for what, known, film in film_rows.rows():
+        judge = Approving()
+        line, status = report("validate", film, [judge])
+        assert line == known, (what, line)
+        table += f"# {what}\n{folded(film)} => {status} {line}, asked {judge.asked}\n"
+    return path, (
+        "// What `validate` says of small films. Written by tests/real/rows.py, which computes the answers: not to be edited.\n\n"
+        "/// A line that says what the row shows, and the row: a film in hex, ` => `, and status and line.\n"
+        f'pub const FILMS: &str = r##"{table}"##;\n'
+    )
+
+
 def write_modules(commands):
-    for command in commands or ROWS:
+    if not commands or "films" in commands:
+        path, text = film_module()
+        path.write_text(text, encoding="utf-8")
+    for command in [it for it in commands if it in ROWS] if commands else ROWS:
         path, text = module(command)
         if commands or path.exists():
             path.write_text(text, encoding="utf-8")
@@ -104,7 +124,7 @@ def write_modules(commands):
 
 def check_modules():
     """The names of modules whose table isn't the one that would be written; those that aren't there yet are left out."""
-    modules = [(path, text) for path, text in map(module, ROWS) if path.exists()]
+    modules = [(path, text) for path, text in [*map(module, ROWS), film_module()] if path.exists()]
     return [path.name for path, text in modules if path.read_text(encoding="utf-8") != text]
 
 

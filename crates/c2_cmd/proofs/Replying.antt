@@ -8,15 +8,18 @@ use Rattle.c2_base.specs.declared.media.Found.{Found}
 use Rattle.c2_base.specs.declared.values.Question.{Question}
 use Rattle.c2_spec.specs.declared.digest.Alg.{Alg}
 use Rattle.c2_spec.specs.declared.panel.Verdict.{Verdict}
+use Rattle.c2_spec.specs.declared.reason.Reason.{Reason}
 use Rattle.c2_spec.specs.declared.store.ManifestBoxes.{ManifestBoxes}
-use Rattle.c2_spec.specs.Jpeg.Store.{IsLocated}
+use Rattle.c2_spec.specs.Container.{IsLocated}
 use Rattle.c2_spec.specs.Jumbf.Tree.{Tree}
 use Rattle.c2_spec.specs.Located.{Opening, Located, refused, absent, here}
 use Rattle.c2_rules.specs.Opened.{IsBoxTree, IsBoxed, IsManifestStore}
-use Rattle.c2_validate.specs.Opened.{IsRead, tree_of}
+use Rattle.c2_validate.specs.Opened.{IsFound, IsRead, tree_of}
+use Rattle.c2_validate.specs.declared.types.Opened.{Opened}
+use Rattle.c2_validate.specs.declared.types.Opened.TheVariants as opened
 use Rattle.c2_validate.specs.declared.types.StoreRead.{StoreRead}
 use Rattle.c2_validate.specs.declared.types.StoreRead.TheVariants as read
-use Rattle.c2_cmd.specs.Outcome.{Outcome, reports, Reports, IsListing, IsMediaOutcome, IsCommandOutcome, IsOutcome, inputs, uses_media}
+use Rattle.c2_cmd.specs.Outcome.{Outcome, Inputs, reports, Reports, IsListing, IsMediaOutcome, IsCommandOutcome, IsOutcome, inputs, uses_media}
 use Rattle.c2_cmd.specs.CommandLine.{reads_media}
 use Rattle.c2_cmd.specs.Reply.{outcome_of, IsReply, IsShort, IsStored, IsFoundOutcome, IsMediaCause}
 use Rattle.c2_cmd.specs.declared.open.Stored.{Stored}
@@ -25,7 +28,9 @@ use Rattle.c2_cmd.specs.declared.reply.Fault.{Fault}
 use Rattle.c2_cmd.specs.declared.reply.Fault.TheVariants as fault
 use Rattle.c2_cmd.specs.declared.reply.Reply.{Reply}
 use Rattle.c2_cmd.specs.declared.types.Answer.TheVariants as answer
+use Rattle.c2_cmd.specs.declared.types.Command.{Command}
 use Rattle.c2_cmd.specs.declared.types.Roles.{Roles}
+use Rattle.c2_texts.specs.Texts.{refused_line}
 
 -- ---- a file that was opened
 
@@ -36,6 +41,10 @@ stored_here file s f is h = subst (λ (x : Stored). IsStored file x) is h
 -- a file that has a reply already is one that is refused or has no store, and the reply says which
 pub stored_reply : (file : List ℕ) (s : Stored) (reply : Reply) → s ≡ stored.Reply reply → IsStored file s → (l : Located) × IsLocated file l × IsShort l (outcome_of reply)
 stored_reply file s reply is h = subst (λ (x : Stored). IsStored file x) is h
+
+-- the reply to a file that is refused
+pub stored_refused : (file : List ℕ) (o : Opened) (reason : Reason) (number : ℕ) (reply : Reply) → IsFound file o → o ≡ opened.Refused reason number → outcome_of reply ≡ reports answer.Refused (refused_line reason number) → IsStored file (stored.Reply reply)
+stored_refused file o reason number reply found is told = let f : IsFound file (opened.Refused reason number) = subst (IsFound file) is found in (refused reason number, f.located, told)
 
 -- ---- a store that was found
 
@@ -74,6 +83,18 @@ known_outcome said hash (Some file) found roles reply is media reads tells r = r
 -- the only outcome
 pub one_reply : (P : Outcome → Type 0) (reply : Reply) → ((a b : Outcome) → P a → P b → a ≡ b) → P (outcome_of reply) → IsReply P reply
 one_reply P reply once h = record { holds = h; only = λ e k. once e (outcome_of reply) k h }
+
+-- words and inputs come to one outcome
+abbrev pub OneOutcome : Type 0
+OneOutcome = (roles : Option Roles) (i : Inputs) (a b : Outcome) → IsOutcome roles i a → IsOutcome roles i b → a ≡ b
+
+-- a reply to the command over the known bytes is the call's one reply
+pub replied : OneOutcome → (said : Question → Verdict) (hash : Alg → List ℕ → List ℕ) (known : Option (List ℕ)) (found : Option Roles) (roles : Roles) (c : Command) (r : Result Reply Fault) → found ≡ Some roles → is_some roles.media ≡ reads_media roles.command → roles.command ≡ c
+    → reads_media c ≡ true → (uses_media found ≡ true → IsSome known) → IfOk r (λ reply. (file : List ℕ) → known ≡ Some file → IsCommandOutcome c roles (inputs (Some file) None None said hash) (outcome_of reply)) → IfOk r (IsReply (IsOutcome found (inputs known None None said hash)))
+replied one said hash known found roles c (Err e) is media named reads tells h = tt
+replied one said hash known found roles c (Ok reply) is media named reads tells h =
+    one_reply (IsOutcome found (inputs known None None said hash)) reply (one found (inputs known None None said hash))
+    (known_outcome said hash known found roles reply is media (ap reads_media named ∙ reads) tells (λ file k. subst (λ (x : Command). IsCommandOutcome x roles (inputs (Some file) None None said hash) (outcome_of reply)) (sym named) (h file k)))
 
 -- what follows of each value follows of a result's
 pub each_ok : {A E : Type 0} (P Q : A → Type 0) (r : Result A E) → ((x : A) → P x → Q x) → IfOk r P → IfOk r Q

@@ -5,9 +5,8 @@ ghost use Rattle.c2_cmd.specs.Outcome.{Asks, Inputs, IsOutcome, Outcome};
 ghost use Rattle.c2_cmd.specs.declared.types.Roles.{Roles as AnyRoles};
 
 use c2_chain::{a_reading_is_the_claim_and_the_question, one_list_of_claims, one_reading};
-use c2_jpegseg::each_file_is_located;
 use c2_jumbf::each_list_is_a_tree_or_not;
-use c2_validate::{each_file_has_a_check, one_check, one_opening};
+use c2_validate::{each_file_has_a_check, each_media_file_is_located, one_check, one_opening};
 
 /// Words and inputs come to one outcome at most, and to one list of questions at most.
 pub fn one_outcome()
@@ -16,7 +15,7 @@ pub fn one_outcome()
     ensures questions { (roles : Option AnyRoles) (i : Inputs) (ps qs : List Question)
         → Asks roles i ps → Asks roles i qs → ps ≡ qs }
 {
-    each_file_is_located();
+    each_media_file_is_located();
     each_list_is_a_tree_or_not();
     one_list_of_claims();
     one_reading();

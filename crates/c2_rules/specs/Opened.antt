@@ -2,7 +2,7 @@
 -- and of the manifests, in this order (C2PA Technical Specification 2.x, "Embedding manifests into assets" and "Manifest store").
 use Rattle.std.specs.Prelude.{◌≡◌, ℕ, List, Some, None}
 use Rattle.c2_spec.specs.C2pa.Manifest.{store_refusal}
-use Rattle.c2_spec.specs.Jpeg.Store.{IsLocated}
+use Rattle.c2_spec.specs.Container.{IsLocated}
 use Rattle.c2_spec.specs.Jumbf.Faults.{JumbfFault}
 use Rattle.c2_spec.specs.Jumbf.Tree.{Tree, SpellsTree}
 use Rattle.c2_spec.specs.Located.{Opening, Located, refused, absent, here}

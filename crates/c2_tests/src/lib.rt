@@ -13,6 +13,10 @@ mod faults;
 #[cfg(test)]
 mod files;
 #[cfg(test)]
+mod film_rows;
+#[cfg(test)]
+mod films;
+#[cfg(test)]
 mod host;
 #[cfg(test)]
 mod judges;

@@ -78,14 +78,47 @@ pub fn judged_rows_come_to(
         if let Some((digits, known)) = row.split_once(" => ") {
             let store = bytes_of(alloc, digits)?;
             let file = in_jpeg(alloc, store.as_slice(), 63_984)?;
-            for most in [1, 7, 65_536] {
-                let media = MemSource::new(Blob::copied(alloc, file.as_slice())?, most, 0);
-                judged_comes_to(rt, alloc, &given, media, known)?;
-            }
+            judged_in_pieces(rt, alloc, &given, file.as_slice(), known)?;
             seen = seen.saturating_add(1);
         }
     }
     assert_eq!(rt; seen, count);
+    Ok(())
+}
+
+/// The same over a table of whole films.
+pub fn films_come_to(
+    rt: &impl Abort,
+    alloc: Global,
+    command: &str,
+    table: &str,
+    count: usize,
+) -> Result<(), Fail> {
+    let given = words(alloc, &[command, "P", "V"])?;
+    let mut seen: usize = 0;
+    for row in table.lines() {
+        if let Some((digits, known)) = row.split_once(" => ") {
+            let film = bytes_of(alloc, digits)?;
+            judged_in_pieces(rt, alloc, &given, film.as_slice(), known)?;
+            seen = seen.saturating_add(1);
+        }
+    }
+    assert_eq!(rt; seen, count);
+    Ok(())
+}
+
+// Runs a command over a file that is read in pieces of 1, 7 and 65,536 bytes, with a judge who approves all questions.
+fn judged_in_pieces(
+    rt: &impl Abort,
+    alloc: Global,
+    given: &Vec<String>,
+    file: &[u8],
+    known: &str,
+) -> Result<(), Fail> {
+    for most in [1, 7, 65_536] {
+        let media = MemSource::new(Blob::copied(alloc, file)?, most, 0);
+        judged_comes_to(rt, alloc, given, media, known)?;
+    }
     Ok(())
 }
 

@@ -23,7 +23,14 @@ use Rattle.c2_cover.specs.Covers.{Covered, IsCoverOf, excluded_of, text_of}
 use Rattle.c2_cover.specs.Refused.{IsCause}
 use Rattle.c2_cover.specs.declared.cover.CoverError.{CoverError}
 use Rattle.c2_cover.specs.declared.cover.CoverError.TheVariants as cover_error
-use Rattle.c2_rules.specs.Binding.{Binding, Media, IsItemOf, HasBinding, IsBinding, IsBmffBinding, IsLabelledBinding, binding_label, binding_payload, binding_value, bound_tests, bound_to_tests, mismatch_code, field_code, jpeg_refusal, data_binding}
+use Rattle.c2_bmff.specs.Roots.{rows_of}
+use Rattle.c2_bmff.specs.declared.root_boxes.RootBox.{RootBox}
+use Rattle.c2_spec.specs.Bmff.Boxes.{Box, HasRoots}
+use Rattle.c2_spec.specs.Bmff.Cover.{IsBmffCover}
+use Rattle.c2_spec.specs.Bmff.Hash.{BmffHash, bmff_hash_of}
+use Rattle.c2_spec.specs.Container.{jpeg, bmff}
+use Rattle.c2_rules.proofs.BindingLaws.{one_cover}
+use Rattle.c2_rules.specs.Binding.{Binding, Media, IsBoxBinding, IsRead, IsItemOf, HasBinding, IsBinding, IsBmffBinding, IsLabelledBinding, binding_label, binding_payload, binding_value, bound_tests, bound_to_tests, mismatch_code, field_code, jpeg_refusal, data_binding}
 use Rattle.c2_rules.specs.Chains.{entry_label, label_in}
 use Rattle.c2_rules.specs.CheckList as list
 use Rattle.c2_rules.specs.Ingredients.{assertion_uri}
@@ -35,10 +42,10 @@ use Rattle.c2_rules.specs.declared.code.Code.{Code}
 use Rattle.c2_rules.specs.declared.code.Code.TheVariants as code
 use Rattle.c2_rules.specs.declared.parsed.Parsed.{Parsed}
 use Rattle.c2_rules.specs.declared.parsed.Parsed.TheVariants.{Value}
-use Rattle.c2_validate.specs.Checks.{binding_entry, item_with, data_binding_of, IsFoundBy, IsBoundBy, IsBoundAs, after_alg_tests, is_bmff_kind, media_of}
+use Rattle.c2_validate.specs.Checks.{binding_entry, item_with, data_binding_of, IsFoundBy, IsBoundBy, IsBoundAs, after_alg_tests, is_bmff_kind, IsMediaOf, media}
 use Rattle.c2_validate.specs.declared.bound.Bound.{Bound}
 use Rattle.c2_validate.specs.declared.types.Container.{Container}
-use Rattle.c2_validate.specs.declared.types.Container.TheVariants.{Jpeg}
+use Rattle.c2_validate.specs.declared.types.Container.TheVariants.{Jpeg, Bmff}
 use Rattle.c2_validate.specs.declared.bound.Bound.TheVariants.{Fails, Covers}
 
 -- ---- the first binding of some entries
@@ -202,6 +209,36 @@ pub data_read : {E : Type 0} (hash : Alg → List ℕ → List ℕ) (r : Reading
     → IfOk result (IsBoundBy hash r uri kind (Ok (data_binding_of file d))) → IfOk result (IsBoundBy hash r uri kind (data_binding file (data_hash_of v)))
 data_read {E} hash r uri kind file v d result is h = subst (λ (x : Result DataHash FieldError). IfOk result (IsBoundBy hash r uri kind (data_binding file x))) (sym is) h
 
+-- ---- a BMFF hash
+
+-- its cover was found: the digest is left
+pub boxes_left : {E : Type 0} (hash : Alg → List ℕ → List ℕ) (alg : Alg) (kind : Kind) (uri : List ℕ) (file : List ℕ) (boxes : List Box) (h : BmffHash) (b : Binding) (named : List ℕ) (c : Covered) (r : Result Bound E) → IsBmffCover boxes (length file) h.exclusions (excluded_of c) (text_of c file)
+    → IsBoxBinding boxes (length file) h b → named ≡ h.hash → IfOk r (IsFoundBy (test (not (bytes_eq (hash alg (text_of c file)) named)) (mismatch_code kind) uri ∷ []) (excluded_of c)) → IfOk r (IsFoundBy (after_alg_tests hash alg kind uri b) b.excluded)
+boxes_left {E} hash alg kind uri file boxes h b named c r cover is hashed found =
+    let one = one_cover boxes (length file) h.exclusions (excluded_of c) (text_of c file) b.excluded b.text cover is.cover in
+    found_as r (test (not (bytes_eq (hash alg (text_of c file)) named)) (mismatch_code kind) uri ∷ []) (after_alg_tests hash alg kind uri b) (excluded_of c) b.excluded
+    (ap (λ (t : List ℕ). first_failing (test (not (bytes_eq (hash alg t) named)) (mismatch_code kind) uri ∷ [])) one.1
+    ∙ ap (λ (n : List ℕ). first_failing (test (not (bytes_eq (hash alg b.text) n)) (mismatch_code kind) uri ∷ [])) (hashed ∙ sym is.hash)
+    ∙ sym (ap (λ (t : Bool). first_failing (test (not t) code.ProfileHashForm uri ∷ test (not (bytes_eq (hash alg b.text) b.hash)) (mismatch_code kind) uri ∷ [])) is.in_order)) one.0 found
+
+-- a field is refused
+pub bmff_refused : {E : Type 0} (hash : Alg → List ℕ → List ℕ) (r : Reading) (uri : List ℕ) (kind : Kind) (boxes : List Box) (size : ℕ) (v : Item) (e : FieldError) (b : Result Binding FieldError) (result : Result Bound E) → (e ≡ field.NoMemory) ⊎ (bmff_hash_of v ≡ Err e)
+    → (e ≡ field.NoMemory → IsErr result) → IfOk result (λ found. found ≡ Fails (record { code = field_code e; uri = uri })) → IsRead boxes size (bmff_hash_of v) b → IfOk result (IsBoundBy hash r uri kind b)
+bmff_refused hash r uri kind boxes size v e b (Err x) cause memory h read = tt
+bmff_refused hash r uri kind boxes size v e b (Ok o) (inl out) memory h read = absurd (let no = memory out in cc (no))
+bmff_refused hash r uri kind boxes size v e b (Ok o) (inr is) memory h read =
+    let same : b ≡ Err e = subst (λ (x : Result BmffHash FieldError). IsRead boxes size x b) is read in
+    subst (λ (x : Result Binding FieldError). IsBoundBy hash r uri kind x o) (sym same) (subst (IsBoundBy hash r uri kind (Err e)) (sym h) refl)
+
+-- a BMFF hash was read
+pub bmff_read : {E : Type 0} (hash : Alg → List ℕ → List ℕ) (r : Reading) (uri : List ℕ) (kind : Kind) (boxes : List Box) (size : ℕ) (v : Item) (h : BmffHash) (b : Result Binding FieldError) (result : Result Bound E) → bmff_hash_of v ≡ Ok h
+    → ((x : Binding) → IsBoxBinding boxes size h x → IfOk result (IsBoundBy hash r uri kind (Ok x))) → IsRead boxes size (bmff_hash_of v) b → IfOk result (IsBoundBy hash r uri kind b)
+bmff_read {E} hash r uri kind boxes size v h b result is found read = by b (subst (λ (x : Result BmffHash FieldError). IsRead boxes size x b) is read)
+  where
+    by : (x : Result Binding FieldError) → IsRead boxes size (Ok h) x → IfOk result (IsBoundBy hash r uri kind x)
+    by (Ok x) k = found x k
+    by (Err e) k = absurd k
+
 -- ---- an item
 
 -- an item of the kind of BMFF hashes is read as one
@@ -227,20 +264,34 @@ data_item media kinds.Cloud v b is h = h
 data_item media kinds.Ordinary v b is h = h
 
 -- a BMFF hash in a JPEG
-pub in_jpeg : {E : Type 0} (hash : Alg → List ℕ → List ℕ) (file : List ℕ) (r : Reading) (uri : List ℕ) (kind : Kind) (c : Container) (v : Item) (e : FieldError) (b : Result Binding FieldError) (result : Result Bound E) → is_bmff_kind kind ≡ true → e ≡ jpeg_refusal v
-    → IfOk result (λ found. found ≡ Fails (record { code = field_code e; uri = uri })) → IsBinding (media_of file c) kind v b → IfOk result (IsBoundBy hash r uri kind b)
-in_jpeg {E} hash file r uri kind Jpeg v e b result bmff refused h is =
-    let same : b ≡ Err e = bmff_item (media_of file Jpeg) kind v b bmff is ∙ ap Err (sym refused) in
+pub in_jpeg : {E : Type 0} (hash : Alg → List ℕ → List ℕ) (file : List ℕ) (r : Reading) (uri : List ℕ) (kind : Kind) (c : Container) (m : Media) (v : Item) (e : FieldError) (b : Result Binding FieldError) (result : Result Bound E) → is_bmff_kind kind ≡ true → c ≡ Jpeg → e ≡ jpeg_refusal v
+    → IfOk result (λ found. found ≡ Fails (record { code = field_code e; uri = uri })) → IsMediaOf file c m → IsBinding m kind v b → IfOk result (IsBoundBy hash r uri kind b)
+in_jpeg {E} hash file r uri kind c m v e b result is_hash in_a_jpeg refused h media_is is =
+    let alone : m ≡ media file jpeg = subst (λ (x : Container). IsMediaOf file x m) in_a_jpeg media_is in
+    let same : b ≡ Err e = bmff_item (media file jpeg) kind v b is_hash (subst (λ (x : Media). IsBinding x kind v b) alone is) ∙ ap Err (sym refused) in
     subst (λ (x : Result Binding FieldError). IfOk result (IsBoundBy hash r uri kind x)) (sym same) (found_fails result (bound_tests hash r uri kind (Err e)) [] (record { code = field_code e; uri = uri }) refl h)
+
+-- a BMFF hash in a BMFF file
+pub in_bmff : {E : Type 0} (hash : Alg → List ℕ → List ℕ) (file : List ℕ) (r : Reading) (uri : List ℕ) (kind : Kind) (c : Container) (rows : List RootBox) (m : Media) (v : Item) (b : Result Binding FieldError) (result : Result Bound E) → is_bmff_kind kind ≡ true → c ≡ Bmff rows
+    → ((boxes : List Box) → HasRoots file boxes → rows ≡ rows_of boxes → (x : Result Binding FieldError) → IsRead boxes (length file) (bmff_hash_of v) x → IfOk result (IsBoundBy hash r uri kind x)) → IsMediaOf file c m → IsBinding m kind v b → IfOk result (IsBoundBy hash r uri kind b)
+in_bmff {E} hash file r uri kind c rows m v b result is_hash in_boxes h media_is is =
+    let there = subst (λ (x : Container). IsMediaOf file x m) in_boxes media_is in
+    h there.0 there.1 there.2 b (bmff_item (media file (bmff there.0)) kind v b is_hash (subst (λ (x : Media). IsBinding x kind v b) there.3 is))
 
 -- the kind that was told
 pub kind_named : {E : Type 0} (hash : Alg → List ℕ → List ℕ) (r : Reading) (uri : List ℕ) (k l : Kind) (b : Result Binding FieldError) (result : Result Bound E) → k ≡ l → IfOk result (IsBoundBy hash r uri k b) → IfOk result (IsBoundBy hash r uri l b)
 kind_named {E} hash r uri k l b result same h = subst (λ (x : Kind). IfOk result (IsBoundBy hash r uri x b)) same h
 
+-- media have the file's bytes
+media_bytes : (file : List ℕ) (c : Container) (m : Media) → IsMediaOf file c m → m.bytes ≡ file
+media_bytes file Jpeg m h = ap (λ (x : Media). x.bytes) h
+media_bytes file (Bmff rows) m h = ap (λ (x : Media). x.bytes) h.3
+
 -- a data hash, or another kind
-pub in_data : {E : Type 0} (hash : Alg → List ℕ → List ℕ) (file : List ℕ) (r : Reading) (uri : List ℕ) (kind : Kind) (c : Container) (v : Item) (b : Result Binding FieldError) (result : Result Bound E) → is_bmff_kind kind ≡ false
-    → IfOk result (IsBoundBy hash r uri kind (data_binding file (data_hash_of v))) → IsBinding (media_of file c) kind v b → IfOk result (IsBoundBy hash r uri kind b)
-in_data {E} hash file r uri kind c v b result other h is = subst (λ (x : Result Binding FieldError). IfOk result (IsBoundBy hash r uri kind x)) (sym (data_item (media_of file c) kind v b other is)) h
+pub in_data : {E : Type 0} (hash : Alg → List ℕ → List ℕ) (file : List ℕ) (r : Reading) (uri : List ℕ) (kind : Kind) (c : Container) (m : Media) (v : Item) (b : Result Binding FieldError) (result : Result Bound E) → is_bmff_kind kind ≡ false
+    → IfOk result (IsBoundBy hash r uri kind (data_binding file (data_hash_of v))) → IsMediaOf file c m → IsBinding m kind v b → IfOk result (IsBoundBy hash r uri kind b)
+in_data {E} hash file r uri kind c m v b result other h media_is is =
+    subst (λ (x : Result Binding FieldError). IfOk result (IsBoundBy hash r uri kind x)) (sym (data_item m kind v b other is ∙ ap (λ (bytes : List ℕ). data_binding bytes (data_hash_of v)) (media_bytes file c m media_is))) h
 
 -- ---- the binding of a manifest
 

@@ -3,7 +3,6 @@ use Rattle.std.proofs.Common.{◌≡◌, ℕ, Bool, true, false, cond, List, [],
 use Rattle.c2_base.specs.declared.media.Found.{Found}
 use Rattle.c2_base.specs.declared.values.Question.{Question}
 use Rattle.c2_spec.specs.C2pa.Manifest.{Manifest, manifests_of}
-use Rattle.c2_spec.specs.Container.{IsContainer, jpeg}
 use Rattle.c2_spec.specs.Cover.{covered_count, outside_count}
 use Rattle.c2_spec.specs.Judges.Panel.{Judges}
 use Rattle.c2_spec.specs.Jumbf.Tree.{Tree}
@@ -18,32 +17,30 @@ use Rattle.c2_rules.specs.CheckList.{StoreReading, IsStoreReading, HasBindingOf,
 use Rattle.c2_rules.specs.CheckList as list
 use Rattle.c2_rules.specs.Readings.{Reading, AreReadings}
 use Rattle.c2_rules.specs.Tests.{Test, first_failing}
-use Rattle.c2_rules.specs.Validated.{IsTreeAnswer}
 use Rattle.c2_rules.specs.declared.answer.Answer.{Answer}
 use Rattle.c2_rules.specs.declared.answer.Answer.TheVariants as answer
 use Rattle.c2_rules.specs.declared.answer.Failing.{Failing}
 use Rattle.c2_rules.specs.declared.answer.Summary.{Summary}
 use Rattle.c2_rules.proofs.AskingLemmas.{front_all, front_none}
 use Rattle.c2_rules.proofs.TestLemmas.{part_fails, part_passes}
-use Rattle.c2_validate.specs.Checks.{IsAnswerOver, IsBoundAs, IsJudgeCause, IsTreeAnswered, HasSize, TreeAsks, all_tests, binding_tests, media_of}
+use Rattle.c2_validate.specs.Checks.{IsAnswerOver, IsBoundAs, IsJudgeCause, IsMediaOf, IsTreeAnswered, HasSize, TreeAsks, all_tests, binding_tests}
 use Rattle.c2_validate.specs.Counts.{summary_by}
-use Rattle.c2_validate.specs.Opened.{IsCause, container_of}
+use Rattle.c2_validate.specs.Opened.{IsCause}
 use Rattle.c2_validate.specs.Validation.{HasAsked, HasAskedThose, IsFaultCause}
 use Rattle.c2_validate.specs.declared.bound.Bound.{Bound}
 use Rattle.c2_validate.specs.declared.bound.Bound.TheVariants.{Fails, Covers}
 use Rattle.c2_validate.specs.declared.error.ValidateError.{ValidateError}
 use Rattle.c2_validate.specs.declared.error.ValidateError.TheVariants.{ReadFault, JudgeFault, NoMemory}
 use Rattle.c2_validate.specs.declared.types.Container.{Container}
-use Rattle.c2_validate.specs.declared.types.Container.TheVariants.{Jpeg}
 use Rattle.c2_validate.specs.declared.types.Media.{Media}
-use Rattle.c2_validate.proofs.OneCheck.{media, jpeg_media_is}
+use Rattle.c2_validate.proofs.Containers.{OneRoots, contained_media}
 
 -- ---- the binding
 
 -- what was found of the binding of the active manifest
-of_active : (hash : Alg → List ℕ → List ℕ) (rs : List Reading) (c : Container) (file : List ℕ) (own : Reading) (o : Bound) → active_in rs ≡ Some own → ((b : Option (Result Binding FieldError)) → HasBinding (media_of file c) own b → IsBoundAs hash own b o)
-    → (b : Option (Result Binding FieldError)) → HasBindingOf (media_of file c) (active_in rs) b → IsBoundAs hash own b o
-of_active hash rs c file own o is h b has = h b (subst (λ (x : Option Reading). HasBindingOf (media_of file c) x b) is has)
+of_active : (hash : Alg → List ℕ → List ℕ) (rs : List Reading) (m : form.Media) (own : Reading) (o : Bound) → active_in rs ≡ Some own → ((b : Option (Result Binding FieldError)) → HasBinding m own b → IsBoundAs hash own b o)
+    → (b : Option (Result Binding FieldError)) → HasBindingOf m (active_in rs) b → IsBoundAs hash own b o
+of_active hash rs m own o is h b has = h b (subst (λ (x : Option Reading). HasBindingOf m x b) is has)
 
 -- the tests of the binding are those of the active manifest
 tests_of_active : (hash : Alg → List ℕ → List ℕ) (rs : List Reading) (own : Reading) (b : Option (Result Binding FieldError)) → active_in rs ≡ Some own → binding_tests hash rs b ≡ media_tests hash own b
@@ -51,16 +48,16 @@ tests_of_active hash rs own b is = ap (last_tests hash b) is
 
 -- the binding fails
 pub answer_fails : (hash : Alg → List ℕ → List ℕ) (rs : List Reading) (c : Container) (f : Found) (file : List ℕ) (own : Reading) (o : Bound) (failing : Failing) → active_in rs ≡ Some own → o ≡ Fails failing
-    → ((b : Option (Result Binding FieldError)) → HasBinding (media_of file c) own b → IsBoundAs hash own b o) → IsAnswerOver (binding_tests hash rs) rs c f file (answer.Failing failing)
-answer_fails hash rs c f file own o failing is found h b has =
-    let fails : Some failing ≡ first_failing (media_tests hash own b) = subst (IsBoundAs hash own b) found (of_active hash rs c file own o is h b has) in
+    → ((m : form.Media) → IsMediaOf file c m → (b : Option (Result Binding FieldError)) → HasBinding m own b → IsBoundAs hash own b o) → IsAnswerOver (binding_tests hash rs) rs c f file (answer.Failing failing)
+answer_fails hash rs c f file own o failing is found h m i b has =
+    let fails : Some failing ≡ first_failing (media_tests hash own b) = subst (IsBoundAs hash own b) found (of_active hash rs m own o is (h m i) b has) in
     ap (answer_of (summary_of (length file) f.start f.length (record { readings = rs; binding = b }))) (fails ∙ ap first_failing (sym (tests_of_active hash rs own b is)))
 
 -- the binding holds
 pub answer_covers : (hash : Alg → List ℕ → List ℕ) (rs : List Reading) (c : Container) (f : Found) (file : List ℕ) (own : Reading) (o : Bound) (cover : Covered) (s : Summary) (size : ℕ) → active_in rs ≡ Some own → o ≡ Covers cover → HasSize size o
-    → length file ≡ size → s ≡ summary_by rs cover f.start f.length → ((b : Option (Result Binding FieldError)) → HasBinding (media_of file c) own b → IsBoundAs hash own b o) → IsAnswerOver (binding_tests hash rs) rs c f file (answer.Valid s)
-answer_covers hash rs c f file own o cover s size is found sized long counted h b has =
-    let covers : (None ≡ first_failing (media_tests hash own b)) × (list.excluded_of (binding_value b) ≡ excluded_of cover) = subst (IsBoundAs hash own b) found (of_active hash rs c file own o is h b has) in
+    → length file ≡ size → s ≡ summary_by rs cover f.start f.length → ((m : form.Media) → IsMediaOf file c m → (b : Option (Result Binding FieldError)) → HasBinding m own b → IsBoundAs hash own b o) → IsAnswerOver (binding_tests hash rs) rs c f file (answer.Valid s)
+answer_covers hash rs c f file own o cover s size is found sized long counted h m i b has =
+    let covers : (None ≡ first_failing (media_tests hash own b)) × (list.excluded_of (binding_value b) ≡ excluded_of cover) = subst (IsBoundAs hash own b) found (of_active hash rs m own o is (h m i) b has) in
     let small : cover.size ≡ size = subst (HasSize size) found sized in
     let same : summary_by rs cover f.start f.length ≡ summary_of (length file) f.start f.length (record { readings = rs; binding = b }) =
     ap₂ (λ (xs : List ℕ) (n : ℕ). record {
@@ -76,14 +73,14 @@ answer_covers hash rs c f file own o cover s size is found sized long counted h 
 -- the answer where a part of the list fails
 pub part_answers : (xs : List Test) (ys : Option (Result Binding FieldError) → List Test) (rs : List Reading) (c : Container) (f : Found) (file : List ℕ) (o : Option Failing) (failing : Failing) → o ≡ Some failing → o ≡ first_failing xs
     → IsAnswerOver (λ b. xs ++ ys b) rs c f file (answer.Failing failing)
-part_answers xs ys rs c f file o failing some is b has = ap (answer_of (summary_of (length file) f.start f.length (record { readings = rs; binding = b }))) (part_fails xs (ys b) failing (sym some ∙ is))
+part_answers xs ys rs c f file o failing some is m i b has = ap (answer_of (summary_of (length file) f.start f.length (record { readings = rs; binding = b }))) (part_fails xs (ys b) failing (sym some ∙ is))
 
 -- the answer where a part passes is that of the rest
 pub rest_answers : {E : Type 0} (xs : List Test) (ys : Option (Result Binding FieldError) → List Test) (rs : List Reading) (c : Container) (f : Found) (file : List ℕ) (o : Option Failing) (r : Result Answer E) → o ≡ None → o ≡ first_failing xs
     → IfOk r (IsAnswerOver ys rs c f file) → IfOk r (IsAnswerOver (λ b. xs ++ ys b) rs c f file)
 rest_answers xs ys rs c f file o (Err e) none is h = tt
-rest_answers xs ys rs c f file o (Ok a) none is h = λ b has.
-    h b has ∙ ap (answer_of (summary_of (length file) f.start f.length (record { readings = rs; binding = b }))) (part_passes xs (ys b) (first_failing (ys b)) (sym none ∙ is) refl)
+rest_answers xs ys rs c f file o (Ok a) none is h = λ m i b has.
+    h m i b has ∙ ap (answer_of (summary_of (length file) f.start f.length (record { readings = rs; binding = b }))) (part_passes xs (ys b) (first_failing (ys b)) (sym none ∙ is) refl)
 
 -- ---- what was asked
 
@@ -155,18 +152,15 @@ asked_same {T} ps qs old new r same h = subst (λ (xs : List Question). HasAsked
 -- ---- the box tree of a store
 
 -- the answer over what was read is the one over the box tree
-pub tree_answered : {E : Type 0} → ((ms : List Manifest) (rs ss : List Reading) → AreReadings ms rs → AreReadings ms ss → rs ≡ ss) → (hash : Alg → List ℕ → List ℕ) (said : Question → Verdict) (m : Media) (t : Tree) (file : List ℕ) (rs : List Reading) (r : Result Answer E)
+pub tree_answered : {E : Type 0} → OneRoots → ((ms : List Manifest) (rs ss : List Reading) → AreReadings ms rs → AreReadings ms ss → rs ≡ ss) → (hash : Alg → List ℕ → List ℕ) (said : Question → Verdict) (m : Media) (t : Tree) (file : List ℕ) (rs : List Reading) (r : Result Answer E)
     → AreReadings (manifests_of t) rs → IfOk r (IsAnswerOver (all_tests hash said rs) rs m.container m.found file) → IfOk r (IsTreeAnswered hash said m t file)
-tree_answered one hash said m t file rs (Err e) reads h = tt
-tree_answered one hash said m t file rs (Ok a) reads h = λ contained expected k. by m.container contained h expected k
-  where
-    by : (c : Container) → IsContainer file (container_of c) → IsAnswerOver (all_tests hash said rs) rs c m.found file a → (expected : Answer) → IsTreeAnswer hash said file m.found.start m.found.length t expected → expected ≡ a
-    by Jpeg contained over expected k =
-        let s : StoreReading = k.0 in
-        let held : IsStoreReading (media file jpeg) (manifests_of t) s = subst (λ (x : form.Media). IsStoreReading x (manifests_of t) s) (jpeg_media_is file k.1.media contained k.1.is_media) k.1.reads in
-        let same : rs ≡ s.readings = one (manifests_of t) rs s.readings reads held.each in
-        let there : HasBindingOf (media file jpeg) (active_in rs) s.binding = subst (λ (x : List Reading). HasBindingOf (media file jpeg) (active_in x) s.binding) (sym same) held.binding in
-        k.2 ∙ sym (over s.binding there ∙ ap (λ (x : List Reading). list.store_answer hash said (length file) m.found.start m.found.length (record { readings = x; binding = s.binding })) same)
+tree_answered roots one hash said m t file rs (Err e) reads h = tt
+tree_answered roots one hash said m t file rs (Ok a) reads h = λ contained expected k.
+    let s : StoreReading = k.0 in
+    let is : IsMediaOf file m.container k.1.media = contained_media roots file m.container k.1.media contained k.1.is_media in
+    let same : rs ≡ s.readings = one (manifests_of t) rs s.readings reads k.1.reads.each in
+    let there : HasBindingOf k.1.media (active_in rs) s.binding = subst (λ (x : List Reading). HasBindingOf k.1.media (active_in x) s.binding) (sym same) k.1.reads.binding in
+    k.2 ∙ sym (h k.1.media is s.binding there ∙ ap (λ (x : List Reading). list.store_answer hash said (length file) m.found.start m.found.length (record { readings = x; binding = s.binding })) same)
 
 -- what is asked over what was read is asked over the box tree
 pub tree_asked : {T : Type 0} → ((ms : List Manifest) (rs ss : List Reading) → AreReadings ms rs → AreReadings ms ss → rs ≡ ss) → (hash : Alg → List ℕ → List ℕ) (said : Question → Verdict) (t : Tree) (rs : List Reading) (old new : Judges) (r : Result T ValidateError)

@@ -1,14 +1,16 @@
 -- Each file has an answer, a list of questions that its check asks, and one of all its questions.
-use Rattle.std.proofs.Common.{◌≡◌, refl, sym, ◌∙◌, ap, subst, ◌⊎◌, inl, inr, ℕ, ◌-◌, ◌<◌, ◌≤◌, ◌^◌, zero, suc, Bool, true, false, cond, List, [], ◌∷◌, ◌++◌, length, find, Option, Some, None, Result, Err, IfSome, slice_get, option_and_then, All, arith}
-use Rattle.std.specs.Prelude.{⊤}
-use Rattle.std.specs.List.{AllByRecursion, AllZip, flat_map}
+use Rattle.std.proofs.Common.{◌≡◌, refl, sym, ◌∙◌, ap, subst, ◌⊎◌, inl, inr, ℕ, ◌-◌, ◌<◌, ◌≤◌, ◌^◌, zero, suc, Bool, true, false, cond, List, [], ◌∷◌, ◌++◌, length, find, Option, Some, None, Result, Ok, Err, IfSome, slice_get, option_and_then, All, arith}
+use Rattle.std.specs.Prelude.{⊤, ◌↔◌, filter}
+use Rattle.std.specs.List.{AllByRecursion, AllZip, flat_map, range_with_len}
 use Rattle.c2_base.specs.declared.limits.TheConstants.{MAX_STORE_LEN}
 use Rattle.c2_base.specs.declared.values.Question.{Question}
 use Rattle.c2_spec.specs.C2pa.Assertion.{data_hash_of}
 use Rattle.c2_spec.specs.C2pa.Manifest.{Manifest, Superbox, StoreTest, HasParts, ArePartsOf, claim_bytes, manifest_tests, count_tests, manifests_of, first_refusal, store_refusal, store_tests, superboxes}
 use Rattle.c2_spec.specs.Cbor.Item.{Item}
-use Rattle.c2_spec.specs.Container.{jpeg, begins_jpeg}
-use Rattle.c2_spec.specs.Jpeg.Store.{IsLocated, HasJpegStore}
+use Rattle.c2_spec.specs.Bmff.Boxes.{Box, HasRoots}
+use Rattle.c2_spec.specs.Bmff.Cover.{bmff_text}
+use Rattle.c2_spec.specs.Bmff.Hash.{BmffHash, Exclusion, IsExcluded, bmff_hash_of}
+use Rattle.c2_spec.specs.Container.{Container, IsContainer, IsLocated, jpeg, bmff}
 use Rattle.c2_spec.specs.Jumbf.Boxes.{IsPart, box_at}
 use Rattle.c2_spec.specs.Jumbf.Faults.{JumbfFault, TreeFault, box_head_fault}
 use Rattle.c2_spec.specs.Jumbf.Faults as faults
@@ -25,9 +27,9 @@ use Rattle.c2_spec.specs.declared.panel.Verdict.{Verdict}
 use Rattle.c2_spec.specs.declared.reason.Reason.TheVariants as reason
 use Rattle.c2_spec.specs.declared.reason.Refusal.{Refusal}
 use Rattle.c2_spec.specs.declared.store.StoreError.{StoreError}
-use Rattle.c2_rules.specs.Binding.{Binding, HasBinding, IsItemOf, IsBinding, IsLabelledBinding, binding_label, binding_payload, data_binding, jpeg_refusal}
+use Rattle.c2_rules.specs.Binding.{Binding, HasBinding, IsItemOf, IsBinding, IsBmffBinding, IsLabelledBinding, IsRead, binding_label, binding_payload, data_binding, jpeg_refusal}
 use Rattle.c2_rules.specs.CheckList.{StoreReading, HasBindingOf, active_in, store_answer}
-use Rattle.c2_rules.specs.Opened.{IsBoxTree, IsManifestTree, IsManifestStore, IsOpened}
+use Rattle.c2_rules.specs.Opened.{Opens, IsBoxTree, IsManifestTree, IsManifestStore, IsOpened}
 use Rattle.c2_rules.specs.Readings.{ReadBox, IsReadBox, Reading, IsReading, AreReadings}
 use Rattle.c2_rules.specs.Rules.{box_with, is_labelled, label_kind}
 use Rattle.c2_rules.specs.Validated.{IsTreeAnswer, IsOpenedAnswer, IsAnswer, OpenedAsks, MediaAsks}
@@ -35,12 +37,15 @@ use Rattle.c2_rules.specs.declared.answer.Answer.{Answer}
 use Rattle.c2_rules.specs.declared.answer.Answer.TheVariants as answer
 use Rattle.c2_reading.specs.Existing.{IsHeld}
 use Rattle.c2_reading.specs.Held.{IsHeldManifest}
-use Rattle.c2_validate.proofs.OneCheck.{media, store_begins}
+use Rattle.c2_validate.specs.Checks.{media}
+use Rattle.c2_validate.proofs.Containers.{store_container}
 
 -- what the laws of the crates below say
 pub record Laws : Type 0 where
   pub located : (file : List ℕ) → All (λ b. b < 2 ^ 8) file → (what : Located) × IsLocated file what
-  pub stored : (file : List ℕ) (start len : ℕ) (store : List ℕ) → HasJpegStore file start len store → All (λ b. b < 2 ^ 8) file → All (λ b. b < 2 ^ 8) store
+  pub stored : (file : List ℕ) (start len : ℕ) (store : List ℕ) → IsLocated file (here start len store) → All (λ b. b < 2 ^ 8) file → All (λ b. b < 2 ^ 8) store
+  pub small : (file : List ℕ) (start len : ℕ) (store : List ℕ) → IsLocated file (here start len store) → length store ≤ MAX_STORE_LEN
+  pub decided : (file : List ℕ) (boxes : List Box) (es : List Exclusion) → All (λ b. b < 2 ^ 8) file → HasRoots file boxes → (excludes : ℕ → Bool) × ((i : ℕ) → (excludes i ≡ true) ↔ IsExcluded boxes es i)
   pub tree : (bytes : List ℕ) → All (λ b. b < 2 ^ 8) bytes → ((t : Tree) × SpellsTree bytes t) ⊎ ((e : JumbfError) × JumbfFault bytes e)
   pub bytes : (s x : List ℕ) → IsPart s x → All (λ b. b < 2 ^ 8) s → All (λ b. b < 2 ^ 8) x
   pub shorter : (s x : List ℕ) → IsPart s x → length x ≤ length s
@@ -181,7 +186,7 @@ each_opened laws file bytes = let l = laws.located file bytes in go l.0 l.1
     go (refused reason number) is = (refused reason number, (refused reason number, is, refl), tt)
     go absent is = (absent, (absent, is, refl), tt)
     go (here start len store) is =
-        let small : length store ≤ MAX_STORE_LEN = is.holds.small in
+        let small : length store ≤ MAX_STORE_LEN = laws.small file start len store is in
         let m = each_manifest_store laws start len store (laws.stored file start len store is bytes) (omega (arith, small)) in
         (m.0, (here start len store, is, m.1), m.2)
 
@@ -247,28 +252,43 @@ payload_held m r held reads = by (binding_label r)
     by None = tt
     by (Some label) = find_held label m.assertions r.boxes reads.boxes held.assertions
 
--- what an item comes to in a JPEG
-jpeg_binding : (file : List ℕ) (kind : Kind) (v : Item) → (b : Result Binding FieldError) × IsBinding (media file jpeg) kind v b
-jpeg_binding file kinds.BmffHash v = (Err (jpeg_refusal v), refl)
-jpeg_binding file kinds.DataHash v = (data_binding file (data_hash_of v), refl)
-jpeg_binding file kinds.OtherHash v = (data_binding file (data_hash_of v), refl)
-jpeg_binding file kinds.Ingredient v = (data_binding file (data_hash_of v), refl)
-jpeg_binding file kinds.IngredientOther v = (data_binding file (data_hash_of v), refl)
-jpeg_binding file kinds.Actions v = (data_binding file (data_hash_of v), refl)
-jpeg_binding file kinds.Cloud v = (data_binding file (data_hash_of v), refl)
-jpeg_binding file kinds.Ordinary v = (data_binding file (data_hash_of v), refl)
+-- what a BMFF hash comes to over the root boxes of a file
+read_binding : Laws → (file : List ℕ) (roots : List Box) (h : Result BmffHash FieldError) → All (λ b. b < 2 ^ 8) file → HasRoots file roots → (b : Result Binding FieldError) × IsRead roots (length file) h b
+read_binding laws file roots (Err e) bytes has = (Err e, refl)
+read_binding laws file roots (Ok h) bytes has =
+    let d = laws.decided file roots h.exclusions bytes has in
+    let positions : List ℕ = filter d.0 (range_with_len 0 (length file)) in (
+      Ok (record { alg = h.alg; hash = h.hash; in_order = true; excluded = positions; text = bmff_text d.0 roots }),
+      record { alg = refl; hash = refl; in_order = refl; cover = record { excludes = d.0; exactly = d.1; positions = refl; bytes = refl } },
+    )
 
--- what a binding with this label comes to in a JPEG
-labelled_binding : (file : List ℕ) (label : Option (List ℕ)) (item : Option Item) → (b : Option (Result Binding FieldError)) × IsLabelledBinding (media file jpeg) label item b
-labelled_binding file None item = (None, refl)
-labelled_binding file (Some label) None = (None, refl)
-labelled_binding file (Some label) (Some v) = let b = jpeg_binding file (label_kind label) v in (Some b.0, b.1)
+-- what an item of a BMFF hash comes to
+bmff_binding : Laws → (file : List ℕ) (c : Container) (v : Item) → All (λ b. b < 2 ^ 8) file → IsContainer file c → (b : Result Binding FieldError) × IsBmffBinding c (length file) v b
+bmff_binding laws file jpeg v bytes is = (Err (jpeg_refusal v), refl)
+bmff_binding laws file (bmff roots) v bytes is = read_binding laws file roots (bmff_hash_of v) bytes is.1
+
+-- what an item of a binding comes to
+item_binding : Laws → (file : List ℕ) (c : Container) (kind : Kind) (v : Item) → All (λ b. b < 2 ^ 8) file → IsContainer file c → (b : Result Binding FieldError) × IsBinding (media file c) kind v b
+item_binding laws file c kinds.BmffHash v bytes is = bmff_binding laws file c v bytes is
+item_binding laws file c kinds.DataHash v bytes is = (data_binding file (data_hash_of v), refl)
+item_binding laws file c kinds.OtherHash v bytes is = (data_binding file (data_hash_of v), refl)
+item_binding laws file c kinds.Ingredient v bytes is = (data_binding file (data_hash_of v), refl)
+item_binding laws file c kinds.IngredientOther v bytes is = (data_binding file (data_hash_of v), refl)
+item_binding laws file c kinds.Actions v bytes is = (data_binding file (data_hash_of v), refl)
+item_binding laws file c kinds.Cloud v bytes is = (data_binding file (data_hash_of v), refl)
+item_binding laws file c kinds.Ordinary v bytes is = (data_binding file (data_hash_of v), refl)
+
+-- what a binding with this label comes to
+labelled_binding : Laws → (file : List ℕ) (c : Container) (label : Option (List ℕ)) (item : Option Item) → All (λ b. b < 2 ^ 8) file → IsContainer file c → (b : Option (Result Binding FieldError)) × IsLabelledBinding (media file c) label item b
+labelled_binding laws file c None item bytes is = (None, refl)
+labelled_binding laws file c (Some label) None bytes is = (None, refl)
+labelled_binding laws file c (Some label) (Some v) bytes is = let b = item_binding laws file c (label_kind label) v bytes is in (Some b.0, b.1)
 
 -- the binding of a manifest comes to something
-each_binding : Laws → (file : List ℕ) (m : Manifest) (r : Reading) → IsHeldManifest m → IsReading m r → (b : Option (Result Binding FieldError)) × HasBinding (media file jpeg) r b
-each_binding laws file m r held reads =
+each_binding : Laws → (file : List ℕ) (c : Container) (m : Manifest) (r : Reading) → All (λ b. b < 2 ^ 8) file → IsContainer file c → IsHeldManifest m → IsReading m r → (b : Option (Result Binding FieldError)) × HasBinding (media file c) r b
+each_binding laws file c m r bytes is held reads =
     let v = laws.binding (binding_payload r) (payload_held m r held reads) in
-    let b = labelled_binding file (binding_label r) v.0 in
+    let b = labelled_binding laws file c (binding_label r) v.0 bytes is in
     (b.0, record { item = v.0; is_item = v.1; is = b.1 })
 
 -- a manifest that was read stands where its reading does
@@ -280,35 +300,46 @@ read_at (m ∷ ms) (x ∷ rs) zero r z h at = let same : x ≡ r = cc (at) in (m
 read_at (m ∷ ms) (x ∷ rs) (suc i) r z h at = read_at ms rs i r z.1 h.1 at
 
 -- that of the active manifest does
-active_binding : Laws → (file : List ℕ) (ms : List Manifest) (rs : List Reading) → AreReadings ms rs → AllByRecursion IsHeldManifest ms → (b : Option (Result Binding FieldError)) × HasBindingOf (media file jpeg) (active_in rs) b
-active_binding laws file ms rs reads held = by (active_in rs) refl
+active_binding : Laws → (file : List ℕ) (c : Container) (ms : List Manifest) (rs : List Reading) → All (λ b. b < 2 ^ 8) file → IsContainer file c → AreReadings ms rs → AllByRecursion IsHeldManifest ms
+    → (b : Option (Result Binding FieldError)) × HasBindingOf (media file c) (active_in rs) b
+active_binding laws file c ms rs bytes is reads held = by (active_in rs) refl
   where
-    by : (o : Option Reading) → active_in rs ≡ o → (b : Option (Result Binding FieldError)) × HasBindingOf (media file jpeg) o b
+    by : (o : Option Reading) → active_in rs ≡ o → (b : Option (Result Binding FieldError)) × HasBindingOf (media file c) o b
     by None at = (None, refl)
-    by (Some r) at = let m = read_at ms rs (length rs - 1) r reads held at in each_binding laws file m.0 r m.1.0 m.1.1
+    by (Some r) at = let m = read_at ms rs (length rs - 1) r reads held at in each_binding laws file c m.0 r bytes is m.1.0 m.1.1
 
 -- ---- answers
 
 -- there is an answer over each box tree
-each_tree_answer : Laws → (hash : Alg → List ℕ → List ℕ) (said : Question → Verdict) (file : List ℕ) (start len : ℕ) (t : Tree) → begins_jpeg file ≡ true → Holds t → (a : Answer) × IsTreeAnswer hash said file start len t a
-each_tree_answer laws hash said file start len t is holds =
+each_tree_answer : Laws → (hash : Alg → List ℕ → List ℕ) (said : Question → Verdict) (file : List ℕ) (c : Container) (start len : ℕ) (t : Tree) → All (λ b. b < 2 ^ 8) file → IsContainer file c → Holds t → (a : Answer) × IsTreeAnswer hash said file start len t a
+each_tree_answer laws hash said file c start len t bytes is holds =
     let held = held_store laws t holds in
     let rs = laws.readings (manifests_of t) held in
-    let b = active_binding laws file (manifests_of t) rs.0 rs.1 held in
+    let b = active_binding laws file c (manifests_of t) rs.0 bytes is rs.1 held in
     let s : StoreReading = record { readings = rs.0; binding = b.0 } in
-    (store_answer hash said (length file) start len s, (s, record { media = media file jpeg; is_media = record { bytes = refl; container = is }; reads = record { each = rs.1; binding = b.1 } }, refl))
+    (store_answer hash said (length file) start len s, (s, record { media = media file c; is_media = record { bytes = refl; container = is }; reads = record { each = rs.1; binding = b.1 } }, refl))
 
 -- and over whatever a file is opened as
-each_opened_answer : Laws → (hash : Alg → List ℕ → List ℕ) (said : Question → Verdict) (file : List ℕ) (o : Opening Tree) → Accepted o → ((start len : ℕ) (t : Tree) → o ≡ here start len t → begins_jpeg file ≡ true) → (a : Answer) × IsOpenedAnswer hash said file o a
-each_opened_answer laws hash said file (refused r n) h begun = (answer.Refused r n, refl)
-each_opened_answer laws hash said file absent h begun = (answer.NoStore, refl)
-each_opened_answer laws hash said file (here start len t) h begun = each_tree_answer laws hash said file start len t (begun start len t refl) h.0
+each_opened_answer : Laws → (hash : Alg → List ℕ → List ℕ) (said : Question → Verdict) (file : List ℕ) (o : Opening Tree) → All (λ b. b < 2 ^ 8) file → Accepted o → ((start len : ℕ) (t : Tree) → o ≡ here start len t → (c : Container) × IsContainer file c)
+    → (a : Answer) × IsOpenedAnswer hash said file o a
+each_opened_answer laws hash said file (refused r n) bytes h contained = (answer.Refused r n, refl)
+each_opened_answer laws hash said file absent bytes h contained = (answer.NoStore, refl)
+each_opened_answer laws hash said file (here start len t) bytes h contained = let c = contained start len t refl in each_tree_answer laws hash said file c.0 start len t bytes c.1 h.0
+
+-- a file with a store has a container
+opened_container : (file : List ℕ) (what : Opening Tree) (start len : ℕ) (t : Tree) → IsOpened file what → what ≡ here start len t → (c : Container) × IsContainer file c
+opened_container file what start len t h same = by h.0 h.1 h.2
+  where
+    by : (l : Located) → IsLocated file l → Opens IsManifestStore l what → (c : Container) × IsContainer file c
+    by (refused reason number) is opens = absurd (let bad = sym opens ∙ same in cc (bad))
+    by absent is opens = absurd (let bad = sym opens ∙ same in cc (bad))
+    by (here s n store) is opens = store_container file s n store is
 
 -- each file has an answer
 pub each_answer : Laws → (hash : Alg → List ℕ → List ℕ) (said : Question → Verdict) (file : List ℕ) → All (λ b. b < 2 ^ 8) file → (a : Answer) × IsAnswer hash said file a
 each_answer laws hash said file bytes =
     let o = each_opened laws file bytes in
-    let a = each_opened_answer laws hash said file o.0 o.2 (λ start len t same. store_begins file o.0 start len t o.1 same) in
+    let a = each_opened_answer laws hash said file o.0 bytes o.2 (λ start len t same. opened_container file o.0 start len t o.1 same) in
     (a.0, (o.0, o.1, a.1))
 
 -- ---- questions

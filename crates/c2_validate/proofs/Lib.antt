@@ -2,7 +2,9 @@ mod BoundLemmas
 mod ChainLemmas
 mod CheckLemmas
 mod CountLemmas
+mod Containers
 mod EachCheck
+mod Finding
 mod OneCheck
 mod Reading
 mod StoreLemmas

@@ -1,10 +1,8 @@
 -- A file is opened as one thing at most, and has one answer and one list of questions at most.
-use Rattle.std.proofs.Common.{◌≡◌, refl, sym, ◌∙◌, ap, ap₂, subst, ℕ, true, false, not, ◌&&◌, Bool, List, length, Option, Some, None}
+use Rattle.std.proofs.Common.{◌≡◌, sym, ◌∙◌, ap, subst, ℕ, List, length, Option, Some, None}
 use Rattle.c2_base.specs.declared.values.Question.{Question}
 use Rattle.c2_spec.specs.C2pa.Manifest.{Manifest, manifests_of, store_refusal}
-use Rattle.c2_spec.specs.Bmff.Boxes.{begins_bmff}
-use Rattle.c2_spec.specs.Container.{Container, jpeg, bmff, IsContainer, begins_jpeg, is_bmff}
-use Rattle.c2_spec.specs.Jpeg.Store.{IsLocated}
+use Rattle.c2_spec.specs.Container.{IsLocated}
 use Rattle.c2_spec.specs.Jumbf.Faults.{JumbfFault}
 use Rattle.c2_spec.specs.Jumbf.Tree.{Tree, SpellsTree}
 use Rattle.c2_spec.specs.Located.{Opening, Located, refused, absent, here, refused_by}
@@ -13,13 +11,13 @@ use Rattle.c2_spec.specs.declared.digest.Alg.{Alg}
 use Rattle.c2_spec.specs.declared.jumbf.JumbfError.{JumbfError}
 use Rattle.c2_spec.specs.declared.panel.Verdict.{Verdict}
 use Rattle.c2_spec.specs.declared.reason.Refusal.{Refusal}
-use Rattle.c2_rules.specs.Binding.{Media, IsMedia}
+use Rattle.c2_rules.specs.Binding.{Media}
 use Rattle.c2_rules.specs.CheckList.{StoreReading, IsStoreReading, store_answer}
 use Rattle.c2_rules.specs.Opened.{Opens, IsBoxTree, IsManifestTree, IsManifestStore, IsOpened}
 use Rattle.c2_rules.specs.Readings.{Reading, AreReadings}
 use Rattle.c2_rules.specs.Validated.{IsFileReading, IsTreeAnswer, IsOpenedAnswer, IsAnswer, OpenedAsks, MediaAsks}
 use Rattle.c2_rules.specs.declared.answer.Answer.{Answer}
-use Rattle.c2_rules.proofs.JpegMedia.{begins}
+use Rattle.c2_validate.proofs.Containers.{OneRoots, one_media}
 
 -- what the laws of the crates below say
 pub record OpeningLaws : Type 0 where
@@ -82,59 +80,33 @@ one_manifest_store laws start len store x y h k =
 pub one_opened : OpeningLaws → (file : List ℕ) (x y : Opening Tree) → IsOpened file x → IsOpened file y → x ≡ y
 one_opened laws file x y h k = one_after (IsLocated file) (Opens IsManifestStore) (laws.located file) (one_opens IsManifestStore (one_manifest_store laws)) x y h k
 
--- ---- media
-
--- a media file by its bytes and its container
-abbrev pub media : List ℕ → Container → Media
-media bytes container = record { bytes = bytes; container = container }
-
--- a file that begins as a JPEG has no other container
-jpeg_container : (file : List ℕ) (c : Container) → begins_jpeg file ≡ true → IsContainer file c → c ≡ jpeg
-jpeg_container file jpeg is h = refl
-jpeg_container file (bmff roots) is h = absurd (let no : false ≡ is_bmff file = sym (ap (λ (b : Bool). not b && begins_bmff file) is) in let bad = no ∙ h.0 in cc (bad))
-
--- it is media in one way
-pub jpeg_media_is : (file : List ℕ) (m : Media) → begins_jpeg file ≡ true → IsMedia file m → m ≡ media file jpeg
-jpeg_media_is file m is h = ap₂ media h.bytes (jpeg_container file m.container is h.container)
-
--- a file with a store begins as a JPEG
-pub store_begins : (file : List ℕ) (what : Opening Tree) (start len : ℕ) (t : Tree) → IsOpened file what → what ≡ here start len t → begins_jpeg file ≡ true
-store_begins file what start len t h same = by h.0 h.1 h.2
-  where
-    by : (l : Located) → IsLocated file l → Opens IsManifestStore l what → begins_jpeg file ≡ true
-    by (refused reason number) is opens = absurd (let bad = sym opens ∙ same in cc (bad))
-    by absent is opens = absurd (let bad = sym opens ∙ same in cc (bad))
-    by (here s n store) is opens = begins file is.segments is.rest is.begins
-
 -- ---- answers
 
--- what is read of the manifests of a store, and of a store in a media file, is one
+-- the root boxes of a file are one list; what is read of the manifests of a store, and of a store in a media file, is one
 pub record ReadingLaws : Type 0 where
+  pub roots : OneRoots
   pub manifests : (ms : List Manifest) (rs ss : List Reading) → AreReadings ms rs → AreReadings ms ss → rs ≡ ss
   pub store : (m : Media) (ms : List Manifest) (s t : StoreReading) → IsStoreReading m ms s → IsStoreReading m ms t → s ≡ t
 
--- its store is read in one way
-one_file_reading : ReadingLaws → (file : List ℕ) (t : Tree) → begins_jpeg file ≡ true → (a b : StoreReading) → IsFileReading file t a → IsFileReading file t b → a ≡ b
-one_file_reading laws file t is a b h k =
-    laws.store (media file jpeg) (manifests_of t) a b (subst (λ (m : Media). IsStoreReading m (manifests_of t) a) (jpeg_media_is file h.media is h.is_media) h.reads)
-    (subst (λ (m : Media). IsStoreReading m (manifests_of t) b) (jpeg_media_is file k.media is k.is_media) k.reads)
+-- the store of a file is read in one way
+one_file_reading : ReadingLaws → (file : List ℕ) (t : Tree) (a b : StoreReading) → IsFileReading file t a → IsFileReading file t b → a ≡ b
+one_file_reading laws file t a b h k =
+    laws.store h.media (manifests_of t) a b h.reads (subst (λ (m : Media). IsStoreReading m (manifests_of t) b) (one_media laws.roots file k.media h.media k.is_media h.is_media) k.reads)
 
 -- there is one answer at most over a box tree
-one_tree_answer : ReadingLaws → (hash : Alg → List ℕ → List ℕ) (said : Question → Verdict) (file : List ℕ) (start len : ℕ) (t : Tree) → begins_jpeg file ≡ true → (a b : Answer) → IsTreeAnswer hash said file start len t a → IsTreeAnswer hash said file start len t b
-    → a ≡ b
-one_tree_answer laws hash said file start len t is a b h k =
-    one_after (IsFileReading file t) (λ (s : StoreReading) (e : Answer). e ≡ store_answer hash said (length file) start len s) (one_file_reading laws file t is) (λ s x y p q. p ∙ sym q) a b h k
+one_tree_answer : ReadingLaws → (hash : Alg → List ℕ → List ℕ) (said : Question → Verdict) (file : List ℕ) (start len : ℕ) (t : Tree) (a b : Answer) → IsTreeAnswer hash said file start len t a → IsTreeAnswer hash said file start len t b → a ≡ b
+one_tree_answer laws hash said file start len t a b h k = one_after (IsFileReading file t) (λ (s : StoreReading) (e : Answer). e ≡ store_answer hash said (length file) start len s) (one_file_reading laws file t) (λ s x y p q. p ∙ sym q) a b h k
 
 -- and over what a file is opened as
-one_opened_answer : ReadingLaws → (hash : Alg → List ℕ → List ℕ) (said : Question → Verdict) (file : List ℕ) (o : Opening Tree) → IsOpened file o → (a b : Answer) → IsOpenedAnswer hash said file o a → IsOpenedAnswer hash said file o b → a ≡ b
-one_opened_answer laws hash said file (refused reason number) opened a b h k = h ∙ sym k
-one_opened_answer laws hash said file absent opened a b h k = h ∙ sym k
-one_opened_answer laws hash said file (here start len t) opened a b h k = one_tree_answer laws hash said file start len t (store_begins file (here start len t) start len t opened refl) a b h k
+one_opened_answer : ReadingLaws → (hash : Alg → List ℕ → List ℕ) (said : Question → Verdict) (file : List ℕ) (o : Opening Tree) (a b : Answer) → IsOpenedAnswer hash said file o a → IsOpenedAnswer hash said file o b → a ≡ b
+one_opened_answer laws hash said file (refused reason number) a b h k = h ∙ sym k
+one_opened_answer laws hash said file absent a b h k = h ∙ sym k
+one_opened_answer laws hash said file (here start len t) a b h k = one_tree_answer laws hash said file start len t a b h k
 
 -- a file has one answer at most
 pub one_answer : ((file : List ℕ) (x y : Opening Tree) → IsOpened file x → IsOpened file y → x ≡ y) → ReadingLaws → (hash : Alg → List ℕ → List ℕ) (said : Question → Verdict) (file : List ℕ) (a b : Answer) → IsAnswer hash said file a → IsAnswer hash said file b
     → a ≡ b
-one_answer opening laws hash said file a b h k = one_opened_answer laws hash said file h.0 h.1 a b h.2 (subst (λ (o : Opening Tree). IsOpenedAnswer hash said file o b) (opening file k.0 h.0 k.1 h.1) k.2)
+one_answer opening laws hash said file a b h k = one_opened_answer laws hash said file h.0 a b h.2 (subst (λ (o : Opening Tree). IsOpenedAnswer hash said file o b) (opening file k.0 h.0 k.1 h.1) k.2)
 
 -- ---- questions
 

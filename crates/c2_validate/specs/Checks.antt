@@ -4,7 +4,9 @@ use Rattle.std.specs.declared.result.Result.{Result}
 use Rattle.c2_base.specs.declared.values.Question.{Question}
 use Rattle.c2_base.specs.declared.media.Found.{Found}
 use Rattle.c2_spec.specs.C2pa.Manifest.{Manifest, manifests_of}
-use Rattle.c2_spec.specs.Container.{IsContainer}
+use Rattle.c2_spec.specs.Bmff.Boxes.{Box, HasRoots}
+use Rattle.c2_spec.specs.Container.{jpeg, bmff}
+use Rattle.c2_spec.specs.Container as container
 use Rattle.c2_spec.specs.Judges.Panel.{Judges, SomeRose}
 use Rattle.c2_spec.specs.Jumbf.Tree.{Tree}
 use Rattle.c2_spec.specs.Located.{Opening}
@@ -29,8 +31,9 @@ use Rattle.c2_rules.specs.Readings.{ReadBox, Reading, AreReadings}
 use Rattle.c2_rules.specs.Rules.{label_kind, is_binding, box_with}
 use Rattle.c2_rules.specs.Tests.{Test, test, first_failing}
 use Rattle.c2_rules.specs.declared.code.Code.TheVariants as code
+use Rattle.c2_bmff.specs.Roots.{rows_of}
 use Rattle.c2_cover.specs.Covers.{excluded_of}
-use Rattle.c2_validate.specs.Opened.{container_of}
+use Rattle.c2_validate.specs.Opened.{IsContainerOf}
 use Rattle.c2_validate.specs.declared.bound.Bound.{Bound}
 use Rattle.c2_validate.specs.declared.bound.Bound.TheVariants as bound
 use Rattle.c2_chain.specs.declared.asking.ChainError.{ChainError}
@@ -38,6 +41,7 @@ use Rattle.c2_chain.specs.declared.asking.ChainError.TheVariants as chain
 use Rattle.c2_validate.specs.declared.error.ValidateError.{ValidateError}
 use Rattle.c2_validate.specs.declared.error.ValidateError.TheVariants.{ReadFault, JudgeFault, NoMemory}
 use Rattle.c2_validate.specs.declared.types.Container as types
+use Rattle.c2_validate.specs.declared.types.Container.TheVariants.{Jpeg, Bmff}
 use Rattle.c2_validate.specs.declared.types.Media.{Media}
 
 -- these are what the manifests of some store come to
@@ -119,9 +123,15 @@ abbrev pub is_bmff_kind : Kind → Bool
 is_bmff_kind kinds.BmffHash = true
 is_bmff_kind kind = false
 
--- a media file of this container
-abbrev pub media_of : List ℕ → types.Container → rules.Media
-media_of file c = record { bytes = file; container = container_of c }
+-- a media file by its bytes and its container
+abbrev pub media : List ℕ → container.Container → rules.Media
+media bytes c = record { bytes = bytes; container = c }
+
+-- a file of this container is this as media: root boxes that were read are boxes of the file
+abbrev pub IsMediaOf : List ℕ → types.Container → rules.Media → Type 0
+IsMediaOf file Jpeg m = m ≡ media file jpeg
+IsMediaOf file (Bmff roots) m =
+    (boxes : List Box) × HasRoots file boxes × (roots ≡ rows_of boxes) × (m ≡ media file (bmff boxes))
 
 -- ---- the answer
 
@@ -129,7 +139,8 @@ media_of file c = record { bytes = file; container = container_of c }
 abbrev pub IsAnswerOver : (Option (Result Binding FieldError) → List Test) → List Reading
     → types.Container → Found → List ℕ → Answer → Type 0
 IsAnswerOver tests rs c f file a =
-    (b : Option (Result Binding FieldError)) → HasBindingOf (media_of file c) (active_in rs) b
+    (m : rules.Media) → IsMediaOf file c m
+    → (b : Option (Result Binding FieldError)) → HasBindingOf m (active_in rs) b
     → a ≡ answer_of
     (summary_of (length file) f.start f.length (record { readings = rs; binding = b }))
     (first_failing (tests b))
@@ -154,14 +165,14 @@ binding_tests hash rs b = last_tests hash b (active_in rs)
 abbrev pub IsTreeAnswered : (Alg → List ℕ → List ℕ) → (Question → Verdict) → Media → Tree
     → List ℕ → Answer → Type 0
 IsTreeAnswered hash said m t file a =
-    IsContainer file (container_of m.container) → (expected : Answer)
+    IsContainerOf file m.container → (expected : Answer)
     → IsTreeAnswer hash said file m.found.start m.found.length t expected → expected ≡ a
 
 -- the same over a store that was found
 abbrev pub IsFoundAnswered : (Alg → List ℕ → List ℕ) → (Question → Verdict) → Media → List ℕ
     → Answer → Type 0
 IsFoundAnswered hash said m file a =
-    IsContainer file (container_of m.container) → (expected : Answer) (what : Opening Tree)
+    IsContainerOf file m.container → (expected : Answer) (what : Opening Tree)
     → IsManifestStore m.found.start m.found.length m.found.store what
     → IsOpenedAnswer hash said file what expected → expected ≡ a
 

@@ -1,21 +1,20 @@
 -- What the answers of this crate say of a media file and of a store's bytes.
-use Rattle.std.specs.Prelude.{◌≡◌, ℕ, ◌+◌, ◌≤◌, ⊤, List, length}
+use Rattle.std.specs.Prelude.{◌≡◌, ℕ, ◌+◌, ◌≤◌, ⊤, true, List, All, length}
 use Rattle.c2_base.specs.Causes.{Rose}
 use Rattle.c2_base.specs.declared.limits.TheConstants.{MAX_STORE_LEN}
 use Rattle.c2_base.specs.declared.media.Found.{Found}
 use Rattle.c2_base.specs.declared.media.MediaError.{MediaError}
 use Rattle.c2_base.specs.declared.media.MediaError.TheVariants as media
 use Rattle.c2_spec.specs.C2pa.Manifest.{IsStoreOf}
-use Rattle.c2_spec.specs.Container.{IsContainer, jpeg}
-use Rattle.c2_spec.specs.Container as container
-use Rattle.c2_spec.specs.Jpeg.Store.{IsLocated}
+use Rattle.c2_spec.specs.Container.{IsLocated, begins_jpeg, is_bmff}
 use Rattle.c2_spec.specs.Jumbf.Tree.{Tree}
 use Rattle.c2_spec.specs.Located.{Opening, Located, refused, absent, here}
 use Rattle.c2_rules.specs.Opened.{IsManifestStore}
+use Rattle.c2_bmff.specs.Roots.{AreRootsOf, IsBoxWithin}
 use Rattle.c2_validate.specs.declared.error.ValidateError.{ValidateError}
 use Rattle.c2_validate.specs.declared.error.ValidateError.TheVariants.{ReadFault, JudgeFault, NoMemory}
 use Rattle.c2_validate.specs.declared.types.Container.{Container}
-use Rattle.c2_validate.specs.declared.types.Container.TheVariants.{Jpeg}
+use Rattle.c2_validate.specs.declared.types.Container.TheVariants.{Jpeg, Bmff}
 use Rattle.c2_validate.specs.declared.types.Opened.{Opened}
 use Rattle.c2_validate.specs.declared.types.Opened.TheVariants as opened
 use Rattle.c2_validate.specs.declared.types.StoreRead.{StoreRead}
@@ -29,14 +28,15 @@ located_of (opened.Here m) = here m.found.start m.found.length m.found.store
 located_of (opened.NoStore c) = absent
 located_of (opened.Refused reason number) = refused reason number
 
--- the container that is answered
-abbrev pub container_of : Container → container.Container
-container_of Jpeg = jpeg
+-- the file's container is this: of a BMFF file its root boxes
+abbrev pub IsContainerOf : List ℕ → Container → Type 0
+IsContainerOf file Jpeg = begins_jpeg file ≡ true
+IsContainerOf file (Bmff roots) = (is_bmff file ≡ true) × AreRootsOf file roots
 
 -- where the file isn't refused, the container that is answered is its own
 abbrev pub HasContainer : List ℕ → Opened → Type 0
-HasContainer file (opened.Here m) = IsContainer file (container_of m.container)
-HasContainer file (opened.NoStore c) = IsContainer file (container_of c)
+HasContainer file (opened.Here m) = IsContainerOf file m.container
+HasContainer file (opened.NoStore c) = IsContainerOf file c
 HasContainer file (opened.Refused reason number) = ⊤
 
 -- this is what the file is as a container, and nothing else is
@@ -45,10 +45,17 @@ pub record IsFound (file : List ℕ) (o : Opened) : Type 0 where
   pub only : (what : Located) → IsLocated file what → what ≡ located_of o
   pub container : HasContainer file o
 
--- the embedded range lies inside a file of this length, and the store is no longer than a store may be
+-- the root boxes of a container end inside a source of this length
+abbrev pub HasRootsInside : ℕ → Container → Type 0
+HasRootsInside len Jpeg = ⊤
+HasRootsInside len (Bmff roots) = All (IsBoxWithin len) roots
+
+-- the embedded range and root boxes lie inside a file of this length, and the store is no longer than a store may be
 abbrev pub IsWithin : ℕ → Opened → Type 0
-IsWithin len (opened.Here m) = (m.found.start + m.found.length ≤ len) × (length m.found.store ≤ MAX_STORE_LEN)
-IsWithin len (opened.NoStore c) = ⊤
+IsWithin len (opened.Here m) =
+    (m.found.start + m.found.length ≤ len) × (length m.found.store ≤ MAX_STORE_LEN)
+    × HasRootsInside len m.container
+IsWithin len (opened.NoStore c) = HasRootsInside len c
 IsWithin len (opened.Refused reason number) = ⊤
 
 -- the cause of an error, by the source's count of faults before and after: no judge is asked

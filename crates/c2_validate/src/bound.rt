@@ -1,31 +1,37 @@
 // The rule on the binding of the active manifest to its media file.
-ghost use Rattle.std.specs.Prelude.{◌≡◌, [], ◌∷◌, not, bytes_eq, IfOk, IfErr, OnOk, IsErr, Ok, Some, Option as AnyOption, Result as AnyResult};
+ghost use Rattle.std.specs.Prelude.{◌≡◌, [], ◌∷◌, ℕ, List, All, length, not, bytes_eq, IfOk, IfErr, OnOk, IsErr, Ok, Some, Option as AnyOption, Result as AnyResult};
 ghost use Rattle.std.specs.Option.{ForSome};
 ghost use Rattle.c2_base.specs.Source.{StaysSource};
+ghost use Rattle.c2_bmff.specs.Roots.{IsBoxWithin, rows_of};
+ghost use Rattle.c2_spec.specs.Bmff.Boxes.{Box as AnyBox, HasRoots};
+ghost use Rattle.c2_spec.specs.Bmff.Hash.{bmff_hash_of};
 ghost use Rattle.c2_spec.specs.Cbor.View.{view};
 ghost use Rattle.c2_spec.specs.Digest.{alg_named};
 ghost use Rattle.c2_spec.specs.C2pa.Assertion.{data_hash_of};
 ghost use Rattle.c2_spec.specs.declared.assertion.FieldError.{FieldError as AnyFieldError};
 ghost use Rattle.c2_cover.specs.Covers.{excluded_of, text_of};
 ghost use Rattle.c2_cover.specs.Digests.{IsDigestOf};
+ghost use Rattle.c2_cover.specs.Refused.{IsBmffCause};
 ghost use Rattle.c2_rules.specs.Binding as form;
-ghost use Rattle.c2_rules.specs.Binding.{Binding};
+ghost use Rattle.c2_rules.specs.Binding.{Binding, Media};
 ghost use Rattle.c2_rules.specs.Chains.{label_in};
 ghost use Rattle.c2_rules.specs.Ingredients.{assertion_uri};
 ghost use Rattle.c2_rules.specs.Rules as rules;
 ghost use Rattle.c2_rules.specs.Tests.{test};
-ghost use Rattle.c2_validate.specs.Checks.{HasSize, IsBoundAs, IsBoundBy, IsFoundBy, after_alg_tests, data_binding_of, is_bmff_kind, media_of};
-ghost use Rattle.c2_validate.specs.Opened.{IsCause};
+ghost use Rattle.c2_validate.specs.Checks.{HasSize, IsBoundAs, IsBoundBy, IsFoundBy, IsMediaOf, after_alg_tests, data_binding_of, is_bmff_kind};
+ghost use Rattle.c2_validate.specs.Opened.{HasRootsInside, IsCause};
 
 use crate::ValidateError;
 use crate::binding::{binding_item, binding_label, read_payload};
 use crate::types::Container;
-use c2_assertion::{DataHash, FieldError, Kind, read_data_hash};
+use c2_assertion::{BmffHash, DataHash, FieldError, Kind, read_bmff_hash, read_data_hash};
 use c2_base::limits::PIECE_LEN;
 use c2_base::{Failed, NoMemory, Range, Source, Text};
+use c2_bmff::Exclusion;
+use c2_bmff::types::Roots;
 use c2_cbor::{Cbor, field, one_item};
 use c2_chain::{alg_name, label_kind};
-use c2_cover::{Cover, CoverError, data_cover, digest_cover};
+use c2_cover::{Cover, CoverError, bmff_cover, data_cover, digest_cover};
 use c2_hash::{Alg, Digest, Hashing, alg_of};
 use c2_reading::{Kept, label};
 use c2_rules::{Code, Failing};
@@ -310,6 +316,125 @@ fn check_data_item<S: Source, H: Hashing>(
     }
 }
 
+/// The algorithm that a BMFF hash names.
+fn bmff_alg<'c>(fields: &'c BmffHash) -> &'c Option<Text>
+    ensures { result.now ≡ fields.now.alg }
+{
+    &fields.alg
+}
+
+/// What it excludes.
+fn bmff_exclusions<'c>(fields: &'c BmffHash) -> &'c [Exclusion]
+    ensures { result.now ≡ fields.now.exclusions }
+{
+    fields.exclusions.as_slice()
+}
+
+/// The digest that it names.
+fn bmff_digest<'c>(fields: &'c BmffHash) -> &'c [u8]
+    ensures { result.now ≡ fields.now.hash }
+{
+    fields.hash.as_slice()
+}
+
+/// The fault that an error of the cover of a BMFF hash stands for, which refuses no range.
+fn cover_fault(error: CoverError) -> ValidateError
+    ensures { (before now : ℕ) → IsBmffCause before now error → IsCause before now result }
+{
+    match error {
+        CoverError::ReadFault => ValidateError::ReadFault,
+        _ => ValidateError::NoMemory,
+    }
+}
+
+/// The rule on the digest of a BMFF hash.
+fn check_boxes<S: Source, H: Hashing>(
+    alloc: Global,
+    hashing: &H,
+    source: &mut S,
+    roots: &Roots,
+    own: &Kept<'_>,
+    name: &str,
+    kind: Kind,
+    fields: &BmffHash,
+    alg: Alg,
+) -> Result<Bound, ValidateError>
+    requires { All (IsBoxWithin (S.len source.old)) roots.now }
+    ensures found { let uri = assertion_uri (label_in own.now) name.now in
+        ForSome (S.known source.old) (λ file. (boxes : List AnyBox) → HasRoots file boxes
+        → roots.now ≡ rows_of boxes
+        → (b : Binding) → form.IsBoxBinding boxes (length file) fields.now b
+        → IfOk result (IsFoundBy (after_alg_tests H.digest_of alg kind uri b) b.excluded)) }
+    ensures size { IfOk result (HasSize (S.len source.old)) }
+    ensures stays { StaysSource S.len S.known S.faults source.old source.new }
+    ensures count { OnOk result (S.faults source.new ≡ S.faults source.old) }
+    ensures cause { IfErr result (IsCause (S.faults source.old) (S.faults source.new)) }
+{
+    let cover = match bmff_cover(alloc, source, roots, bmff_exclusions(fields)) {
+        Ok(cover) => cover,
+        Err(error) => return Err(cover_fault(error)),
+    };
+    let hash = bmff_digest(fields);
+    check_digest(alloc, hashing, source, own, name, kind, hash, alg, cover)
+}
+
+/// The rules on a BMFF hash: its algorithm is known before any box is looked for.
+fn check_bmff<S: Source, H: Hashing>(
+    alloc: Global,
+    hashing: &H,
+    source: &mut S,
+    roots: &Roots,
+    own: &Kept<'_>,
+    name: &str,
+    kind: Kind,
+    fields: &BmffHash,
+) -> Result<Bound, ValidateError>
+    requires { All (IsBoxWithin (S.len source.old)) roots.now }
+    ensures found { let uri = assertion_uri (label_in own.now) name.now in
+        ForSome (S.known source.old) (λ file. (boxes : List AnyBox) → HasRoots file boxes
+        → roots.now ≡ rows_of boxes
+        → (b : Binding) → form.IsBoxBinding boxes (length file) fields.now b
+        → IfOk result (IsBoundBy H.digest_of own.now uri kind (Ok b))) }
+    ensures size { IfOk result (HasSize (S.len source.old)) }
+    ensures stays { StaysSource S.len S.known S.faults source.old source.new }
+    ensures count { OnOk result (S.faults source.new ≡ S.faults source.old) }
+    ensures cause { IfErr result (IsCause (S.faults source.old) (S.faults source.new)) }
+{
+    match known_alg(own, bmff_alg(fields)) {
+        Some(alg) => check_boxes(alloc, hashing, source, roots, own, name, kind, fields, alg),
+        None => fails(alloc, own, name, Code::AlgorithmUnsupported),
+    }
+}
+
+/// The rules on the item of a BMFF hash.
+fn check_bmff_item<S: Source, H: Hashing>(
+    alloc: Global,
+    hashing: &H,
+    source: &mut S,
+    roots: &Roots,
+    own: &Kept<'_>,
+    name: &str,
+    kind: Kind,
+    item: &Cbor,
+) -> Result<Bound, ValidateError>
+    requires { All (IsBoxWithin (S.len source.old)) roots.now }
+    ensures found { let uri = assertion_uri (label_in own.now) name.now in
+        ForSome (S.known source.old) (λ file. (boxes : List AnyBox) → HasRoots file boxes
+        → roots.now ≡ rows_of boxes
+        → (b : AnyResult Binding AnyFieldError)
+        → form.IsRead boxes (length file) (bmff_hash_of (view item.now)) b
+        → IfOk result (IsBoundBy H.digest_of own.now uri kind b)) }
+    ensures size { IfOk result (HasSize (S.len source.old)) }
+    ensures stays { StaysSource S.len S.known S.faults source.old source.new }
+    ensures count { OnOk result (S.faults source.new ≡ S.faults source.old) }
+    ensures cause { IfErr result (IsCause (S.faults source.old) (S.faults source.new)) }
+{
+    match read_bmff_hash(alloc, item) {
+        Ok(fields) => check_bmff(alloc, hashing, source, roots, own, name, kind, &fields),
+        Err(error) => check_field(alloc, own, name, error),
+    }
+}
+
 /// Why a BMFF hash has no place in a JPEG.
 fn jpeg_refusal(item: &Cbor) -> FieldError
     ensures { result ≡ form.jpeg_refusal (view item.now) }
@@ -335,15 +460,16 @@ fn check_item<S: Source, H: Hashing>(
     alloc: Global,
     hashing: &H,
     source: &mut S,
-    container: Container,
+    container: &Container,
     own: &Kept<'_>,
     name: &str,
     item: &Cbor,
 ) -> Result<Bound, ValidateError>
+    requires { HasRootsInside (S.len source.old) container.now }
     ensures found { let uri = assertion_uri (label_in own.now) name.now in
         let kind = rules.label_kind name.now in
-        ForSome (S.known source.old) (λ file. (b : AnyResult Binding AnyFieldError)
-        → form.IsBinding (media_of file container) kind (view item.now) b
+        ForSome (S.known source.old) (λ file. (m : Media) → IsMediaOf file container.now m
+        → (b : AnyResult Binding AnyFieldError) → form.IsBinding m kind (view item.now) b
         → IfOk result (IsBoundBy H.digest_of own.now uri kind b)) }
     ensures size { IfOk result (HasSize (S.len source.old)) }
     ensures stays { StaysSource S.len S.known S.faults source.old source.new }
@@ -354,6 +480,9 @@ fn check_item<S: Source, H: Hashing>(
     if is_bmff_hash(kind) {
         return match container {
             Container::Jpeg => check_field(alloc, own, name, jpeg_refusal(item)),
+            Container::Bmff(roots) => {
+                check_bmff_item(alloc, hashing, source, roots, own, name, kind, item)
+            }
         };
     }
     check_data_item(alloc, hashing, source, own, name, kind, item)
@@ -381,14 +510,15 @@ fn check_labelled<S: Source, H: Hashing>(
     alloc: Global,
     hashing: &H,
     source: &mut S,
-    container: Container,
+    container: &Container,
     own: &Kept<'_>,
     name: &str,
 ) -> Result<Bound, ValidateError>
-    requires { form.binding_label own.now ≡ Some name.now }
+    requires label { form.binding_label own.now ≡ Some name.now }
+    requires inside { HasRootsInside (S.len source.old) container.now }
     ensures found { ForSome (S.known source.old) (λ file.
-        (b : AnyOption (AnyResult Binding AnyFieldError))
-        → form.HasBinding (media_of file container) own.now b
+        (m : Media) → IsMediaOf file container.now m
+        → (b : AnyOption (AnyResult Binding AnyFieldError)) → form.HasBinding m own.now b
         → IfOk result (IsBoundAs H.digest_of own.now b)) }
     ensures size { IfOk result (HasSize (S.len source.old)) }
     ensures stays { StaysSource S.len S.known S.faults source.old source.new }
@@ -412,12 +542,13 @@ pub fn check_binding<S: Source, H: Hashing>(
     alloc: Global,
     hashing: &H,
     source: &mut S,
-    container: Container,
+    container: &Container,
     own: &Kept<'_>,
 ) -> Result<Bound, ValidateError>
+    requires { HasRootsInside (S.len source.old) container.now }
     ensures found { ForSome (S.known source.old) (λ file.
-        (b : AnyOption (AnyResult Binding AnyFieldError))
-        → form.HasBinding (media_of file container) own.now b
+        (m : Media) → IsMediaOf file container.now m
+        → (b : AnyOption (AnyResult Binding AnyFieldError)) → form.HasBinding m own.now b
         → IfOk result (IsBoundAs H.digest_of own.now b)) }
     ensures size { IfOk result (HasSize (S.len source.old)) }
     ensures stays { StaysSource S.len S.known S.faults source.old source.new }

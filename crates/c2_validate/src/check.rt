@@ -8,7 +8,7 @@ ghost use Rattle.c2_spec.specs.Judges.Panel.{LeavesJudges, judges_of, panel_says
 ghost use Rattle.c2_rules.specs.CheckList as form;
 ghost use Rattle.c2_rules.specs.Validated.{CheckAsks};
 ghost use Rattle.c2_validate.specs.Checks.{AreRead, FoundAsks, IsAnswerOver, IsFoundAnswered, IsTreeAnswered, TreeAsks, all_tests, binding_tests, later_tests};
-ghost use Rattle.c2_validate.specs.Opened.{IsCause};
+ghost use Rattle.c2_validate.specs.Opened.{HasRootsInside, IsCause};
 ghost use Rattle.c2_validate.specs.Validation.{HasAsked, HasAskedThose, IsAnswered, IsFaultCause};
 
 use crate::ValidateError;
@@ -20,6 +20,7 @@ use crate::read::read_store;
 use crate::summary::summary;
 use crate::types::{Media, Opened, StoreRead};
 use c2_base::Source;
+use c2_bmff::a_file_has_one_list_of_roots;
 use c2_chain::{Chain, active_manifest, check_active, of_store, one_reading};
 use c2_hash::Hashing;
 use c2_judge::Judge;
@@ -36,7 +37,8 @@ fn answer_binding<S: Source, H: Hashing>(
     media: &Media,
     chain: &Chain<'_>,
 ) -> Result<Answer, ValidateError>
-    requires { 0 < length chain.now.readings }
+    requires some { 0 < length chain.now.readings }
+    requires inside { HasRootsInside (S.len source.old) media.now.container }
     ensures answer { let rs = chain.now.readings in
         let tests = binding_tests H.digest_of rs in
         ForSome (S.known source.old)
@@ -46,7 +48,7 @@ fn answer_binding<S: Source, H: Hashing>(
     ensures cause { IfErr result (IsCause (S.faults source.old) (S.faults source.new)) }
 {
     let own = active_manifest(chain);
-    let bound = match check_binding(alloc, hashing, source, media.container, own) {
+    let bound = match check_binding(alloc, hashing, source, &media.container, own) {
         Ok(bound) => bound,
         Err(error) => return Err(error),
     };
@@ -72,6 +74,7 @@ fn answer_chain<S: Source, H: Hashing>(
 ) -> Result<Answer, ValidateError>
     requires some { 0 < length chain.now.readings }
     requires read { AreRead chain.now.readings }
+    requires inside { HasRootsInside (S.len source.old) media.now.container }
     ensures answer { let said = panel_says (map (λ j. says j) judges.old.items) in
         let rs = chain.now.readings in
         let tests = later_tests H.digest_of said rs in
@@ -123,6 +126,7 @@ fn answer_active<S: Source, H: Hashing>(
 ) -> Result<Answer, ValidateError>
     requires some { 0 < length chain.now.readings }
     requires read { AreRead chain.now.readings }
+    requires inside { HasRootsInside (S.len source.old) media.now.container }
     ensures answer { let said = panel_says (map (λ j. says j) judges.old.items) in
         let rs = chain.now.readings in
         let tests = all_tests H.digest_of said rs in
@@ -169,7 +173,8 @@ fn answer_tree<S: Source, H: Hashing>(
     store: &Store,
     judges: &mut Vec<Box<dyn Judge>>,
 ) -> Result<Answer, ValidateError>
-    requires { IsStoreOf tree.now store.now }
+    requires store { IsStoreOf tree.now store.now }
+    requires inside { HasRootsInside (S.len source.old) media.now.container }
     ensures answer { let said = panel_says (map (λ j. says j) judges.old.items) in
         ForSome (S.known source.old)
         (λ file. IfOk result (IsTreeAnswered H.digest_of said media.now tree.now file)) }
@@ -194,7 +199,8 @@ fn answer_tree<S: Source, H: Hashing>(
         judges.new.items in
         LeavesJudges old new result }
 {
-    // Only the prover needs this law.
+    // Only the prover needs these laws.
+    a_file_has_one_list_of_roots();
     one_reading();
     let chain = match of_store(alloc, tree, store) {
         Ok(chain) => chain,
@@ -211,7 +217,7 @@ fn answer_media<S: Source, H: Hashing>(
     media: &Media,
     judges: &mut Vec<Box<dyn Judge>>,
 ) -> Result<Answer, ValidateError>
-    requires { Unit {0} }
+    requires { HasRootsInside (S.len source.old) media.now.container }
     ensures answer { let said = panel_says (map (λ j. says j) judges.old.items) in
         ForSome (S.known source.old)
         (λ file. IfOk result (IsFoundAnswered H.digest_of said media.now file)) }
@@ -256,7 +262,7 @@ fn answer_media<S: Source, H: Hashing>(
 /// The panel is asked of each reached manifest whose rules before the verdict hold, while no rule of a later one fails; nobody
 /// is asked where the file has no well-formed store, or its active manifest is an update. `ReadFault` comes only where the
 /// source failed in this call, `JudgeFault` only where a judge did that was due. The file is read in pieces.
-// The condition always holds, here and above: a function that changes boxed judges is called under a contract only where it
+// The condition always holds: a function that changes boxed judges is called under a contract only where it
 // has one.
 pub fn validate<S: Source, H: Hashing>(
     alloc: Global,

@@ -21,6 +21,6 @@ pub use c2_rules::{Answer, Summary};
 pub use check::validate;
 pub use error::ValidateError;
 pub use find::find_store;
-pub use laws::{each_file_has_a_check, one_check, one_opening};
+pub use laws::{each_file_has_a_check, each_media_file_is_located, one_check, one_opening};
 pub use read::read_store;
 pub use types::{Container, Media, Opened};

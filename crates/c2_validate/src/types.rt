@@ -1,14 +1,18 @@
 // What a media file is opened as.
 use c2_base::Found;
+use c2_bmff::types::Roots;
 use c2_jumbf::Tree;
 use c2_spec::Reason;
 use c2_store::Store;
 
 /// The container of a media file.
-#[derive(Clone, Copy, Debug, PartialEq, Eq)]
+#[derive(Debug, Drop)]
 pub enum Container {
     /// JPEG (ITU-T T.81).
     Jpeg,
+
+    /// The ISO base media file format (ISO/IEC 14496-12), with the file's root boxes from its first byte to its last.
+    Bmff(Roots),
 }
 
 /// A media file that has a manifest store.

@@ -4,7 +4,7 @@ use Rattle.c2_cmd.proofs.laws.one_outcome.Goals as goal
 -- two outcomes of the same call are the same
 pub returns-clause-outcome : goal.returns-clause-outcome
 returns-clause-outcome c = one_outcome (record {
-  located = c.each_file_is_located.ensures.once;
+  located = c.each_media_file_is_located.ensures.once;
   apart = c.each_list_is_a_tree_or_not.ensures.apart;
   tree = c.each_list_is_a_tree_or_not.ensures.one_tree;
   fault = c.each_list_is_a_tree_or_not.ensures.one_fault;
@@ -19,7 +19,7 @@ returns-clause-outcome c = one_outcome (record {
 -- two lists of questions of the same call are the same
 pub returns-clause-questions : goal.returns-clause-questions
 returns-clause-questions c = one_list (record {
-  located = c.each_file_is_located.ensures.once;
+  located = c.each_media_file_is_located.ensures.once;
   apart = c.each_list_is_a_tree_or_not.ensures.apart;
   tree = c.each_list_is_a_tree_or_not.ensures.one_tree;
   fault = c.each_list_is_a_tree_or_not.ensures.one_fault;

@@ -29,11 +29,11 @@ returns-in-NoStore-clause-answer g c = λ file known. file_absent c.each_file_ha
 pub returns-in-NoStore-clause-asked : goal.returns-in-NoStore-clause-asked
 returns-in-NoStore-clause-asked g c = λ file known. absent_file_asked g.H.Hashing.digest_of (panel_says (map (λ j. (goal.Judge-dyn g (j.vtable, j.value)).says j.value) c.args.judges.now.items)) file c.in-Ok.opened c.in-NoStore.field-0 (judges_of (λ j. (goal.Judge-dyn g (j.vtable, j.value)).says j.value) (λ j. (goal.Judge-dyn g (j.vtable, j.value)).asked_times j.value) (λ j. (goal.Judge-dyn g (j.vtable, j.value)).judge_faults j.value) c.args.judges.now.items) answer.NoStore (c.in-Ok.ensures.found file known) c.in-NoStore.is
 
-pub returns-in-Refused-clause-answer : goal.returns-in-Refused-clause-answer
-returns-in-Refused-clause-answer g c = λ file known. file_refused c.each_file_has_a_check.ensures.answer g.H.Hashing.digest_of (panel_says (map (λ j. (goal.Judge-dyn g (j.vtable, j.value)).says j.value) c.args.judges.now.items)) file c.in-Ok.opened c.in-Refused.reason c.in-Refused.number (g.met.S.Source.known_bytes c.args.source.now file known) (c.in-Ok.ensures.found file known) c.in-Refused.is
+pub returns-clause-answer : goal.returns-clause-answer
+returns-clause-answer g c = λ file known. file_refused c.each_file_has_a_check.ensures.answer g.H.Hashing.digest_of (panel_says (map (λ j. (goal.Judge-dyn g (j.vtable, j.value)).says j.value) c.args.judges.now.items)) file c.in-Ok.opened c.in-Refused.reason c.in-Refused.number (g.met.S.Source.known_bytes c.args.source.now file known) (c.in-Ok.ensures.found file known) c.in-Refused.is
 
-pub returns-in-Refused-clause-asked : goal.returns-in-Refused-clause-asked
-returns-in-Refused-clause-asked g c = λ file known. refused_file_asked g.H.Hashing.digest_of (panel_says (map (λ j. (goal.Judge-dyn g (j.vtable, j.value)).says j.value) c.args.judges.now.items)) file c.in-Ok.opened c.in-Refused.reason c.in-Refused.number (judges_of (λ j. (goal.Judge-dyn g (j.vtable, j.value)).says j.value) (λ j. (goal.Judge-dyn g (j.vtable, j.value)).asked_times j.value) (λ j. (goal.Judge-dyn g (j.vtable, j.value)).judge_faults j.value) c.args.judges.now.items) answer.NoStore (c.in-Ok.ensures.found file known) c.in-Refused.is
+pub returns-clause-asked : goal.returns-clause-asked
+returns-clause-asked g c = λ file known. refused_file_asked g.H.Hashing.digest_of (panel_says (map (λ j. (goal.Judge-dyn g (j.vtable, j.value)).says j.value) c.args.judges.now.items)) file c.in-Ok.opened c.in-Refused.reason c.in-Refused.number (judges_of (λ j. (goal.Judge-dyn g (j.vtable, j.value)).says j.value) (λ j. (goal.Judge-dyn g (j.vtable, j.value)).asked_times j.value) (λ j. (goal.Judge-dyn g (j.vtable, j.value)).judge_faults j.value) c.args.judges.now.items) answer.NoStore (c.in-Ok.ensures.found file known) c.in-Refused.is
 
 pub returns-in-Err-clause-cause : goal.returns-in-Err-clause-cause
 returns-in-Err-clause-cause g c = cause_of_error (judges_of (λ j. (goal.Judge-dyn g (j.vtable, j.value)).says j.value) (λ j. (goal.Judge-dyn g (j.vtable, j.value)).asked_times j.value) (λ j. (goal.Judge-dyn g (j.vtable, j.value)).judge_faults j.value) c.args.judges.now.items) (judges_of (λ j. (goal.Judge-dyn g (j.vtable, j.value)).says j.value) (λ j. (goal.Judge-dyn g (j.vtable, j.value)).asked_times j.value) (λ j. (goal.Judge-dyn g (j.vtable, j.value)).judge_faults j.value) c.args.judges.now.items) _ _ c.in-Err.error c.in-Err.ensures.cause

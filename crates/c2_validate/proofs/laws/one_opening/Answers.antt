@@ -3,7 +3,7 @@ use Rattle.c2_validate.proofs.laws.one_opening.Goals as goal
 
 pub returns-clause-store : goal.returns-clause-store
 returns-clause-store c = one_manifest_store (record {
-  located = c.each_file_is_located.ensures.once;
+  located = c.each_media_file_is_located.ensures.once;
   apart = c.each_list_is_a_tree_or_not.ensures.apart;
   tree = c.each_list_is_a_tree_or_not.ensures.one_tree;
   fault = c.each_list_is_a_tree_or_not.ensures.one_fault;
@@ -11,7 +11,7 @@ returns-clause-store c = one_manifest_store (record {
 
 pub returns-clause-file : goal.returns-clause-file
 returns-clause-file c = one_opened (record {
-  located = c.each_file_is_located.ensures.once;
+  located = c.each_media_file_is_located.ensures.once;
   apart = c.each_list_is_a_tree_or_not.ensures.apart;
   tree = c.each_list_is_a_tree_or_not.ensures.one_tree;
   fault = c.each_list_is_a_tree_or_not.ensures.one_fault;
