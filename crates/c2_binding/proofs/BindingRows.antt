@@ -20,7 +20,7 @@ use Rattle.c2_rules.specs.declared.parsed.Parsed.TheVariants.{NoItem, Value}
 use Rattle.c2_binding.specs.ChainContent.{active_claim}
 use Rattle.c2_binding.specs.Deciding.{has_same_content}
 use Rattle.c2_binding.specs.Differences.{first_difference}
-use Rattle.c2_binding.specs.Evidence.{digest, signed, ListPair, IsReal}
+use Rattle.c2_binding.specs.Evidence.{by_digest, by_signature, ListPair, IsReal}
 use Rattle.c2_binding.specs.EvidenceText.{evidence_text}
 use Rattle.hex.specs.Hex.{encode_with}
 
@@ -148,8 +148,8 @@ other_picture = store (noted label (codes "\"ab\"") ∷ []) swapped
 -- the pair of the notes
 abbrev note_pair : ListPair
 note_pair = record {
-  bond = digest (codes "sha256");
-  place = codes "self#jumbf=/c2pa/urn:c2pa:00000000-0000-4000-8000-000000000000/c2pa.assertions/test.note";
+  bound_by = by_digest (codes "sha256");
+  location = codes "self#jumbf=/c2pa/urn:c2pa:00000000-0000-4000-8000-000000000000/c2pa.assertions/test.note";
   left = note_contents (codes "\"ab\"");
   right = note_contents (codes "\"ba\"");
 }
@@ -157,7 +157,7 @@ note_pair = record {
 -- the pair of the pictures
 abbrev picture_pair : ListPair
 picture_pair =
-    record { bond = digest (codes "sha256"); place = codes "covered"; left = picture; right = swapped }
+    record { bound_by = by_digest (codes "sha256"); location = codes "covered"; left = picture; right = swapped }
 
 -- the notes differ
 note_first : first_difference file other_note ≡ Some note_pair
@@ -214,7 +214,7 @@ picture_text = refl
 
 -- a control byte in a place is printed as a question mark
 control_text : evidence_text
-    (record { bond = digest (codes "sha256"); place = codes "a\n"; left = []; right = 0x0A ∷ [] }) ≡ codes
+    (record { bound_by = by_digest (codes "sha256"); location = codes "a\n"; left = []; right = 0x0A ∷ [] }) ≡ codes
     "evidence digest sha256 a?\n\n0a\n"
 unfolding encode_with
 control_text = refl
@@ -249,8 +249,8 @@ redacting claim sign = store (m claim sign (codes "m!") [] ∷ user (note_uri �
 abbrev claims_pair : ListPair
 claims_pair =
     record {
-      bond = signed (signature (codes "s"));
-      place = codes "self#jumbf=/c2pa/m/c2pa.signature";
+      bound_by = by_signature (signature (codes "s"));
+      location = codes "self#jumbf=/c2pa/m/c2pa.signature";
       left =
           codes "c";
       right = codes "d";
@@ -271,8 +271,8 @@ claims_text = refl
 -- where the signature boxes differ as well, they come first
 box_before_claims : first_difference (redacting (codes "c") (codes "s")) (redacting (codes "d") (codes "t"))
     ≡ Some (record {
-      bond = digest (codes "sha256");
-      place = codes "self#jumbf=/c2pa/m/c2pa.signature";
+      bound_by = by_digest (codes "sha256");
+      location = codes "self#jumbf=/c2pa/m/c2pa.signature";
       left =
           codes "s";
       right = codes "t";
@@ -285,8 +285,8 @@ contents_first : first_difference
     (store (m (codes "c") (codes "s") (codes "x") (note (codes "n") ∷ []) ∷ user [] false ∷ []) picture)
     (store (m (codes "d") (codes "s") (codes "y") (note (codes "n") ∷ []) ∷ user [] false ∷ []) picture)
     ≡ Some (record {
-      bond = digest (codes "sha256");
-      place = codes "self#jumbf=/c2pa/m";
+      bound_by = by_digest (codes "sha256");
+      location = codes "self#jumbf=/c2pa/m";
       left =
           codes "x";
       right = codes "y";
@@ -395,8 +395,8 @@ two_boxes lower upper = store (
 -- both boxes differ: that of the last manifest comes first
 last_manifest_first : first_difference (two_boxes (codes "1") (codes "2")) (two_boxes (codes "3") (codes "4"))
     ≡ Some (record {
-      bond = digest (codes "sha256");
-      place = codes "self#jumbf=/c2pa/A/c2pa.assertions/c2pa.ingredient.v3";
+      bound_by = by_digest (codes "sha256");
+      location = codes "self#jumbf=/c2pa/A/c2pa.assertions/c2pa.ingredient.v3";
       left = codes "2";
       right = codes "4";
     })

@@ -13,7 +13,7 @@ use Rattle.c2_rules.specs.Readings.{Reading, entries_in}
 use Rattle.c2_rules.specs.Rules.{box_with}
 use Rattle.c2_binding.specs.ChainContent.{claim_bytes_of, active_claim, key_at, GivesClaim, GivesBox, SameContent}
 use Rattle.c2_binding.specs.Correspondence.{Correspond}
-use Rattle.c2_binding.specs.Differences.{box_pair, unredacted_pairs, entry_pairs, unredacted_at, all_leading, all_unredacted}
+use Rattle.c2_binding.specs.Differences.{box_pair, unredacted_pairs, entry_pairs, unredacted_at, all_ingredients, all_unredacted}
 use Rattle.c2_binding.specs.Evidence.{ListPair, do_differ}
 use Rattle.c2_binding.proofs.Alike.{OneItem}
 use Rattle.c2_binding.proofs.Facts.{SeenAlike, StoreFacts, IsShown}
@@ -25,7 +25,7 @@ use Rattle.c2_binding.proofs.Walk.{forth, back, redacted_alike}
 module _ (law : OneItem) (hash : Alg → List ℕ → List ℕ) (said : Question → Verdict) (rs ss : List Reading)
     (f : StoreFacts hash said rs)
     (g : StoreFacts hash said ss) (alike : SeenAlike rs ss) (claims : active_claim rs ≡ active_claim ss)
-    (none : find do_differ (all_leading rs ss) ≡ None) where
+    (none : find do_differ (all_ingredients rs ss) ≡ None) where
   -- the pairs of assertions are those of both manifests
   unredacted_are : (n m : ℕ) (w : Correspond rs ss n m)
       → unredacted_at rs ss n ≡ entry_pairs (unredacted_pairs rs n w.first w.second) w.first

@@ -15,9 +15,9 @@ use Rattle.c2_rules.specs.Chains.{entry_label, is_redacted}
 use Rattle.c2_rules.specs.CheckList.{StoreReading, active_in}
 use Rattle.c2_rules.specs.Readings.{ReadBox, Reading, entries_in}
 use Rattle.c2_rules.specs.Rules.{alg_in, box_with, label_kind}
-use Rattle.c2_binding.specs.ChainContent.{active_claim}
+use Rattle.c2_binding.specs.ChainContent.{active_claim, covered_text}
 use Rattle.c2_binding.specs.Correspondence.{Correspond}
-use Rattle.c2_binding.specs.Differences.{all_leading, all_unredacted, covered_text, binding_alg, covered_alg}
+use Rattle.c2_binding.specs.Differences.{all_ingredients, all_unredacted, binding_alg, covered_alg}
 use Rattle.c2_binding.specs.Evidence.{do_differ}
 use Rattle.c2_binding.specs.Lists.{IsListOf}
 use Rattle.c2_binding.specs.Lists.IsListOf.{covered}
@@ -50,7 +50,7 @@ alg_is s r v at e = ap (λ o. binding_alg o (binding_value s.binding)) at ∙ ap
 pub covered_alike : OneItem → (hash : Alg → List ℕ → List ℕ) (said : Question → Verdict) (s t : StoreReading)
     → FileFacts hash said s → FileFacts hash said t
     → SeenAlike s.readings t.readings → active_claim s.readings ≡ active_claim t.readings
-    → find do_differ (all_leading s.readings t.readings) ≡ None
+    → find do_differ (all_ingredients s.readings t.readings) ≡ None
     → find do_differ (all_unredacted s.readings t.readings) ≡ None
     → CoveredAlike hash s t
 covered_alike law hash said s t f g alike claims none same = record {

@@ -11,10 +11,9 @@ use Rattle.c2_rules.specs.Validated.{IsAnswer, CheckAsks}
 use Rattle.c2_rules.specs.declared.answer.Answer.{Answer}
 use Rattle.c2_rules.specs.declared.answer.Answer.TheVariants as answer
 use Rattle.c2_binding.specs.Accepted.{IsAccepted, HaveOneClaim, AreSame, summary_in}
-use Rattle.c2_binding.specs.ChainContent.{SameContent, active_claim}
+use Rattle.c2_binding.specs.ChainContent.{SameContent, active_claim, covered_text}
 use Rattle.c2_binding.specs.Comparison.{is_valid, evidence_kind, IsComparison, SecondAsks, CompareAsks}
 use Rattle.c2_binding.specs.Deciding.{has_same_content}
-use Rattle.c2_binding.specs.Differences.{covered_text}
 use Rattle.c2_binding.specs.EvidenceText.{evidence_text}
 use Rattle.c2_binding.specs.declared.compared.Compared.{Compared}
 use Rattle.c2_binding.specs.declared.compared.Compared.TheVariants.{NotAccepted, DifferentClaims, Evidence, Same}
@@ -97,7 +96,7 @@ module _ (law : OneItem) (hash : Alg → List ℕ → List ℕ) (said : Question
       )
       of_one_claim s t o (inr differ) =
           let d = difference_is_found law hash said first second s t o differ in (
-            Evidence (evidence_kind d.0.bond),
+            Evidence (evidence_kind d.0.bound_by),
             evidence_text d.0,
             record {
               store = s;

@@ -12,7 +12,7 @@ use Rattle.c2_rules.specs.CheckList.{StoreReading}
 use Rattle.c2_rules.specs.Opened.{Opens, IsBoxTree, IsManifestTree, IsManifestStore, IsOpened}
 use Rattle.c2_binding.specs.Accepted.{IsOpenedAs, IsAccepted, HaveOneClaim, AreSame}
 use Rattle.c2_binding.specs.Correspondence.{Correspond}
-use Rattle.c2_binding.specs.Differences.{leading_at, all_leading, all_unredacted, covered_pair, first_difference}
+use Rattle.c2_binding.specs.Differences.{ingredients_at, all_ingredients, all_unredacted, covered_pair, first_difference}
 use Rattle.c2_binding.specs.Evidence.{ListPair, do_differ, IsReal}
 use Rattle.c2_binding.specs.Lists.{IsListOf}
 use Rattle.c2_binding.specs.Lists.IsListOf.{in_store}
@@ -24,8 +24,8 @@ use Rattle.c2_binding.proofs.Lists.{option_cases, found_append, none_append}
 use Rattle.c2_binding.proofs.Pairs.{found_only, none_pair}
 use Rattle.c2_binding.proofs.Stored.{IsStored, tree_facts, seen_alike}
 use Rattle.c2_binding.proofs.ValidBinding.{file_facts}
-use Rattle.c2_binding.proofs.Steps.{leading_real, step, step_back}
-use Rattle.c2_binding.proofs.Walk.{root, all_leading_real, forth, back, redacted_alike}
+use Rattle.c2_binding.proofs.Steps.{ingredients_real, step, step_back}
+use Rattle.c2_binding.proofs.Walk.{root, all_ingredients_real, forth, back, redacted_alike}
 
 -- ---- the box tree of a file
 
@@ -105,38 +105,38 @@ module _ (law : OneItem) (hash : Alg → List ℕ → List ℕ) (said : Question
 
   -- the step to a child
   pub step_of : (n m : ℕ) → Correspond s.readings t.readings n m
-      → find do_differ (leading_at s.readings t.readings n) ≡ None → (j : ℕ) → IsChild s.readings n j
+      → find do_differ (ingredients_at s.readings t.readings n) ≡ None → (j : ℕ) → IsChild s.readings n j
       → (i : ℕ) × Correspond s.readings t.readings j i × IsChild t.readings m i
   step_of = step law hash said s.readings t.readings own.store other.store both
 
   -- and back
   pub step_back_of : (n m : ℕ) → Correspond s.readings t.readings n m
-      → find do_differ (leading_at s.readings t.readings n) ≡ None → (i : ℕ) → IsChild t.readings m i
+      → find do_differ (ingredients_at s.readings t.readings n) ≡ None → (i : ℕ) → IsChild t.readings m i
       → (j : ℕ) × Correspond s.readings t.readings j i × IsChild s.readings n j
   step_back_of = step_back law hash said s.readings t.readings own.store other.store both
 
   -- or evidence
-  pub leading_real_of : (n m : ℕ) → Correspond s.readings t.readings n m → (p : ListPair)
-      → find do_differ (leading_at s.readings t.readings n) ≡ Some p → IsReal hash said p
-  leading_real_of n m w p found =
-      (leading_real law hash said s.readings t.readings own.store other.store both n m w p found).real
+  pub ingredients_real_of : (n m : ℕ) → Correspond s.readings t.readings n m → (p : ListPair)
+      → find do_differ (ingredients_at s.readings t.readings n) ≡ Some p → IsReal hash said p
+  ingredients_real_of n m w p found =
+      (ingredients_real law hash said s.readings t.readings own.store other.store both n m w p found).real
 
   -- the active manifests correspond
   pub root_of : Correspond s.readings t.readings (length s.readings - 1) (length t.readings - 1)
   root_of = root law hash said s.readings t.readings own.store other.store both h.claims
 
   -- and all that are reached in the first file
-  pub forth_of : find do_differ (all_leading s.readings t.readings) ≡ None → (n : ℕ) → Reached s.readings n
+  pub forth_of : find do_differ (all_ingredients s.readings t.readings) ≡ None → (n : ℕ) → Reached s.readings n
       → (m : ℕ) × Correspond s.readings t.readings n m
   forth_of = forth law hash said s.readings t.readings own.store other.store both h.claims
 
   -- and in the second
-  pub back_of : find do_differ (all_leading s.readings t.readings) ≡ None → (m : ℕ) → Reached t.readings m
+  pub back_of : find do_differ (all_ingredients s.readings t.readings) ≡ None → (m : ℕ) → Reached t.readings m
       → (n : ℕ) × Correspond s.readings t.readings n m
   back_of = back law hash said s.readings t.readings own.store other.store both h.claims
 
   -- with the same redactions
-  pub redacted_of : find do_differ (all_leading s.readings t.readings) ≡ None → (n m : ℕ)
+  pub redacted_of : find do_differ (all_ingredients s.readings t.readings) ≡ None → (n m : ℕ)
       → Correspond s.readings t.readings n m → (label : List ℕ)
       → is_redacted s.readings n label ≡ is_redacted t.readings m label
   redacted_of = redacted_alike law hash said s.readings t.readings own.store other.store both h.claims
@@ -154,10 +154,10 @@ module _ (law : OneItem) (hash : Alg → List ℕ → List ℕ) (said : Question
   -- by the part of the list of pairs
   first_is : (p : ListPair) → first_difference s t ≡ Some p → IsFirst p
   first_is p found =
-      elim (found_append do_differ (all_leading s.readings t.readings)
+      elim (found_append do_differ (all_ingredients s.readings t.readings)
       (all_unredacted s.readings t.readings ++ covered_pair s t ∷ []) p found) [
         | inl leads ↦
-            shown p (all_leading_real law hash said s.readings t.readings own.store other.store both h.claims
+            shown p (all_ingredients_real law hash said s.readings t.readings own.store other.store both h.claims
             p leads)
         | inr rest ↦ elim (found_append do_differ (all_unredacted s.readings t.readings)
             (covered_pair s t ∷ []) p
@@ -198,7 +198,7 @@ module _ (law : OneItem) (hash : Alg → List ℕ → List ℕ) (said : Question
   pub no_difference : first_difference s t ≡ None → AreSame s t
   no_difference none =
       let leads =
-      none_append do_differ (all_leading s.readings t.readings)
+      none_append do_differ (all_ingredients s.readings t.readings)
       (all_unredacted s.readings t.readings ++ covered_pair s t ∷ []) none in
       let rest =
       none_append do_differ (all_unredacted s.readings t.readings) (covered_pair s t ∷ []) leads.1 in

@@ -10,7 +10,7 @@ use Rattle.c2_rules.specs.declared.answer.Answer.TheVariants as answer
 use Rattle.c2_rules.specs.declared.answer.Summary.{Summary}
 use Rattle.c2_binding.specs.Accepted.{IsOpenedAs, IsAccepted, AreSame, summary_in}
 use Rattle.c2_binding.specs.ChainContent.{active_claim}
-use Rattle.c2_binding.specs.Comparison.{IsOpenedOnce, is_valid, evidence_kind, HaveTwoClaims, HaveEvidence, IsSame, IsComparison, SecondAsks, CompareAsks}
+use Rattle.c2_binding.specs.Comparison.{IsOpenedOnce, is_valid, evidence_kind, HaveDifferentClaims, HaveEvidence, IsSame, IsComparison, SecondAsks, CompareAsks}
 use Rattle.c2_binding.specs.Differences.{first_difference}
 use Rattle.c2_binding.specs.Evidence.{ListPair}
 use Rattle.c2_binding.specs.EvidenceText.{evidence_text}
@@ -83,13 +83,13 @@ module _ (law : OneItem) (hash : Alg → List ℕ → List ℕ) (said : Question
       ap (λ x. first_difference x a.other) p ∙ ap (first_difference b.store) q in
       let pairs : a.pair ≡ b.pair =
       one_of (first_difference a.store a.other) a.pair b.pair a.is_first (firsts ∙ b.is_first) in (
-        a.is_kind ∙ ap (λ (x : ListPair). evidence_kind x.bond) pairs ∙ sym b.is_kind,
+        a.is_kind ∙ ap (λ (x : ListPair). evidence_kind x.bound_by) pairs ∙ sym b.is_kind,
         a.is_text
             ∙ ap evidence_text pairs ∙ sym b.is_text,
       )
 
   -- different claims and evidence don't go together
-  claims_or_evidence : {P : Type 0} (k : EvidenceKind) (t : List ℕ) → HaveTwoClaims hash said first second
+  claims_or_evidence : {P : Type 0} (k : EvidenceKind) (t : List ℕ) → HaveDifferentClaims hash said first second
       → HaveEvidence hash said first second k t → P
   claims_or_evidence k t a b =
       claims_apart a.store a.other b.store b.other
@@ -97,7 +97,7 @@ module _ (law : OneItem) (hash : Alg → List ℕ → List ℕ) (said : Question
       (second_one a.other b.other a.second_accepted b.one_claim.second_accepted) a.differ b.one_claim.claims
 
   -- nor do different claims and the same
-  claims_or_same : {P : Type 0} (x : Summary) → HaveTwoClaims hash said first second
+  claims_or_same : {P : Type 0} (x : Summary) → HaveDifferentClaims hash said first second
       → IsSame hash said first second x → P
   claims_or_same x a b =
       claims_apart a.store a.other b.store b.other

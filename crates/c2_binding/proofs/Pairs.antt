@@ -1,4 +1,4 @@
--- The first pair of different lists: in a list, among the pairs of entries, and at a place.
+-- The first pair whose lists differ: in a list, among the pairs of entries, and at a place.
 use Rattle.std.proofs.Common.{◌≡◌, ◌≢◌, ◌⊎◌, inl, inr, ℕ, Bool, true, false, not, cond, bytes_eq, List, [], ◌∷◌, Option, Some, None, Contains, slice_get, refl, sym, ap, ◌∙◌}
 use Rattle.std.specs.List.{find}
 use Rattle.std.specs.Option.{option_and_then, option_map_or}

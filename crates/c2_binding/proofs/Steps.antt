@@ -14,7 +14,7 @@ use Rattle.c2_rules.specs.Readings.{IsParsed, ReadBox, Reading, value_in, entrie
 use Rattle.c2_rules.specs.Rules.{box_with, label_kind}
 use Rattle.c2_rules.specs.declared.parsed.Parsed.TheVariants.{NoItem}
 use Rattle.c2_binding.specs.Correspondence.{Correspond}
-use Rattle.c2_binding.specs.Differences.{other_named, box_pair, target_pairs, label_pairs, ingredient_pairs, ingredient_with, leading_pairs, entry_pairs, leading_at}
+use Rattle.c2_binding.specs.Differences.{other_named, box_pair, target_pairs, label_pairs, named_pairs, ingredient_with, ingredient_pairs, entry_pairs, ingredients_at}
 use Rattle.c2_binding.specs.Evidence.{ListPair, do_differ}
 use Rattle.c2_binding.proofs.Alike.{OneItem, box_reads}
 use Rattle.c2_binding.proofs.Facts.{SeenAlike, StoreFacts, IsShown}
@@ -94,7 +94,7 @@ module _ (law : OneItem) (hash : Alg → List ℕ → List ℕ) (said : Question
     ingredient : Ingredient
     left_is : value_in h.left.ingredient ≡ Some ingredient
     right_is : value_in h.right.ingredient ≡ Some ingredient
-    pairs_are : ingredient_pairs rs ss w.first (ingredient_with w.first label)
+    pairs_are : named_pairs rs ss w.first (ingredient_with w.first label)
         ≡ label_pairs rs ss w.first ingredient (named_by (Some ingredient))
 
   -- by the rules of the first
@@ -111,7 +111,7 @@ module _ (law : OneItem) (hash : Alg → List ℕ → List ℕ) (said : Question
         ingredient = x.ingredient;
         left_is = x.is;
         right_is = sym (ap value_in equal.1) ∙ x.is;
-        pairs_are = ap (ingredient_pairs rs ss w.first) (ingredient_is w.first label h.left h.left_is ∙ x.is);
+        pairs_are = ap (named_pairs rs ss w.first) (ingredient_is w.first label h.left h.left_is ∙ x.is);
       }
 
   -- the pairs of what is named are those of the two manifests
@@ -128,13 +128,13 @@ module _ (law : OneItem) (hash : Alg → List ℕ → List ℕ) (said : Question
       → Contains (entries_in w.first) e
       → entry_label w.first.manifest e ≡ Some label → is_ingredient_kind (label_kind label) ≡ true
       → (p : ListPair)
-      → find do_differ (box_pair w.first w.second e label ∷ ingredient_pairs rs ss w.first
+      → find do_differ (box_pair w.first w.second e label ∷ named_pairs rs ss w.first
       (ingredient_with w.first label)) ≡ Some p
       → IsShown hash said rs ss p
   ingredient_real n m w e label listed is kind p found =
       let h = ingredient_boxes n m w e label listed is kind in
       elim (found_pair (box_pair w.first w.second e label)
-      (ingredient_pairs rs ss w.first (ingredient_with w.first label)) p found) [
+      (named_pairs rs ss w.first (ingredient_with w.first label)) p found) [
         | inl own ↦ subst (IsShown hash said rs ss) own.0
             (box_shown law hash said rs ss f g alike n m w e label h own.1)
         | inr rest ↦
@@ -170,14 +170,14 @@ module _ (law : OneItem) (hash : Alg → List ℕ → List ℕ) (said : Question
   ingredient_same : (n m : ℕ) (w : Correspond rs ss n m) (e : Ref) (label : List ℕ)
       → Contains (entries_in w.first) e
       → entry_label w.first.manifest e ≡ Some label → is_ingredient_kind (label_kind label) ≡ true
-      → find do_differ (box_pair w.first w.second e label ∷ ingredient_pairs rs ss w.first
+      → find do_differ (box_pair w.first w.second e label ∷ named_pairs rs ss w.first
       (ingredient_with w.first label)) ≡ None
       → Linked n m w label
   ingredient_same n m w e label listed is kind none =
       let h = ingredient_boxes n m w e label listed is kind in
       let both =
       none_pair (box_pair w.first w.second e label)
-      (ingredient_pairs rs ss w.first (ingredient_with w.first label)) none in
+      (named_pairs rs ss w.first (ingredient_with w.first label)) none in
       let x = one_ingredient n m w e label h kind both.0 in
       record {
         left = h.left;
@@ -202,43 +202,43 @@ module _ (law : OneItem) (hash : Alg → List ℕ → List ℕ) (said : Question
   -- ---- all entries of a manifest
 
   -- the pairs that lead on are those of both manifests
-  leading_are : (n m : ℕ) (w : Correspond rs ss n m)
-      → leading_at rs ss n ≡ entry_pairs (leading_pairs rs ss w.first w.second) w.first
-  leading_are n m w =
-      pairs_are (λ place r s. entry_pairs (leading_pairs rs ss r s) r) rs ss n w.first w.second
+  ingredients_are : (n m : ℕ) (w : Correspond rs ss n m)
+      → ingredients_at rs ss n ≡ entry_pairs (ingredient_pairs rs ss w.first w.second) w.first
+  ingredients_are n m w =
+      pairs_are (λ place r s. entry_pairs (ingredient_pairs rs ss r s) r) rs ss n w.first w.second
       w.first_reached w.first_at
       (counterpart_is law hash said rs ss f g alike n m w)
 
   -- the first difference among them is real evidence
-  pub leading_real : (n m : ℕ) (w : Correspond rs ss n m) (p : ListPair)
-      → find do_differ (leading_at rs ss n) ≡ Some p → IsShown hash said rs ss p
-  leading_real n m w p found =
-      let x = found_entry (leading_pairs rs ss w.first w.second) w.first p
-      (sym (ap (find do_differ) (leading_are n m w)) ∙ found) in
+  pub ingredients_real : (n m : ℕ) (w : Correspond rs ss n m) (p : ListPair)
+      → find do_differ (ingredients_at rs ss n) ≡ Some p → IsShown hash said rs ss p
+  ingredients_real n m w p found =
+      let x = found_entry (ingredient_pairs rs ss w.first w.second) w.first p
+      (sym (ap (find do_differ) (ingredients_are n m w)) ∙ found) in
       by x (is_ingredient_kind (label_kind x.label)) refl x.found
     where
-      by : (x : FoundEntry (leading_pairs rs ss w.first w.second) w.first p) (b : Bool)
+      by : (x : FoundEntry (ingredient_pairs rs ss w.first w.second) w.first p) (b : Bool)
           → is_ingredient_kind (label_kind x.label) ≡ b
           → find do_differ (cond b
-          (box_pair w.first w.second x.entry x.label ∷ ingredient_pairs rs ss w.first
+          (box_pair w.first w.second x.entry x.label ∷ named_pairs rs ss w.first
           (ingredient_with w.first x.label)) []) ≡ Some p
           → IsShown hash said rs ss p
       by x true kind own = ingredient_real n m w x.entry x.label x.lists x.is_label kind p own
       by x false kind own = absurd (cc (own))
 
   -- without a difference each entry with the label of an ingredient is linked
-  leading_same : (n m : ℕ) (w : Correspond rs ss n m) → find do_differ (leading_at rs ss n) ≡ None
+  ingredients_same : (n m : ℕ) (w : Correspond rs ss n m) → find do_differ (ingredients_at rs ss n) ≡ None
       → (e : Ref) (label : List ℕ)
       → Contains (entries_in w.first) e → entry_label w.first.manifest e ≡ Some label
       → is_ingredient_kind (label_kind label) ≡ true
       → Linked n m w label
-  leading_same n m w none e label listed is kind =
+  ingredients_same n m w none e label listed is kind =
       let one =
-      none_entry (leading_pairs rs ss w.first w.second) w.first
-      (sym (ap (find do_differ) (leading_are n m w)) ∙ none) e label listed is in
+      none_entry (ingredient_pairs rs ss w.first w.second) w.first
+      (sym (ap (find do_differ) (ingredients_are n m w)) ∙ none) e label listed is in
       ingredient_same n m w e label listed is kind
       (sym (ap (λ b. find do_differ
-      (cond b (box_pair w.first w.second e label ∷ ingredient_pairs rs ss w.first
+      (cond b (box_pair w.first w.second e label ∷ named_pairs rs ss w.first
       (ingredient_with w.first label)) [])) kind) ∙ one)
 
   -- ---- the step, both ways
@@ -296,7 +296,7 @@ module _ (law : OneItem) (hash : Alg → List ℕ → List ℕ) (said : Question
           (r.0.first.place, subst (λ k. Correspond rs ss r.0.first.place k) place r.1, r.0.first_child)
 
   -- from a manifest of the first store to a child
-  pub step : (n m : ℕ) → Correspond rs ss n m → find do_differ (leading_at rs ss n) ≡ None → (j : ℕ)
+  pub step : (n m : ℕ) → Correspond rs ss n m → find do_differ (ingredients_at rs ss n) ≡ None → (j : ℕ)
       → IsChild rs n j
       → (i : ℕ) × Correspond rs ss j i × IsChild ss m i
   step n m w none j c =
@@ -305,11 +305,11 @@ module _ (law : OneItem) (hash : Alg → List ℕ → List ℕ) (said : Question
       subst (λ (r : Reading). Contains r.boxes c.box) user c.has_box in
       let by = names_by c.box (label_in c.child) c.names in
       let x = entered hash said rs f n w.first w.first_at w.first_reached c.box by.0 listed by.1 in
-      let l = leading_same n m w none x.entry x.label x.lists x.is_label x.kind in
+      let l = ingredients_same n m w none x.entry x.label x.lists x.is_label x.kind in
       landed n m w x.label l c.box x.found by.0 by.1 (label_in c.child) by.2 j c.child c.is_child refl
 
   -- from its counterpart in the second to a child
-  pub step_back : (n m : ℕ) → Correspond rs ss n m → find do_differ (leading_at rs ss n) ≡ None → (i : ℕ)
+  pub step_back : (n m : ℕ) → Correspond rs ss n m → find do_differ (ingredients_at rs ss n) ≡ None → (i : ℕ)
       → IsChild ss m i
       → (j : ℕ) × Correspond rs ss j i × IsChild rs n j
   step_back n m w none i c =
@@ -320,6 +320,6 @@ module _ (law : OneItem) (hash : Alg → List ℕ → List ℕ) (said : Question
       let x = entered hash said ss g m w.second w.second_at w.second_reached c.box by.0 listed by.1 in
       let first =
       one_entry w.second w.first x.entry (sym (one_claim law hash said rs ss f g alike n m w)) x.lists in
-      let l = leading_same n m w none x.entry x.label first
+      let l = ingredients_same n m w none x.entry x.label first
       (label_first law hash said rs ss f g alike n m w x.entry x.label x.lists x.is_label) x.kind in
       landed_back n m w x.label l c.box x.found by.0 by.1 (label_in c.child) by.2 i c.child c.is_child refl

@@ -16,14 +16,14 @@ use Rattle.c2_rules.specs.Chains.Reaches.{child, through}
 use Rattle.c2_rules.specs.Readings.{Reading, value_in, redactions_of}
 use Rattle.c2_binding.specs.ChainContent.{claim_bytes_of, active_claim}
 use Rattle.c2_binding.specs.Correspondence.{Correspond}
-use Rattle.c2_binding.specs.Differences.{leading_pairs, entry_pairs, leading_at, all_leading}
+use Rattle.c2_binding.specs.Differences.{ingredient_pairs, entry_pairs, ingredients_at, all_ingredients}
 use Rattle.c2_binding.specs.Evidence.{ListPair, do_differ}
 use Rattle.c2_binding.proofs.Alike.{OneItem}
 use Rattle.c2_binding.proofs.Facts.{SeenAlike, StoreFacts, IsShown}
 use Rattle.c2_binding.proofs.Links.{one_claim}
 use Rattle.c2_binding.proofs.Lists.{bool_cases, one_of, never, FoundBelow, found_downward, none_downward}
 use Rattle.c2_binding.proofs.Pairs.{found_reached}
-use Rattle.c2_binding.proofs.Steps.{leading_real, step, step_back}
+use Rattle.c2_binding.proofs.Steps.{ingredients_real, step, step_back}
 
 -- the last place of a list holds something
 last_at : {X : Type 0} (xs : List X) (n : ℕ) → n + 1 ≡ length xs → (x : X) × (slice_get xs n ≡ Some x)
@@ -90,7 +90,7 @@ module _ (law : OneItem) (hash : Alg → List ℕ → List ℕ) (said : Question
 
   -- where no pairs of later manifests differ, a reached manifest corresponds to one
   has_counterpart : (n : ℕ) → Reached rs n
-      → ((k : ℕ) → n < k → k < length rs → find do_differ (leading_at rs ss k) ≡ None)
+      → ((k : ℕ) → n < k → k < length rs → find do_differ (ingredients_at rs ss k) ≡ None)
       → (m : ℕ) × Correspond rs ss n m
   has_counterpart n (active _ e) none = root_first n e
   has_counterpart n (below k _ up c) none =
@@ -101,26 +101,26 @@ module _ (law : OneItem) (hash : Alg → List ℕ → List ℕ) (said : Question
       (r.0, r.1)
 
   -- the first difference among the pairs that lead on is real evidence
-  pub all_leading_real : (p : ListPair) → find do_differ (all_leading rs ss) ≡ Some p
+  pub all_ingredients_real : (p : ListPair) → find do_differ (all_ingredients rs ss) ≡ Some p
       → IsShown hash said rs ss p
-  all_leading_real p found =
-      let x : FoundBelow do_differ (leading_at rs ss) (length rs) p =
-      found_downward do_differ (leading_at rs ss) (length rs) p found in
+  all_ingredients_real p found =
+      let x : FoundBelow do_differ (ingredients_at rs ss) (length rs) p =
+      found_downward do_differ (ingredients_at rs ss) (length rs) p found in
       let reached =
-      found_reached (λ place r s. entry_pairs (leading_pairs rs ss r s) r) rs ss x.place p x.found in
+      found_reached (λ place r s. entry_pairs (ingredient_pairs rs ss r s) r) rs ss x.place p x.found in
       let w = has_counterpart x.place ((reached_decides rs f.tree.differ x.place).0 reached) x.none_later in
-      leading_real law hash said rs ss f g alike x.place w.0 w.1 p x.found
+      ingredients_real law hash said rs ss f g alike x.place w.0 w.1 p x.found
 
 -- ---- where none of these pairs differs
 
 module _ (law : OneItem) (hash : Alg → List ℕ → List ℕ) (said : Question → Verdict) (rs ss : List Reading)
     (f : StoreFacts hash said rs)
     (g : StoreFacts hash said ss) (alike : SeenAlike rs ss) (claims : active_claim rs ≡ active_claim ss)
-    (none : find do_differ (all_leading rs ss) ≡ None) where
+    (none : find do_differ (all_ingredients rs ss) ≡ None) where
   -- none differs at a manifest that corresponds to one
-  none_at : (n m : ℕ) → Correspond rs ss n m → find do_differ (leading_at rs ss n) ≡ None
+  none_at : (n m : ℕ) → Correspond rs ss n m → find do_differ (ingredients_at rs ss n) ≡ None
   none_at n m w =
-      none_downward do_differ (leading_at rs ss) (length rs) none n (slice_get_within rs n w.first w.first_at)
+      none_downward do_differ (ingredients_at rs ss) (length rs) none n (slice_get_within rs n w.first w.first_at)
 
   -- each reached manifest of the first store corresponds to one
   pub forth : (n : ℕ) → Reached rs n → (m : ℕ) × Correspond rs ss n m

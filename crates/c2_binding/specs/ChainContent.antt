@@ -1,14 +1,17 @@
--- The chain content of a store: what its active claim vouches for among its own boxes and in the manifests
--- below it (C2PA Technical Specification 2.x, "Claims" and "Ingredient"; that these are taken together as one
--- map is this project's own choice).
+-- What an active claim vouches for: the chain content of its store, which takes together its own boxes and
+-- what stands in the manifests below it, and the covered text of its file (C2PA Technical Specification 2.x,
+-- "Claims", "Ingredient" and "Hard bindings"; that all this is one map and one text is this project's own
+-- choice).
 --
 -- The map is given by what stands under its keys: claim bytes under the key of a manifest, contents of boxes
 -- under that and the label of an assertion. Two maps are equal where the same stands under the same keys.
 use Rattle.std.specs.Prelude.{◌≡◌, ◌↔◌, ℕ, true, false, List, [], Option, Some, slice_get, Contains, option_and_then, if◌then◌else◌}
+use Rattle.std.specs.Option.{option_map_or}
 use Rattle.c2_spec.specs.C2pa.Manifest.{claim_bytes}
 use Rattle.c2_spec.specs.declared.cbor.Ref.{Ref}
+use Rattle.c2_rules.specs.Binding.{Binding, binding_value}
 use Rattle.c2_rules.specs.Chains.{label_in, is_active, is_reached, is_redacted, entry_label}
-use Rattle.c2_rules.specs.CheckList.{active_in}
+use Rattle.c2_rules.specs.CheckList.{StoreReading, active_in}
 use Rattle.c2_rules.specs.Readings.{ReadBox, Reading, entries_in}
 use Rattle.c2_rules.specs.Rules.{box_with}
 
@@ -20,8 +23,14 @@ claim_bytes_of r = claim_bytes r.manifest.claims
 abbrev pub active_claim : List Reading → Option (List ℕ)
 active_claim rs = option_and_then claim_bytes_of (active_in rs)
 
--- the key of the manifest at a place: its label, and for the active one the empty label, so that its own
--- label doesn't matter (this project's own choice)
+-- the text that the active manifest's binding covers; empty where there is none ("Hard bindings")
+abbrev pub covered_text : StoreReading → List ℕ
+covered_text s = option_map_or (λ (b : Binding). b.text) (binding_value s.binding) []
+
+-- ---- the chain content
+
+-- the key of the manifest at a place: its label. But two files may label their active manifests
+-- differently, so these have the empty key (this project's own choice)
 abbrev pub key_at : List Reading → ℕ → Reading → List ℕ
 key_at rs place r = if is_active rs place then [] else label_in r
 
@@ -38,9 +47,9 @@ pub record GivesClaim (rs : List Reading) (key bytes : List ℕ) : Type 0 where
   pub has_key : HasKey rs key place manifest
   pub is : claim_bytes_of manifest ≡ Some bytes
 
--- It has these contents under this key and the label of an assertion: an entry of the manifest's claim lists
--- the label, which isn't redacted there, and these are the contents of the box with this label ("Assertions",
--- "Redaction of assertions").
+-- The chain content has these contents under this key and the label of an assertion: an entry of the
+-- manifest's claim lists the label, no redaction takes it away there, and a box with this label has these
+-- contents ("Assertions", "Redaction of assertions").
 pub record GivesBox (rs : List Reading) (key label contents : List ℕ) : Type 0 where
   pub place : ℕ
   pub manifest : Reading

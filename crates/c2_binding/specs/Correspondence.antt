@@ -1,11 +1,12 @@
--- Manifests of two stores that correspond to each other and have one claim: the fact that is kept on the way
--- from the active manifests to those that are reached from them.
+-- Manifests of two stores that correspond to each other and have one claim: the fact that is kept on the
+-- way from the active manifests to those that are reached from them.
 use Rattle.std.specs.Prelude.{◌≡◌, ℕ, true, false, List, Some, slice_get}
 use Rattle.c2_rules.specs.Chains.{label_in, is_active, is_reached}
 use Rattle.c2_rules.specs.Readings.{Reading}
 use Rattle.c2_binding.specs.ChainContent.{claim_bytes_of}
 
--- Reached manifests at these places, both active or both of one label, have equal claim bytes.
+-- The manifests at these places, one of each store, stand for each other: they are reached, active both or
+-- named alike, and have one claim.
 pub record Correspond (rs ss : List Reading) (n m : ℕ) : Type 0 where
   pub first : Reading
   pub first_at : slice_get rs n ≡ Some first

@@ -1,10 +1,10 @@
--- The text of evidence (this project's own choice): one line that says what binds the lists and where the
--- first stands, and then each list as a line of hex digits. Of a signature the contents of its box come
--- before the two claims.
+-- The text of evidence (this project's own choice): one line that says what binds the lists and where
+-- the first stands, and then each list as a line of hex digits. Of a signature the contents of its box
+-- come before the two claims.
 use Rattle.std.specs.Prelude.{ℕ, nat_lt, ◌==◌, ◌||◌, List, [], ◌∷◌, ◌++◌, map, codes, if◌then◌else◌}
 use Rattle.std.specs.List.{concat}
 use Rattle.hex.specs.Hex.{encode_lower}
-use Rattle.c2_binding.specs.Evidence.{Bond, digest, signed, ListPair}
+use Rattle.c2_binding.specs.Evidence.{BoundBy, by_digest, by_signature, ListPair}
 
 -- a line of text ends with a line feed
 abbrev pub text_line : List ℕ → List ℕ
@@ -14,28 +14,33 @@ text_line text = text ++ 0x0A ∷ []
 abbrev pub hex_line : List ℕ → List ℕ
 hex_line bytes = text_line (encode_lower bytes)
 
--- a byte of a place as it is printed: a control byte as a question mark
+-- a byte of a location as it is printed: a control byte as a question mark
 abbrev pub printed_byte : ℕ → ℕ
 printed_byte b = if nat_lt b 0x20 || b == 0x7F then 0x3F else b
 
--- a place as it is printed
+-- a location as it is printed
 abbrev pub printed : List ℕ → List ℕ
-printed place = map printed_byte place
+printed location = map printed_byte location
 
--- the first line
-abbrev pub head_line : Bond → List ℕ → List ℕ
-head_line (digest name) place = text_line (codes "evidence digest " ++ name ++ codes " " ++ printed place)
-head_line (signed box) place = text_line (codes "evidence signature " ++ printed place)
+-- the line before all others: what binds the lists, and the location of the first
+abbrev pub head_line : BoundBy → List ℕ → List ℕ
+head_line (by_digest name) location =
+    text_line (codes "evidence digest " ++ name ++ codes " " ++ printed location)
+head_line (by_signature box) location =
+    text_line (codes "evidence signature " ++ printed location)
 
--- the line before those of the two lists, where there is one
-abbrev pub box_lines : Bond → List (List ℕ)
-box_lines (digest name) = []
-box_lines (signed box) = hex_line box.contents ∷ []
+-- the lines between the first and those of the two lists: the contents of the signature box, where a
+-- signature binds them
+abbrev pub box_lines : BoundBy → List (List ℕ)
+box_lines (by_digest name) = []
+box_lines (by_signature box) = hex_line box.contents ∷ []
 
--- all lines
+-- the lines that tell of a pair
 abbrev pub evidence_lines : ListPair → List (List ℕ)
-evidence_lines p = head_line p.bond p.place ∷ (box_lines p.bond ++ hex_line p.left ∷ hex_line p.right ∷ [])
+evidence_lines p =
+    head_line p.bound_by p.location
+    ∷ (box_lines p.bound_by ++ hex_line p.left ∷ hex_line p.right ∷ [])
 
--- the whole text
+-- the text of evidence: these lines, one after the other
 abbrev pub evidence_text : ListPair → List ℕ
 evidence_text p = concat (evidence_lines p)

@@ -19,7 +19,7 @@ ghost use Rattle.c2_binding.specs.ChainContent.{SameContent};
 ghost use Rattle.c2_binding.specs.Comparison.{IsOpenedOnce, IsComparison, CompareAsks};
 ghost use Rattle.c2_binding.specs.Correspondence.{Correspond};
 ghost use Rattle.c2_binding.specs.Deciding.{has_same_content};
-ghost use Rattle.c2_binding.specs.Differences.{leading_at, all_leading, first_difference};
+ghost use Rattle.c2_binding.specs.Differences.{ingredients_at, all_ingredients, first_difference};
 ghost use Rattle.c2_binding.specs.Evidence.{ListPair, do_differ, IsReal};
 ghost use Rattle.c2_binding.specs.Lists.{IsListOf};
 ghost use Rattle.c2_binding.specs.declared.compared.Compared.{Compared as AnyCompared};
@@ -33,19 +33,19 @@ pub fn a_step_keeps_equal_claims()
     ensures forth { (hash : Alg → List ℕ → List ℕ) (said : Question → Verdict)
         (first second : List ℕ) (s t : StoreReading) → HaveOneClaim hash said first second s t
         → (n m : ℕ) → Correspond s.readings t.readings n m
-        → find do_differ (leading_at s.readings t.readings n) ≡ None
+        → find do_differ (ingredients_at s.readings t.readings n) ≡ None
         → (j : ℕ) → IsChild s.readings n j
         → (i : ℕ) × Correspond s.readings t.readings j i × IsChild t.readings m i }
     ensures back { (hash : Alg → List ℕ → List ℕ) (said : Question → Verdict)
         (first second : List ℕ) (s t : StoreReading) → HaveOneClaim hash said first second s t
         → (n m : ℕ) → Correspond s.readings t.readings n m
-        → find do_differ (leading_at s.readings t.readings n) ≡ None
+        → find do_differ (ingredients_at s.readings t.readings n) ≡ None
         → (i : ℕ) → IsChild t.readings m i
         → (j : ℕ) × Correspond s.readings t.readings j i × IsChild s.readings n j }
     ensures real { (hash : Alg → List ℕ → List ℕ) (said : Question → Verdict)
         (first second : List ℕ) (s t : StoreReading) → HaveOneClaim hash said first second s t
         → (n m : ℕ) → Correspond s.readings t.readings n m → (p : ListPair)
-        → find do_differ (leading_at s.readings t.readings n) ≡ Some p → IsReal hash said p }
+        → find do_differ (ingredients_at s.readings t.readings n) ≡ Some p → IsReal hash said p }
 {
     // Only the prover needs this law.
     one_item();
@@ -59,15 +59,15 @@ pub fn each_reached_manifest_corresponds()
         → Correspond s.readings t.readings (length s.readings - 1) (length t.readings - 1) }
     ensures forth { (hash : Alg → List ℕ → List ℕ) (said : Question → Verdict)
         (first second : List ℕ) (s t : StoreReading) → HaveOneClaim hash said first second s t
-        → find do_differ (all_leading s.readings t.readings) ≡ None
+        → find do_differ (all_ingredients s.readings t.readings) ≡ None
         → (n : ℕ) → Reached s.readings n → (m : ℕ) × Correspond s.readings t.readings n m }
     ensures back { (hash : Alg → List ℕ → List ℕ) (said : Question → Verdict)
         (first second : List ℕ) (s t : StoreReading) → HaveOneClaim hash said first second s t
-        → find do_differ (all_leading s.readings t.readings) ≡ None
+        → find do_differ (all_ingredients s.readings t.readings) ≡ None
         → (m : ℕ) → Reached t.readings m → (n : ℕ) × Correspond s.readings t.readings n m }
     ensures redacted { (hash : Alg → List ℕ → List ℕ) (said : Question → Verdict)
         (first second : List ℕ) (s t : StoreReading) → HaveOneClaim hash said first second s t
-        → find do_differ (all_leading s.readings t.readings) ≡ None
+        → find do_differ (all_ingredients s.readings t.readings) ≡ None
         → (n m : ℕ) → Correspond s.readings t.readings n m → (label : List ℕ)
         → is_redacted s.readings n label ≡ is_redacted t.readings m label }
 {
@@ -154,7 +154,7 @@ pub fn each_comparison()
 }
 
 /// Two files that are opened as one thing at most come to one answer and one text, and to one list of
-/// questions.
+/// questions. That each file is opened so is a law of `c2_validate` (`one_opening`).
 pub fn one_comparison()
     ensures answer { (hash : Alg → List ℕ → List ℕ) (said : Question → Verdict)
         (first second : List ℕ) → IsOpenedOnce first → IsOpenedOnce second

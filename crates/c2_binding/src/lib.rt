@@ -1,5 +1,5 @@
 //! What the active claim of an accepted media file binds: all claims and assertions that are reached from it,
-//! and the covered text; or there is evidence against a digest or a signature.
+//! and the covered text; or a digest or a signature is shown to hold for two things.
 //!
 //! Definitions stand in `specs/`, and their laws here, apart from the code that compares two files.
 #![tactic(auto)]

@@ -1,4 +1,4 @@
-use Rattle.c2_binding.proofs.Files.{step_of, step_back_of, leading_real_of}
+use Rattle.c2_binding.proofs.Files.{step_of, step_back_of, ingredients_real_of}
 use Rattle.c2_binding.proofs.laws.a_step_keeps_equal_claims.Goals as goal
 
 -- from the first file to the second
@@ -11,4 +11,4 @@ returns-clause-back c = step_back_of c.one_item.ensures
 
 -- or there is evidence
 pub returns-clause-real : goal.returns-clause-real
-returns-clause-real c = leading_real_of c.one_item.ensures
+returns-clause-real c = ingredients_real_of c.one_item.ensures
