@@ -230,3 +230,15 @@ fn judges_fail_at_each_ask_in_turn(rt: HostRuntime) -> Result<(), Fail> {
     let (file, approved) = shared_manifest(alloc)?;
     asks_fail(&rt, alloc, "questions", file.as_slice(), approved.as_str())
 }
+
+#[test]
+fn validate_tells_each_fault(rt: HostRuntime) -> Result<(), Fail> {
+    let alloc = rt.alloc();
+    let (digits, _) = row_of(validate_rows::MORE_ROWS, "# redacted and absent");
+    let store = hex::decode(alloc, digits)?;
+    let file = in_jpeg(alloc, store.as_slice(), 63_984)?;
+    let valid = "valid manifests=4 assertions=8 covered=4 outside=0\n";
+    reads_fail(&rt, alloc, "validate", file.as_slice(), valid, 4)?;
+    writes_fail(&rt, alloc, "validate", file.as_slice(), valid, 4)?;
+    asks_fail(&rt, alloc, "validate", file.as_slice(), valid)
+}
