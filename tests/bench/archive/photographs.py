@@ -1,6 +1,7 @@
 #!/usr/bin/env python3
-"""Writes an archive of photographs with stores that are valid: photographs.py DIRECTORY COUNT BYTES; or one photograph of a size
-that may be sparse: photographs.py --one FILE BYTES. Beside each FILE stands FILE.verdicts, which approves its question.
+"""Writes an archive of photographs with stores that are valid: photographs.py DIRECTORY COUNT BYTES; or one photograph or film of
+a size that may be sparse: photographs.py --one FILE BYTES, or --film. Beside each FILE stands FILE.verdicts, which approves its
+question.
 
 A photograph is a JPEG with actions, a thumbnail of 6,000 bytes and a data hash, and a scan of other bytes in each file. No key has
 signed it; the verdict file is written as if one had.
@@ -76,12 +77,12 @@ def make_archive(directory, count, size):
         write_file(f"{path}.verdicts", verdicts)
 
 
-def make_one(path, size):
-    """A photograph of zeros, which take no room on a disk that can leave them out."""
-    photographs, digest = Photographs(TABLES + SCAN), hashlib.sha256(FRONT + TABLES + SCAN)
+def make_one(path, size, maker, front):
+    """A photograph or a film that ends with zeros, which take no room on a disk that can leave them out."""
+    digest = hashlib.sha256(front)
     for at in range(0, size, len(ZEROS)):
         digest.update(ZEROS[: size - at])
-    before, verdicts = photographs.before(digest.digest())
+    before, verdicts = maker.before(digest.digest())
     with open(path, "wb") as file:
         file.write(before)
         file.truncate(len(before) + size)
@@ -90,7 +91,10 @@ def make_one(path, size):
 
 def main():
     if sys.argv[1] == "--one":
-        make_one(sys.argv[2], int(sys.argv[3]))
+        make_one(sys.argv[2], int(sys.argv[3]), Photographs(TABLES + SCAN), FRONT + TABLES + SCAN)
+    elif sys.argv[1] == "--film":
+        film = Film(int(sys.argv[3]))
+        make_one(sys.argv[2], int(sys.argv[3]), film, film.word + film.head)
     else:
         make_archive(sys.argv[1], int(sys.argv[2]), int(sys.argv[3]))
 

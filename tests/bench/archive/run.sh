@@ -1,6 +1,7 @@
 #!/bin/bash
 # Measures c2 as the checker of an archive: files a second over photographs of 100 kB with 1, 2 and 4 processes, beside exiftool
-# and sha256sum; and time and memory of `validate` on one photograph of 100 kB, 100 MB, 500 MB and (sparse) 10 GB.
+# and sha256sum; and time and memory of `validate` on one photograph of 100 kB, 100 MB, 500 MB and (sparse) 10 GB, and on a film of
+# 500 MB.
 #
 #   run.sh [COUNT [PROGRAM]]      COUNT photographs, 10,000 where none is given; without a program, ./c2 of the checkout is built
 set -eu
@@ -19,5 +20,6 @@ python3 "$here/photographs.py" "$work/archive" "${1:-10000}" 100000
 python3 "$here/measure.py" "$program" "$work/archive" || failed=1
 rm -rf "$work/archive"
 for size in 100000 100000000 500000000 10000000000; do python3 "$here/photographs.py" --one "$work/$size.jpg" $size; done
-python3 "$here/sizes.py" "$program" "$work"/{100000,100000000,500000000,10000000000}.jpg || failed=1
+python3 "$here/photographs.py" --film "$work/500000000.mp4" 500000000
+python3 "$here/sizes.py" "$program" "$work"/{100000,100000000,500000000,10000000000}.jpg "$work/500000000.mp4" || failed=1
 exit $failed
