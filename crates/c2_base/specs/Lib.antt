@@ -5,3 +5,4 @@ pub mod InMemory
 pub mod Host
 pub mod ReadAll
 pub mod Media
+pub mod HostSink

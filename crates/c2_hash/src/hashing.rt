@@ -66,6 +66,40 @@ impl Hashing for Sha {
     }
 }
 
+/// A hash for tests, whose digests collide: all their bytes are 0 but the last, the sum of the bytes modulo 256.
+#[derive(Clone, Copy, Debug)]
+pub struct WeakSum;
+
+impl Hashing for WeakSum {
+    ghost use Rattle.c2_hash.specs.WeakSum.{weak_digest, SumHolds, weak-IsDigest};
+
+    type State = u8;
+
+    ghost digest_of = { weak_digest };
+
+    ghost holds = { SumHolds };
+
+    ghost is_digest = { weak-IsDigest };
+
+    fn start(&self, _alg: Alg) -> u8 {
+        0
+    }
+
+    fn update(&self, state: &mut u8, bytes: &[u8]) {
+        let mut sum = *state;
+        'bytes: for byte in bytes {
+            sum = sum.wrapping_add(*byte);
+        }
+        *state = sum;
+    }
+
+    fn finish(&self, state: u8) -> Digest {
+        let mut bytes = [0; 32];
+        bytes[31] = state;
+        Digest::from_array(bytes)
+    }
+}
+
 /// The digest of these bytes.
 pub fn digest_of<H: Hashing>(hashing: &H, alg: Alg, bytes: &[u8]) -> Digest
     ensures { result ≡ H.digest_of alg bytes.now }
@@ -98,6 +132,17 @@ mod tests {
             let mut want = [0; 32];
             assert!(rt; decode_to_slice(hex, &mut want).is_ok());
             let digest = digest_of(&Sha, Alg::Sha256, text.as_bytes());
+            assert_eq!(rt; digest.as_slice(), want.as_slice(), "of {text}");
+        }
+    }
+
+    // The bytes of "abc" are 97, 98 and 99, whose sum is 256 and 38.
+    #[test]
+    fn weak_sum_tells_the_sum_alone(rt: HostRuntime) {
+        let mut want = [0; 32];
+        want[31] = 38;
+        for text in ["abc", "cba"] {
+            let digest = digest_of(&WeakSum, Alg::Sha256, text.as_bytes());
             assert_eq!(rt; digest.as_slice(), want.as_slice(), "of {text}");
         }
     }

@@ -9,5 +9,5 @@ mod names;
 
 pub use c2_spec::Alg;
 pub use digest::Digest;
-pub use hashing::{Hashing, Sha, digest_of};
+pub use hashing::{Hashing, Sha, WeakSum, digest_of};
 pub use names::{alg_name, alg_of};

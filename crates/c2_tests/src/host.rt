@@ -1,6 +1,6 @@
 // Files of the host, and names of what is none.
 use crate::files::words;
-use c2_base::{Failed, HostFile, MemSink, Source};
+use c2_base::{Failed, HostFile, HostSink, MemSink, Sink, Source, write_all};
 use c2_cmd::run;
 use c2_cmd::types::Status;
 use c2_hash::Sha;
@@ -24,6 +24,22 @@ fn a_file_is_read_at_its_places(rt: HostRuntime) -> Result<(), Fail> {
     assert_eq!(rt; file.size(), Ok(6));
     assert_eq!(rt; file.read_at(2, &mut buf), Err(Failed));
     fs::remove_file(&rt, "six")?;
+    Ok(())
+}
+
+#[test]
+fn a_new_file_is_made_once_and_keeps_what_it_takes(rt: HostRuntime) -> Result<(), Fail> {
+    let mut sink = HostSink::named(&rt, "new");
+    assert!(rt; fs::metadata(&rt, "new").is_err());
+    assert!(rt; write_all(&mut sink, b"ab").is_ok() && write_all(&mut sink, b"cd").is_ok());
+    assert_eq!(rt; sink.finish(), Ok(()));
+    let mut second = HostSink::named(&rt, "new");
+    assert_eq!(rt; second.append(b"e"), Err(Failed));
+    assert_eq!(rt; second.finish(), Err(Failed));
+    assert_eq!(rt; fs::read(&rt, "new")?.as_slice(), b"abcd".as_slice());
+    fs::remove_file(&rt, "new")?;
+    assert_eq!(rt; second.finish(), Err(Failed));
+    assert!(rt; fs::metadata(&rt, "new").is_err());
     Ok(())
 }
 
