@@ -29,3 +29,6 @@ pub const MAX_INPUT_LEN: u64 = 1048576;
 
 /// How many bytes of media are read at a time, at most.
 pub const PIECE_LEN: usize = 65536;
+
+/// The most entries that the unprotected header of a message may have that is padded.
+pub const MAX_HEADER_ENTRIES: usize = 20;
