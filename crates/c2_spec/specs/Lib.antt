@@ -8,4 +8,5 @@ pub mod Jpeg
 pub mod Judges
 pub mod Jumbf
 pub mod Located
+pub mod PutIn
 pub mod Reason

@@ -21,6 +21,9 @@ pub const EOI: u8 = 0xD9;
 /// Start of scan.
 pub const SOS: u8 = 0xDA;
 
+/// The application segment that JFIF begins with.
+pub const APP0: u8 = 0xE0;
+
 /// The application segment that carries boxes in pieces (ISO/IEC 18477-3, annex B.2).
 pub const APP11: u8 = 0xEB;
 
