@@ -42,6 +42,10 @@ the binding's algorithm
 ranges that overlap
 a range whose end is no number of 64 bits
 a BMFF hash in a JPEG
+the claim's signature is self#jumbf=/c2pa/n/c2pa.signature
+a message of three members
+an entry's URL is self#jumbf=/c2pa/n/c2pa.assertions/test.note
+a redaction in a manifest that isn't there
 """.strip().split("\n")
 
 

@@ -79,14 +79,6 @@ pub fn manifest_count(chain: &Chain<'_>) -> usize
     manifests(&chain.all).len()
 }
 
-/// The same number, as that of what was read.
-#[cfg(test)]
-pub fn reading_count(chain: &Chain<'_>) -> usize
-    ensures { result ≡ length chain.now.readings }
-{
-    manifests(&chain.all).len()
-}
-
 /// What is read of the manifests.
 pub fn all<'c, 't>(chain: &'c Chain<'t>) -> &'c ReadManifests<'t>
     ensures { result.now ≡ chain.now.readings }

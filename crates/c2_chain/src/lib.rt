@@ -19,12 +19,6 @@ mod ingredients;
 mod labelled;
 mod manifest;
 mod redactions;
-#[cfg(test)]
-mod rule_tests;
-#[cfg(test)]
-mod stores;
-#[cfg(test)]
-mod tests;
 mod uris;
 mod verdict;
 

@@ -13,12 +13,12 @@ use std::test::Fail;
 
 #[test]
 fn stores_are_checked(rt: HostRuntime) -> Result<(), Fail> {
-    judged_rows_come_to(&rt, rt.alloc(), "validate", ROWS, 40)
+    judged_rows_come_to(&rt, rt.alloc(), "validate", ROWS, 42)
 }
 
 #[test]
 fn more_stores_are_checked(rt: HostRuntime) -> Result<(), Fail> {
-    judged_rows_come_to(&rt, rt.alloc(), "validate", MORE_ROWS, 40)
+    judged_rows_come_to(&rt, rt.alloc(), "validate", MORE_ROWS, 42)
 }
 
 #[test]

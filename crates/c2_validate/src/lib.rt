@@ -13,8 +13,6 @@ mod find;
 mod laws;
 mod read;
 mod summary;
-#[cfg(test)]
-mod tests;
 pub mod types;
 
 pub use c2_rules::{Answer, Summary};
