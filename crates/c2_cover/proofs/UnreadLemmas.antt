@@ -2,7 +2,7 @@
 use Rattle.std.proofs.Common.{◌≡◌, ℕ, suc, ◌+◌, ◌-◌, ◌≤◌, min, Bool, ◌&&◌, true, false, List, [], ◌∷◌, ◌++◌, length, take, drop, refl, sym, ap, ◌∙◌, arith, append_assoc, eqb}
 use Rattle.std.specs.Prelude.{bytes_eq, nat_eq}
 use Rattle.std.proofs.Math.Seq.{take-add}
-use Rattle.std.proofs.lemmas.Bool.{ne_eqb}
+use Rattle.std.proofs.lemmas.Bool.{eqb-true, ne_eqb}
 use Rattle.std.proofs.lemmas.List.{length-take-le, length-drop, drop-drop}
 use Rattle.c2_cover.specs.Covers.{Reading, rest_of}
 use Rattle.c2_cover.specs.Unread.{Lies, unread}
@@ -70,3 +70,7 @@ ended_at p q buf buf' r r' file file' l m e f g =
     let k : q.from ≤ q.to = m.ordered in
     ap (λ n. eqb n (q.to - q.from)) (sym a) ∙ ap (eqb (length (take (p.to - p.from) (drop p.from buf)))) (sym b)
     ∙ ended (take (p.to - p.from) (drop p.from buf)) (take (q.to - q.from) (drop q.from buf')) (rest_of r file) (rest_of r' file') (ap (λ n. min n (length (take (q.to - q.from) (drop q.from buf')))) a ∙ ap (min (p.to - p.from)) b ∙ e) (λ z. f (omega (arith, a, z, o))) (λ z. g (omega (arith, b, z, k)))
+
+-- where the less of two numbers is none and they are equal, each is none
+pub both_none : (n m : ℕ) → min n m ≡ 0 → eqb n m ≡ true → (n ≡ 0) × (m ≡ 0)
+both_none n m e f = let g : n ≡ m = eqb-true n m f in (omega (arith, e, g), omega (arith, e, g))

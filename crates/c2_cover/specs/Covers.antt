@@ -1,5 +1,5 @@
 -- What clauses see of a cover, and of a reader of its text.
-use Rattle.std.specs.Prelude.{◌≡◌, ℕ, ◌+◌, ◌-◌, ◌*◌, ◌<◌, ◌≤◌, ⊤, Bool, not, List, [], ◌∷◌, ◌++◌, Option, length, take, filter, bytes_eq}
+use Rattle.std.specs.Prelude.{◌≡◌, ℕ, ◌+◌, ◌-◌, ◌*◌, ◌<◌, ◌≤◌, ⊤, Bool, true, not, List, [], ◌∷◌, ◌++◌, Option, length, take, filter, bytes_eq}
 use Rattle.std.specs.List.{range_with_len}
 use Rattle.std.specs.Option.{ForSome}
 use Rattle.c2_base.specs.declared.values.Range.{Range}
@@ -28,6 +28,10 @@ excluded_of c = excluded_positions c.ranges c.size
 -- the covered text of a file
 abbrev pub text_of : Covered → List ℕ → List ℕ
 text_of c file = told_from (is_excluded c.ranges) c.words 0 file
+
+-- how many bytes the covered text of a file of the cover's size has: the positions that aren't left out, and 8 for each word
+abbrev pub text_len : Covered → ℕ
+text_len c = covered_count (excluded_of c) c.size + 8 * length c.words
 
 -- the cover of a file of this size that leaves out the positions which these ranges hold, and no others, and has no words
 pub record IsCoverOf (len : ℕ) (ranges : List Range) (c : Covered) : Type 0 where
@@ -63,7 +67,7 @@ left_of r =
 pub record IsStart (c : Covered) (r : Reading) : Type 0 where
   pub size : r.size ≡ c.size
   pub text : (file : List ℕ) → rest_of r file ≡ text_of c file
-  pub left : left_of r ≡ covered_count (excluded_of c) c.size + 8 * length c.words
+  pub left : left_of r ≡ text_len c
 
 -- A read of the next piece: the first `n` bytes of the buffer, where the bytes of the source are known. Of any source, as many bytes
 -- are gone from what is left, and none only where nothing was left.
@@ -80,3 +84,7 @@ abbrev pub IsSameText : Covered → Option (List ℕ) → Covered → Option (Li
 IsSameText c known d other same =
     ForSome known (λ file. ForSome other (λ copy.
     same ≡ bytes_eq (text_of c file) (text_of d copy)))
+
+-- of any two sources, texts are the same only where they have equally many bytes
+abbrev pub HaveOneLength : Covered → Covered → Bool → Type 0
+HaveOneLength c d same = same ≡ true → text_len c ≡ text_len d

@@ -24,3 +24,4 @@ pub record Refills (known : Option (List ℕ)) (old : Reading) (pending : Pendin
   pub same : ForSome known (λ file. unread p now new file ≡ unread pending buf old file)
   pub left : unread_len p new ≡ unread_len pending old
   pub end : p.from ≡ p.to → ForSome known (λ file. rest_of new file ≡ [])
+  pub none : p.from ≡ p.to → left_of new ≡ 0

@@ -1,12 +1,11 @@
 // What holds of every cover.
-ghost use Rattle.std.specs.Prelude.{◌≡◌, ◌+◌, ◌*◌, List, ℕ, length};
-ghost use Rattle.c2_spec.specs.Cover.{covered_count};
-ghost use Rattle.c2_cover.specs.Covers.{Covered, excluded_of, text_of};
+ghost use Rattle.std.specs.Prelude.{◌≡◌, List, ℕ, length};
+ghost use Rattle.c2_cover.specs.Covers.{Covered, text_len, text_of};
 ghost use Rattle.c2_cover.specs.Words.{AreWords};
 
 /// A covered text has as many bytes as positions of the file are covered, and 8 for each word besides.
 pub fn each_text_has_its_count()
     ensures { (c : Covered) (file : List ℕ) → length file ≡ c.size
         → AreWords c.size c.ranges 0 c.words
-        → length (text_of c file) ≡ covered_count (excluded_of c) c.size + 8 * length c.words }
+        → length (text_of c file) ≡ text_len c }
 {}

@@ -2,7 +2,7 @@
 ghost use Rattle.std.specs.Prelude.{◌≡◌, ◌+◌, take, drop, ◌<◌, ◌≤◌, ◌⊎◌, length, bytes_eq, OnOk, OnErr, IfOk};
 ghost use Rattle.c2_base.specs.Causes.{HasCause, Rose};
 ghost use Rattle.c2_base.specs.Source.{StaysSource};
-ghost use Rattle.c2_cover.specs.Covers.{IsSameText};
+ghost use Rattle.c2_cover.specs.Covers.{HaveOneLength, IsSameText};
 ghost use Rattle.c2_cover.specs.Unread.{Lies, Refills};
 
 use crate::cover::Cover;
@@ -66,6 +66,7 @@ pub fn same_text<A: Source, B: Source>(
     requires other_size { B.len second.old ≡ other.now.size }
     ensures same { IfOk result
         (IsSameText cover.now (A.known first.old) other.now (B.known second.old)) }
+    ensures lengths { IfOk result (HaveOneLength cover.now other.now) }
     ensures first_stays { StaysSource A.len A.known A.faults first.old first.new }
     ensures second_stays { StaysSource B.len B.known B.faults second.old second.new }
     ensures first_count { OnOk result (A.faults first.new ≡ A.faults first.old) }

@@ -2,7 +2,7 @@ use Rattle.std.proofs.Common.{◌≡◌, ◌≤◌, ◌+◌, ◌-◌, ◌∙◌,
 use Rattle.std.specs.Prelude.{bytes_eq}
 use Rattle.c2_cover.specs.Covers.{text_of}
 use Rattle.c2_cover.specs.Unread.{Lies, unread}
-use Rattle.c2_cover.proofs.UnreadLemmas.{ended_at, compared, pending}
+use Rattle.c2_cover.proofs.UnreadLemmas.{both_none, ended_at, compared, pending}
 use Rattle.c2_cover.proofs.same.same_text.Goals as goal
 
 -- where one text has ended, they are equal just when nothing of either is unread
@@ -19,6 +19,16 @@ returns-then-count-eq0-clause-same g c file known copy known2 =
     ∙ ap (λ ys. bytes_eq (unread c.in_ok-mine.mine c.refill.new.buf c.refill.new.reader file) ys) (sym (c.in_ok-theirs.ensures.filled.same copy two)) in
     ended_at c.in_ok-mine.mine c.in_ok-theirs.theirs c.refill.new.buf c.refill-in-pieces.new.buf c.refill.new.reader c.refill-in-pieces.new.reader file copy lies lies2 (sym c.min-count.ensures ∙ c.if-count-eq0.true) (λ e. c.in_ok-mine.ensures.filled.end e file one) (λ e. c.in_ok-theirs.ensures.filled.end e copy two)
     ∙ sym now
+
+-- where neither has an unread byte, all of both are compared
+pub returns-then-count-eq0-clause-lengths : goal.returns-then-count-eq0-clause-lengths
+returns-then-count-eq0-clause-lengths g c e =
+    let mine = c.in_ok-mine.ensures.filled in
+    let theirs = c.in_ok-theirs.ensures.filled in
+    let o = mine.lies.ordered in
+    let k = theirs.lies.ordered in
+    let both = both_none _ _ (sym c.min-count.ensures ∙ c.if-count-eq0.true) e in
+    omega (arith, c.pieces.invariant.lengths, mine.left, theirs.left, mine.none (omega (arith, o, both.0)), theirs.none (omega (arith, k, both.1)), both.0, both.1)
 
 -- covered texts that differ in the bytes compared here aren't equal
 pub returns-then-not-same_slices-clause-same : goal.returns-then-not-same_slices-clause-same
@@ -58,6 +68,7 @@ pieces-preserved g c =
       second_stays = record { same_len = theirs.stays.same_len ∙ before.second_stays.same_len; same_bytes = theirs.stays.same_bytes ∙ before.second_stays.same_bytes; later = omega (arith, theirs.stays.later, before.second_stays.later) };
       first_count = mine.cause.ok ∙ before.first_count;
       second_count = theirs.cause.ok ∙ before.second_count;
+      lengths = omega (arith, before.lengths, mine.filled.left, theirs.filled.left, c.min-count.ensures, mine.filled.lies.ordered, theirs.filled.lies.ordered);
       same = λ file known copy known2.
           let before = c.pieces.invariant in
           let one = before.first_stays.same_bytes ∙ known in
