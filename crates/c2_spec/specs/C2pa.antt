@@ -4,4 +4,5 @@ pub mod Uri
 pub mod Assertion
 pub mod Claim
 pub mod Sign1
+pub mod Message
 pub mod Manifest
