@@ -1,16 +1,16 @@
 -- The text of a URI that can be written is read as that URI.
-use Rattle.std.proofs.Common.{◌≡◌, ◌≢◌, ℕ, zero, suc, ◌+◌, ◌<◌, ◌==◌, Bool, true, false, not, ◌||◌, cond, eqb, List, [], ◌∷◌, ◌++◌, length, take, drop, get_or, Option, Some, None, option_and_then, refl, sym, ap, ◌∙◌, arith, append-nil, append_assoc, eq-eqb, if◌then◌else◌}
+use Rattle.std.proofs.Common.{◌≡◌, ◌≢◌, ℕ, suc, ◌+◌, ◌==◌, Bool, true, false, not, ◌||◌, cond, eqb, List, [], ◌∷◌, ◌++◌, length, take, drop, get_or, Option, Some, None, option_and_then, refl, sym, ap, ◌∙◌, arith, append-nil, append_assoc, eq-eqb}
 use Rattle.std.specs.Prelude.{All, codes}
-use Rattle.std.specs.List.{starts_with, position_or_len, before_first, after_first, list_any, slice_split}
+use Rattle.std.specs.List.{starts_with, position_or_len, before_first, after_first, list_any}
 use Rattle.std.specs.Str.{bytes_eq}
-use Rattle.std.proofs.lemmas.Bool.{cases_Bool, or_parts, ne_eqb}
+use Rattle.std.proofs.lemmas.Bool.{ne_eqb}
 use Rattle.std.proofs.lemmas.Bool.Decides.{Decides-eqb}
 use Rattle.std.proofs.lemmas.Slice.Eq.{starts_is, bytes_eq-Decides}
 use Rattle.std.proofs.lemmas.List.{take_at, drop_at, length-append}
 use Rattle.std.proofs.lemmas.List.Elements.{All-nil, All-cons, All-head, All-tail}
-use Rattle.std.proofs.lemmas.List.Splits.{slice_split_none, slice_split_at, slice_split-cons_yes}
-use Rattle.c2_spec.specs.C2pa.Uri.{PlainTarget, whole, assertion, signature, other, PlainUri, scheme, store_path, signature_path, assertions_path, is_slash, target_path, behind_manifest, path_text, uri_text, after_piece, is_one_label, has_empty_label, assertion_or_path, target_of, absolute_uri, relative_uri, uri_of_labels, uri_of_path, uri_of}
-use Rattle.c2_uri.specs.Writing.{IsLabel, IsOtherPath, IsWritableTarget, IsWritable}
+use Rattle.std.proofs.lemmas.List.Splits.{slice_split_none, slice_split_at}
+use Rattle.c2_spec.specs.C2pa.Uri.{PlainTarget, whole, assertion, signature, other, PlainUri, scheme, store_path, signature_path, assertions_path, is_slash, target_path, path_text, uri_text, after_piece, is_one_label, has_empty_label, assertion_or_path, target_of, absolute_uri, relative_uri, uri_of_labels, uri_of_path, uri_of}
+use Rattle.c2_uri.specs.Writing.{IsLabel, IsWritableTarget, IsWritable}
 use Rattle.c2_uri.proofs.Spelled.{after_spelled}
 
 -- a piece and what follows it

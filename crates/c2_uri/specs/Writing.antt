@@ -1,5 +1,5 @@
 -- Which URIs have a text that is read as that URI again.
-use Rattle.std.specs.Prelude.{◌≡◌, ◌≢◌, ℕ, Bool, true, false, List, [], ◌++◌, IsSome, ⊤}
+use Rattle.std.specs.Prelude.{◌≡◌, ◌≢◌, ℕ, true, false, List, [], ◌++◌, IsSome, ⊤}
 use Rattle.std.specs.declared.option.Option.{Option}
 use Rattle.std.specs.Option.{ForSome}
 use Rattle.c2_spec.specs.C2pa.Uri.{PlainTarget, whole, assertion, signature, other, PlainUri, is_one_label, has_empty_label, signature_path, assertions_path}

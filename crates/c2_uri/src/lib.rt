@@ -1,6 +1,7 @@
 //! URIs of boxes, and base labels (C2PA Technical Specification 2.x).
 //!
-//! What a text spells stands in `C2pa.Uri` of c2_spec. Reading and the text of a URI are inverse, as laws.
+//! What a text spells stands in `C2pa.Uri` of c2_spec. Reading and the text of a URI are inverse, as laws; which URIs can be
+//! written stands in `specs/Writing.antt`.
 #![tactic(auto)]
 
 mod labels;
@@ -8,8 +9,10 @@ mod laws;
 mod parsing;
 #[cfg(test)]
 mod tests;
+mod writing;
 
 pub use c2_spec::{Target, Uri};
 pub use labels::base_label;
 pub use laws::{read_uris_are_spelled, written_uris_are_read};
 pub use parsing::parse;
+pub use writing::text;

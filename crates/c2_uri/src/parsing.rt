@@ -6,16 +6,16 @@ ghost use Rattle.c2_spec.specs.C2pa.Uri.{is_slash, has_empty_label, after_piece,
 use c2_spec::{Target, Uri};
 
 /// Each URI of a box begins so.
-const SCHEME: &str = "self#jumbf=";
+pub(crate) const SCHEME: &str = "self#jumbf=";
 
 /// A path whose first label is a manifest begins so.
-const STORE: &str = "/c2pa/";
+pub(crate) const STORE: &str = "/c2pa/";
 
 /// The path of a signature.
-const SIGNATURE: &str = "c2pa.signature";
+pub(crate) const SIGNATURE: &str = "c2pa.signature";
 
 /// The path of an assertion begins so.
-const ASSERTIONS: &str = "c2pa.assertions/";
+pub(crate) const ASSERTIONS: &str = "c2pa.assertions/";
 
 // What follows this piece, where the text begins with it.
 fn strip<'a>(piece: &str, text: &'a str) -> Option<&'a str>

@@ -1,6 +1,6 @@
 //! Worked examples.
 
-use crate::{Target, base_label, parse};
+use crate::{Target, Uri, base_label, parse, text};
 use std::alloc::{AllocError, Global};
 use std::test::Fail;
 
@@ -94,4 +94,28 @@ fn labels_have_these_bases(rt: HostRuntime) {
             assert_eq!(rt; base_label(label), want, "{label}");
         }
     }
+}
+
+#[test]
+fn a_uri_is_written(rt: HostRuntime) -> Result<(), Fail> {
+    let alloc = rt.alloc();
+    let manifest = Some("m");
+    for (manifest, target, want) in [
+        (manifest, Target::Whole, "self#jumbf=/c2pa/m"),
+        (
+            manifest,
+            Target::Signature,
+            "self#jumbf=/c2pa/m/c2pa.signature",
+        ),
+        (
+            manifest,
+            Target::Assertion("a"),
+            "self#jumbf=/c2pa/m/c2pa.assertions/a",
+        ),
+        (None, Target::Assertion("a"), "self#jumbf=c2pa.assertions/a"),
+    ] {
+        let written = text(alloc, &Uri { manifest, target })?;
+        assert_eq!(rt; written.as_str(), want);
+    }
+    Ok(())
 }
