@@ -4,6 +4,7 @@ mod FoundLemmas
 mod HeaderLemmas
 mod MarkLemmas
 mod MatchLemmas
+mod OrderLemmas
 mod PartLemmas
 mod PathLemmas
 mod PathWritten

@@ -5,6 +5,7 @@ pub mod Headers
 pub mod Heads
 pub mod Marks
 pub mod Matched
+pub mod Parts
 pub mod PathTexts
 pub mod Provenance
 pub mod Roots

@@ -4,11 +4,13 @@
 #![tactic(auto)]
 
 mod children;
+mod entries;
 mod exclusion;
 mod header;
 mod laws;
 mod marking;
 mod matching;
+mod parts;
 mod paths;
 mod provenance;
 mod reading;

@@ -1,5 +1,5 @@
 // The positions that an exclusion excludes.
-ghost use Rattle.std.specs.Prelude.{◌≡◌, true, ◌||◌, ◌&&◌, ◌+◌, ◌-◌, ◌<◌, ◌≤◌, ◌^◌, ℕ, map, All, OnOk, IfOk, IfErr, IfSome, length, take, drop, bytes_eq};
+ghost use Rattle.std.specs.Prelude.{◌≡◌, true, ◌||◌, ◌&&◌, ◌+◌, ◌-◌, ◌<◌, ◌≤◌, ◌^◌, ℕ, map, All, OnOk, IfOk, IfErr, IfSome, length, take, drop, bytes_eq, option_map};
 ghost use Rattle.std.specs.List.{list_all, list_any};
 ghost use Rattle.std.specs.Option.{ForSome};
 ghost use Rattle.c2_base.specs.Causes.{HasCause};
@@ -8,11 +8,12 @@ ghost use Rattle.c2_spec.specs.Cover.{holds, is_excluded};
 ghost use Rattle.c2_bmff.specs.Causes.{IsCaused, OrOutside};
 ghost use Rattle.c2_bmff.specs.Children.{IsRowWithin};
 ghost use Rattle.c2_bmff.specs.Exclusions.{byte_test};
+ghost use Rattle.c2_bmff.specs.Parts.{AreRising};
 ghost use Rattle.c2_bmff.specs.Marks.{IsFront, IsRangeWithin, has_length, holds_test, in_row, in_row_part, in_row_subset, marks, stands_at, takes};
 
-use crate::exclusion::Exclusion;
+use crate::entries::Entry;
 use crate::root_boxes::{RootBox, fill_first};
-use c2_base::{Blob, Failed, MediaError, NoMemory, Range, Ranges, Source};
+use c2_base::{Blob, Failed, MediaError, NoMemory, Range, Source};
 use std::alloc::Global;
 
 // Whether the first `count` bytes are the same.
@@ -123,7 +124,7 @@ fn is_sized(length: Option<u64>, row: RootBox) -> bool
 // Whether the exclusion takes the box of this row.
 fn takes_row<S: Source>(
     source: &mut S,
-    entry: &Exclusion,
+    entry: &Entry<'_>,
     row: RootBox,
     front: &[u8],
 ) -> Result<bool, Failed>
@@ -137,7 +138,7 @@ fn takes_row<S: Source>(
     if !is_sized(entry.length, row) {
         return Ok(false);
     }
-    meets_all(source, row, front, entry.tests.as_slice())
+    meets_all(source, row, front, entry.tests)
 }
 
 // Adds a range, to the last of the others where it begins in that or at its end.
@@ -213,8 +214,17 @@ fn holds_row(range: Range, row: RootBox) -> bool
         && row.start - range.start <= range.length - row.length
 }
 
-// Adds these parts of the box of this row.
+// Whether a part ends no earlier than the box of this row, so that parts that begin no earlier add nothing to it.
+fn ends_row(row: RootBox, part: Range) -> bool
+    ensures { result ≡ true → (i : ℕ) (later : Range) → part.start ≤ later.start
+        → in_row_part i row later ≡ true → in_row_part i row part ≡ true }
+{
+    part.length == 0 || part.start >= row.length || part.length >= row.length - part.start
+}
+
+// Adds these parts of the box of this row, up to the first that ends no earlier than the box.
 fn add_parts(ranges: &mut Vec<Range>, row: RootBox, parts: &[Range]) -> Result<(), NoMemory>
+    requires rising { AreRising parts.now }
     requires fits { row.start + row.length < 2 ^ 64 }
     requires fit { All (IsRangeWithin (2 ^ 64 - 1)) ranges.old.items }
     ensures same { OnOk result ((i : ℕ) → is_excluded ranges.new.items i
@@ -224,20 +234,25 @@ fn add_parts(ranges: &mut Vec<Range>, row: RootBox, parts: &[Range]) -> Result<(
 {
     for part in parts {
         add_range(ranges, part_in(row, *part))?;
+        if ends_row(row, *part) {
+            return Ok(());
+        }
     }
     Ok(())
 }
 
-// Adds the subset of the box of this row, or all of it where there is none.
+// Adds the parts of the box of this row, or all of it where there are none.
 fn add_subset(
     ranges: &mut Vec<Range>,
     row: RootBox,
-    subset: &Option<Ranges>,
+    subset: &Option<Vec<Range>>,
 ) -> Result<(), NoMemory>
+    requires rising { IfSome subset.now (λ parts. AreRising parts.items) }
     requires fits { row.start + row.length < 2 ^ 64 }
     requires fit { All (IsRangeWithin (2 ^ 64 - 1)) ranges.old.items }
     ensures same { OnOk result ((i : ℕ) → is_excluded ranges.new.items i
-        ≡ (is_excluded ranges.old.items i || in_row_subset i row subset.now)) }
+        ≡ (is_excluded ranges.old.items i
+        || in_row_subset i row (option_map (λ parts. parts.items) subset.now))) }
     ensures within { OnOk result ((n : ℕ) → All (IsRangeWithin n) ranges.old.items
         → row.start + row.length ≤ n → All (IsRangeWithin n) ranges.new.items) }
 {
@@ -258,7 +273,7 @@ fn add_subset(
 /// Adds the positions that the exclusion excludes through the box of this row, which begins with `front`.
 pub(crate) fn mark_row<S: Source>(
     source: &mut S,
-    entry: &Exclusion,
+    entry: &Entry<'_>,
     row: RootBox,
     front: &[u8],
     ranges: &mut Vec<Range>,
@@ -278,6 +293,6 @@ pub(crate) fn mark_row<S: Source>(
     if !takes_row(source, entry, row, front)? {
         return Ok(());
     }
-    add_subset(ranges, row, &entry.subset)?;
+    add_subset(ranges, row, &entry.parts)?;
     Ok(())
 }

@@ -1,7 +1,8 @@
 // A walk over boxes that visits each of them once for all exclusions.
-ghost use Rattle.std.specs.Prelude.{◌≡◌, ◌||◌, ◌+◌, ◌*◌, ◌<◌, [], ◌∷◌, ◌++◌, ℕ, List, All, OnOk, IfOk, IfErr, IfSome, is_some, cond, get_or, length};
+ghost use Rattle.std.specs.Prelude.{◌≡◌, ◌||◌, ◌+◌, ◌*◌, ◌<◌, [], ◌∷◌, ◌++◌, ℕ, List, All, OnOk, IfOk, IfErr, IfSome, is_some, cond, get_or, length, take, ◌≤◌};
 ghost use Rattle.std.specs.List.{list_any};
 ghost use Rattle.std.specs.Option.{ForSome};
+ghost use Rattle.c2_base.specs.Causes.{HasCause};
 ghost use Rattle.c2_base.specs.Source.{StaysSource};
 ghost use Rattle.c2_spec.specs.Bmff.Hash.{Exclusion};
 ghost use Rattle.c2_spec.specs.Bmff.Paths.{nth_of};
@@ -13,11 +14,12 @@ ghost use Rattle.c2_bmff.specs.Trails.{IsLevelWithin, ahead, arrives, found, fro
 ghost use Rattle.c2_bmff.specs.declared.root_boxes.RootBox.{RootBox};
 
 use crate::children::children;
+use crate::entries::{Entry, entries_of};
 use crate::exclusion::Exclusion;
 use crate::marking::{is_whole, mark_row};
 use crate::paths::{Segment, enters};
 use crate::root_boxes::{RootBox, fill_first};
-use c2_base::{MediaError, NoMemory, Range, Source};
+use c2_base::{Failed, MediaError, NoMemory, Range, Source};
 use std::alloc::Global;
 
 // Which of the coming siblings of a step's type the step means.
@@ -80,7 +82,7 @@ fn past(coming: Coming) -> (bool, Coming)
 }
 
 // The trail of an exclusion of which so many steps were taken, in a list of siblings; None where its path has no further step.
-fn trail_from(entries: &[Exclusion], entry: usize, taken: usize) -> Option<Trail>
+fn trail_from(entries: &[Entry<'_>], entry: usize, taken: usize) -> Option<Trail>
     ensures ahead { IfSome result (λ t. (file : List ℕ) (i : ℕ) (rows : List RootBox)
         → ahead file entries.now i rows t ≡ from_step file entries.now i rows entry taken) }
     ensures more { has_step entries.now entry taken ≡ is_some result }
@@ -98,7 +100,7 @@ fn trail_from(entries: &[Exclusion], entry: usize, taken: usize) -> Option<Trail
 // Where a trail means the box of this row: adds its exclusion to `here` where the path ends there, else its further trail to `below`
 // where the path enters the box.
 fn arrive(
-    entries: &[Exclusion],
+    entries: &[Entry<'_>],
     row: RootBox,
     at: Trail,
     here: &mut Vec<usize>,
@@ -122,7 +124,7 @@ fn arrive(
 
 // Passes the box of this row on a trail.
 fn pass(
-    entries: &[Exclusion],
+    entries: &[Entry<'_>],
     row: RootBox,
     trail: &mut Trail,
     here: &mut Vec<usize>,
@@ -148,7 +150,7 @@ fn pass(
 
 // Passes the box of this row on all trails.
 fn pass_all(
-    entries: &[Exclusion],
+    entries: &[Entry<'_>],
     row: RootBox,
     trails: &mut [Trail],
     here: &mut Vec<usize>,
@@ -166,22 +168,46 @@ fn pass_all(
     Ok(())
 }
 
-// Whether one of these exclusions has a byte test.
-fn has_tests(entries: &[Exclusion], here: &[usize]) -> bool {
-    for k in here {
-        if let Some(entry) = entries.get(*k) {
-            if !entry.tests.as_slice().is_empty() {
-                return true;
-            }
-        }
+// Whether the exclusion of this index has a byte test.
+fn has_tests(entries: &[Entry<'_>], k: usize) -> bool {
+    match entries.get(k) {
+        Some(entry) => !entry.tests.is_empty(),
+        None => false,
     }
-    false
+}
+
+// The number of first bytes of the box of this row that are in `bytes`: the first 64 where none were and the exclusion of this index
+// has a byte test.
+fn fill_front<S: Source>(
+    source: &mut S,
+    entries: &[Entry<'_>],
+    k: usize,
+    row: RootBox,
+    bytes: &mut [u8; 64],
+    count: usize,
+) -> Result<usize, Failed>
+    requires inside { IsRowWithin (S.len source.old) row }
+    requires few { count ≤ 64 }
+    requires front { ForSome (S.known source.old)
+        (λ file. IsFront file row (take count bytes.old)) }
+    ensures few { IfOk result (λ n. n ≤ 64) }
+    ensures front { IfOk result (λ n. ForSome (S.known source.old)
+        (λ file. IsFront file row (take n bytes.new))) }
+    ensures stays { StaysSource S.len S.known S.faults source.old source.new }
+    ensures cause { HasCause (S.faults source.old) (S.faults source.new) result }
+{
+    if count > 0 || !has_tests(entries, k) {
+        return Ok(count);
+    }
+    let most = row.length.min(64) as usize;
+    fill_first(source, row.start, bytes, most)?;
+    Ok(most)
 }
 
 // Adds the positions that these exclusions exclude through the box of this row. Byte tests read its first 64 bytes once.
-fn mark_here<S: Source>(
+fn mark_each<S: Source>(
     source: &mut S,
-    entries: &[Exclusion],
+    entries: &[Entry<'_>],
     here: &[usize],
     row: RootBox,
     ranges: &mut Vec<Range>,
@@ -199,42 +225,12 @@ fn mark_here<S: Source>(
 {
     let mut bytes = [0; 64];
     let mut count = 0;
-    if has_tests(entries, here) {
-        count = row.length.min(64) as usize;
-    }
-    fill_first(source, row.start, &mut bytes, count)?;
-    match mark_each(source, entries, here, row, &bytes[..count], ranges) {
-        Ok(()) => Ok(()),
-        Err(error) => Err(error),
-    }
-}
-
-// The same, where the box begins with `front`.
-fn mark_each<S: Source>(
-    source: &mut S,
-    entries: &[Exclusion],
-    here: &[usize],
-    row: RootBox,
-    front: &[u8],
-    ranges: &mut Vec<Range>,
-) -> Result<(), MediaError>
-    requires inside { IsRowWithin (S.len source.old) row }
-    requires front { ForSome (S.known source.old) (λ file. IsFront file row front.now) }
-    requires within { All (IsRangeWithin (S.len source.old)) ranges.old.items }
-    ensures same { OnOk result (ForSome (S.known source.old) (λ file.
-        (i : ℕ) → is_excluded ranges.new.items i
-        ≡ (is_excluded ranges.old.items i || list_any (through file entries.now i row) here.now))) }
-    ensures within { OnOk result (All (IsRangeWithin (S.len source.old)) ranges.new.items) }
-    ensures stays { StaysSource S.len S.known S.faults source.old source.new }
-    ensures count { OnOk result (S.faults source.new ≡ S.faults source.old) }
-    ensures cause { IfErr result (IsCaused (S.faults source.old) (S.faults source.new)) }
-    ensures outside { IfErr result (λ e. OrOutside e ⊥) }
-{
     for k in here {
         if is_whole(ranges, row) {
             return Ok(());
         }
-        match mark_entry(source, entries, *k, row, front, ranges) {
+        count = fill_front(source, entries, *k, row, &mut bytes, count)?;
+        match mark_entry(source, entries, *k, row, &bytes[..count], ranges) {
             Ok(()) => {}
             Err(error) => return Err(error),
         }
@@ -245,7 +241,7 @@ fn mark_each<S: Source>(
 // The same of the exclusion of this index.
 fn mark_entry<S: Source>(
     source: &mut S,
-    entries: &[Exclusion],
+    entries: &[Entry<'_>],
     k: usize,
     row: RootBox,
     front: &[u8],
@@ -276,7 +272,7 @@ fn mark_entry<S: Source>(
 fn visit<S: Source>(
     alloc: Global,
     source: &mut S,
-    entries: &[Exclusion],
+    entries: &[Entry<'_>],
     row: RootBox,
     trails: &mut [Trail],
     ranges: &mut Vec<Range>,
@@ -299,14 +295,14 @@ fn visit<S: Source>(
     let mut here = Vec::new(alloc);
     let mut below = Vec::new(alloc);
     pass_all(entries, row, trails, &mut here, &mut below)?;
-    match mark_here(source, entries, &here, row, ranges) {
+    match mark_each(source, entries, &here, row, ranges) {
         Ok(()) => Ok(below),
         Err(error) => Err(error),
     }
 }
 
 // Adds the trail of the exclusion of this index before its first step, where it has one.
-fn add_first(entries: &[Exclusion], k: usize, trails: &mut Vec<Trail>) -> Result<(), NoMemory>
+fn add_first(entries: &[Entry<'_>], k: usize, trails: &mut Vec<Trail>) -> Result<(), NoMemory>
     requires { k < length entries.now }
     ensures { OnOk result ((file : List ℕ) (i : ℕ) (rows : List RootBox)
         → list_any (ahead file entries.now i rows) trails.new.items
@@ -320,7 +316,7 @@ fn add_first(entries: &[Exclusion], k: usize, trails: &mut Vec<Trail>) -> Result
 }
 
 // The trails of all exclusions before their first steps.
-fn first_trails(alloc: Global, entries: &[Exclusion]) -> Result<Vec<Trail>, NoMemory>
+fn first_trails(alloc: Global, entries: &[Entry<'_>]) -> Result<Vec<Trail>, NoMemory>
     ensures { IfOk result (λ trails. (file : List ℕ) (i : ℕ) (rows : List RootBox)
         → list_any (ahead file entries.now i rows) trails.items
         ≡ list_any (excludes_row file rows i) entries.now) }
@@ -390,7 +386,7 @@ fn open_row<S: Source>(
 fn turn<S: Source>(
     alloc: Global,
     source: &mut S,
-    entries: &[Exclusion],
+    entries: &[Entry<'_>],
     level: Level,
     levels: &mut Vec<Level>,
     ranges: &mut Vec<Range>,
@@ -434,7 +430,7 @@ fn turn<S: Source>(
 fn walk<S: Source>(
     alloc: Global,
     source: &mut S,
-    entries: &[Exclusion],
+    entries: &[Entry<'_>],
     levels: &mut Vec<Level>,
     ranges: &mut Vec<Range>,
 ) -> Result<(), MediaError>
@@ -477,6 +473,8 @@ pub(crate) fn mark_all<S: Source>(
 {
     let mut ranges = Vec::new(alloc);
     let mut levels = Vec::new(alloc);
+    let entries = entries_of(alloc, entries)?;
+    let entries = entries.as_slice();
     let trails = first_trails(alloc, entries)?;
     let rows = copied(alloc, siblings)?;
     add_level(&mut levels, rows, 0, trails)?;

@@ -3,6 +3,7 @@ use Rattle.std.proofs.Common.{Bool}
 use Rattle.c2_spec.specs.Cover.{is_excluded}
 use Rattle.c2_bmff.specs.Marks.{in_row_part}
 use Rattle.c2_bmff.proofs.MarkLemmas.{any_more, no_range}
+use Rattle.c2_bmff.proofs.OrderLemmas.{rest_adds_nothing}
 use Rattle.c2_bmff.proofs.marking.add_parts.Goals as goal
 
 -- with the next part, its positions are held too, and no range ends after the old ones and the box do
@@ -17,3 +18,15 @@ loop-part-preserved c =
           ∙ sym (any_more (in_row_part i c.args.row) c.args.parts.now k no_range (is_excluded c.args.ranges.now.items i) c.loop-part-test.true);
       within = λ n old fits. call.within n (before.within n old fits) (omega (arith, c.part_in.ensures.within, fits));
     }
+
+-- where a part ends no earlier than the box, the parts after it add nothing
+pub returns-then-ends_row-clause-same : goal.returns-then-ends_row-clause-same
+returns-then-ends_row-clause-same c i =
+    let before = c.loop-part.invariant in
+    let k = c.loop-part.part-index in
+    c.in_ok-add_range.ensures.same i ∙ ap₂ (λ (a b : Bool). a || b) (before.same i) (c.part_in.ensures.holds i)
+    ∙ rest_adds_nothing i c.args.row c.args.parts.now k no_range (is_excluded c.args.ranges.now.items i) c.requires.rising c.loop-part-test.true (λ later from. c.ends_row.ensures c.if-ends_row.true i later from)
+
+-- and no range ends after the old ones and the box do
+pub returns-then-ends_row-clause-within : goal.returns-then-ends_row-clause-within
+returns-then-ends_row-clause-within c = λ n old fits. c.in_ok-add_range.ensures.within n (c.loop-part.invariant.within n old fits) (omega (arith, c.part_in.ensures.within, fits))

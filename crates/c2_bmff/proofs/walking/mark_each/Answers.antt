@@ -14,15 +14,18 @@ use Rattle.c2_bmff.proofs.walking.mark_each.Goals as goal
 pub loop-k-preserved : goal.loop-k-preserved
 loop-k-preserved g c =
     let before = c.loop-k.invariant in
+    let front = c.in_ok-count.ensures in
     let call = c.in-Ok.ensures in
     let k = c.loop-k.k-index in
     record {
-      stays = record { same_len = call.stays.same_len ∙ before.stays.same_len; same_bytes = call.stays.same_bytes ∙ before.stays.same_bytes; later = omega (arith, call.stays.later, before.stays.later) };
-      count = call.count ∙ before.count;
-      within = subst (λ (n : ℕ). All (IsRangeWithin n) c.mark_entry.new.ranges.items) before.stays.same_len call.within;
+      stays = record { same_len = call.stays.same_len ∙ front.stays.same_len ∙ before.stays.same_len; same_bytes = call.stays.same_bytes ∙ front.stays.same_bytes ∙ before.stays.same_bytes; later = omega (arith, call.stays.later, front.stays.later, before.stays.later) };
+      count = call.count ∙ front.cause.ok ∙ before.count;
+      within = subst (λ (n : ℕ). All (IsRangeWithin n) c.mark_entry.new.ranges.items) (front.stays.same_len ∙ before.stays.same_len) call.within;
       same = λ file known i.
-          call.same file (before.stays.same_bytes ∙ known) i ∙ ap (λ (a : Bool). a || through file c.args.entries.now i c.args.row (get_or c.args.here.now k 0)) (before.same file known i)
+          call.same file (front.stays.same_bytes ∙ before.stays.same_bytes ∙ known) i ∙ ap (λ (a : Bool). a || through file c.args.entries.now i c.args.row (get_or c.args.here.now k 0)) (before.same file known i)
           ∙ sym (any_more (through file c.args.entries.now i c.args.row) c.args.here.now k 0 (is_excluded c.args.ranges.now.items i) c.loop-k-test.true);
+      few = front.few;
+      front = λ file known. front.front file (before.stays.same_bytes ∙ known);
     }
 
 -- after the last, what all of them exclude
