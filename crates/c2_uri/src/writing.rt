@@ -28,7 +28,8 @@ fn push_path(out: &mut String, target: Target<'_>) -> Result<(), AllocError>
 // Appends what follows the label of a manifest.
 fn push_behind(out: &mut String, target: Target<'_>) -> Result<(), AllocError>
     ensures { OnOk result
-        (string_bytes out.new ≡ string_bytes out.old ++ behind_manifest (target_view target.entry)) }
+        (string_bytes out.new
+        ≡ string_bytes out.old ++ behind_manifest (target_view target.entry)) }
 {
     if matches!(target, Target::Whole) {
         return Ok(());
