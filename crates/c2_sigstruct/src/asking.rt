@@ -1,8 +1,10 @@
 // The question that a judge is asked.
-ghost use Rattle.std.specs.Prelude.{◌≡◌, IfOk};
+ghost use Rattle.std.specs.Prelude.{◌≡◌, ◌++◌, ℕ, List, length, IfOk};
 ghost use Rattle.c2_spec.specs.Cbor.View.{view};
 ghost use Rattle.c2_spec.specs.Cbor.Legal.{IsLegal};
-ghost use Rattle.c2_spec.specs.Cbor.Deterministic.{deterministic};
+ghost use Rattle.c2_spec.specs.Cbor.Deterministic.{sorted, deterministic};
+ghost use Rattle.c2_spec.specs.Cbor.Plain.{IsPlain};
+ghost use Rattle.c2_spec.specs.Cbor.Answers.{BeginsWith};
 ghost use Rattle.c2_spec.specs.C2pa.Sign1.{parts_of, IsHeader, sig_structure, question_of};
 
 use crate::Sign1;
@@ -32,9 +34,11 @@ fn to_be_signed(alloc: Global, protected: &[u8], claim: &[u8]) -> Result<Cbor, N
 }
 
 // The bytes of an item that can be written: the only refusal is out of memory.
-fn written(alloc: Global, item: &Cbor) -> Result<Blob, NoMemory>
+pub fn written(alloc: Global, item: &Cbor) -> Result<Blob, NoMemory>
     requires { IsLegal (view item.now) }
-    ensures { IfOk result (λ bytes. bytes ≡ deterministic (view item.now)) }
+    ensures bytes { IfOk result (λ b. b ≡ deterministic (view item.now)) }
+    ensures again { IfOk result (λ b. IsPlain (view item.now)
+        → (r : List ℕ) → BeginsWith (b ++ r) (sorted (view item.now)) (length b)) }
 {
     match encode(alloc, item) {
         Ok(bytes) => Ok(bytes),

@@ -8,7 +8,7 @@ use c2_base::Blob;
 use c2_spec::{Cbor, Sign1};
 
 // The tag of a message with one signature (RFC 9052, section 2).
-const SIGN1_TAG: u64 = 18;
+pub const SIGN1_TAG: u64 = 18;
 
 // The byte string that an item is.
 fn into_bytes(item: Cbor) -> Option<Blob>

@@ -1,6 +1,7 @@
-// Messages in several spellings, what is none, and the bytes of a question.
-use crate::{SignError, question, read_sign1};
+// Messages in several spellings, what is none, the bytes of a question, and padding.
+use crate::{Sign1, SignError, is_plain, question, read_sign1, write_sign1};
 use c2_base::NoMemory;
+use c2_pad::fill;
 use std::alloc::Global;
 use std::test::Fail;
 
@@ -137,5 +138,67 @@ fn a_question_has_the_signed_bytes(rt: HostRuntime) -> Result<(), Fail> {
         q.unprotected.as_slice(),
         b"\xa2\x18\x21\x41\x01\x63pad\x40".as_slice()
     );
+    Ok(())
+}
+
+// What stands before the unprotected map of a message, and what behind it.
+const BEFORE: &[u8] = b"\xd2\x84\x43\xa1\x01\x26";
+
+const AFTER: &[u8] = b"\xf6\x42\x01\x02";
+
+// The message whose unprotected map has these bytes.
+fn with_map(alloc: Global, map: &[u8]) -> Result<Vec<u8>, Fail> {
+    let mut bytes = Vec::from_slice(alloc, BEFORE)?;
+    bytes.extend_from_slice(map)?;
+    bytes.extend_from_slice(AFTER)?;
+    Ok(bytes)
+}
+
+fn message(alloc: Global, map: &[u8]) -> Result<Sign1, Fail> {
+    let bytes = with_map(alloc, map)?;
+    match read_sign1(alloc, bytes.as_slice()) {
+        Ok(sign) => Ok(sign),
+        Err(_) => Err(NoMemory)?,
+    }
+}
+
+// The keys {0: 1, 1: 2} and {1: 2, 0: 1} differ in their order alone.
+#[test]
+fn a_message_of_keys_that_are_written_alike_is_not_plain(rt: HostRuntime) -> Result<(), Fail> {
+    let alloc = rt.alloc();
+    let empty = message(alloc, b"\xa0")?;
+    assert!(rt; is_plain(alloc, &empty)?);
+    let alike = message(
+        alloc,
+        b"\xa2\xa2\x00\x01\x01\x02\x00\xa2\x01\x02\x00\x01\x00",
+    )?;
+    assert!(rt; !is_plain(alloc, &alike)?);
+    Ok(())
+}
+
+// What is added, and the map with padding, spelled out by hand.
+#[test]
+fn padding_stands_in_the_unprotected_header(rt: HostRuntime) -> Result<(), Fail> {
+    let alloc = rt.alloc();
+    let sign = message(alloc, b"\xa1\x18\x21\x41\x01")?;
+    let maps: [(u64, &[u8]); 3] = [
+        (0, b"\xa1\x18\x21\x41\x01"),
+        (7, b"\xa2\x18\x21\x41\x01\x63pad\x42\0\0"),
+        (
+            29,
+            b"\xa3\x18\x21\x41\x01\x63pad\x52\0\0\0\0\0\0\0\0\0\0\0\0\0\0\0\0\0\0\x64pad2\x40",
+        ),
+    ];
+    for (need, map) in maps {
+        let Some(padding) = fill(need) else {
+            return Err(NoMemory)?;
+        };
+        let written = write_sign1(alloc, &sign, padding)?;
+        assert_eq!(rt;
+            written.as_slice(),
+            with_map(alloc, map)?.as_slice(),
+            "{need}"
+        );
+    }
     Ok(())
 }
