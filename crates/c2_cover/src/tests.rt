@@ -208,3 +208,34 @@ fn texts_are_compared_to_their_ends(rt: HostRuntime) -> Result<(), Fail> {
     assert!(rt; same(alloc, once, [once, none, none], copy)? == Some(true));
     Ok(())
 }
+
+// What is found of `PLACES` and of a file with these bytes, read a byte and 20 bytes a call, where the call of this number fails.
+fn found(
+    alloc: Global,
+    copy: [u8; 20],
+    fail: u64,
+    other: u64,
+) -> Result<Option<Result<bool, Failed>>, Fail> {
+    let mut one = MemSource::new(Blob::copied(alloc, &PLACES)?, 1, fail);
+    let mut two = MemSource::new(Blob::copied(alloc, &copy)?, 65_536, other);
+    let Ok(cover) = data_cover(alloc, &[], 20) else {
+        return Ok(None);
+    };
+    let mut left = [0; 1];
+    let mut right = [0; 64];
+    Ok(Some(same_text(&mut one, &cover, &mut two, &cover, &mut left, &mut right)))
+}
+
+// Each byte is read once, and none after the first that differs.
+#[test]
+fn no_byte_is_read_twice_or_after_a_difference(rt: HostRuntime) -> Result<(), Fail> {
+    let alloc = rt.alloc();
+    let mut copy = PLACES;
+    copy[1] = 0;
+    assert!(rt; found(alloc, PLACES, 21, 2)? == Some(Ok(true)));
+    assert!(rt; found(alloc, PLACES, 20, 0)? == Some(Err(Failed)));
+    assert!(rt; found(alloc, PLACES, 0, 1)? == Some(Err(Failed)));
+    assert!(rt; found(alloc, copy, 3, 2)? == Some(Ok(false)));
+    assert!(rt; found(alloc, copy, 2, 0)? == Some(Err(Failed)));
+    Ok(())
+}
