@@ -1,40 +1,16 @@
 // Writing a BMFF hash.
-ghost use Rattle.std.specs.Prelude.{◌≡◌, ◌++◌, [], ◌∷◌, ℕ, List, codes, OnOk, IfOk, map};
-ghost use Rattle.c2_base.specs.declared.values.Range.{Range};
-ghost use Rattle.c2_spec.specs.Bmff.Hash as form;
-ghost use Rattle.c2_spec.specs.Bmff.Paths.{steps_text};
+ghost use Rattle.std.specs.Prelude.{◌≡◌, ◌++◌, codes, OnOk, IfOk, map};
 ghost use Rattle.c2_spec.specs.Cbor.Item as item;
 ghost use Rattle.c2_spec.specs.Cbor.View.{view};
 ghost use Rattle.c2_bmff.specs.Exclusions.{byte_test};
-ghost use Rattle.c2_assertion.specs.Written.{bmff_hash_item, exclusion_item, field, field_if, pair_view, part_item, parts_item, test_item, tests_field};
+ghost use Rattle.c2_assertion.specs.Written.{bmff_hash_item, exclusion_item, field_if, pair_view, part_item, parts_item, test_item, tests_field};
 
 use crate::bmff_hash::BmffHash;
+use crate::fields_written::{add_alg, add_field, byte_string};
 use c2_base::{Blob, NoMemory, Range, Ranges, Text};
 use c2_bmff::{ByteTests, Exclusion};
 use c2_cbor::Cbor;
 use std::alloc::Global;
-
-// Adds a field of this name.
-fn add_field(
-    alloc: Global,
-    fields: &mut Vec<(Cbor, Cbor)>,
-    name: &str,
-    value: Cbor,
-) -> Result<(), NoMemory>
-    ensures { OnOk result (map pair_view fields.new.items
-        ≡ map pair_view fields.old.items ++ field name.now (view value) ∷ []) }
-{
-    let key = Cbor::Text(Text::copied(alloc, name)?);
-    fields.push((key, value))?;
-    Ok(())
-}
-
-// A byte string.
-fn byte_string(alloc: Global, bytes: &Blob) -> Result<Cbor, NoMemory>
-    ensures { IfOk result (λ v. view v ≡ item.bytes bytes.now) }
-{
-    Ok(Cbor::Bytes(Blob::copied(alloc, bytes.as_slice())?))
-}
 
 // The item of a byte test.
 fn test_written(alloc: Global, test: &(u64, Blob)) -> Result<Cbor, NoMemory>
@@ -150,22 +126,6 @@ fn exclusions_written(alloc: Global, exclusions: &[Exclusion]) -> Result<Vec<Cbo
         items.push(exclusion_written(alloc, exclusion)?)?;
     }
     Ok(items)
-}
-
-// Adds the algorithm, where one is named.
-fn add_alg(
-    alloc: Global,
-    fields: &mut Vec<(Cbor, Cbor)>,
-    alg: &Option<Text>,
-) -> Result<(), NoMemory>
-    ensures { OnOk result (map pair_view fields.new.items
-        ≡ map pair_view fields.old.items ++ field_if (codes "alg") item.text alg.now) }
-{
-    let Some(name) = alg else {
-        return Ok(());
-    };
-    let name = Cbor::Text(Text::copied(alloc, name.as_str())?);
-    add_field(alloc, fields, "alg", name)
 }
 
 /// The item of a BMFF hash (C2PA Technical Specification 2.x, "BMFF-based hash", version 2): `alg` where one is named, `hash`, and

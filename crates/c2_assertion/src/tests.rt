@@ -1,8 +1,11 @@
 //! Items that another encoder made, field by field, and labels of each kind.
 
-use crate::{kind, read_bmff_hash, read_data_hash, read_ingredient, write_bmff_hash};
+use crate::{
+    kind, read_bmff_hash, read_data_hash, read_ingredient, write_bmff_hash, write_data_hash,
+    write_ingredient,
+};
 use c2_bmff::Exclusion;
-use c2_cbor::{Ref, decode_whole, encode};
+use c2_cbor::{Cbor, Ref, decode_whole, encode};
 use std::alloc::{AllocError, Global};
 use std::test::Fail;
 
@@ -360,34 +363,54 @@ fn labels_have_these_kinds(rt: HostRuntime) -> Result<(), Fail> {
     Ok(())
 }
 
-// A hash with every field, and the one that this program's own manifests will have, in deterministic bytes.
+// What is written, in deterministic bytes. BMFF hashes: one with every field, and the one that this program's own manifests will have.
+// Data hashes: four of one length, one whose numbers leave no padding, and one without exclusions. Ingredients: with both references,
+// with one, and with none.
 const WRITTEN: &str =
-    r#"a363616c676673686132353664686173684201026a6578636c7573696f6e7383a2646461746181a26576616c756550d8fec3d61b0e483c92975828877ec481666f666673657408657870617468652f75756964a1657870617468652f66747970a36578706174686d2f6d6f6f762f7472616b5b325d666c656e677468096673756273657482a2666c656e67746800666f666673657408a2666c656e6774681b0000000100000000666f666673657400
-a363616c67667368613235366468617368582000000000000000000000000000000000000000000000000000000000000000006a6578636c7573696f6e7383a2646461746181a26576616c756550d8fec3d61b0e483c92975828877ec481666f666673657408657870617468652f75756964a1657870617468652f66747970a1657870617468652f6d667261"#;
+    r#"bmff => a363616c676673686132353664686173684201026a6578636c7573696f6e7383a2646461746181a26576616c756550d8fec3d61b0e483c92975828877ec481666f666673657408657870617468652f75756964a1657870617468652f66747970a36578706174686d2f6d6f6f762f7472616b5b325d666c656e677468096673756273657482a2666c656e67746800666f666673657408a2666c656e6774681b0000000100000000666f666673657400
+bmff => a363616c67667368613235366468617368582000000000000000000000000000000000000000000000000000000000000000006a6578636c7573696f6e7383a2646461746181a26576616c756550d8fec3d61b0e483c92975828877ec481666f666673657408657870617468652f75756964a1657870617468652f66747970a1657870617468652f6d667261
+data => a463616c6766736861323536637061644e000000000000000000000000000064686173685820000102030405060708090a0b0c0d0e0f101112131415161718191a1b1c1d1e1f6a6578636c7573696f6e7381a265737461727414666c656e677468190475
+data => a463616c676673686132353663706164500000000000000000000000000000000064686173685820000102030405060708090a0b0c0d0e0f101112131415161718191a1b1c1d1e1f6a6578636c7573696f6e7381a265737461727400666c656e67746800
+data => a463616c676673686132353663706164470000000000000064686173685820000102030405060708090a0b0c0d0e0f101112131415161718191a1b1c1d1e1f6a6578636c7573696f6e7381a26573746172741818666c656e6774681bffffffffffffffff
+data => a463616c676673686132353663706164440000000064686173685820000102030405060708090a0b0c0d0e0f101112131415161718191a1b1c1d1e1f6a6578636c7573696f6e7381a26573746172741a00010000666c656e6774681b0000000100000000
+data => a3637061644064686173684201026a6578636c7573696f6e7383a265737461727417666c656e67746818ffa2657374617274190100666c656e67746819ffffa26573746172741affffffff666c656e6774681b0000000100000000
+data => a363706164520000000000000000000000000000000000006468617368406a6578636c7573696f6e7380
+ingredient => a36c72656c6174696f6e7368697068706172656e744f666e6163746976654d616e6966657374a26375726c7273656c66236a756d62663d2f633270612f6d646861736841aa6e636c61696d5369676e6174757265a363616c67667368613235366375726c782173656c66236a756d62663d2f633270612f6d2f633270612e7369676e6174757265646861736841bb
+ingredient => a26c72656c6174696f6e736869706b636f6d706f6e656e744f666e6163746976654d616e6966657374a363616c67667368613235366375726c7273656c66236a756d62663d2f633270612f6d646861736841aa
+ingredient => a16c72656c6174696f6e7368697067696e707574546f"#;
 
-// What is written of the hash that is read.
-fn rewritten(alloc: Global, hex: &str) -> Result<String, AllocError> {
+// What is written of the value that is read.
+fn written(alloc: Global, what: &str, item: &Cbor) -> Option<Cbor> {
+    match what {
+        "bmff" => write_bmff_hash(alloc, &read_bmff_hash(alloc, item).ok()?).ok(),
+        "data" => write_data_hash(alloc, &read_data_hash(alloc, item).ok()?).ok(),
+        _ => write_ingredient(alloc, &read_ingredient(alloc, item).ok()?).ok(),
+    }
+}
+
+// The bytes of the item that is written of the one that these bytes are.
+fn rewritten(alloc: Global, what: &str, hex: &str) -> Result<String, AllocError> {
     let bytes = unhex(alloc, hex)?;
     let mut out = String::new(alloc);
     let Ok(item) = decode_whole(alloc, bytes.as_slice()) else {
         return Ok(out);
     };
-    if let Ok(value) = read_bmff_hash(alloc, &item) {
-        if let Ok(again) = write_bmff_hash(alloc, &value) {
-            if let Ok(bytes) = encode(alloc, &again) {
-                show_hex(&mut out, bytes.as_slice())?;
-            }
+    if let Some(again) = written(alloc, what, &item) {
+        if let Ok(bytes) = encode(alloc, &again) {
+            show_hex(&mut out, bytes.as_slice())?;
         }
     }
     Ok(out)
 }
 
 #[test]
-fn bmff_hashes_are_written_as_they_are_read(rt: HostRuntime) -> Result<(), Fail> {
+fn values_are_written_as_another_encoder_writes_them(rt: HostRuntime) -> Result<(), Fail> {
     let alloc = rt.alloc();
-    for hex in WRITTEN.lines() {
-        let got = rewritten(alloc, hex)?;
-        assert_eq!(rt; got.as_str(), hex);
+    for row in WRITTEN.lines() {
+        if let Some((what, hex)) = row.split_once(" => ") {
+            let got = rewritten(alloc, what, hex)?;
+            assert_eq!(rt; got.as_str(), hex);
+        }
     }
     Ok(())
 }
