@@ -1,3 +1,4 @@
 pub mod Telling
 pub mod Absent
 pub mod Taking
+pub mod Written

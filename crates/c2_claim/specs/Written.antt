@@ -1,0 +1,63 @@
+-- The item that a claim is written as (C2PA Technical Specification 2.x, "Claims"): its deterministic bytes are written. A field that
+-- is absent is left out, and so is an empty list of redactions. The fields of each map stand in deterministic order.
+use Rattle.std.specs.Prelude.{ℕ, List, [], ◌∷◌, ◌++◌, codes, map, Some, None}
+use Rattle.std.specs.declared.option.Option.{Option}
+use Rattle.c2_spec.specs.Cbor.Item.{Item, bytes, dict, list, text}
+use Rattle.c2_spec.specs.Cbor.View.{items_of, pairs_of, view}
+use Rattle.c2_spec.specs.C2pa.Uri.{uri_text, signature}
+use Rattle.c2_spec.specs.declared.cbor.Cbor.{Cbor}
+use Rattle.c2_spec.specs.declared.cbor.Ref.{Ref}
+use Rattle.c2_spec.specs.declared.claim.Claim.{Claim}
+use Rattle.c2_claim.specs.declared.writing.ClaimParts.{ClaimParts}
+
+-- the names and values of a map's pairs
+abbrev pub pair_view : Cbor × Cbor → Item × Item
+pair_view p = (view p.0, view p.1)
+
+-- a field of a map
+abbrev pub field : List ℕ → Item → Item × Item
+field key v = (text key, v)
+
+-- a field that may be absent
+abbrev pub field_if : {A : Type 0} → List ℕ → (A → Item) → Option A → List (Item × Item)
+field_if key item None = []
+field_if key item (Some x) = field key (item x) ∷ []
+
+-- a reference
+abbrev pub ref_item : Ref → Item
+ref_item r =
+    dict (pairs_of (field_if (codes "alg") text r.alg ++ field (codes "url") (text r.url) ∷ field (codes "hash") (bytes r.hash) ∷ []))
+
+-- the redactions, where there are some
+abbrev pub redactions_field : List (List ℕ) → List (Item × Item)
+redactions_field [] = []
+redactions_field (t ∷ ts) = field (codes "redacted_assertions") (list (items_of (map text (t ∷ ts)))) ∷ []
+
+-- the program that makes the claim
+abbrev pub generator_item : List ℕ → Item
+generator_item name = dict (pairs_of (field (codes "name") (text name) ∷ []))
+
+-- the algorithm of each digest in what is written
+abbrev pub written_alg : List ℕ
+written_alg = codes "sha256"
+
+-- the URI of the signature of the manifest with this label
+abbrev pub signature_uri : List ℕ → List ℕ
+signature_uri label = uri_text (record { manifest = Some label; target = signature })
+
+-- the fields of a claim
+abbrev pub claim_fields : ClaimParts → List (Item × Item)
+claim_fields p =
+    field (codes "alg") (text written_alg)
+    ∷ field_if (codes "dc:title") text p.title ++ field (codes "signature") (text (signature_uri p.label))
+    ∷ field (codes "instanceID") (text p.instance)
+    ∷ field (codes "created_assertions") (list (items_of (map ref_item p.entries)))
+    ∷ redactions_field p.redacted ++ field (codes "claim_generator_info") (generator_item p.generator) ∷ []
+
+-- a claim
+abbrev pub claim_item : ClaimParts → Item
+claim_item p = dict (pairs_of (claim_fields p))
+
+-- the claim that it is read as
+abbrev pub claim_from : ClaimParts → Claim
+claim_from p = record { signature = signature_uri p.label; instance = p.instance; alg = Some written_alg; created = p.entries; gathered = []; redacted = p.redacted }
