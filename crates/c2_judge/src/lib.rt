@@ -12,8 +12,6 @@ mod listed;
 mod panel;
 mod question;
 mod rows;
-#[cfg(test)]
-mod tests;
 
 pub use c2_spec::{ListError, Verdict};
 pub use fixed::{BrokenJudge, FixedJudge};

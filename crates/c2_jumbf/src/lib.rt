@@ -10,8 +10,6 @@ mod labels;
 mod laws;
 mod reading;
 mod rows;
-#[cfg(test)]
-mod tests;
 mod writing;
 
 pub use borrowed::Tree;

@@ -5,8 +5,6 @@
 
 mod filling;
 mod laws;
-#[cfg(test)]
-mod tests;
 pub mod types;
 
 pub use filling::fill;

@@ -9,8 +9,6 @@ mod laws;
 mod manifests;
 mod reading;
 mod store;
-#[cfg(test)]
-mod tests;
 
 pub use c2_spec::StoreError;
 pub use items::item;

@@ -21,6 +21,8 @@ mod host;
 #[cfg(test)]
 mod judges;
 #[cfg(test)]
+mod lines;
+#[cfg(test)]
 mod list;
 #[cfg(test)]
 mod manifests;

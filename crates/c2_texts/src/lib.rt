@@ -11,8 +11,6 @@ mod lines;
 mod manifests;
 mod names;
 mod show;
-#[cfg(test)]
-mod tests;
 mod tree;
 
 pub use lines::{

@@ -1,9 +1,7 @@
 //! Stores that another program made, box by box.
 
-use crate::{
-    assertions, claims, is_update, item, label, manifest_count, of_tree, signature, whole,
-};
-use c2_jumbf::{count, parse, write_super};
+use c2_jumbf::parse;
+use c2_store::{assertions, claims, is_update, label, manifest_count, of_tree, signature, whole};
 use std::alloc::{AllocError, Global};
 use std::test::Fail;
 
@@ -29,22 +27,6 @@ const STORES: &str =
 000000496a756d620000001e6a756d646332706100110010800000aa00389b71036332706100000000236a756d620000001b6a756d6463326d6100110010800000aa00389b71032f00 => ManifestLabel(38)
 0000006c6a756d620000001e6a756d646332706100110010800000aa00389b71036332706100000000216a756d62000000196a756d646332787800110010800000aa00389b7101000000256a756d620000001d6a756d6463326d6100110010800000aa00389b7103612f6200 => ManifestType(38)
 0000006c6a756d620000001e6a756d646332706100110010800000aa00389b71036332706100000000256a756d620000001d6a756d6463326d6100110010800000aa00389b7103612f6200000000216a756d62000000196a756d646332787800110010800000aa00389b7101 => ManifestLabel(38)"#;
-
-fn digit(c: u8) -> u8 {
-    if c >= b'a' {
-        c.saturating_sub(b'a').saturating_add(10)
-    } else {
-        c.saturating_sub(b'0')
-    }
-}
-
-fn unhex(alloc: Global, hex: &str) -> Result<Vec<u8>, AllocError> {
-    let mut bytes = Vec::new(alloc);
-    for pair in hex.as_bytes().chunks_exact(2) {
-        bytes.push(digit(pair[0]).wrapping_mul(16) | digit(pair[1]))?;
-    }
-    Ok(bytes)
-}
 
 fn show_indices(out: &mut String, indices: &[usize]) -> Result<(), AllocError> {
     out.push_str("[")?;
@@ -94,89 +76,10 @@ fn answer(alloc: Global, bytes: &[u8]) -> Result<String, AllocError> {
 fn trees_are_these_stores(rt: HostRuntime) -> Result<(), Fail> {
     let alloc = rt.alloc();
     for row in STORES.lines() {
-        if let Some((hex, want)) = row.split_once(" => ") {
-            let bytes = unhex(alloc, hex)?;
+        if let Some((digits, want)) = row.split_once(" => ") {
+            let bytes = hex::decode(alloc, digits)?;
             let got = answer(alloc, bytes.as_slice())?;
-            assert_eq!(rt; got.as_str(), want, "{hex}");
-        }
-    }
-    Ok(())
-}
-
-const MANIFEST: [u8; 16] = *b"c2ma\x00\x11\x00\x10\x80\x00\x00\xAA\x00\x38\x9B\x71";
-
-const STORE: [u8; 16] = *b"c2pa\x00\x11\x00\x10\x80\x00\x00\xAA\x00\x38\x9B\x71";
-
-// What a store of so many manifests comes to, their labels numbers.
-fn counted(alloc: Global, count: usize) -> Result<String, AllocError> {
-    let mut boxes = Vec::new(alloc);
-    for n in 0..count {
-        let name = format!(in alloc; "{n}")?;
-        let Ok(manifest) = write_super(alloc, MANIFEST, name.as_str(), &[]) else {
-            return String::from_str(alloc, "no box");
-        };
-        boxes.extend_from_slice(manifest.as_slice())?;
-    }
-    let Ok(store) = write_super(alloc, STORE, "c2pa", boxes.as_slice()) else {
-        return String::from_str(alloc, "no box");
-    };
-    let Ok(tree) = parse(alloc, store.as_slice()) else {
-        return String::from_str(alloc, "no tree");
-    };
-    match of_tree(alloc, &tree) {
-        Ok(store) => {
-            let found = manifest_count(&store);
-            format!(in alloc; "{found} manifests")
-        }
-        Err(error) => format!(in alloc; "{error:?}"),
-    }
-}
-
-#[test]
-fn at_most_1024_manifests(rt: HostRuntime) -> Result<(), Fail> {
-    let alloc = rt.alloc();
-    assert_eq!(rt; counted(alloc, 1024)?.as_str(), "1024 manifests");
-    assert_eq!(rt; counted(alloc, 1025)?.as_str(), "TooMany(1025)");
-    assert_eq!(rt; counted(alloc, 60000)?.as_str(), "TooMany(60000)");
-    Ok(())
-}
-
-// What stands behind a description, in hex, and the item of that box, or `-` where it has none: a `cbor` box; an empty one; one
-// with a wide header; two of them; a `json` box before one; a superbox before one; nothing.
-const ITEMS: &str = r#"0000000a63626f720102 => 0102
-0000000863626f72 => 
-0000000163626f72000000000000001107 => 07
-0000000a63626f7201020000000963626f7203 => 0102
-0000000a6a736f6e01020000000963626f7203 => -
-000000216a756d62000000196a756d646a736f6e00110010800000aa00389b71010000000963626f7203 => -
- => -"#;
-
-fn item_behind(alloc: Global, hex: &str) -> Result<String, AllocError> {
-    let contents = unhex(alloc, hex)?;
-    let Ok(bytes) = write_super(alloc, MANIFEST, "m", contents.as_slice()) else {
-        return String::from_str(alloc, "no box");
-    };
-    let Ok(tree) = parse(alloc, bytes.as_slice()) else {
-        return String::from_str(alloc, "no tree");
-    };
-    let _count = count(&tree);
-    let Some(found) = item(&tree, 0) else {
-        return String::from_str(alloc, "-");
-    };
-    let mut out = String::new(alloc);
-    for byte in found {
-        write!(&mut out, "{byte:02x}")?;
-    }
-    Ok(out)
-}
-
-#[test]
-fn an_item_is_the_first_content_box(rt: HostRuntime) -> Result<(), Fail> {
-    let alloc = rt.alloc();
-    for row in ITEMS.lines() {
-        if let Some((hex, want)) = row.split_once(" => ") {
-            let got = item_behind(alloc, hex)?;
-            assert_eq!(rt; got.as_str(), want, "{hex}");
+            assert_eq!(rt; got.as_str(), want, "{digits}");
         }
     }
     Ok(())

@@ -1,6 +1,6 @@
 //! Worked fills.
 
-use crate::fill;
+use c2_pad::fill;
 
 // A need, and the number of zero bytes of each entry.
 const FILLS: [(u64, Option<u32>, Option<u32>); 22] = [

@@ -1,5 +1,5 @@
 // Worked box trees: values from ISO/IEC 19566-5 by hand and from an independent program.
-use crate::{
+use c2_jumbf::{
     JumbfError, Tree, WriteError, child, contents, count, depth, find, head, kind, label_of, parse,
     place, total, uuid_of, write, write_leaf, write_super,
 };

@@ -1,8 +1,6 @@
-// The cases of the panel, verdict files with their first bad lines, and the bytes of a question.
-use crate::{
-    BrokenJudge, FixedJudge, Judge, ListError, ListJudge, Verdict, ask_panel, question_id,
-};
+// Verdict files with their first bad lines, and the bytes of a question.
 use c2_base::{Blob, NoMemory, Question};
+use c2_judge::{Judge, ListError, ListJudge, Verdict, question_id};
 use hex::decode_to_slice;
 use std::alloc::Global;
 use std::test::Fail;
@@ -21,68 +19,6 @@ fn question(
         signature,
         unprotected,
     })
-}
-
-// What two judges say, the panel's verdict, and how often each was asked.
-const PANELS: [(Verdict, Verdict, Verdict, u64, u64); 4] = [
-    (Verdict::Silent, Verdict::Approved, Verdict::Approved, 1, 1),
-    (
-        Verdict::Untrusted,
-        Verdict::Approved,
-        Verdict::Untrusted,
-        1,
-        0,
-    ),
-    (
-        Verdict::Approved,
-        Verdict::Mismatch,
-        Verdict::Approved,
-        1,
-        0,
-    ),
-    (Verdict::Silent, Verdict::Silent, Verdict::Silent, 1, 1),
-];
-
-#[test]
-fn the_first_verdict_that_is_not_silent_holds(rt: HostRuntime) -> Result<(), Fail> {
-    let alloc = rt.alloc();
-    let q = question(alloc, b"tbs", b"sign", b"\xa0")?;
-    for (first, second, verdict, asked_first, asked_second) in PANELS {
-        let mut judges: Vec<Box<dyn Judge>> = Vec::new(alloc);
-        judges.push(Box::new(alloc, FixedJudge::new(first, 0))?)?;
-        judges.push(Box::new(alloc, FixedJudge::new(second, 0))?)?;
-        assert_eq!(rt; ask_panel(&mut judges, &q), Ok(verdict));
-        assert_eq!(rt; judges.len(), 2);
-        assert_eq!(rt; judges[0].asked(), asked_first);
-        assert_eq!(rt; judges[1].asked(), asked_second);
-    }
-    Ok(())
-}
-
-#[test]
-fn no_judge_is_silent(rt: HostRuntime) -> Result<(), Fail> {
-    let alloc = rt.alloc();
-    let q = question(alloc, b"tbs", b"sign", b"\xa0")?;
-    let mut judges: Vec<Box<dyn Judge>> = Vec::new(alloc);
-    assert_eq!(rt; ask_panel(&mut judges, &q), Ok(Verdict::Silent));
-    Ok(())
-}
-
-#[test]
-fn a_judge_that_fails_ends_the_panel(rt: HostRuntime) -> Result<(), Fail> {
-    let alloc = rt.alloc();
-    let q = question(alloc, b"tbs", b"sign", b"\xa0")?;
-    let mut judges: Vec<Box<dyn Judge>> = Vec::new(alloc);
-    judges.push(Box::new(alloc, FixedJudge::new(Verdict::Silent, 2))?)?;
-    judges.push(Box::new(alloc, BrokenJudge::new())?)?;
-    judges.push(Box::new(alloc, FixedJudge::new(Verdict::Approved, 0))?)?;
-    assert!(rt; ask_panel(&mut judges, &q).is_err());
-    assert!(rt; ask_panel(&mut judges, &q).is_err());
-    assert_eq!(rt; judges.len(), 3);
-    assert_eq!(rt; judges[0].asked(), 2);
-    assert_eq!(rt; judges[1].asked(), 1);
-    assert_eq!(rt; judges[2].asked(), 0);
-    Ok(())
 }
 
 // Parts of a question, and the SHA-256 digest of 8 bytes of length, the first, 8 bytes of length, the second, the third, as

@@ -1,0 +1,9 @@
+//! Worked rows of the formats and of judges: tests of public calls of the crates below, which are proved once without them.
+#![tactic(auto)]
+
+#[cfg(test)]
+mod boxes;
+#[cfg(test)]
+mod judges;
+#[cfg(test)]
+mod pads;

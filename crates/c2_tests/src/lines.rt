@@ -1,0 +1,44 @@
+// Lines of reports as texts, with numbers and characters that no file brings about.
+use c2_base::Text;
+use c2_rules::{Code, Failing, Summary};
+use c2_spec::{Reason, Verdict};
+use c2_texts::{
+    digest_line, failing_line, no_question_line, none_line, question_line, refused_line,
+    usage_line, valid_line,
+};
+use std::test::Fail;
+
+#[test]
+fn plain_lines_are_these(rt: HostRuntime) -> Result<(), Fail> {
+    let alloc = rt.alloc();
+    let mut text = usage_line(alloc)?;
+    text.push_str(none_line(alloc)?.as_str())?;
+    text.push_str(refused_line(alloc, Reason::BadHead, u64::MAX)?.as_str())?;
+    text.push_str(digest_line(alloc, 2, 50, &[0x0A, 0xBC])?.as_str())?;
+    let failing = Failing {
+        code: Code::ClaimMissing,
+        uri: Text::copied(alloc, "self#jumbf=/c2pa/\u{1f}a é\u{7f}€")?,
+    };
+    text.push_str(failing_line(alloc, &failing)?.as_str())?;
+    let summary = Summary {
+        manifests: 1,
+        assertions: 20,
+        covered: u64::MAX,
+        outside: 0,
+    };
+    text.push_str(valid_line(alloc, summary)?.as_str())?;
+    text.push_str(question_line(alloc, &[0xFF, 0x00], "m\n", Verdict::Silent)?.as_str())?;
+    text.push_str(no_question_line(alloc, "m\tn")?.as_str())?;
+    assert_eq!(rt; text.as_str(), PLAIN);
+    Ok(())
+}
+
+const PLAIN: &str = "usage: c2 digest|list|show MEDIA; questions|validate MEDIA [JUDGE..]
+none
+refused BadHead 18446744073709551615
+2 50 0abc
+failing claim.missing self#jumbf=/c2pa/?a é?€
+valid manifests=1 assertions=20 covered=18446744073709551615 outside=0
+ff00 m? silent
+- m?n none
+";
