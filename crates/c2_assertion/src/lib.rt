@@ -13,8 +13,6 @@ mod ingredient;
 mod ingredient_written;
 mod kinds;
 mod laws;
-#[cfg(test)]
-mod tests;
 pub mod types;
 
 pub use bmff_hash::{BmffHash, read_bmff_hash};

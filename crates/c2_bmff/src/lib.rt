@@ -15,8 +15,6 @@ mod paths;
 mod provenance;
 mod reading;
 mod root_boxes;
-#[cfg(test)]
-mod tests;
 pub mod types;
 mod walking;
 

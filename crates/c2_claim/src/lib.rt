@@ -5,8 +5,6 @@
 
 mod reading;
 mod redactions;
-#[cfg(test)]
-mod tests;
 mod writing;
 
 pub use c2_spec::{Claim, ClaimError, ClaimField};

@@ -6,16 +6,12 @@
 #![tactic(auto)]
 
 mod bmff;
-#[cfg(test)]
-mod bmff_tests;
 mod counts;
 mod cover;
 mod digest;
 mod laws;
 mod reader;
 mod same;
-#[cfg(test)]
-mod tests;
 mod words;
 
 pub use bmff::bmff_cover;

@@ -4,6 +4,12 @@
 #[cfg(test)]
 mod boxes;
 #[cfg(test)]
+mod films;
+#[cfg(test)]
+mod items;
+#[cfg(test)]
 mod judges;
 #[cfg(test)]
 mod pads;
+#[cfg(test)]
+mod segments;

@@ -14,6 +14,3 @@ mod window;
 
 pub use laws::{each_file_is_located, store_bytes_are_of_the_file};
 pub use search::locate;
-
-#[cfg(test)]
-mod tests;

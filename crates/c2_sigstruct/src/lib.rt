@@ -9,8 +9,6 @@ mod laws;
 mod message;
 mod read;
 mod tagged;
-#[cfg(test)]
-mod tests;
 mod writing;
 
 pub use asking::question;

@@ -7,8 +7,6 @@
 mod labels;
 mod laws;
 mod parsing;
-#[cfg(test)]
-mod tests;
 mod writing;
 
 pub use c2_spec::{Target, Uri};

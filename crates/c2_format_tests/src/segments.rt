@@ -1,6 +1,6 @@
 // Worked files. What is expected was computed by `tests/real/locate.py`, which shares nothing with this crate.
-use crate::locate;
 use c2_base::{Blob, Found, MediaError, MemSource, VastSource};
+use c2_jpegseg::locate;
 use std::alloc::Global;
 use std::test::Fail;
 

@@ -1,9 +1,9 @@
 // Worked files of boxes: values from ISO/IEC 14496-12 by hand.
-use crate::{
+use c2_base::{Blob, MediaError, MemSource, Range, Ranges, VastSource};
+use c2_bmff::{
     ByteTests, Exclusion, HeadError, RootBox, head, locate, match_path, match_paths, read_path,
     roots,
 };
-use c2_base::{Blob, MediaError, MemSource, Range, Ranges, VastSource};
 use std::alloc::Global;
 use std::process::Abort;
 use std::test::Fail;

@@ -1,11 +1,11 @@
 // Worked covers. What is expected was worked out by hand: the files' bytes say their places.
 ghost use Rattle.std.specs.Prelude.{◌+◌, ◌<◌, ◌≤◌};
 
-use crate::{
+use c2_base::{Blob, Failed, MemSource, Range, VastSource};
+use c2_cover::{
     CoverError, CoveredReader, check_ranges, cover_without, covered_count, data_cover,
     digest_cover, outside_count, same_text,
 };
-use c2_base::{Blob, Failed, MemSource, Range, VastSource};
 use c2_hash::{Alg, Digest, Sha, digest_of};
 use std::alloc::Global;
 use std::process::Abort;

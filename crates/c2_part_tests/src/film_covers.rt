@@ -1,12 +1,12 @@
 // Worked covers of BMFF hashes. What is expected was worked out by hand.
 ghost use Rattle.std.specs.Prelude.{◌<◌};
 
-use crate::{
+use c2_base::{Blob, Failed, MemSource, Range, Ranges};
+use c2_bmff::{ByteTests, Exclusion, read_path, roots};
+use c2_cover::{
     CoverError, CoveredReader, bmff_cover, covered_count, data_cover, digest_cover, outside_count,
     same_text,
 };
-use c2_base::{Blob, Failed, MemSource, Range, Ranges};
-use c2_bmff::{ByteTests, Exclusion, read_path, roots};
 use c2_hash::{Alg, Digest, Sha, digest_of};
 use std::alloc::Global;
 use std::process::Abort;

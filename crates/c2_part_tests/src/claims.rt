@@ -1,8 +1,9 @@
 //! Claims that another encoder made, field by field, and the bytes of claims that are written, as another encoder makes them.
 
-use crate::{ClaimParts, read, write};
+use crate::digits::{show_hex, unhex};
 use c2_base::{Blob, NoMemory, Text, Texts};
 use c2_cbor::{Ref, Refs};
+use c2_claim::{ClaimParts, read, write};
 use c2_spec::Claim;
 use std::alloc::{AllocError, Global};
 use std::test::Fail;
@@ -70,29 +71,6 @@ a36a696e7374616e636549446169697369676e6174757265617372637265617465645f6173736572
 a201000101 => Cbor(DuplicateKey(3))
 c1a36a696e7374616e636549446169697369676e6174757265617372637265617465645f617373657274696f6e7381a26375726c627531646861736841aa => Fields(Whole)
 bf6a696e7374616e636549446169697369676e6174757265617372637265617465645f617373657274696f6e7381a26375726c627531646861736841aaff => i s - [u1 aa -] [] []"#;
-
-fn digit(c: u8) -> u8 {
-    if c >= b'a' {
-        c.saturating_sub(b'a').saturating_add(10)
-    } else {
-        c.saturating_sub(b'0')
-    }
-}
-
-fn unhex(alloc: Global, hex: &str) -> Result<Vec<u8>, AllocError> {
-    let mut bytes = Vec::new(alloc);
-    for pair in hex.as_bytes().chunks_exact(2) {
-        bytes.push(digit(pair[0]).wrapping_mul(16) | digit(pair[1]))?;
-    }
-    Ok(bytes)
-}
-
-fn show_hex(out: &mut String, bytes: &[u8]) -> Result<(), AllocError> {
-    for byte in bytes {
-        write!(out, "{byte:02x}")?;
-    }
-    Ok(())
-}
 
 fn show_refs(out: &mut String, refs: &[Ref]) -> Result<(), AllocError> {
     out.push_str(" [")?;

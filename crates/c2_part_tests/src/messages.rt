@@ -1,7 +1,7 @@
 // Messages in several spellings, what is none, the bytes of a question, and padding.
-use crate::{Sign1, SignError, is_plain, question, read_sign1, write_sign1};
 use c2_base::NoMemory;
 use c2_pad::fill;
+use c2_sigstruct::{Sign1, SignError, is_plain, question, read_sign1, write_sign1};
 use std::alloc::Global;
 use std::test::Fail;
 

@@ -1,6 +1,6 @@
 //! Worked examples.
 
-use crate::{Target, Uri, base_label, parse, text};
+use c2_uri::{Target, Uri, base_label, parse, text};
 use std::alloc::{AllocError, Global};
 use std::test::Fail;
 

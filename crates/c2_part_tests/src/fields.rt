@@ -1,6 +1,7 @@
 //! Items that another encoder made, field by field, and labels of each kind.
 
-use crate::{
+use crate::digits::{show_hex, unhex};
+use c2_assertion::{
     kind, read_bmff_hash, read_data_hash, read_ingredient, write_bmff_hash, write_data_hash,
     write_ingredient,
 };
@@ -155,29 +156,6 @@ c2pa.cloud-data.v2 => Ordinary
 C2PA.hash.data => Ordinary
 stds.exif => Ordinary
  => Ordinary";
-
-fn digit(c: u8) -> u8 {
-    if c >= b'a' {
-        c.saturating_sub(b'a').saturating_add(10)
-    } else {
-        c.saturating_sub(b'0')
-    }
-}
-
-fn unhex(alloc: Global, hex: &str) -> Result<Vec<u8>, AllocError> {
-    let mut bytes = Vec::new(alloc);
-    for pair in hex.as_bytes().chunks_exact(2) {
-        bytes.push(digit(pair[0]).wrapping_mul(16) | digit(pair[1]))?;
-    }
-    Ok(bytes)
-}
-
-fn show_hex(out: &mut String, bytes: &[u8]) -> Result<(), AllocError> {
-    for byte in bytes {
-        write!(out, "{byte:02x}")?;
-    }
-    Ok(())
-}
 
 fn show_text(out: &mut String, text: Option<&str>) -> Result<(), AllocError> {
     match text {
