@@ -1,5 +1,5 @@
 // What `validate` says of small stores and of a photograph: the rows are computed by tests/real/rows.py, which writes them.
-use crate::files::{JFIF, ONE_MANIFEST, ONE_PACKET, comes_to, words};
+use crate::files::{JFIF, words};
 use crate::tables::{in_jpeg, judged_comes_to, judged_rows_come_to, row_of};
 use crate::validate_rows::{CHANGED, FAR_RANGE, MORE_ROWS, PHOTOGRAPH, ROWS, VERDICT};
 use c2_base::{Blob, MemSink, MemSource, SureSource};
@@ -19,19 +19,6 @@ fn stores_are_checked(rt: HostRuntime) -> Result<(), Fail> {
 #[test]
 fn more_stores_are_checked(rt: HostRuntime) -> Result<(), Fail> {
     judged_rows_come_to(&rt, rt.alloc(), "validate", MORE_ROWS, 42)
-}
-
-#[test]
-fn a_manifest_without_a_claim_fails(rt: HostRuntime) -> Result<(), Fail> {
-    let alloc = rt.alloc();
-    let given = words(alloc, &["validate", "P"])?;
-    let missing = "failing claim.missing self#jumbf=/c2pa/m\n";
-    comes_to(&rt, alloc, &given, &ONE_MANIFEST, missing, Status::Failing)?;
-    let cut = "refused Truncated 2\n";
-    comes_to(&rt, alloc, &given, &[0xFF, 0xD8], cut, Status::Refused)?;
-    let mut other_type = ONE_PACKET;
-    other_type[30] = 0x64;
-    comes_to(&rt, alloc, &given, &other_type, "none\n", Status::NoStore)
 }
 
 // Runs `validate` over a file, and compares report and status.

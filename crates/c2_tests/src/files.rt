@@ -52,6 +52,15 @@ pub fn words(alloc: Global, texts: &[&str]) -> Result<Vec<String>, AllocError> {
     Ok(words)
 }
 
+/// The words of a line, a space between them.
+pub fn words_of(alloc: Global, line: &str) -> Result<Vec<String>, AllocError> {
+    let mut words = Vec::new(alloc);
+    for word in line.split(' ') {
+        words.push(String::from_str(alloc, word)?)?;
+    }
+    Ok(words)
+}
+
 /// Runs a command over a file, which is read in pieces of 1, 7 and 65,536 bytes, and compares the report and the status.
 pub fn comes_to(
     rt: &impl Abort,

@@ -7,8 +7,6 @@
 #[cfg(test)]
 mod checks;
 #[cfg(test)]
-mod digest;
-#[cfg(test)]
 mod faults;
 #[cfg(test)]
 mod files;
@@ -23,8 +21,6 @@ mod judges;
 #[cfg(test)]
 mod lines;
 #[cfg(test)]
-mod list;
-#[cfg(test)]
 mod manifests;
 #[cfg(test)]
 mod outside;
@@ -33,10 +29,14 @@ mod questions_rows;
 #[cfg(test)]
 mod show_rows;
 #[cfg(test)]
+mod small_files;
+#[cfg(test)]
 mod stores;
 #[cfg(test)]
 mod tables;
 #[cfg(test)]
 mod validate_rows;
+#[cfg(test)]
+mod vast;
 #[cfg(test)]
 mod words;

@@ -1,77 +1,14 @@
-// What `show`, `questions` and `validate` say of files.
-use crate::files::{ONE_MANIFEST, ONE_PACKET, comes_to, words};
+// What `show` and `questions` say of as many manifests as a store may have, and of one more.
+use crate::files::{comes_to, words};
 use crate::tables::in_jpeg;
-use c2_base::{Blob, MemSink, SureSource, VastSource};
+use c2_base::{Blob, MemSink, SureSource};
 use c2_cmd::run;
 use c2_cmd::types::Status;
 use c2_hash::Sha;
 use c2_judge::Judge;
 use c2_jumbf::write_super;
 use std::alloc::Global;
-use std::process::Abort;
 use std::test::Fail;
-
-// What commands say of files without a manifest.
-fn says_of_none(rt: &impl Abort, alloc: Global, command: &str) -> Result<(), Fail> {
-    let given = words(alloc, &[command, "P"])?;
-    let empty = "refused NotMedia 0\n";
-    comes_to(rt, alloc, &given, &[], empty, Status::Refused)?;
-    let picture = [0xFF, 0xD8, 0xFF, 0xD9];
-    comes_to(rt, alloc, &given, &picture, "none\n", Status::NoStore)?;
-    let no_manifest = "refused NoManifest 0\n";
-    comes_to(rt, alloc, &given, &ONE_PACKET, no_manifest, Status::Refused)
-}
-
-#[test]
-fn files_without_a_manifest_are_told_apart(rt: HostRuntime) -> Result<(), Fail> {
-    let alloc = rt.alloc();
-    says_of_none(&rt, alloc, "show")?;
-    says_of_none(&rt, alloc, "questions")?;
-    says_of_none(&rt, alloc, "validate")
-}
-
-#[test]
-fn a_manifest_without_a_claim_is_shown_and_has_no_question(rt: HostRuntime) -> Result<(), Fail> {
-    let alloc = rt.alloc();
-    let given = words(alloc, &["show", "P"])?;
-    let shown = r#"{"active":"m","manifests":[{"boxes":[],"claim":null,"label":"m","update":false}]}
-"#;
-    comes_to(&rt, alloc, &given, &ONE_MANIFEST, shown, Status::Done)?;
-    let given = words(alloc, &["questions", "P"])?;
-    comes_to(
-        &rt,
-        alloc,
-        &given,
-        &ONE_MANIFEST,
-        "- m none\n",
-        Status::Done,
-    )
-}
-
-// What commands say of a file of 2 to the 62 bytes.
-fn says_of_a_vast_file(rt: &impl Abort, alloc: Global, command: &str) -> Result<(), Fail> {
-    let given = words(alloc, &[command, "P"])?;
-    let mut media = VastSource::new(Blob::copied(alloc, &[])?, 1 << 62);
-    let mut report = MemSink::with_room(alloc, 100, 0)?;
-    let mut judges: Vec<Box<dyn Judge>> = Vec::new(alloc);
-    assert_eq!(rt;
-        run(alloc, &Sha, &given, &mut media, &mut report, &mut judges),
-        Status::Refused
-    );
-    assert_eq!(rt;
-        report.bytes(),
-        b"refused FileTooLarge 4611686018427387904\n".as_slice()
-    );
-    Ok(())
-}
-
-#[test]
-fn a_file_of_two_to_the_62_bytes_is_refused(rt: HostRuntime) -> Result<(), Fail> {
-    let alloc = rt.alloc();
-    says_of_a_vast_file(&rt, alloc, "show")?;
-    says_of_a_vast_file(&rt, alloc, "questions")?;
-    says_of_a_vast_file(&rt, alloc, "validate")
-}
 
 const MANIFEST: [u8; 16] = *b"c2ma\x00\x11\x00\x10\x80\x00\x00\xAA\x00\x38\x9B\x71";
 

@@ -1,5 +1,5 @@
 // Tables of stores, and what commands come to over JPEGs around them.
-use crate::files::words;
+use crate::files::{words, words_of};
 use c2_base::{Blob, MemSink, MemSource};
 use c2_cmd::run;
 use c2_hash::Sha;
@@ -107,6 +107,32 @@ pub fn films_come_to(
     Ok(())
 }
 
+/// Runs command lines over whole files, which are read in pieces of 1, 7 and 65,536 bytes, and compares status and lines.
+///
+/// A row is command lines with a comma between them, ` => `, a file in hex, ` => `, and the status and the lines that each of
+/// them comes to, with ` / ` between the lines. So many runs has the table.
+pub fn files_come_to(
+    rt: &impl Abort,
+    alloc: Global,
+    table: &str,
+    count: usize,
+) -> Result<(), Fail> {
+    let mut seen: usize = 0;
+    for row in table.lines() {
+        let (lines, rest) = row.split_once(" => ").unwrap_or(("", ""));
+        if let Some((digits, known)) = rest.split_once(" => ") {
+            let file = bytes_of(alloc, digits)?;
+            for line in lines.split(',') {
+                let given = words_of(alloc, line)?;
+                file_comes_to(rt, alloc, &given, file.as_slice(), known)?;
+                seen = seen.saturating_add(1);
+            }
+        }
+    }
+    assert_eq!(rt; seen, count);
+    Ok(())
+}
+
 // Runs a command over a file that is read in pieces of 1, 7 and 65,536 bytes, with a judge who approves all questions.
 fn judged_in_pieces(
     rt: &impl Abort,
@@ -175,15 +201,27 @@ fn store_comes_to(
 ) -> Result<(), Fail> {
     let store = hex::decode(alloc, hex)?;
     let file = in_jpeg(alloc, store.as_slice(), 63_984)?;
-    for most in [1, 7, 65_536] {
-        let media = MemSource::new(Blob::copied(alloc, file.as_slice())?, most, 0);
-        let got = said_of(alloc, given, media, &mut Vec::new(alloc))?;
-        assert_eq!(rt; got.as_str(), known, "in pieces of {most}: {hex}");
-    }
+    file_comes_to(rt, alloc, given, file.as_slice(), known)?;
     let file = in_jpeg(alloc, store.as_slice(), 50)?;
     let media = MemSource::new(Blob::from_vec(file), 65_536, 0);
     let got = said_of(alloc, given, media, &mut Vec::new(alloc))?;
     assert_eq!(rt; got.as_str(), known, "in packets: {hex}");
+    Ok(())
+}
+
+// Runs a command over a file that is read in pieces of 1, 7 and 65,536 bytes, without a judge.
+fn file_comes_to(
+    rt: &impl Abort,
+    alloc: Global,
+    given: &Vec<String>,
+    file: &[u8],
+    known: &str,
+) -> Result<(), Fail> {
+    for most in [1, 7, 65_536] {
+        let media = MemSource::new(Blob::copied(alloc, file)?, most, 0);
+        let got = said_of(alloc, given, media, &mut Vec::new(alloc))?;
+        assert_eq!(rt; got.as_str(), known, "in pieces of {most}");
+    }
     Ok(())
 }
 

@@ -1,5 +1,5 @@
 // Words that fit no command.
-use crate::files::{ONE_PACKET, comes_to, words};
+use crate::files::{ONE_PACKET, comes_to, words, words_of};
 use c2_base::{Blob, MemSink, MemSource};
 use c2_cmd::types::{Command, RolesError, Status};
 use c2_cmd::{roles, run};
@@ -27,28 +27,36 @@ fn gives_usage(rt: &impl Abort, alloc: Global, given: &Vec<String>) -> Result<()
     comes_to(rt, alloc, given, &ONE_PACKET, USAGE, Status::Usage)
 }
 
+// Command lines, a space between the words: some words are empty.
+const LINES: [&str; 18] = [
+    "check P",
+    "digest",
+    "digest ",
+    "digest -P",
+    "digest P Q",
+    "list",
+    "list P list",
+    "List P",
+    "show",
+    "show P Q",
+    "questions",
+    "questions -P",
+    "questions P ",
+    "questions P -V",
+    "questions P V ",
+    "question P",
+    "validate",
+    "--help",
+];
+
 #[test]
 fn words_that_fit_nothing_give_the_usage_line(rt: HostRuntime) -> Result<(), Fail> {
     let alloc = rt.alloc();
-    gives_usage(&rt, alloc, &words(alloc, &[])?)?;
-    gives_usage(&rt, alloc, &words(alloc, &["check", "P"])?)?;
-    gives_usage(&rt, alloc, &words(alloc, &["digest"])?)?;
-    gives_usage(&rt, alloc, &words(alloc, &["digest", ""])?)?;
-    gives_usage(&rt, alloc, &words(alloc, &["digest", "-P"])?)?;
-    gives_usage(&rt, alloc, &words(alloc, &["digest", "P", "Q"])?)?;
-    gives_usage(&rt, alloc, &words(alloc, &["list"])?)?;
-    gives_usage(&rt, alloc, &words(alloc, &["list", "P", "list"])?)?;
-    gives_usage(&rt, alloc, &words(alloc, &["List", "P"])?)?;
-    gives_usage(&rt, alloc, &words(alloc, &["show"])?)?;
-    gives_usage(&rt, alloc, &words(alloc, &["show", "P", "Q"])?)?;
-    gives_usage(&rt, alloc, &words(alloc, &["questions"])?)?;
-    gives_usage(&rt, alloc, &words(alloc, &["questions", "-P"])?)?;
-    gives_usage(&rt, alloc, &words(alloc, &["questions", "P", ""])?)?;
-    gives_usage(&rt, alloc, &words(alloc, &["questions", "P", "-V"])?)?;
-    gives_usage(&rt, alloc, &words(alloc, &["questions", "P", "V", ""])?)?;
-    gives_usage(&rt, alloc, &words(alloc, &["question", "P"])?)?;
-    gives_usage(&rt, alloc, &words(alloc, &["validate"])?)?;
-    gives_usage(&rt, alloc, &words(alloc, &["--help"])?)
+    gives_usage(&rt, alloc, &Vec::new(alloc))?;
+    for line in LINES {
+        gives_usage(&rt, alloc, &words_of(alloc, line)?)?;
+    }
+    Ok(())
 }
 
 // A command line of `questions` with so many names of judges.
