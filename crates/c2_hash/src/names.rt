@@ -23,14 +23,3 @@ pub fn alg_name(alg: Alg) -> &'static str
         Alg::Sha256 => "sha256",
     }
 }
-
-#[cfg(test)]
-mod tests {
-    use super::*;
-
-    #[test]
-    fn names_and_algorithms_are_inverse(rt: HostRuntime) {
-        assert_eq!(rt; alg_of(alg_name(Alg::Sha256)), Some(Alg::Sha256));
-        assert_eq!(rt; alg_of("sha384"), None);
-    }
-}
