@@ -114,7 +114,7 @@ pub fn with_labels<'c, 't>(alloc: Global, own: &'c Kept<'t>) -> Result<Labelled<
 }
 
 /// The manifest.
-pub fn owner<'i, 't>(m: &'i Labelled<'_, 't>) -> &'i Kept<'t>
+pub fn owner<'c, 't>(m: &Labelled<'c, 't>) -> &'c Kept<'t>
     ensures { result.now ≡ m.now }
 {
     m.own
@@ -128,7 +128,7 @@ pub fn entry_count(m: &Labelled<'_, '_>) -> usize
 }
 
 /// The entry at a place.
-pub fn entry_at<'i>(m: &'i Labelled<'_, '_>, k: usize) -> &'i Ref
+pub fn entry_at<'c>(m: &Labelled<'c, '_>, k: usize) -> &'c Ref
     requires { k < length (entries_in m.now) }
     ensures { slice_get (entries_in m.now) k ≡ Some result.now }
 {
@@ -136,14 +136,14 @@ pub fn entry_at<'i>(m: &'i Labelled<'_, '_>, k: usize) -> &'i Ref
 }
 
 /// The box at a place.
-fn box_among<'i, 't>(boxes: &'i [KeptBox<'t>], k: usize) -> Option<&'i KeptBox<'t>>
+fn box_among<'c, 't>(boxes: &'c [KeptBox<'t>], k: usize) -> Option<&'c KeptBox<'t>>
     ensures { option_copied result ≡ slice_get boxes.now k }
 {
     boxes.get(k)
 }
 
 /// The assertion box with this label.
-pub fn find_box<'i, 't>(m: &'i Labelled<'_, 't>, name: &str) -> Option<&'i KeptBox<'t>>
+pub fn find_box<'c, 't>(m: &Labelled<'c, 't>, name: &str) -> Option<&'c KeptBox<'t>>
     ensures { option_copied result ≡ rules.box_with m.now name.now }
 {
     match first_place(&m.box_places, name) {

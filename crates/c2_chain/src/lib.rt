@@ -37,4 +37,5 @@ pub use chain::{
 pub use digests::alg_name;
 pub use entries::box_with;
 pub use facts::Facts;
+pub use labelled::{Labelled, entry_at, entry_count, find_box, is_listed, owner, with_labels};
 pub use redactions::label_kind;
