@@ -1,6 +1,6 @@
 // Worked files. What is expected was computed by `tests/real/locate.py`, which shares nothing with this crate.
-use c2_base::{Blob, Found, MediaError, MemSource, VastSource};
-use c2_jpegseg::locate;
+use c2_base::{Blob, Found, MediaError, MemSink, MemSource, VastSource};
+use c2_jpegseg::{locate, segments_len, write_segments};
 use std::alloc::Global;
 use std::test::Fail;
 
@@ -306,5 +306,31 @@ fn faults_and_vast_files(rt: HostRuntime) -> Result<(), Fail> {
     assert!(rt; prefix.as_slice().len() == 54);
     let mut vast = VastSource::new(prefix, 1 << 61);
     assert_eq!(rt; summary(&locate(alloc, &mut vast)), Seen::Store(2, 50, 38));
+    Ok(())
+}
+
+// 20 bytes for each packet and the store less its header; 63,984 bytes of it go into a packet.
+#[test]
+fn packets_have_these_lengths(rt: HostRuntime) {
+    for (store, packets) in [
+        (38, 50),
+        (1129, 1141),
+        (63_992, 64_004),
+        (63_993, 64_025),
+        (33_554_432, 33_564_924),
+    ] {
+        assert_eq!(rt; segments_len(store), packets);
+    }
+}
+
+#[test]
+fn a_store_is_written_as_it_is_found(rt: HostRuntime) -> Result<(), Fail> {
+    let alloc = rt.alloc();
+    let mut sink = MemSink::with_room(alloc, 50, 0)?;
+    assert!(rt; write_segments(&SEGMENT[12..], 0x0211, &mut sink).is_ok());
+    assert_eq!(rt; sink.bytes(), SEGMENT.as_slice());
+    let mut small = MemSink::with_room(alloc, 49, 0)?;
+    assert!(rt; write_segments(&SEGMENT[12..], 0x0211, &mut small).is_err());
+    assert_eq!(rt; small.bytes(), &SEGMENT[..49]);
     Ok(())
 }

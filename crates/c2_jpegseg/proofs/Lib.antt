@@ -13,3 +13,7 @@ pub mod Answers
 pub mod WindowLemmas
 pub mod EachFile
 pub mod StoreBytes
+pub mod WrittenPackets
+pub mod WrittenRuns
+pub mod WrittenStores
+pub mod Appending

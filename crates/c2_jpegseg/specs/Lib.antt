@@ -5,3 +5,5 @@ pub mod Runs
 pub mod Walks
 pub mod Windows
 pub mod Answers
+pub mod Writing
+pub mod Laws

@@ -4,6 +4,7 @@ ghost use Rattle.std.specs.Prelude.{◌≡◌, ◌^◌, ◌<◌, ℕ, List};
 ghost use Rattle.std.specs.List.{All, Contains};
 ghost use Rattle.c2_spec.specs.Located.{Located};
 ghost use Rattle.c2_spec.specs.Jpeg.Store.{HasJpegStore, IsLocated};
+ghost use Rattle.c2_jpegseg.specs.Laws.{PacketsHoldTheStore};
 
 /// Whatever bytes a file has, it comes to one thing: a store in a range, no store, or a refusal.
 pub fn each_file_is_located()
@@ -20,4 +21,10 @@ pub fn store_bytes_are_of_the_file()
     ensures are_bytes { (file : List ℕ) (start len : ℕ) (store : List ℕ)
         → HasJpegStore file start len store
         → All (λ b. b < 2 ^ 8) file → All (λ b. b < 2 ^ 8) store }
+{}
+
+/// The packets of a store that is written are a run with this store, wherever they stand among segments that begin none and,
+/// behind them, don't have their number.
+pub fn packets_hold_the_store()
+    ensures { PacketsHoldTheStore }
 {}

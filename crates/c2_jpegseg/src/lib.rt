@@ -11,6 +11,8 @@ mod run;
 mod search;
 mod segment;
 mod window;
+mod writing;
 
-pub use laws::{each_file_is_located, store_bytes_are_of_the_file};
+pub use laws::{each_file_is_located, packets_hold_the_store, store_bytes_are_of_the_file};
 pub use search::locate;
+pub use writing::{segments_len, write_segments};
