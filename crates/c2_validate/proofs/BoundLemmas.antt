@@ -283,7 +283,7 @@ pub kind_named : {E : Type 0} (hash : Alg → List ℕ → List ℕ) (r : Readin
 kind_named {E} hash r uri k l b result same h = subst (λ (x : Kind). IfOk result (IsBoundBy hash r uri x b)) same h
 
 -- media have the file's bytes
-media_bytes : (file : List ℕ) (c : Container) (m : Media) → IsMediaOf file c m → m.bytes ≡ file
+pub media_bytes : (file : List ℕ) (c : Container) (m : Media) → IsMediaOf file c m → m.bytes ≡ file
 media_bytes file Jpeg m h = ap (λ (x : Media). x.bytes) h
 media_bytes file (Bmff rows) m h = ap (λ (x : Media). x.bytes) h.3
 
@@ -318,7 +318,7 @@ one_item_of one (Some s) (Some v) None p q = absurd (q v p)
 one_item_of one (Some s) (Some v) (Some w) p q = ap Some (one v w s p.spelled q.spelled)
 
 -- the item that was read is that of the binding
-same_item : OneItem → (media : Media) (r : Reading) (label : List ℕ) (payload : Option (List ℕ)) (item : Option Item) (b : Option (Result Binding FieldError)) → binding_label r ≡ Some label → payload ≡ item_with r label → IsItemOf payload item
+pub same_item : OneItem → (media : Media) (r : Reading) (label : List ℕ) (payload : Option (List ℕ)) (item : Option Item) (b : Option (Result Binding FieldError)) → binding_label r ≡ Some label → payload ≡ item_with r label → IsItemOf payload item
     → HasBinding media r b → IsLabelledBinding media (Some label) item b
 same_item one_item media r label payload item b is same read has =
     let there : IsItemOf (binding_payload r) item = subst (λ (o : Option (List ℕ)). IsItemOf o item) (same ∙ sym (payload_is r label is)) read in

@@ -3,6 +3,7 @@ mod ChainLemmas
 mod CheckLemmas
 mod CountLemmas
 mod Containers
+mod CoveringLemmas
 mod EachCheck
 mod Finding
 mod OneCheck

@@ -1,4 +1,5 @@
 pub mod Checks
+pub mod Covering
 pub mod Counts
 pub mod Opened
 pub mod Validation

@@ -120,7 +120,7 @@ fn covered_digest<S: Source, H: Hashing>(
 }
 
 /// The length of the file.
-fn file_len<S: Source>(source: &mut S) -> Result<u64, ValidateError>
+pub fn file_len<S: Source>(source: &mut S) -> Result<u64, ValidateError>
     ensures length { IfOk result (λ n. n ≡ S.len source.old) }
     ensures stays { StaysSource S.len S.known S.faults source.old source.new }
     ensures count { OnOk result (S.faults source.new ≡ S.faults source.old) }
@@ -174,7 +174,7 @@ fn check_digest<S: Source, H: Hashing>(
 }
 
 /// The ranges that a data hash excludes.
-fn exclusions<'c>(fields: &'c DataHash) -> &'c [Range]
+pub fn exclusions<'c>(fields: &'c DataHash) -> &'c [Range]
     ensures { result.now ≡ fields.now.exclusions }
 {
     fields.exclusions.as_slice()
@@ -317,14 +317,14 @@ fn check_data_item<S: Source, H: Hashing>(
 }
 
 /// The algorithm that a BMFF hash names.
-fn bmff_alg<'c>(fields: &'c BmffHash) -> &'c Option<Text>
+pub fn bmff_alg<'c>(fields: &'c BmffHash) -> &'c Option<Text>
     ensures { result.now ≡ fields.now.alg }
 {
     &fields.alg
 }
 
 /// What it excludes.
-fn bmff_exclusions<'c>(fields: &'c BmffHash) -> &'c [Exclusion]
+pub fn bmff_exclusions<'c>(fields: &'c BmffHash) -> &'c [Exclusion]
     ensures { result.now ≡ fields.now.exclusions }
 {
     fields.exclusions.as_slice()
@@ -338,7 +338,7 @@ fn bmff_digest<'c>(fields: &'c BmffHash) -> &'c [u8]
 }
 
 /// The fault that an error of the cover of a BMFF hash stands for, which refuses no range.
-fn cover_fault(error: CoverError) -> ValidateError
+pub fn cover_fault(error: CoverError) -> ValidateError
     ensures { (before now : ℕ) → IsBmffCause before now error → IsCause before now result }
 {
     match error {
@@ -446,7 +446,7 @@ fn jpeg_refusal(item: &Cbor) -> FieldError
 }
 
 /// Whether this is a BMFF hash.
-fn is_bmff_hash(kind: Kind) -> bool
+pub fn is_bmff_hash(kind: Kind) -> bool
     ensures { result ≡ is_bmff_kind kind }
 {
     match kind {

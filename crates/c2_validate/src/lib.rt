@@ -8,6 +8,7 @@ mod binding;
 mod bound;
 mod chain;
 mod check;
+mod covering;
 mod error;
 mod find;
 mod laws;
@@ -17,8 +18,9 @@ pub mod types;
 
 pub use c2_rules::{Answer, Summary};
 pub use check::validate;
+pub use covering::bound_text;
 pub use error::ValidateError;
 pub use find::find_store;
 pub use laws::{each_file_has_a_check, each_media_file_is_located, one_check, one_opening};
 pub use read::read_store;
-pub use types::{Container, Media, Opened};
+pub use types::{BoundText, Container, Media, Opened};

@@ -1,6 +1,7 @@
 // What a media file is opened as.
-use c2_base::Found;
+use c2_base::{Found, Text};
 use c2_bmff::types::Roots;
+use c2_cover::Cover;
 use c2_jumbf::Tree;
 use c2_spec::Reason;
 use c2_store::Store;
@@ -46,4 +47,14 @@ pub enum StoreRead<'t> {
 
     /// A box or the store is refused, with the number that belongs to the reason.
     Refused(Reason, u64),
+}
+
+/// What the binding of a manifest covers of its media file.
+#[derive(Drop)]
+pub struct BoundText {
+    /// Which bytes it covers.
+    pub cover: Cover,
+
+    /// The name of the algorithm of its digest.
+    pub alg: Text,
 }
