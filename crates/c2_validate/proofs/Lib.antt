@@ -1,5 +1,5 @@
 mod BoundLemmas
-mod ChainLemmas
+pub mod ChainLemmas
 mod CheckLemmas
 mod CountLemmas
 mod Containers

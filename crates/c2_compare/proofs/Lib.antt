@@ -1,0 +1,9 @@
+pub mod Answering
+pub mod EvidenceLines
+pub mod Found
+pub mod OpenedStores
+pub mod Outcomes
+pub mod Placed
+pub mod Sameness
+pub mod TextLines
+pub mod Written

@@ -1,0 +1,9 @@
+pub mod Alike
+pub mod Comparing
+pub mod Covered
+pub mod Differing
+pub mod Opening
+pub mod Settled
+pub mod Shown
+pub mod Targets
+pub mod Writing

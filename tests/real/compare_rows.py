@@ -1,0 +1,101 @@
+#!/usr/bin/env python3
+"""Rows of two files that are compared, and what is reported of them.
+
+    compare_rows.py          prints the module rows.rt of crates/c2_compare_tests
+
+A line that says what the row shows, and the row: the hash, both files in hex, and the lines of the report, with bars between them.
+The texts of evidence are made here from the drafts of the files; nothing of them was taken from what c2 prints.
+"""
+
+import hashlib
+
+import drafts
+from drafts import APP0, Assertion, DataHash, Ingredient, Jpeg, Manifest, Written, write
+from make_store import text
+from rule_rows import with_
+
+LABEL = "urn:c2pa:00000000-0000-4000-8000-000000000000"
+FRONT = b"\xff\xd8" + APP0
+REST = b"\xff\xd9"
+
+
+def sha(contents):
+    return hashlib.sha256(contents).digest()
+
+
+def weak(contents):
+    """The hash for tests: the sum of the bytes, in the last of 32."""
+    return bytes(31) + bytes([sum(contents) % 256])
+
+
+def file_of(digest, *manifests, front=FRONT):
+    """A JPEG with a store of these manifests."""
+    drafts.digest = digest
+    around = Jpeg(front, REST)
+    length = len(around.around(write(manifests, Written()))) - len(front) - len(REST)
+    return around.around(write(manifests, Written(len(front), length, digest(front + REST))))
+
+
+def note(payload, **given):
+    return with_(Assertion("test.note", payload, b"json"), **given)
+
+
+def noted(payload, label=LABEL):
+    return Manifest(label, Assertion("c2pa.actions.v2", drafts.ACTIONS), note(payload), DataHash())
+
+
+def titled(title):
+    """Two manifests: the last redacts an assertion of the first, whose claim has a title."""
+    below = Manifest("m", note(b'"ab"', is_there=False), DataHash())
+    below.claim_fields = {"dc:title": text(title)}
+    above = Manifest("a", with_(Ingredient("m"), hashes=[bytes(32), None]), DataHash())
+    above.redactions = ["self#jumbf=/c2pa/m/c2pa.assertions/test.note"]
+    return below, above
+
+
+def rows():
+    uri = f"self#jumbf=/c2pa/{LABEL}/c2pa.assertions/test.note"
+    first, second = (file_of(weak, noted(payload)) for payload in (b'"ab"', b'"ba"'))
+    lists = (note(payload).box(None)[8:].hex() for payload in (b'"ab"', b'"ba"'))
+    yield "other notes under one sum", "weak", first, second, [f"evidence digest sha256 {uri}", *lists]
+    swapped = bytearray(first)
+    swapped[11], swapped[12] = swapped[12], swapped[11]
+    texts = (contents[:20] + contents[-2:] for contents in (first, bytes(swapped)))
+    yield "swapped bytes of the picture", "weak", first, bytes(swapped), ["evidence digest sha256 covered", *(t.hex() for t in texts)]
+    yield "a file and itself, under the sum", "weak", first, first, []
+    yield "another label of the active manifest", "weak", first, file_of(weak, noted(b'"ab"', LABEL[:-1] + "1")), []
+    first = file_of(sha, noted(b'"ab"'))
+    at = first.index(b'"ab"')
+    second = first[:at] + b'"ba"' + first[at + 4 :]
+    yield "other notes under SHA-256", "sha", first, second, ["second"]
+    yield "a first file with another note", "sha", second, first, ["first"]
+    yield "a file and itself", "sha", first, first, []
+    yield "other claims", "sha", first, file_of(sha, Manifest("m", DataHash())), ["different"]
+    yield "no store", "sha", first, FRONT + REST, ["second"]
+    written = Written()
+    drafts.digest = sha
+    claims = []
+    for title in "ab":
+        below, _ = titled(title)
+        written = Written()
+        below.write(written)
+        first_length = len(file_of(sha, *titled("a"))) - len(FRONT) - len(REST)
+        claims.append(below.claim(Written(len(FRONT), first_length, sha(FRONT + REST))))
+    box = written.signatures["m"]
+    files = (file_of(sha, *titled(title)) for title in "ab")
+    yield "other titles under one signature", "sha", *files, ["evidence signature self#jumbf=/c2pa/m/c2pa.signature", box.hex(), *(c.hex() for c in claims)]
+
+
+def main():
+    print("// Pairs of files that are compared. Written by tests/real/compare_rows.py, which computes the reports: not to be edited.")
+    print()
+    print("/// A line that says what the row shows, and the row: the hash, both files in hex, and what is answered or the lines of evidence, with bars between.")
+    print('pub const ROWS: &str = r##"', end="")
+    for what, name, first, second, lines in rows():
+        print("# " + what)
+        print("|".join([name, first.hex(), second.hex(), *(lines or ["same"])]))
+    print('"##;')
+
+
+if __name__ == "__main__":
+    main()
