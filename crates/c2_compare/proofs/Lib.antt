@@ -1,6 +1,7 @@
 pub mod Answering
 pub mod EvidenceLines
 pub mod Found
+pub mod JudgesLater
 pub mod OpenedStores
 pub mod Outcomes
 pub mod Placed

@@ -1,5 +1,5 @@
 mod BoundLemmas
-pub mod ChainLemmas
+mod ChainLemmas
 mod CheckLemmas
 mod CountLemmas
 mod Containers

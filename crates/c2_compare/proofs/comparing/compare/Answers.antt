@@ -8,7 +8,7 @@ use Rattle.c2_rules.specs.declared.answer.Answer.TheVariants as answer
 use Rattle.c2_rules.proofs.AskingLemmas.{leaves_err, leaves_ok}
 use Rattle.c2_binding.specs.declared.compared.Compared.TheVariants as compared
 use Rattle.c2_binding.specs.declared.compared.Side.TheVariants.{First}
-use Rattle.c2_validate.proofs.ChainLemmas.{leaves_after}
+use Rattle.c2_compare.proofs.JudgesLater.{leaves_after}
 use Rattle.c2_compare.specs.Comparing.{HasAsked, IsCheckedAs, IsCompareCause, IsCompared}
 use Rattle.c2_compare.proofs.Answering.{asked_both, asked_error, both_none, cause_first_check, cause_then, compared_as, count_still, not_refused, refused_first, second_all, second_none}
 use Rattle.c2_compare.proofs.comparing.compare.Goals as goal
