@@ -46,6 +46,10 @@ the claim's signature is self#jumbf=/c2pa/n/c2pa.signature
 a message of three members
 an entry's URL is self#jumbf=/c2pa/n/c2pa.assertions/test.note
 a redaction in a manifest that isn't there
+a redaction of c2pa.hash.boxes
+a redaction of c2pa.ingredient.v9__2
+a redaction of x
+a claim cut short
 """.strip().split("\n")
 
 

@@ -13,12 +13,12 @@ use std::test::Fail;
 
 #[test]
 fn stores_are_checked(rt: HostRuntime) -> Result<(), Fail> {
-    judged_rows_come_to(&rt, rt.alloc(), "validate", ROWS, 42)
+    judged_rows_come_to(&rt, rt.alloc(), "validate", ROWS, 51)
 }
 
 #[test]
 fn more_stores_are_checked(rt: HostRuntime) -> Result<(), Fail> {
-    judged_rows_come_to(&rt, rt.alloc(), "validate", MORE_ROWS, 42)
+    judged_rows_come_to(&rt, rt.alloc(), "validate", MORE_ROWS, 37)
 }
 
 // Runs `validate` over a file, and compares report and status.
