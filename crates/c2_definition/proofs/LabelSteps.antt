@@ -1,0 +1,58 @@
+-- Labels that differ, looked up from the last assertion on.
+use Rattle.std.proofs.Common.{◌≡◌, ℕ, zero, suc, ◌+◌, ◌<◌, ◌≤◌, Bool, true, false, not, ◌&&◌, ◌||◌, List, [], ◌∷◌, length, drop, get_or, refl, sym, ap, ◌∙◌, bytes_eq}
+use Rattle.std.specs.List.{list_any}
+use Rattle.std.proofs.lemmas.Bool.{and_parts, both_ways, false_from_ne_true}
+use Rattle.std.proofs.lemmas.List.{drop_more}
+use Rattle.c2_lookup.specs.Labels.{is_among}
+use Rattle.c2_lookup.specs.declared.labels.Labels.{Labels}
+use Rattle.c2_definition.specs.declared.types.NewAssertion.{NewAssertion}
+use Rattle.c2_definition.specs.DefinitionFile.{has_label, labels_differ}
+
+-- the labels from a place on differ, and a set has just these
+pub record Behind (list : List NewAssertion) (i : ℕ) (behind : Labels) : Type 0 where
+  pub within : i ≤ length list
+  pub kept : (other : List ℕ) → is_among behind other ≡ list_any (has_label other) (drop i list)
+  pub differ : labels_differ (drop i list) ≡ true
+
+-- those from a place on are the one there and those behind it
+here_and_behind : (list : List NewAssertion) (i : ℕ) (a : NewAssertion) → i < length list → a ≡ get_or list i a → drop i list ≡ a ∷ drop (i + 1) list
+here_and_behind list i a lt at = drop_more list i a lt ∙ ap (λ b. b ∷ drop (i + 1) list) (sym at)
+
+-- of two tests either may be first
+either_first : (x y : Bool) → (x || y) ≡ (y || x)
+either_first true true = refl
+either_first true false = refl
+either_first false true = refl
+either_first false false = refl
+
+-- a set that has got the label at a place has those from there on
+pub also_here : (list : List NewAssertion) (i : ℕ) (a : NewAssertion) (other : List ℕ) (old : Bool) → i < length list → a ≡ get_or list i a
+    → old ≡ list_any (has_label other) (drop (i + 1) list) → (old || bytes_eq a.label other) ≡ list_any (has_label other) (drop i list)
+also_here list i a other old lt at is =
+    either_first old (bytes_eq a.label other) ∙ ap (λ b. bytes_eq a.label other || b) is
+    ∙ sym (ap (list_any (has_label other)) (here_and_behind list i a lt at))
+
+-- labels differ from a place on where they differ behind it and none there is the one at it
+differ_from : (list : List NewAssertion) (i : ℕ) (a : NewAssertion) (found : Bool) → i < length list → a ≡ get_or list i a
+    → found ≡ list_any (has_label a.label) (drop (i + 1) list) → labels_differ (drop (i + 1) list) ≡ true → labels_differ (drop i list) ≡ (not found && true)
+differ_from list i a found lt at is behind =
+    ap labels_differ (here_and_behind list i a lt at) ∙ ap (λ b. not b && labels_differ (drop (i + 1) list)) (sym is) ∙ ap (λ b. not found && b) behind
+
+-- they do where it isn't found
+pub differ_here : (list : List NewAssertion) (i : ℕ) (a : NewAssertion) (found : Bool) → i < length list → a ≡ get_or list i a
+    → found ≡ list_any (has_label a.label) (drop (i + 1) list) → labels_differ (drop (i + 1) list) ≡ true → found ≡ false → labels_differ (drop i list) ≡ true
+differ_here list i a found lt at is behind none = differ_from list i a found lt at is behind ∙ ap (λ b. not b && true) none
+
+-- labels that all differ do so from each place on
+differ_behind : (list : List NewAssertion) (i : ℕ) → labels_differ list ≡ true → labels_differ (drop i list) ≡ true
+differ_behind [] zero h = h
+differ_behind [] (suc i) h = refl
+differ_behind (a ∷ more) zero h = h
+differ_behind (a ∷ more) (suc i) h = differ_behind more i (and_parts (not (list_any (has_label a.label) more)) (labels_differ more) h).1
+
+-- they don't all differ where it is found
+pub same_here : (list : List NewAssertion) (i : ℕ) (a : NewAssertion) (found : Bool) → i < length list → a ≡ get_or list i a
+    → found ≡ list_any (has_label a.label) (drop (i + 1) list) → labels_differ (drop (i + 1) list) ≡ true → found ≡ true → false ≡ labels_differ list
+same_here list i a found lt at is behind one =
+    let not_here : labels_differ (drop i list) ≡ false = differ_from list i a found lt at is behind ∙ ap (λ b. not b && true) one in
+    sym (false_from_ne_true (labels_differ list) (λ all. both_ways (labels_differ (drop i list)) not_here (differ_behind list i all)))

@@ -1,0 +1,3 @@
+pub mod DefinitionFile
+pub mod Json
+pub mod Stages
