@@ -1,7 +1,6 @@
-// Messages in several spellings, what is none, the bytes of a question, and padding.
+// Messages in several spellings, what is none, what is plain, and the bytes of a question.
 use c2_base::NoMemory;
-use c2_pad::fill;
-use c2_sigstruct::{Sign1, SignError, is_plain, question, read_sign1, write_sign1};
+use c2_sigstruct::{Sign1, SignError, is_plain, question, read_sign1};
 use std::alloc::Global;
 use std::test::Fail;
 
@@ -173,32 +172,5 @@ fn a_message_of_keys_that_are_written_alike_is_not_plain(rt: HostRuntime) -> Res
         b"\xa2\xa2\x00\x01\x01\x02\x00\xa2\x01\x02\x00\x01\x00",
     )?;
     assert!(rt; !is_plain(alloc, &alike)?);
-    Ok(())
-}
-
-// What is added, and the map with padding, spelled out by hand.
-#[test]
-fn padding_stands_in_the_unprotected_header(rt: HostRuntime) -> Result<(), Fail> {
-    let alloc = rt.alloc();
-    let sign = message(alloc, b"\xa1\x18\x21\x41\x01")?;
-    let maps: [(u64, &[u8]); 3] = [
-        (0, b"\xa1\x18\x21\x41\x01"),
-        (7, b"\xa2\x18\x21\x41\x01\x63pad\x42\0\0"),
-        (
-            29,
-            b"\xa3\x18\x21\x41\x01\x63pad\x52\0\0\0\0\0\0\0\0\0\0\0\0\0\0\0\0\0\0\x64pad2\x40",
-        ),
-    ];
-    for (need, map) in maps {
-        let Some(padding) = fill(need) else {
-            return Err(NoMemory)?;
-        };
-        let written = write_sign1(alloc, &sign, padding)?;
-        assert_eq!(rt;
-            written.as_slice(),
-            with_map(alloc, map)?.as_slice(),
-            "{need}"
-        );
-    }
     Ok(())
 }
