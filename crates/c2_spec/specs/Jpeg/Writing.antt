@@ -11,7 +11,8 @@ use Rattle.c2_spec.specs.declared.packets.TheConstants.{PACKET_BODY_LEN, PACKET_
 use Rattle.c2_spec.specs.Jpeg.Segments.{Segment, segment_bytes, place_after}
 use Rattle.c2_spec.specs.Jpeg.Packets.{is_packet, packet_in}
 
--- what a packet has after its length: the identifier, its number En, its place Z, the box header, and a piece of the payload
+-- what a packet has after its length: the identifier, its box instance number, its packet sequence number, the box header, and a piece
+-- of the payload
 abbrev pub packet_payload : List ℕ → ℕ → ℕ → List ℕ → List ℕ
 packet_payload header en z body = to_be_bytes w16 BOX_IDENTIFIER ++ (to_be_bytes w16 en ++ (to_be_bytes w32 z ++ (header ++ body)))
 
