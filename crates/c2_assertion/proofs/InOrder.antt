@@ -10,7 +10,8 @@ use Rattle.c2_spec.specs.declared.assertion.DataHash.{DataHash}
 use Rattle.c2_spec.specs.declared.assertion.Ingredient.{Ingredient}
 use Rattle.c2_spec.specs.declared.assertion.Relationship.{Relationship}
 use Rattle.c2_spec.specs.declared.cbor.Ref.{Ref}
-use Rattle.c2_assertion.specs.Written.{bmff_hash_item, data_hash_item, exclusion_item, field, field_if, ingredient_item, pad_len, part_item, range_item, ref_item, relationship_word, test_item}
+use Rattle.c2_spec.specs.Cbor.Writing.{field, field_if, ref_item}
+use Rattle.c2_assertion.specs.Written.{bmff_hash_item, data_hash_item, exclusion_item, ingredient_item, pad_len, part_item, range_item, relationship_word, test_item}
 
 -- items that are each in order
 each_in_order : {A : Type 0} (write : A → Item) → ((x : A) → sorted (write x) ≡ write x) → (xs : List A) → sorted_items (items_of (map write xs)) ≡ items_of (map write xs)

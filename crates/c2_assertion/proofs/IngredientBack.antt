@@ -12,7 +12,8 @@ use Rattle.c2_spec.specs.declared.assertion.FieldError.TheVariants.{Form}
 use Rattle.c2_spec.specs.declared.assertion.Relationship.{Relationship}
 use Rattle.c2_spec.specs.declared.assertion.Relationship.TheVariants.{ParentOf, ComponentOf, InputTo}
 use Rattle.c2_spec.specs.declared.cbor.Ref.{Ref}
-use Rattle.c2_assertion.specs.Written.{ingredient_item, ref_item, relationship_word}
+use Rattle.c2_spec.specs.Cbor.Writing.{ref_item}
+use Rattle.c2_assertion.specs.Written.{ingredient_item, relationship_word}
 
 -- a relationship is read of its word
 word_back : (r : Relationship) → relationship_named (relationship_word r) ≡ Some r

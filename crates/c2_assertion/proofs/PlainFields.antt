@@ -16,7 +16,8 @@ use Rattle.c2_spec.specs.declared.assertion.DataHash.{DataHash}
 use Rattle.c2_spec.specs.declared.assertion.Ingredient.{Ingredient}
 use Rattle.c2_spec.specs.declared.assertion.Relationship.{Relationship}
 use Rattle.c2_spec.specs.declared.cbor.Ref.{Ref}
-use Rattle.c2_assertion.specs.Written.{bmff_hash_item, data_hash_item, exclusion_item, field, ingredient_item, pad_len, part_item, range_item, ref_item, relationship_word, test_item}
+use Rattle.c2_spec.specs.Cbor.Writing.{field, ref_item}
+use Rattle.c2_assertion.specs.Written.{bmff_hash_item, data_hash_item, exclusion_item, ingredient_item, pad_len, part_item, range_item, relationship_word, test_item}
 
 -- a key and its value as a field
 abbrev named : List ℕ × Item → Item × Item

@@ -7,26 +7,14 @@ use Rattle.c2_spec.specs.Bmff.Hash.{BmffHash, ByteTest, Exclusion}
 use Rattle.c2_spec.specs.Bmff.Paths.{steps_text}
 use Rattle.c2_spec.specs.Cbor.Deterministic.{preferred}
 use Rattle.c2_spec.specs.Cbor.Item.{Item, bytes, dict, list, text, uint}
-use Rattle.c2_spec.specs.Cbor.View.{items_of, pairs_of, view}
+use Rattle.c2_spec.specs.Cbor.Writing.{field, field_if, ref_item}
+use Rattle.c2_spec.specs.Cbor.View.{items_of, pairs_of}
 use Rattle.c2_spec.specs.declared.assertion.DataHash.{DataHash}
 use Rattle.c2_spec.specs.declared.assertion.Ingredient.{Ingredient}
 use Rattle.c2_spec.specs.declared.assertion.Relationship.{Relationship}
 use Rattle.c2_spec.specs.declared.assertion.Relationship.TheVariants.{ParentOf, ComponentOf, InputTo}
 use Rattle.c2_spec.specs.declared.cbor.Cbor.{Cbor}
 use Rattle.c2_spec.specs.declared.cbor.Ref.{Ref}
-
--- the names and values of a map's pairs
-abbrev pub pair_view : Cbor × Cbor → Item × Item
-pair_view p = (view p.0, view p.1)
-
--- a field of a map
-abbrev pub field : List ℕ → Item → Item × Item
-field key v = (text key, v)
-
--- a field that may be absent
-abbrev pub field_if : {A : Type 0} → List ℕ → (A → Item) → Option A → List (Item × Item)
-field_if key item None = []
-field_if key item (Some x) = field key (item x) ∷ []
 
 -- ---- the BMFF hash
 
@@ -105,11 +93,6 @@ abbrev pub one_exclusion : Option (List ℕ) → List ℕ → Range → DataHash
 one_exclusion alg hash r = record { exclusions = r ∷ []; alg = alg; hash = hash }
 
 -- ---- ingredients
-
--- a reference
-abbrev pub ref_item : Ref → Item
-ref_item r =
-    dict (pairs_of (field_if (codes "alg") text r.alg ++ field (codes "url") (text r.url) ∷ field (codes "hash") (bytes r.hash) ∷ []))
 
 -- the word for a relationship
 abbrev pub relationship_word : Relationship → List ℕ

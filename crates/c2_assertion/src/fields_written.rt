@@ -2,7 +2,7 @@
 ghost use Rattle.std.specs.Prelude.{◌≡◌, ◌++◌, [], ◌∷◌, codes, OnOk, IfOk, map};
 ghost use Rattle.c2_spec.specs.Cbor.Item as item;
 ghost use Rattle.c2_spec.specs.Cbor.View.{view};
-ghost use Rattle.c2_assertion.specs.Written.{field, field_if, pair_view};
+ghost use Rattle.c2_spec.specs.Cbor.Writing.{field, field_if, pair_view};
 
 use c2_base::{Blob, NoMemory, Text};
 use c2_cbor::Cbor;

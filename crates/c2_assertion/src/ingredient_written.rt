@@ -1,7 +1,8 @@
 // Writing an ingredient.
 ghost use Rattle.std.specs.Prelude.{◌≡◌, ◌++◌, OnOk, IfOk, map};
 ghost use Rattle.c2_spec.specs.Cbor.View.{view};
-ghost use Rattle.c2_assertion.specs.Written.{field_if, ingredient_item, pair_view, ref_item, relationship_word};
+ghost use Rattle.c2_spec.specs.Cbor.Writing.{field_if, pair_view, ref_item};
+ghost use Rattle.c2_assertion.specs.Written.{ingredient_item, relationship_word};
 
 use crate::fields_written::{add_alg, add_field, byte_string};
 use c2_base::{NoMemory, Text};

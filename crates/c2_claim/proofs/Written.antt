@@ -15,7 +15,8 @@ use Rattle.c2_spec.specs.Cbor.Answers.{BeginsWith}
 use Rattle.c2_spec.specs.Cbor.Fields.{require, each_of, text_item, joined}
 use Rattle.c2_spec.specs.Cbor.Lookup.{ref_of}
 use Rattle.c2_spec.specs.C2pa.Claim.{claim_of, IsClaim}
-use Rattle.c2_claim.specs.Written.{field, field_if, redactions_field, ref_item, written_alg, signature_uri, generator_item, claim_fields, claim_item, claim_from}
+use Rattle.c2_spec.specs.Cbor.Writing.{field, field_if, ref_item}
+use Rattle.c2_claim.specs.Written.{redactions_field, written_alg, signature_uri, generator_item, claim_fields, claim_item, claim_from}
 use Rattle.c2_spec.specs.declared.cbor.Ref.{Ref}
 use Rattle.c2_spec.specs.declared.claim.Claim.{Claim}
 use Rattle.c2_spec.specs.declared.claim.ClaimField.{ClaimField}

@@ -3,30 +3,13 @@
 use Rattle.std.specs.Prelude.{ℕ, List, [], ◌∷◌, ◌++◌, codes, map, Some, None}
 use Rattle.std.specs.declared.option.Option.{Option}
 use Rattle.c2_spec.specs.Cbor.Item.{Item, bytes, dict, list, text}
-use Rattle.c2_spec.specs.Cbor.View.{items_of, pairs_of, view}
+use Rattle.c2_spec.specs.Cbor.Writing.{field, field_if, ref_item}
+use Rattle.c2_spec.specs.Cbor.View.{items_of, pairs_of}
 use Rattle.c2_spec.specs.C2pa.Uri.{uri_text, signature}
 use Rattle.c2_spec.specs.declared.cbor.Cbor.{Cbor}
 use Rattle.c2_spec.specs.declared.cbor.Ref.{Ref}
 use Rattle.c2_spec.specs.declared.claim.Claim.{Claim}
 use Rattle.c2_claim.specs.declared.writing.ClaimParts.{ClaimParts}
-
--- the names and values of a map's pairs
-abbrev pub pair_view : Cbor × Cbor → Item × Item
-pair_view p = (view p.0, view p.1)
-
--- a field of a map
-abbrev pub field : List ℕ → Item → Item × Item
-field key v = (text key, v)
-
--- a field that may be absent
-abbrev pub field_if : {A : Type 0} → List ℕ → (A → Item) → Option A → List (Item × Item)
-field_if key item None = []
-field_if key item (Some x) = field key (item x) ∷ []
-
--- a reference
-abbrev pub ref_item : Ref → Item
-ref_item r =
-    dict (pairs_of (field_if (codes "alg") text r.alg ++ field (codes "url") (text r.url) ∷ field (codes "hash") (bytes r.hash) ∷ []))
 
 -- the redactions, where there are some
 abbrev pub redactions_field : List (List ℕ) → List (Item × Item)

@@ -4,7 +4,8 @@ ghost use Rattle.c2_spec.specs.Cbor.Item as item;
 ghost use Rattle.c2_spec.specs.Cbor.View.{view, items_of};
 ghost use Rattle.c2_spec.specs.Cbor.Deterministic.{sorted, deterministic};
 ghost use Rattle.c2_spec.specs.C2pa.Claim.{IsClaim, claim_of};
-ghost use Rattle.c2_claim.specs.Written.{field, field_if, pair_view, ref_item, redactions_field, claim_from};
+ghost use Rattle.c2_spec.specs.Cbor.Writing.{field, field_if, pair_view, ref_item};
+ghost use Rattle.c2_claim.specs.Written.{redactions_field, claim_from};
 ghost use Rattle.c2_claim.specs.Written as form;
 ghost use Rattle.c2_claim.specs.declared.writing.ClaimParts.{ClaimParts as AnyParts};
 

@@ -12,4 +12,4 @@ use Rattle.c2_chain.proofs.forms.check_reference.Goals as goal
 pub returns-in-Some-named : goal.returns-in-Some-named
 returns-in-Some-named c =
     by_some (λ (l : List ℕ). order_tests (assertion_uri (label_in c.args.own.now) c.args.name.now) (standing_of c.args.chain.now c.args.i l)) (option_and_then (λ (ref : Ref). manifest_named ref.url) c.args.g.now.manifest) c.in-Some-named.target.now _
-    c.check_order.result (ap (option_and_then (λ (ref : Ref). manifest_named ref.url)) c.in-Some.is ∙ ap manifest_named (sym c.as_str.ensures) ∙ sym c.in-Some-named.ensures) c.check_order.ensures
+    c.check_order.result (ap (option_and_then (λ (ref : Ref). manifest_named ref.url)) c.in-Some.is ∙ ap manifest_named (sym c.as_str.ensures.value) ∙ sym c.in-Some-named.ensures) c.check_order.ensures

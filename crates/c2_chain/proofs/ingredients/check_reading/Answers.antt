@@ -11,4 +11,4 @@ returns-in-Some-named g c =
     let uri : List ℕ = assertion_box_uri c.args.own.now (option_map (λ x. x.now) c.args.name) in
     by_some (reference_tests g.H.Hashing.digest_of (seen_at c.args.chain.now c.args.i c.args.own.now) uri c.args.g.now.signature) c.args.g.now.manifest c.in-Some.manifest _ c.check_named.result c.in-Some.is
     (by_some (λ (label : List ℕ). standing_tests g.H.Hashing.digest_of c.args.own.now uri c.in-Some.manifest c.args.g.now.signature (standing_of c.args.chain.now c.args.i label))
-    (manifest_named c.in-Some.manifest.url) c.in-Some-named.target.now _ c.check_named.result (ap manifest_named (sym c.as_str.ensures) ∙ sym c.in-Some-named.ensures) c.check_named.ensures)
+    (manifest_named c.in-Some.manifest.url) c.in-Some-named.target.now _ c.check_named.result (ap manifest_named (sym c.as_str.ensures.value) ∙ sym c.in-Some-named.ensures) c.check_named.ensures)
