@@ -17,3 +17,7 @@ pub mod WrittenPackets
 pub mod WrittenRuns
 pub mod WrittenStores
 pub mod Appending
+pub mod OneList
+pub mod Kept
+pub mod NumberMarks
+pub mod Fronts

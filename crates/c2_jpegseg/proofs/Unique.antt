@@ -25,7 +25,7 @@ same_front x y a b hx hy e =
     (cc, cc)
 
 -- each two are of one of these kinds
-compare : (xs ys : List Segment) (r s : List ℕ) → AllByRecursion IsSegment xs → AllByRecursion IsSegment ys → flat_map segment_bytes xs ++ r ≡ flat_map segment_bytes ys ++ s → Compared xs ys r s
+pub compare : (xs ys : List Segment) (r s : List ℕ) → AllByRecursion IsSegment xs → AllByRecursion IsSegment ys → flat_map segment_bytes xs ++ r ≡ flat_map segment_bytes ys ++ s → Compared xs ys r s
 compare [] ys r s hx hy e = first_on ys refl e hy
 compare (x ∷ xs) [] r s hx hy e = second_on x xs refl (sym e) hx
 compare (x ∷ xs) (y ∷ ys) r s hx hy e =
@@ -116,7 +116,7 @@ shape_of file lacking h = walked h.fits h.segments h.rest h.begins (none_begins 
 shape_of file (holding start len store) h = walked h.fits h.segments h.rest h.begins (one_held start len store h.holds) (found h.ends h.holds)
 
 -- with segments, a file begins with SOI
-begins_media : (file : List ℕ) (segments : List Segment) (rest : List ℕ) → HasSegments file segments rest → take 2 file ≡ start_of_image
+pub begins_media : (file : List ℕ) (segments : List Segment) (rest : List ℕ) → HasSegments file segments rest → take 2 file ≡ start_of_image
 begins_media file segments rest b = ap (take 2) b.bytes
 
 -- segments that end with two outcomes end with one

@@ -2,8 +2,6 @@
 use Rattle.std.proofs.Common.{◌≡◌, ℕ, ◌+◌, ◌-◌, ◌<◌, ◌≤◌, List, ◌++◌, length, get_or, take, drop, sym, ap, ◌∙◌, subst, arith}
 use Rattle.std.proofs.lemmas.List.{drop-take, drop-drop, take-take, take_at, get_or-take, get_or-drop}
 use Rattle.std.specs.declared.option.Option.{Option}
-use Rattle.c2_jpegseg.specs.declared.window.Window.{Window}
-use Rattle.c2_jpegseg.specs.Windows.{Shows}
 
 -- a part of a prefix is a part of the whole
 part_of_front : (items : List ℕ) (used d count : ℕ) → d + count ≤ used → take count (drop d (take used items)) ≡ take count (drop d items)
@@ -32,5 +30,5 @@ pub filled_front : (file buf rest : List ℕ) (room pos : ℕ) → length buf �
 filled_front file buf rest room pos len is = take_at buf rest room len ∙ is ∙ ap (λ n. take n (drop pos file)) len
 
 -- a source that stayed is still shown
-pub shows_same : (len len' : ℕ) (known known' : Option (List ℕ)) (w : Window) → len ≡ len' → known ≡ known' → Shows len known w → Shows len' known' w
-shows_same len len' known known' w same_len same_told shows = subst (λ n. Shows n known' w) same_len (subst (λ t. Shows len t w) same_told shows)
+pub shows_same : {W : Type 0} (Shown : ℕ → Option (List ℕ) → W → Type 0) (len len' : ℕ) (known known' : Option (List ℕ)) (w : W) → len ≡ len' → known ≡ known' → Shown len known w → Shown len' known' w
+shows_same Shown len len' known known' w same_len same_told shows = subst (λ n. Shown n known' w) same_len (subst (λ t. Shown len t w) same_told shows)

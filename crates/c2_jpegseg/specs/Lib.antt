@@ -7,3 +7,7 @@ pub mod Windows
 pub mod Answers
 pub mod Writing
 pub mod Laws
+pub mod Passing
+pub mod Refusals
+pub mod Peeks
+pub mod Fronts

@@ -4,6 +4,9 @@ ghost use Rattle.std.specs.Prelude.{◌≡◌, ◌^◌, ◌<◌, ℕ, List};
 ghost use Rattle.std.specs.List.{All, Contains};
 ghost use Rattle.c2_spec.specs.Located.{Located};
 ghost use Rattle.c2_spec.specs.Jpeg.Store.{HasJpegStore, IsLocated};
+ghost use Rattle.c2_base.specs.declared.media.MediaError.{MediaError};
+ghost use Rattle.c2_spec.specs.Jpeg.Segments.{Segment};
+ghost use Rattle.c2_spec.specs.Jpeg.Places.{IsOfSegments, SegmentsFault};
 ghost use Rattle.c2_jpegseg.specs.Laws.{PacketsHoldTheStore};
 
 /// Whatever bytes a file has, it comes to one thing: a store in a range, no store, or a refusal.
@@ -27,4 +30,12 @@ pub fn store_bytes_are_of_the_file()
 /// behind them, don't have their number.
 pub fn packets_hold_the_store()
     ensures { PacketsHoldTheStore }
+{}
+
+/// A file comes to one list of segments that ends, or the first test of a marker or a length fails, and not both.
+pub fn segments_end_or_fail()
+    ensures one { (file : List ℕ) (xs ys : List Segment)
+        → IsOfSegments file xs → IsOfSegments file ys → xs ≡ ys }
+    ensures no_fault { (file : List ℕ) (segments : List Segment) (fault : MediaError)
+        → IsOfSegments file segments → SegmentsFault file fault → ⊥ }
 {}

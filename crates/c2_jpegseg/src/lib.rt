@@ -6,13 +6,21 @@
 
 mod laws;
 mod marker;
+mod numbers;
 mod packet;
+mod passing;
+mod peek;
+mod place;
 mod run;
 mod search;
 mod segment;
 mod window;
 mod writing;
 
-pub use laws::{each_file_is_located, packets_hold_the_store, store_bytes_are_of_the_file};
+pub use laws::{
+    each_file_is_located, packets_hold_the_store, segments_end_or_fail, store_bytes_are_of_the_file,
+};
+pub use numbers::free_number;
+pub use place::insert_place;
 pub use search::locate;
 pub use writing::{segments_len, write_segments};

@@ -7,9 +7,8 @@ ghost use Rattle.c2_jpegseg.specs.Causes.{IsCaused};
 ghost use Rattle.c2_base.specs.declared.limits.TheConstants.{FILE_LEN_LIMIT};
 ghost use Rattle.c2_spec.specs.declared.markers.TheConstants.{FILL};
 ghost use Rattle.c2_jpegseg.specs.Segments.{IsKind, FindsMarker, IsSizedOr, IsExtentBy, IsNextOr, IsNextBy, IsMarkerError};
-ghost use Rattle.c2_jpegseg.specs.Windows.{Shows};
 
-use crate::window::Window;
+use crate::window::Bytes;
 use c2_base::limits::FILE_LEN_LIMIT;
 use c2_base::{Failed, MediaError, Source};
 use c2_spec::markers::{EOI, FILL, RST0, RST7, SOI, SOS, TEM};
@@ -63,18 +62,18 @@ fn kind_of(marker: u8) -> Kind
 }
 
 /// The first byte from `at` on that isn't FF, in a source of `size` bytes.
-fn marker_from<S: Source>(
+fn marker_from<S: Source, W: Bytes>(
     source: &mut S,
-    window: &mut Window,
+    window: &mut W,
     at: u64,
     size: u64,
 ) -> Result<Option<Marker>, Failed>
     requires size { size ≡ S.len source.old }
     requires inside { at ≤ size }
-    requires shows { Shows (S.len source.old) (S.known source.old) window.old }
+    requires shows { W.shows (S.len source.old) (S.known source.old) window.old }
     ensures stays { StaysSource S.len S.known S.faults source.old source.new }
     ensures cause { HasCause (S.faults source.old) (S.faults source.new) result }
-    ensures shows { OnOk result (Shows (S.len source.old) (S.known source.old) window.new) }
+    ensures shows { OnOk result (W.shows (S.len source.old) (S.known source.old) window.new) }
     ensures inside { IfOk result (λ o. IfSome o (λ m. (at ≤ m.place) × (m.place < size))) }
     ensures code { IfOk result (λ o. IfSome o (λ m. m.code ≢ FILL)) }
     ensures place { IfOk result (FindsMarker (S.known source.old) at) }
@@ -89,9 +88,9 @@ fn marker_from<S: Source>(
 }
 
 /// The extent of the segment at `at`, whose marker has a length (ITU-T T.81, B.1.1.4).
-fn sized_at<S: Source>(
+fn sized_at<S: Source, W: Bytes>(
     source: &mut S,
-    window: &mut Window,
+    window: &mut W,
     at: u64,
     marker: Marker,
     size: u64,
@@ -100,11 +99,11 @@ fn sized_at<S: Source>(
     requires later { at < marker.place }
     requires inside { marker.place < size }
     requires bounded { size < FILE_LEN_LIMIT }
-    requires shows { Shows (S.len source.old) (S.known source.old) window.old }
+    requires shows { W.shows (S.len source.old) (S.known source.old) window.old }
     ensures stays { StaysSource S.len S.known S.faults source.old source.new }
     ensures count { OnOk result (S.faults source.new ≡ S.faults source.old) }
     ensures cause { IfErr result (IsCaused (S.faults source.old) (S.faults source.new)) }
-    ensures shows { OnOk result (Shows (S.len source.old) (S.known source.old) window.new) }
+    ensures shows { OnOk result (W.shows (S.len source.old) (S.known source.old) window.new) }
     ensures inside { IfOk result (IsExtentBy at size) }
     ensures error { IfErr result (IsMarkerError at size) }
     ensures sized { ForSome (S.known source.old) (λ file. IsSizedOr file at marker result) }
@@ -130,20 +129,20 @@ fn sized_at<S: Source>(
 }
 
 /// What is at a place: the end of the segments, a segment, or the first fault of its marker and length (ITU-T T.81, B.1.1).
-pub fn segment_at<S: Source>(
+pub fn segment_at<S: Source, W: Bytes>(
     source: &mut S,
-    window: &mut Window,
+    window: &mut W,
     at: u64,
     size: u64,
 ) -> Result<Next, MediaError>
     requires size { size ≡ S.len source.old }
     requires inside { at ≤ size }
     requires bounded { size < FILE_LEN_LIMIT }
-    requires shows { Shows (S.len source.old) (S.known source.old) window.old }
+    requires shows { W.shows (S.len source.old) (S.known source.old) window.old }
     ensures stays { StaysSource S.len S.known S.faults source.old source.new }
     ensures count { OnOk result (S.faults source.new ≡ S.faults source.old) }
     ensures cause { IfErr result (IsCaused (S.faults source.old) (S.faults source.new)) }
-    ensures shows { OnOk result (Shows (S.len source.old) (S.known source.old) window.new) }
+    ensures shows { OnOk result (W.shows (S.len source.old) (S.known source.old) window.new) }
     ensures inside { IfOk result (IsNextBy at size) }
     ensures error { IfErr result (IsMarkerError at size) }
     ensures next { ForSome (S.known source.old) (λ file. IsNextOr file at result) }

@@ -19,19 +19,23 @@ use crate::marker::{self, Extent, Next};
 use crate::packet::{self, Packet};
 use crate::run::Run;
 use crate::segment;
-use crate::window::Window;
+use crate::window::{Bytes, Window};
 use c2_base::limits::FILE_LEN_LIMIT;
 use c2_base::{Blob, Failed, Found, MediaError, Source};
 use c2_spec::markers::{APP11, FILL, SOI};
 use std::alloc::Global;
 
 /// Whether the file begins with SOI.
-fn is_jpeg<S: Source>(source: &mut S, window: &mut Window, size: u64) -> Result<bool, Failed>
+pub(crate) fn is_jpeg<S: Source, W: Bytes>(
+    source: &mut S,
+    window: &mut W,
+    size: u64,
+) -> Result<bool, Failed>
     requires size { size ≡ S.len source.old }
-    requires shows { Shows (S.len source.old) (S.known source.old) window.old }
+    requires shows { W.shows (S.len source.old) (S.known source.old) window.old }
     ensures stays { StaysSource S.len S.known S.faults source.old source.new }
     ensures cause { HasCause (S.faults source.old) (S.faults source.new) result }
-    ensures shows { OnOk result (Shows (S.len source.old) (S.known source.old) window.new) }
+    ensures shows { OnOk result (W.shows (S.len source.old) (S.known source.old) window.new) }
     ensures inside { IfOk result (λ b. b ≡ true → 2 ≤ size) }
     ensures begun { IfOk result (λ b. ForSome (S.known source.old) (λ file. IsBegun file b)) }
 {
@@ -44,7 +48,11 @@ fn is_jpeg<S: Source>(source: &mut S, window: &mut Window, size: u64) -> Result<
 }
 
 /// Makes the window show the segment's payload, where it may be a packet.
-fn load_packet<S: Source>(source: &mut S, window: &mut Window, extent: Extent) -> Result<(), Failed>
+pub(crate) fn load_packet<S: Source>(
+    source: &mut S,
+    window: &mut Window,
+    extent: Extent,
+) -> Result<(), Failed>
     requires inside { extent.end ≤ S.len source.old }
     requires ordered { extent.body ≤ extent.end }
     requires short { extent.end ≤ extent.body + longest_payload }
@@ -61,7 +69,7 @@ fn load_packet<S: Source>(source: &mut S, window: &mut Window, extent: Extent) -
 }
 
 /// The packet that the segment is.
-fn packet_at(window: &Window, extent: Extent) -> Option<Packet<'_>>
+pub(crate) fn packet_at(window: &Window, extent: Extent) -> Option<Packet<'_>>
     requires ordered { extent.body ≤ extent.end }
     requires short { extent.end ≤ extent.body + longest_payload }
     requires covers { CoversPacket window.now extent }

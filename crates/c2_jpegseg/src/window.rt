@@ -19,8 +19,25 @@ pub struct Window {
     pub used: usize,
 }
 
+/// Bytes of a source that are shown one at a time.
+pub trait Bytes {
+    ghost use Rattle.c2_jpegseg.specs.Windows.{IsByteAt};
+
+    // these are shown of a source of this length, whose bytes are these where they are known
+    ghost shows: { ℕ → Option (List ℕ) → Self → Type 0 };
+
+    /// The byte at `pos`.
+    fn byte_at<S: Source>(&mut self, source: &mut S, pos: u64) -> Result<u8, Failed>
+        requires inside { pos < S.len source.old }
+        requires shows { shows (S.len source.old) (S.known source.old) self.old }
+        ensures stays { StaysSource S.len S.known S.faults source.old source.new }
+        ensures cause { HasCause (S.faults source.old) (S.faults source.new) result }
+        ensures shows { OnOk result (shows (S.len source.old) (S.known source.old) self.new) }
+        ensures byte { IfOk result (IsByteAt (S.known source.old) pos) };
+}
+
 /// Fills the first `count` bytes of `bytes` with those from `pos` on.
-fn fill_first<S: Source>(
+pub fn fill_first<S: Source>(
     source: &mut S,
     pos: u64,
     bytes: &mut [u8],
@@ -79,16 +96,14 @@ impl Window {
         self.used = room;
         Ok(())
     }
+}
 
-    /// The byte at `pos`.
-    pub fn byte_at<S: Source>(&mut self, source: &mut S, pos: u64) -> Result<u8, Failed>
-        requires inside { pos < S.len source.old }
-        requires shows { Shows (S.len source.old) (S.known source.old) self.old }
-        ensures stays { StaysSource S.len S.known S.faults source.old source.new }
-        ensures cause { HasCause (S.faults source.old) (S.faults source.new) result }
-        ensures shows { OnOk result (Shows (S.len source.old) (S.known source.old) self.new) }
-        ensures byte { IfOk result (IsByteAt (S.known source.old) pos) }
-    {
+impl Bytes for Window {
+    ghost use Rattle.c2_jpegseg.specs.Windows.{Shows};
+
+    ghost shows = { Shows };
+
+    fn byte_at<S: Source>(&mut self, source: &mut S, pos: u64) -> Result<u8, Failed> {
         self.load(source, pos, 1)?;
         let bytes = self.bytes.as_slice();
         Ok(bytes[(pos - self.from) as usize])

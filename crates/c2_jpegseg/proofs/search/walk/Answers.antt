@@ -5,6 +5,7 @@ use Rattle.c2_jpegseg.specs.Runs.{collected, all_collected}
 use Rattle.c2_jpegseg.specs.Walks.{Walks}
 use Rattle.c2_jpegseg.proofs.Outside.{or_outside-map}
 use Rattle.c2_jpegseg.proofs.Steps.{refuse-marker, refuse-end, store-here, no-store}
+use Rattle.c2_jpegseg.specs.Windows.{Shows}
 use Rattle.c2_jpegseg.proofs.WindowLemmas.{shows_same}
 use Rattle.c2_jpegseg.proofs.search.walk.Goals as goal
 
@@ -21,7 +22,7 @@ returns-in_err-step-clause-walked g c file known =
     let known' = before.stays.same_bytes ∙ known in
     let next = rw c.in-Segment.is at c.in_ok-extent.ensures.next in
     let size : length file ≡ g.S.Source.len c.args.source.now = g.met.S.Source.known_len c.args.source.now file known in
-    let shows = shows_same _ (length file) _ (Some file) _ (c.in_ok-extent.ensures.stays.same_len ∙ before.stays.same_len ∙ sym size) (c.in_ok-extent.ensures.stays.same_bytes ∙ known') c.in_ok-load_packet.ensures.shows in
+    let shows = shows_same Shows _ (length file) _ (Some file) _ (c.in_ok-extent.ensures.stays.same_len ∙ before.stays.same_len ∙ sym size) (c.in_ok-extent.ensures.stays.same_bytes ∙ known') c.in_ok-load_packet.ensures.shows in
     let p = err_from_is_err_and c.from_residual-in_err-step.result c.from_residual-in_err-step.ensures.1 in
     rw (p.1, p.2) (c.in_err-step.ensures.err file (record { extent = c.in-Segment.extent; walks = before.walks file known; stands = next file known'; ends = refl; packet_is = c.packet_at-packet.ensures.packet file shows }))
 
@@ -40,12 +41,12 @@ segments-preserved g c =
         later = omega (arith, load.stays.later, found.stays.later, before.stays.later);
       };
       count = load.cause.ok ∙ found.count ∙ before.count;
-      shows = shows_same _ _ _ _ _ (found.stays.same_len ∙ before.stays.same_len) (found.stays.same_bytes ∙ before.stays.same_bytes) load.shows;
+      shows = shows_same Shows _ _ _ _ _ (found.stays.same_len ∙ before.stays.same_len) (found.stays.same_bytes ∙ before.stays.same_bytes) load.shows;
       before = c.in_ok-step.ensures.ends;
       walks = λ file known.
           let known' = before.stays.same_bytes ∙ known in
           let size : length file ≡ g.S.Source.len c.args.source.now = g.met.S.Source.known_len c.args.source.now file known in
-          let shows = shows_same _ (length file) _ (Some file) _ (found.stays.same_len ∙ before.stays.same_len ∙ sym size) (found.stays.same_bytes ∙ known') load.shows in
+          let shows = shows_same Shows _ (length file) _ (Some file) _ (found.stays.same_len ∙ before.stays.same_len ∙ sym size) (found.stays.same_bytes ∙ known') load.shows in
           c.in_ok-step.ensures.ok file (record { extent = c.in-Segment.extent; walks = before.walks file known; stands = next file known'; ends = refl; packet_is = c.packet_at-packet.ensures.packet file shows });
     }
 

@@ -1,6 +1,6 @@
 use Rattle.std.proofs.Common.{◌∙◌, ap, get_or, ◌-◌}
 use Rattle.c2_jpegseg.proofs.WindowLemmas.{shown_byte}
-use Rattle.c2_jpegseg.proofs.window.Window.byte_at.Goals as goal
+use Rattle.c2_jpegseg.proofs.window.WindowBytes.byte_at.Goals as goal
 
 pub returns-clause-byte : goal.returns-clause-byte
 returns-clause-byte g c file known =

@@ -1,0 +1,26 @@
+-- What a walk over the segments of a JPEG file refuses that asks nothing of their packets.
+use Rattle.std.specs.Prelude.{◌≡◌, ℕ, ◌<◌, ◌≤◌, ⊤, List}
+use Rattle.c2_base.specs.declared.limits.TheConstants.{FILE_LEN_LIMIT}
+use Rattle.c2_base.specs.declared.media.MediaError.{MediaError}
+use Rattle.c2_base.specs.declared.media.MediaError.TheVariants.{NotMedia, FileTooLarge, Truncated, BadMarker, BadSegment, ReadFault}
+use Rattle.c2_spec.specs.Jpeg.Places.{SegmentsFault}
+use Rattle.c2_jpegseg.specs.Causes.{OrOutside}
+
+-- an error tells the first test of the file's segments that fails, unless it says nothing of the file
+abbrev pub TellsFault : List ℕ → MediaError → Type 0
+TellsFault file e = OrOutside e (SegmentsFault file e)
+
+-- What such a walk can refuse in a file of `len` bytes whose bytes aren't known: its length, its start or a place in it, or the
+-- source failed. It takes no memory.
+abbrev pub IsSegmentsRefusal : ℕ → MediaError → Type 0
+IsSegmentsRefusal len (FileTooLarge n) = (n ≡ len) × (FILE_LEN_LIMIT ≤ len)
+IsSegmentsRefusal len NotMedia = ⊤
+IsSegmentsRefusal len (Truncated n) = n ≡ len
+IsSegmentsRefusal len (BadMarker p) = p < len
+IsSegmentsRefusal len (BadSegment p) = p < len
+IsSegmentsRefusal len ReadFault = ⊤
+IsSegmentsRefusal len _ = ⊥
+
+-- the same, or out of memory
+abbrev pub IsSegmentsRefusalOr : ℕ → MediaError → Type 0
+IsSegmentsRefusalOr len e = OrOutside e (IsSegmentsRefusal len e)

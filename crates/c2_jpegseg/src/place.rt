@@ -1,0 +1,120 @@
+// The place in a JPEG file where the packets of a store go.
+ghost use Rattle.std.specs.Prelude.{◌≡◌, ◌+◌, ◌-◌, ◌^◌, ◌<◌, ◌≤◌, length, List, None, ◌++◌, ◌∷◌, [], OnOk, IfOk, IfErr};
+ghost use Rattle.std.specs.Option.{ForSome};
+ghost use Rattle.c2_base.specs.Source.{StaysSource};
+ghost use Rattle.c2_base.specs.declared.limits.TheConstants.{FILE_LEN_LIMIT};
+ghost use Rattle.c2_spec.specs.Located.{HasReason};
+ghost use Rattle.c2_spec.specs.PutIn.{taken_out};
+ghost use Rattle.c2_spec.specs.Jpeg.Segments.{Segment, segment_bytes};
+ghost use Rattle.c2_spec.specs.Jpeg.Places.{CanSkip, IsInsertPlace};
+ghost use Rattle.c2_jpegseg.specs.Causes.{IsCaused};
+ghost use Rattle.c2_jpegseg.specs.Fronts.{IsFront, HasFront};
+ghost use Rattle.c2_jpegseg.specs.Peeks.{Peeks};
+ghost use Rattle.c2_jpegseg.specs.Refusals.{TellsFault, IsSegmentsRefusal};
+ghost use Rattle.c2_jpegseg.specs.Walks.{Walks};
+
+use crate::marker::{self, Next};
+use crate::passing::is_inside;
+use crate::peek::Peek;
+use crate::search::is_jpeg;
+use c2_base::limits::FILE_LEN_LIMIT;
+use c2_base::{MediaError, Range, Source};
+use c2_spec::markers::APP0;
+
+/// The APP0 segments at the front of those that are kept: where they end in the file of these alone, and whether there are no
+/// others so far.
+#[derive(Clone, Copy, Debug, PartialEq, Eq)]
+struct Front {
+    end: u64,
+    only: bool,
+}
+
+// The front of the segments with one more, which has this marker and `len` bytes.
+fn grown(front: Front, marker: u8, len: u64) -> Front
+    requires { front.end + len < 2 ^ 64 }
+    ensures front { (ss : List Segment) (s : Segment) → s.marker ≡ marker
+        → length (segment_bytes s) ≡ len → IsFront front ss → IsFront result (ss ++ s ∷ []) }
+    ensures most { result.end ≤ front.end + len }
+{
+    if front.only && marker == APP0 {
+        return Front {
+            end: front.end + len,
+            only: true,
+        };
+    }
+    Front {
+        only: false,
+        ..front
+    }
+}
+
+// The front of the segments outside the range, in a file of `size` bytes that begins with SOI.
+fn front_of<S: Source>(
+    source: &mut S,
+    peek: &mut Peek,
+    size: u64,
+    skip: Range,
+) -> Result<Front, MediaError>
+    requires size { size ≡ S.len source.old }
+    requires inside { 2 ≤ size }
+    requires bounded { size < FILE_LEN_LIMIT }
+    requires shows { Peeks (S.len source.old) (S.known source.old) peek.old }
+    requires begun { ForSome (S.known source.old) (λ file. Walks file 2 None) }
+    ensures stays { StaysSource S.len S.known S.faults source.old source.new }
+    ensures count { OnOk result (S.faults source.new ≡ S.faults source.old) }
+    ensures cause { IfErr result (IsCaused (S.faults source.old) (S.faults source.new)) }
+    ensures error { IfErr result (IsSegmentsRefusal size) }
+    ensures front { IfOk result (λ front. ForSome (S.known source.old) (λ file.
+        HasFront file skip front)) }
+    ensures fault { IfErr result (λ e. ForSome (S.known source.old) (λ file.
+        TellsFault file e)) }
+{
+    let mut front = Front { end: 2, only: true };
+    let mut at: u64 = 2;
+    'segments: loop {
+        let Next::Segment(extent) = marker::segment_at(source, peek, at, size)? else {
+            break;
+        };
+        if !is_inside(skip, at, extent.end) {
+            front = grown(front, extent.marker, extent.end - at);
+        }
+        at = extent.end;
+    }
+    Ok(front)
+}
+
+/// The place behind SOI and the APP0 segments that follow it, in a JPEG file less the range `skip`: there the packets of a
+/// store go. It counts in bytes, in the file without the range, and lies inside that file. What is promised of the file's bytes
+/// holds where the range is empty, or is that of the file's store. Takes no memory.
+///
+/// All segments are walked, from the start up to the first scan or the end of the image, and nothing is asked of packets. The
+/// error is the first test that fails: `FileTooLarge`, `NotMedia`, and `Truncated`, `BadMarker` or `BadSegment` of a segment
+/// (ITU-T T.81, B.1.1); or `ReadFault` where the source failed.
+pub fn insert_place<S: Source>(source: &mut S, skip: Range) -> Result<u64, MediaError>
+    // Where the source's bytes are known.
+    ensures place { IfOk result (λ place. ForSome (S.known source.old) (λ file.
+        CanSkip file skip → IsInsertPlace (taken_out skip.start skip.length file) place)) }
+    ensures fault { IfErr result (λ e. ForSome (S.known source.old) (λ file.
+        TellsFault file e)) }
+
+    // These hold of every source, also of one whose bytes aren't known.
+    ensures within { IfOk result (λ place. place ≤ S.len source.old - skip.length) }
+    ensures refusal { IfErr result (IsSegmentsRefusal (S.len source.old)) }
+    ensures small { OnOk result (S.len source.old < FILE_LEN_LIMIT) }
+    ensures stays { StaysSource S.len S.known S.faults source.old source.new }
+    ensures count { OnOk result (S.faults source.new ≡ S.faults source.old) }
+    ensures reason { IfErr result
+        (HasReason (S.len source.old) (S.faults source.old) (S.faults source.new)) }
+{
+    let size = source.size()?;
+    if size >= FILE_LEN_LIMIT {
+        return Err(MediaError::FileTooLarge(size));
+    }
+    let mut peek = Peek::new(size);
+    if !is_jpeg(source, &mut peek, size)? {
+        return Err(MediaError::NotMedia);
+    }
+    let front = front_of(source, &mut peek, size, skip)?;
+    // A range that isn't one of whole segments could leave fewer bytes.
+    Ok(front.end.min(size.saturating_sub(skip.length)))
+}
