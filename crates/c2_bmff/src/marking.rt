@@ -170,6 +170,58 @@ fn add_range(ranges: &mut Vec<Range>, range: Range) -> Result<(), NoMemory>
     Ok(())
 }
 
+// Adds these ranges, one after the other.
+fn add_each(ranges: &mut Vec<Range>, others: &[Range]) -> Result<(), NoMemory>
+    requires fits { All (IsRangeWithin (2 ^ 64 - 1)) others.now }
+    requires fit { All (IsRangeWithin (2 ^ 64 - 1)) ranges.old.items }
+    ensures same { OnOk result ((i : ℕ) → is_excluded ranges.new.items i
+        ≡ (is_excluded ranges.old.items i || is_excluded others.now i)) }
+    ensures within { OnOk result ((n : ℕ) → All (IsRangeWithin n) ranges.old.items
+        → All (IsRangeWithin n) others.now → All (IsRangeWithin n) ranges.new.items) }
+{
+    for other in others {
+        add_range(ranges, *other)?;
+    }
+    Ok(())
+}
+
+/// Adds these ranges, joined where they overlap or touch. They are sorted for that.
+pub(crate) fn add_sorted(ranges: &mut Vec<Range>, others: &mut Vec<Range>) -> Result<(), NoMemory>
+    requires fits { All (IsRangeWithin (2 ^ 64 - 1)) others.old.items }
+    requires fit { All (IsRangeWithin (2 ^ 64 - 1)) ranges.old.items }
+    ensures same { OnOk result ((i : ℕ) → is_excluded ranges.new.items i
+        ≡ (is_excluded ranges.old.items i || is_excluded others.old.items i)) }
+    ensures within { OnOk result ((n : ℕ) → All (IsRangeWithin n) ranges.old.items
+        → All (IsRangeWithin n) others.old.items → All (IsRangeWithin n) ranges.new.items) }
+{
+    others.sort_unstable_by_key(|range| range.start);
+    add_each(ranges, others.as_slice())?;
+    Ok(())
+}
+
+/// Joins these ranges where there are `full` of them, and gives how many there may be before they are joined again: no fewer than twice
+/// as many as are left.
+pub(crate) fn join_full(
+    alloc: Global,
+    ranges: &mut Vec<Range>,
+    full: usize,
+) -> Result<usize, NoMemory>
+    requires fit { All (IsRangeWithin (2 ^ 64 - 1)) ranges.old.items }
+    ensures same { OnOk result ((i : ℕ)
+        → is_excluded ranges.new.items i ≡ is_excluded ranges.old.items i) }
+    ensures within { OnOk result ((n : ℕ) → All (IsRangeWithin n) ranges.old.items
+        → All (IsRangeWithin n) ranges.new.items) }
+{
+    if ranges.len() < full {
+        return Ok(full);
+    }
+    let mut all = Vec::new(alloc);
+    add_sorted(&mut all, ranges)?;
+    let most = all.len().saturating_mul(2).max(full);
+    *ranges = all;
+    Ok(most)
+}
+
 // A part of the box of this row, cut at the box's end.
 fn part_in(row: RootBox, part: Range) -> Range
     requires fits { row.start + row.length < 2 ^ 64 }

@@ -16,7 +16,7 @@ ghost use Rattle.c2_bmff.specs.declared.root_boxes.RootBox.{RootBox};
 use crate::children::children;
 use crate::entries::{Entry, entries_of};
 use crate::exclusion::Exclusion;
-use crate::marking::{is_whole, mark_row};
+use crate::marking::{add_sorted, is_whole, join_full, mark_row};
 use crate::paths::{Segment, enters};
 use crate::root_boxes::{RootBox, fill_first};
 use c2_base::{Failed, MediaError, NoMemory, Range, Source};
@@ -53,6 +53,9 @@ pub struct Level {
     next: usize,
     trails: Vec<Trail>,
 }
+
+// How many ranges are joined for the first time, of boxes inside one another as well.
+const JOINED_FROM: usize = 65_536;
 
 // Which siblings a step with this number means.
 fn coming_of(nth: Option<u32>) -> Coming
@@ -238,7 +241,39 @@ fn mark_each<S: Source>(
     Ok(())
 }
 
-// The same of the exclusion of this index.
+// The same, where the ranges of the box are joined before they are added.
+fn mark_here<S: Source>(
+    alloc: Global,
+    source: &mut S,
+    entries: &[Entry<'_>],
+    here: &[usize],
+    row: RootBox,
+    ranges: &mut Vec<Range>,
+) -> Result<(), MediaError>
+    requires inside { IsRowWithin (S.len source.old) row }
+    requires within { All (IsRangeWithin (S.len source.old)) ranges.old.items }
+    ensures same { OnOk result (ForSome (S.known source.old) (λ file.
+        (i : ℕ) → is_excluded ranges.new.items i
+        ≡ (is_excluded ranges.old.items i || list_any (through file entries.now i row) here.now))) }
+    ensures within { OnOk result (All (IsRangeWithin (S.len source.old)) ranges.new.items) }
+    ensures stays { StaysSource S.len S.known S.faults source.old source.new }
+    ensures count { OnOk result (S.faults source.new ≡ S.faults source.old) }
+    ensures cause { IfErr result (IsCaused (S.faults source.old) (S.faults source.new)) }
+    ensures outside { IfErr result (λ e. OrOutside e ⊥) }
+{
+    if is_whole(ranges, row) {
+        return Ok(());
+    }
+    let mut own = Vec::new(alloc);
+    match mark_each(source, entries, here, row, &mut own) {
+        Ok(()) => {}
+        Err(error) => return Err(error),
+    }
+    add_sorted(ranges, &mut own)?;
+    Ok(())
+}
+
+// Adds the positions that the exclusion of this index excludes through the box of this row.
 fn mark_entry<S: Source>(
     source: &mut S,
     entries: &[Entry<'_>],
@@ -295,7 +330,7 @@ fn visit<S: Source>(
     let mut here = Vec::new(alloc);
     let mut below = Vec::new(alloc);
     pass_all(entries, row, trails, &mut here, &mut below)?;
-    match mark_each(source, entries, &here, row, ranges) {
+    match mark_here(alloc, source, entries, &here, row, ranges) {
         Ok(()) => Ok(below),
         Err(error) => Err(error),
     }
@@ -445,11 +480,13 @@ fn walk<S: Source>(
     ensures cause { IfErr result (IsCaused (S.faults source.old) (S.faults source.new)) }
     ensures outside { IfErr result (λ e. OrOutside e ⊥) }
 {
+    let mut full = JOINED_FROM;
     'boxes: while let Some(level) = levels.pop() {
         match turn(alloc, source, entries, level, levels, ranges) {
             Ok(()) => {}
             Err(error) => return Err(error),
         }
+        full = join_full(alloc, ranges, full)?;
     }
     Ok(())
 }

@@ -5,7 +5,7 @@ import tempfile
 
 program, folder = sys.argv[1:3]
 for name, path in (("roots", "/free"), ("children", "/moov/trak")):
-    for mode in ("roots", "same", "nth", "entered", "tests", "parts"):
+    for mode in ("roots", "same", "nth", "entered", "tests", "parts", "apart"):
         with tempfile.NamedTemporaryFile() as told:
             run = subprocess.run(["/usr/bin/time", "-f", "%U %S %M", "-o", told.name, program, mode, path, f"{folder}/{name}"], capture_output=True, text=True)
             user, system, memory = told.read().split()[-3:]
