@@ -16,6 +16,9 @@ use crate::root_boxes::{RootBox, fill_first};
 use c2_base::{Blob, Failed, MediaError, NoMemory, Range, Source};
 use std::alloc::Global;
 
+// Among how many ranges a new one is looked for, so that parts of a small box that many exclusions name are few before they are sorted.
+const MOST_LOOKED_AT: usize = 8;
+
 // Whether the first `count` bytes are the same.
 fn is_same(bytes: &[u8], value: &[u8], count: usize) -> bool
     requires bytes { count ≤ length bytes.now }
@@ -170,6 +173,42 @@ fn add_range(ranges: &mut Vec<Range>, range: Range) -> Result<(), NoMemory>
     Ok(())
 }
 
+// Whether a range holds another one whole.
+fn holds_range(range: Range, other: Range) -> bool
+    ensures { result ≡ true → (i : ℕ) → holds i other ≡ true → holds i range ≡ true }
+{
+    range.start <= other.start
+        && other.length <= range.length
+        && other.start - range.start <= range.length - other.length
+}
+
+// Whether one of the last ranges holds this one whole.
+fn is_held(ranges: &[Range], range: Range) -> bool
+    ensures { result ≡ true → (i : ℕ) → holds i range ≡ true → is_excluded ranges.now i ≡ true }
+{
+    for k in ranges.len().saturating_sub(MOST_LOOKED_AT)..ranges.len() {
+        if holds_range(ranges[k], range) {
+            return true;
+        }
+    }
+    false
+}
+
+// Adds a range, where none of the last holds it already.
+fn add_new(ranges: &mut Vec<Range>, range: Range) -> Result<(), NoMemory>
+    requires fits { range.start + range.length < 2 ^ 64 }
+    requires fit { All (IsRangeWithin (2 ^ 64 - 1)) ranges.old.items }
+    ensures same { OnOk result ((i : ℕ) → is_excluded ranges.new.items i
+        ≡ (is_excluded ranges.old.items i || holds i range)) }
+    ensures within { OnOk result ((n : ℕ) → All (IsRangeWithin n) ranges.old.items
+        → IsRangeWithin n range → All (IsRangeWithin n) ranges.new.items) }
+{
+    if is_held(ranges, range) {
+        return Ok(());
+    }
+    add_range(ranges, range)
+}
+
 // Adds these ranges, one after the other.
 fn add_each(ranges: &mut Vec<Range>, others: &[Range]) -> Result<(), NoMemory>
     requires fits { All (IsRangeWithin (2 ^ 64 - 1)) others.now }
@@ -285,7 +324,7 @@ fn add_parts(ranges: &mut Vec<Range>, row: RootBox, parts: &[Range]) -> Result<(
         → row.start + row.length ≤ n → All (IsRangeWithin n) ranges.new.items) }
 {
     for part in parts {
-        add_range(ranges, part_in(row, *part))?;
+        add_new(ranges, part_in(row, *part))?;
         if ends_row(row, *part) {
             return Ok(());
         }

@@ -10,7 +10,7 @@ use Rattle.c2_bmff.proofs.marking.add_parts.Goals as goal
 pub loop-part-preserved : goal.loop-part-preserved
 loop-part-preserved c =
     let before = c.loop-part.invariant in
-    let call = c.in_ok-add_range.ensures in
+    let call = c.in_ok-add_new.ensures in
     let k = c.loop-part.part-index in
     record {
       same = λ i.
@@ -24,9 +24,9 @@ pub returns-then-ends_row-clause-same : goal.returns-then-ends_row-clause-same
 returns-then-ends_row-clause-same c i =
     let before = c.loop-part.invariant in
     let k = c.loop-part.part-index in
-    c.in_ok-add_range.ensures.same i ∙ ap₂ (λ (a b : Bool). a || b) (before.same i) (c.part_in.ensures.holds i)
+    c.in_ok-add_new.ensures.same i ∙ ap₂ (λ (a b : Bool). a || b) (before.same i) (c.part_in.ensures.holds i)
     ∙ rest_adds_nothing i c.args.row c.args.parts.now k no_range (is_excluded c.args.ranges.now.items i) c.requires.rising c.loop-part-test.true (λ later from. c.ends_row.ensures c.if-ends_row.true i later from)
 
 -- and no range ends after the old ones and the box do
 pub returns-then-ends_row-clause-within : goal.returns-then-ends_row-clause-within
-returns-then-ends_row-clause-within c = λ n old fits. c.in_ok-add_range.ensures.within n (c.loop-part.invariant.within n old fits) (omega (arith, c.part_in.ensures.within, fits))
+returns-then-ends_row-clause-within c = λ n old fits. c.in_ok-add_new.ensures.within n (c.loop-part.invariant.within n old fits) (omega (arith, c.part_in.ensures.within, fits))
