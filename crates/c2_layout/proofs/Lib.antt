@@ -1,0 +1,11 @@
+pub mod Lists
+pub mod ByIndex
+pub mod BoxLemmas
+pub mod Labels
+pub mod StoreTests
+pub mod WrittenStore
+pub mod Put
+pub mod SegmentsOnce
+pub mod StoreSize
+pub mod BuiltLemmas
+pub mod Spelled

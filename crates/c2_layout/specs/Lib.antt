@@ -1,0 +1,5 @@
+pub mod FreshBoxes
+pub mod Store
+pub mod Manifests
+pub mod Written
+pub mod Built

@@ -1,0 +1,50 @@
+//! Laws of what is written.
+
+ghost use Rattle.c2_layout.specs.Built.{StoreSizeIsFixed, BuiltFileIs, BuiltFileIsOne, BaseIsLeft, BuiltFileHasItsStore};
+ghost use Rattle.c2_layout.specs.Manifests.{ManifestsAreBoxes};
+ghost use Rattle.c2_layout.specs.Written.{NewStoreIsRead};
+
+use c2_assertion::a_written_data_hash_has_one_length;
+use c2_cbor::sorting_keeps_the_length;
+use c2_jpegseg::packets_hold_the_store;
+
+/// The manifests of a tree are the same, told by the indices of its boxes or by the boxes themselves.
+pub fn manifests_are_boxes()
+    ensures { ManifestsAreBoxes }
+{}
+
+/// The bytes of a new store spell one legal tree, which is a store: its manifests are those that are carried, and then the new one.
+pub fn a_new_store_is_read()
+    ensures { NewStoreIsRead }
+{}
+
+/// The length of a new store depends neither on the range in its binding nor on digests.
+pub fn a_new_store_has_one_length()
+    ensures { StoreSizeIsFixed }
+{
+    // Only the prover needs these laws.
+    sorting_keeps_the_length();
+    a_written_data_hash_has_one_length();
+}
+
+/// There is one file whose new store binds all that the file has outside the store's range, and this is it.
+pub fn a_built_file_is_one()
+    ensures is { BuiltFileIs }
+    ensures once { BuiltFileIsOne }
+{
+    // Only the prover needs these laws.
+    sorting_keeps_the_length();
+    a_written_data_hash_has_one_length();
+    packets_hold_the_store();
+}
+
+/// The built file has the new store in the new range; without that range it is what it was.
+pub fn a_built_file_has_its_store()
+    ensures store { BuiltFileHasItsStore }
+    ensures base { BaseIsLeft }
+{
+    // Only the prover needs these laws.
+    sorting_keeps_the_length();
+    a_written_data_hash_has_one_length();
+    packets_hold_the_store();
+}
