@@ -25,7 +25,7 @@ use Rattle.c2_jpegseg.proofs.PacketRuns.{no-packet-next, other-packet-next}
 use Rattle.c2_jpegseg.proofs.Steps.{no-fault, part-in, started, continued, passed, store-in}
 
 -- each is a byte
-abbrev Bytes : List ℕ → Type 0
+abbrev pub Bytes : List ℕ → Type 0
 Bytes xs = AllByRecursion (λ b. b < 256) xs
 
 -- the fill before a list of bytes, and what follows it
@@ -43,7 +43,7 @@ filled (x ∷ xs) h = ⊎_elim (λ same. extend same (filled xs h.1)) (λ other.
     extend same (fill_then fill m more shape other low bytes) = fill_then (suc fill) m more (ap (λ y. y ∷ xs) same ∙ ap (λ (ys : List ℕ). 255 ∷ ys) shape) other low bytes
 
 -- with what the rest of a file begins: the end of the segments, a fault, or a segment
-data Front (p : ℕ) (rest : List ℕ) : Type 0 where
+pub data Front (p : ℕ) (rest : List ℕ) : Type 0 where
   stops : EndsSegments rest → Front p rest
   breaks : (e : MediaError) → MarkerFault p rest e → Front p rest
   goes : (s : Segment) (more : List ℕ) → IsSegment s → rest ≡ segment_bytes s ++ more → Front p rest
@@ -113,7 +113,7 @@ marker_front p rest fill m more shape other low h =
     side a b c = ⊎_elim (λ small. inl small) (λ large. inr (omega (arith, large, a, b, c))) (cases_lt m 0xD8)
 
 -- each rest of a file begins so
-front_of : (p : ℕ) (rest : List ℕ) → Bytes rest → Front p rest
+pub front_of : (p : ℕ) (rest : List ℕ) → Bytes rest → Front p rest
 front_of p rest h = go (filled rest h)
   where
     go : Filled rest → Front p rest
@@ -271,7 +271,7 @@ at_the_end file segments rest (Some r) w state ends = ⊎_elim
     (cases_lt (length r.store) r.total)
 
 -- a segment has bytes
-shorter : (s : Segment) (rest more : List ℕ) → rest ≡ segment_bytes s ++ more → length more < length rest
+pub shorter : (s : Segment) (rest more : List ℕ) → rest ≡ segment_bytes s ++ more → length more < length rest
 shorter s rest more shape =
     let whole : length rest ≡ length (segment_bytes s) + length more = ap length shape ∙ length-append (segment_bytes s) more in
     let parts : length (segment_bytes s) ≡ length (marker_bytes s.fill s.marker) + length (after_marker s) = length-append (marker_bytes s.fill s.marker) (after_marker s) in

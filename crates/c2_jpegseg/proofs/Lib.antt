@@ -21,3 +21,5 @@ pub mod OneList
 pub mod Kept
 pub mod NumberMarks
 pub mod Fronts
+pub mod EachList
+pub mod PlaceRows

@@ -17,6 +17,7 @@ use Rattle.c2_jpegseg.proofs.WrittenRuns.{Holds, IsFrame, piece, all_packets, al
 
 -- ---- the first packet
 
+-- a packet with this number, header and piece is the first of a C2PA store
 first_test : (p : Packet) (len : ℕ) → p.z ≡ 1 → p.header ≡ head_of len → 24 ≤ length p.body → take 4 (drop 4 p.body) ≡ to_be_bytes w32 JUMD → take 16 (drop 8 p.body) ≡ STORE_TYPE → is_first_packet p ≡ true
 unfolding is_first_packet
 first_test p len z h n d t =
@@ -38,14 +39,16 @@ record IsFirstBody (body : List ℕ) : Type 0 where
 first_body : (store : List ℕ) → IsPacketStore store → IsFirstBody (take PACKET_BODY_LEN (drop 8 store))
 first_body store h = record {
   long = omega (arith, length-take PACKET_BODY_LEN (drop 8 store), length-drop 8 store, h.sized.least);
-  described = ap (take 4) (drop-take 4 63980 (drop 8 store)) ∙ take-take 4 63980 (drop 4 (drop 8 store)) (omega arith) ∙ ap (take 4) (drop-drop 4 8 store) ∙ h.described;
-  of_c2pa = ap (take 16) (drop-take 8 63976 (drop 8 store)) ∙ take-take 16 63976 (drop 8 (drop 8 store)) (omega arith) ∙ ap (take 16) (drop-drop 8 8 store) ∙ h.of_c2pa;
+  described = ap (take 4) (drop-take 4 (PACKET_BODY_LEN - 4) (drop 8 store)) ∙ take-take 4 (PACKET_BODY_LEN - 4) (drop 4 (drop 8 store)) (omega arith) ∙ ap (take 4) (drop-drop 4 8 store) ∙ h.described;
+  of_c2pa = ap (take 16) (drop-take 8 (PACKET_BODY_LEN - 8) (drop 8 store)) ∙ take-take 16 (PACKET_BODY_LEN - 8) (drop 8 (drop 8 store)) (omega arith) ∙ ap (take 16) (drop-drop 8 8 store) ∙ h.of_c2pa;
 }
 
+-- as a segment it begins a store
 start_of : (s : Segment) → is_packet s ≡ true → is_first_packet (packet_in s) ≡ true → is_store_start s ≡ true
 unfolding is_store_start
 start_of s p f = and_from (is_packet s) (is_first_packet (packet_in s)) p f
 
+-- so does the first packet that is written
 begins : (store : List ℕ) (en : ℕ) → IsPacketStore store → en ≤ 0xFFFF → is_store_start (made (length store) en 1 (take PACKET_BODY_LEN (drop 8 store))) ≡ true
 begins store en h le =
     let f : IsFrame (length store) en = frame store en h le in
@@ -59,6 +62,7 @@ begins store en h le =
 
 -- ---- no stray
 
+-- a segment without the number is no stray packet
 not_stray : (en : ℕ) (s : Segment) → has_number en s ≡ false → is_stray en s ≡ false
 unfolding is_stray is_further_packet
 not_stray en s h = go (is_packet s) (header_tbox (packet_in s).header == JUMB) ((packet_in s).en == en) (not ((packet_in s).z == 1)) h
@@ -69,6 +73,7 @@ not_stray en s h = go (is_packet s) (header_tbox (packet_in s).header == JUMB) (
     go true true false d e = refl
     go true true true d e = absurd (cc (e))
 
+-- nor is one of several
 pub none_stray : (en a : ℕ) (ss : List Segment) → a ≡ en → is_taken ss en ≡ false → AllByRecursion (λ s. is_stray a s ≡ false) ss
 none_stray en a [] e h = tt
 none_stray en a (s ∷ ss) e h =
@@ -113,6 +118,7 @@ run_holds store en j before after h le count no_before no_after free =
       for = refl;
     }
 
+-- the packets of a store hold it, wherever they stand
 pub packets_hold : (store : List ℕ) (en : ℕ) (before after : List Segment) → IsPacketStore store → en ≤ 0xFFFF
     → AllByRecursion (λ s. is_store_start s ≡ false) before → AllByRecursion (λ s. is_store_start s ≡ false) after → is_taken after en ≡ false
     → HoldsStore (before ++ (packets_of store en ++ after)) (place_after before) (length (packets_bytes store en)) store

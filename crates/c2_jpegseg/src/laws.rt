@@ -1,12 +1,12 @@
 //! Laws of what a JPEG file comes to, and of the bytes of its store.
 
-ghost use Rattle.std.specs.Prelude.{◌≡◌, ◌^◌, ◌<◌, ℕ, List};
+ghost use Rattle.std.specs.Prelude.{◌≡◌, ◌^◌, ◌<◌, ◌⊎◌, ℕ, List, Option};
 ghost use Rattle.std.specs.List.{All, Contains};
 ghost use Rattle.c2_spec.specs.Located.{Located};
 ghost use Rattle.c2_spec.specs.Jpeg.Store.{HasJpegStore, IsLocated};
 ghost use Rattle.c2_base.specs.declared.media.MediaError.{MediaError};
 ghost use Rattle.c2_spec.specs.Jpeg.Segments.{Segment};
-ghost use Rattle.c2_spec.specs.Jpeg.Places.{IsOfSegments, SegmentsFault};
+ghost use Rattle.c2_spec.specs.Jpeg.Places.{IsOfSegments, SegmentsFault, IsInsertPlace, HasNumber};
 ghost use Rattle.c2_jpegseg.specs.Laws.{PacketsHoldTheStore};
 
 /// Whatever bytes a file has, it comes to one thing: a store in a range, no store, or a refusal.
@@ -32,10 +32,23 @@ pub fn packets_hold_the_store()
     ensures { PacketsHoldTheStore }
 {}
 
-/// A file comes to one list of segments that ends, or the first test of a marker or a length fails, and not both.
+/// Whatever bytes a file has, it is one list of segments that ends, or one first test of a marker or a length fails, and not both.
 pub fn segments_end_or_fail()
+    ensures each { (file : List ℕ) → All (λ b. b < 2 ^ 8) file
+        → ((segments : List Segment) × IsOfSegments file segments)
+        ⊎ ((fault : MediaError) × SegmentsFault file fault) }
     ensures one { (file : List ℕ) (xs ys : List Segment)
         → IsOfSegments file xs → IsOfSegments file ys → xs ≡ ys }
     ensures no_fault { (file : List ℕ) (segments : List Segment) (fault : MediaError)
         → IsOfSegments file segments → SegmentsFault file fault → ⊥ }
+    ensures one_fault { (file : List ℕ) (e f : MediaError)
+        → SegmentsFault file e → SegmentsFault file f → e ≡ f }
+{}
+
+/// The packets of a store go to one place in a file, and one number is free for them, or none.
+pub fn place_and_number_are_one()
+    ensures place { (file : List ℕ) (p q : ℕ)
+        → IsInsertPlace file p → IsInsertPlace file q → p ≡ q }
+    ensures number { (file : List ℕ) (m n : Option ℕ)
+        → HasNumber file m → HasNumber file n → m ≡ n }
 {}

@@ -18,7 +18,8 @@ mod window;
 mod writing;
 
 pub use laws::{
-    each_file_is_located, packets_hold_the_store, segments_end_or_fail, store_bytes_are_of_the_file,
+    each_file_is_located, packets_hold_the_store, place_and_number_are_one, segments_end_or_fail,
+    store_bytes_are_of_the_file,
 };
 pub use numbers::free_number;
 pub use place::insert_place;

@@ -23,7 +23,7 @@ pub struct Window {
 pub trait Bytes {
     ghost use Rattle.c2_jpegseg.specs.Windows.{IsByteAt};
 
-    // these are shown of a source of this length, whose bytes are these where they are known
+    // it shows a source of this length that has these bytes, where they are known
     ghost shows: { ℕ → Option (List ℕ) → Self → Type 0 };
 
     /// The byte at `pos`.

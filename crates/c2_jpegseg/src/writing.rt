@@ -21,7 +21,9 @@ fn packet_count(store_len: u64) -> u64
         .max(1)
 }
 
-/// How many bytes the packets of a store of this length have. Takes no memory.
+/// How many bytes the packets of a store of this length have, which must be from 38 to 33,554,432 bytes: 20 for each packet, of
+/// which there is one for each 63,984 bytes behind the store's header or part of them, and the store less its header of 8 bytes
+/// (ISO/IEC 18477-3, annex B.2). Takes no memory.
 pub fn segments_len(store_len: u64) -> u64
     requires { jpeg.IsStoreLen store_len }
     ensures { result ≡ jpeg.segments_len store_len }
@@ -29,7 +31,7 @@ pub fn segments_len(store_len: u64) -> u64
     PACKET_FRAME_LEN * packet_count(store_len) + store_len - PACKET_HEADER_LEN
 }
 
-// What a packet has before its box header: marker, length, identifier, number and place.
+// What a packet has before its box header: marker, length, identifier, box instance number and packet sequence number.
 fn head_of(en: u16, z: u32, body_len: usize) -> [u8; 12]
     requires { body_len ≤ PACKET_BODY_LEN }
     ensures { result ≡ packet_head en z body_len }
@@ -101,8 +103,9 @@ fn put_packets<K: Sink>(sink: &mut K, store: &[u8], en: u16) -> Result<(), Faile
 
 /// Appends the packets of a store under this number. Takes no memory.
 ///
-/// The store has a 4-byte length that is its own, and begins with the description of a C2PA store. `Failed` comes only where
-/// the sink failed, and never within its stated spare; a prefix of the packets was appended then.
+/// The store must have from 38 to 33,554,432 bytes. It begins with a 4-byte length that is its own, `jumb`, and a description with
+/// the type of a C2PA store. The packets have as many bytes as `segments_len` says. `Failed` comes only where the sink failed,
+/// and never where its stated spare holds all packets; a prefix of them was appended then.
 pub fn write_segments<K: Sink>(store: &[u8], en: u16, sink: &mut K) -> Result<(), Failed>
     requires { jpeg.IsPacketStore store.now }
     ensures written { OnOk result

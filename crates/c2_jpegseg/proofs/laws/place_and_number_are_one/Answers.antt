@@ -1,0 +1,8 @@
+use Rattle.c2_jpegseg.proofs.OneList.{one_place, one_number}
+use Rattle.c2_jpegseg.proofs.laws.place_and_number_are_one.Goals as goal
+
+pub returns-clause-place : goal.returns-clause-place
+returns-clause-place c = one_place
+
+pub returns-clause-number : goal.returns-clause-number
+returns-clause-number c = one_number
