@@ -3,7 +3,7 @@
 ghost use Rattle.std.specs.Prelude.{◌≡◌, ◌^◌, ◌<◌, ◌⊎◌, ℕ, List, Option};
 ghost use Rattle.std.specs.List.{All, Contains};
 ghost use Rattle.c2_spec.specs.Located.{Located};
-ghost use Rattle.c2_spec.specs.Jpeg.Store.{HasJpegStore, IsLocated};
+ghost use Rattle.c2_spec.specs.Jpeg.Store.{HasJpegStore, HasNoJpegStore, IsLocated};
 ghost use Rattle.c2_base.specs.declared.media.MediaError.{MediaError};
 ghost use Rattle.c2_spec.specs.Jpeg.Segments.{Segment};
 ghost use Rattle.c2_spec.specs.Jpeg.Places.{IsOfSegments, SegmentsFault, IsInsertPlace, HasNumber};
@@ -51,4 +51,13 @@ pub fn place_and_number_are_one()
         → IsInsertPlace file p → IsInsertPlace file q → p ≡ q }
     ensures number { (file : List ℕ) (m n : Option ℕ)
         → HasNumber file m → HasNumber file n → m ≡ n }
+{}
+
+/// In a file that has a store, or has none, no test of a marker or a length fails: it is one list of segments.
+pub fn a_located_file_is_segments()
+    ensures store { (file : List ℕ) (start len : ℕ) (store : List ℕ)
+        → HasJpegStore file start len store
+        → (segments : List Segment) × IsOfSegments file segments }
+    ensures none { (file : List ℕ)
+        → HasNoJpegStore file → (segments : List Segment) × IsOfSegments file segments }
 {}

@@ -1,7 +1,7 @@
 //! The segments of a JPEG file, and the C2PA store in its packets.
 //!
 //! What a segment, a packet, a store and a refusal are is defined in `c2_spec`, in `Jpeg.Segments`, `Jpeg.Packets` and
-//! `Jpeg.Store`.
+//! `Jpeg.Store`; the packets that are written, their place and their number in `Jpeg.Writing` and `Jpeg.Places`.
 #![tactic(auto)]
 
 mod laws;
@@ -18,8 +18,8 @@ mod window;
 mod writing;
 
 pub use laws::{
-    each_file_is_located, packets_hold_the_store, place_and_number_are_one, segments_end_or_fail,
-    store_bytes_are_of_the_file,
+    a_located_file_is_segments, each_file_is_located, packets_hold_the_store,
+    place_and_number_are_one, segments_end_or_fail, store_bytes_are_of_the_file,
 };
 pub use numbers::free_number;
 pub use place::insert_place;
