@@ -9,3 +9,8 @@ pub mod SegmentsOnce
 pub mod StoreSize
 pub mod BuiltLemmas
 pub mod Spelled
+pub mod GoodItems
+pub mod Uris
+pub mod WrittenItems
+pub mod NewRules
+pub mod FreshFile

@@ -3,3 +3,4 @@ pub mod Store
 pub mod Manifests
 pub mod Written
 pub mod Built
+pub mod Fresh

@@ -1,12 +1,17 @@
 //! Laws of what is written.
 
 ghost use Rattle.c2_layout.specs.Built.{StoreSizeIsFixed, BuiltFileIs, BuiltFileIsOne, BaseIsLeft, BuiltFileHasItsStore};
+ghost use Rattle.c2_layout.specs.Fresh.{FreshFileMeets};
 ghost use Rattle.c2_layout.specs.Manifests.{ManifestsAreBoxes};
 ghost use Rattle.c2_layout.specs.Written.{NewStoreIsRead};
 
-use c2_assertion::a_written_data_hash_has_one_length;
-use c2_cbor::sorting_keeps_the_length;
+use c2_assertion::{
+    a_written_data_hash_has_one_length, a_written_data_hash_is_read, written_items_are_in_order,
+};
+use c2_cbor::{round_trip, sorting_keeps_the_length};
+use c2_claim::a_written_claim_is_read;
 use c2_jpegseg::packets_hold_the_store;
+use c2_uri::written_uris_are_read;
 
 /// The manifests of a tree are the same, told by the indices of its boxes or by the boxes themselves.
 pub fn manifests_are_boxes()
@@ -46,5 +51,21 @@ pub fn a_built_file_has_its_store()
     // Only the prover needs these laws.
     sorting_keeps_the_length();
     a_written_data_hash_has_one_length();
+    packets_hold_the_store();
+}
+
+/// A file that is built of a JPEG file without a store has the new store, meets each rule but the verdict on its message, and asks
+/// one question: that of its message over its claim.
+pub fn a_fresh_file_meets_the_rules()
+    ensures { FreshFileMeets }
+{
+    // Only the prover needs these laws.
+    sorting_keeps_the_length();
+    round_trip();
+    a_written_data_hash_has_one_length();
+    a_written_data_hash_is_read();
+    written_items_are_in_order();
+    a_written_claim_is_read();
+    written_uris_are_read();
     packets_hold_the_store();
 }

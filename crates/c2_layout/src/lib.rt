@@ -1,12 +1,12 @@
 //! What is written into a media file: the bytes and sizes of a new store, and the file that it is put into.
 //!
-//! The definitions stand in `specs/`. Their laws stand here: what is written has one length and is read as what was meant, and the
-//! new file is one.
+//! The definitions stand in `specs/`. Their laws stand here: what is written has one length and is read as what was meant, the new
+//! file is one, and it meets the rules.
 #![tactic(auto)]
 
 mod laws;
 
 pub use laws::{
-    a_built_file_has_its_store, a_built_file_is_one, a_new_store_has_one_length,
-    a_new_store_is_read, manifests_are_boxes,
+    a_built_file_has_its_store, a_built_file_is_one, a_fresh_file_meets_the_rules,
+    a_new_store_has_one_length, a_new_store_is_read, manifests_are_boxes,
 };
