@@ -14,3 +14,4 @@ pub mod Uris
 pub mod WrittenItems
 pub mod NewRules
 pub mod FreshFile
+pub mod BuildRows

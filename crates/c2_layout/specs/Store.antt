@@ -37,13 +37,13 @@ abbrev pub assertion_boxes : List NewAssertion → Trees
 assertion_boxes [] = none
 assertion_boxes (a ∷ others) = more (assertion_box a) (assertion_boxes others)
 
+-- the reference to the assertion with this label in its own manifest, with this digest
+abbrev pub own_ref : List ℕ → List ℕ → Ref
+own_ref label digest = record { url = uri_text (record { manifest = None; target = assertion label }); hash = digest; alg = None }
+
 -- the reference to a new assertion in its own manifest's claim, where `hash` gives the digest of a list
 abbrev pub entry_of : (List ℕ → List ℕ) → NewAssertion → Ref
-entry_of hash a = record {
-  url = uri_text (record { manifest = None; target = assertion a.label });
-  hash = hash (contents_of (assertion_box a));
-  alg = None;
-}
+entry_of hash a = own_ref a.label (hash (contents_of (assertion_box a)))
 
 -- ---- the binding
 

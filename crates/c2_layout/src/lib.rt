@@ -4,8 +4,14 @@
 //! file is one, and it meets the rules.
 #![tactic(auto)]
 
+mod binding;
+mod boxes;
+mod entries;
 mod laws;
 
+pub use binding::data_binding;
+pub use boxes::write_assertion;
+pub use entries::own_ref;
 pub use laws::{
     a_built_file_has_its_store, a_built_file_is_one, a_fresh_file_meets_the_rules,
     a_new_store_has_one_length, a_new_store_is_read, manifests_are_boxes,

@@ -1,0 +1,33 @@
+// The binding of a new file to what it has outside the new store.
+ghost use Rattle.std.specs.Prelude.{◌≡◌, IfOk};
+ghost use Rattle.c2_layout.specs.Store as store;
+
+use c2_assertion::{DataHash, write_data_hash};
+use c2_base::{Blob, NoMemory, Range, Ranges, Text};
+use c2_cbor::encode;
+use c2_definition::{NewAssertion, Payload};
+use std::alloc::Global;
+
+/// The assertion that binds a file by the SHA-256 digest of what it has outside this range.
+pub fn data_binding(alloc: Global, range: Range, digest: &[u8]) -> Result<NewAssertion, NoMemory>
+    ensures { IfOk result (λ a. a ≡ store.data_binding range.start range.length digest.now) }
+{
+    let mut ranges = Vec::new(alloc);
+    ranges.push(range)?;
+    let hash = DataHash {
+        exclusions: Ranges::from_list(ranges),
+        alg: Some(Text::copied(alloc, "sha256")?),
+        hash: Blob::copied(alloc, digest)?,
+    };
+    let item = write_data_hash(alloc, &hash)?;
+    // The item is legal: nothing but memory fails.
+    let Ok(bytes) = encode(alloc, &item) else {
+        return Err(NoMemory);
+    };
+    let label = Text::copied(alloc, "c2pa.hash.data")?;
+    Ok(NewAssertion {
+        label,
+        kind: Payload::Cbor,
+        bytes,
+    })
+}

@@ -1,0 +1,68 @@
+// Boxes of a new manifest.
+ghost use Rattle.std.specs.Prelude.{◌≡◌, ◌+◌, ◌<◌, ◌⊎◌, IfOk, IfErr, length};
+ghost use Rattle.c2_base.specs.declared.limits.TheConstants.{MAX_STORE_LEN};
+ghost use Rattle.c2_spec.specs.C2pa.Manifest as manifest;
+ghost use Rattle.c2_spec.specs.Jumbf.Tree.{tree_bytes, more, none};
+ghost use Rattle.c2_spec.specs.Jumbf.Writing.{IsWrittenLabel};
+ghost use Rattle.c2_layout.specs.FreshBoxes.{fresh_box, fresh_leaf};
+ghost use Rattle.c2_layout.specs.Store as store;
+
+use c2_base::Blob;
+use c2_definition::{NewAssertion, Payload};
+use c2_jumbf::{WriteError, write_leaf, write_super};
+use std::alloc::Global;
+
+// The type UUID that begins with these four bytes.
+fn type_uuid(name: [u8; 4]) -> [u8; 16]
+    ensures { result ≡ manifest.type_uuid name }
+{
+    let [a, b, c, d] = name;
+    [
+        a, b, c, d, 0x00, 0x11, 0x00, 0x10, 0x80, 0x00, 0x00, 0xAA, 0x00, 0x38, 0x9B, 0x71,
+    ]
+}
+
+// A superbox of this type with one content box of this kind.
+fn write_one(
+    alloc: Global,
+    name: [u8; 4],
+    label: &str,
+    kind: [u8; 4],
+    bytes: &[u8],
+) -> Result<Blob, WriteError>
+    ensures ok { IfOk result (λ b. b
+        ≡ tree_bytes (fresh_box name label.now (more (fresh_leaf kind bytes.now) none))) }
+    ensures err { IfErr result (λ e. (e ≡ WriteError.NoMemory)
+        ⊎ (IsWrittenLabel label.now → MAX_STORE_LEN < 42 + length label.now + length bytes.now)) }
+{
+    let content = write_leaf(alloc, kind, bytes)?;
+    write_super(alloc, type_uuid(name), label, content.as_slice())
+}
+
+// The type of an assertion's box and of its content box.
+fn payload_name(kind: Payload) -> [u8; 4]
+    ensures { result ≡ store.payload_name kind }
+{
+    match kind {
+        Payload::Cbor => *b"cbor",
+        Payload::Json => *b"json",
+    }
+}
+
+/// The box of a new assertion. Another error than `NoMemory` comes only where its label may not be written, or the box has more than
+/// 33,554,432 bytes.
+pub fn write_assertion(alloc: Global, assertion: &NewAssertion) -> Result<Blob, WriteError>
+    ensures ok { IfOk result (λ b. b ≡ tree_bytes (store.assertion_box assertion.now)) }
+    ensures err { IfErr result (λ e. (e ≡ WriteError.NoMemory)
+        ⊎ (IsWrittenLabel assertion.now.label
+        → MAX_STORE_LEN < length (tree_bytes (store.assertion_box assertion.now)))) }
+{
+    let name = payload_name(assertion.kind);
+    write_one(
+        alloc,
+        name,
+        assertion.label.as_str(),
+        name,
+        assertion.bytes.as_slice(),
+    )
+}
