@@ -1,0 +1,106 @@
+// Boxes of assertions, and the binding. What they are was reckoned by a program of its own.
+use c2_base::{Blob, NoMemory, Range, Text};
+use c2_definition::{NewAssertion, Payload};
+use c2_layout::{data_binding, own_ref, write_assertion};
+use c2_spec::WriteError;
+use std::alloc::{AllocError, Global};
+use std::test::Fail;
+
+// One action: the asset was created.
+const ACTIONS: &str = "a167616374696f6e7381a166616374696f6e6c633270612e63726561746564";
+
+// Its box.
+const ACTIONS_BOX: &str =
+    "000000586a756d62000000296a756d6463626f7200110010800000aa00389b7103633270612e616374696f6e732e7632000000002763626f72a167616374696f6e7381a166616374696f6e6c633270612e63726561746564";
+
+// The box of a text in JSON.
+const NOTE_BOX: &str =
+    "000000376a756d62000000236a756d646a736f6e00110010800000aa00389b7103746573742e6e6f7465000000000c6a736f6e22616222";
+
+// The item that binds a file outside 1,141 bytes from place 20 on, by a digest of 32 bytes 07.
+const BINDING: &str =
+    "a463616c6766736861323536637061644e00000000000000000000000000006468617368582007070707070707070707070707070707070707070707070707070707070707076a6578636c7573696f6e7381a265737461727414666c656e677468190475";
+
+// A digest of 32 bytes 07.
+const DIGEST: &str = "0707070707070707070707070707070707070707070707070707070707070707";
+
+// A new assertion.
+fn new_assertion(
+    alloc: Global,
+    label: &str,
+    kind: Payload,
+    bytes: &[u8],
+) -> Result<NewAssertion, NoMemory> {
+    Ok(NewAssertion {
+        label: Text::copied(alloc, label)?,
+        kind,
+        bytes: Blob::copied(alloc, bytes)?,
+    })
+}
+
+// The box of an assertion in hex, or why it isn't written.
+fn written(alloc: Global, assertion: &NewAssertion) -> Result<String, AllocError> {
+    match write_assertion(alloc, assertion) {
+        Ok(bytes) => hex::encode(alloc, bytes.as_slice()),
+        Err(WriteError::BadLabel) => String::from_str(alloc, "BadLabel"),
+        Err(WriteError::TooLarge(_)) => String::from_str(alloc, "TooLarge"),
+        Err(WriteError::NoMemory) => Err(AllocError),
+    }
+}
+
+#[test]
+fn assertions_have_these_boxes(rt: HostRuntime) -> Result<(), Fail> {
+    let alloc = rt.alloc();
+    let Ok(item) = hex::decode(alloc, ACTIONS) else {
+        assert!(rt; false);
+        return Ok(());
+    };
+    let made = new_assertion(alloc, "c2pa.actions.v2", Payload::Cbor, item.as_slice());
+    if let Ok(actions) = made {
+        assert_eq!(rt; written(alloc, &actions)?.as_str(), ACTIONS_BOX);
+    }
+    if let Ok(note) = new_assertion(alloc, "test.note", Payload::Json, br#""ab""#) {
+        assert_eq!(rt; written(alloc, &note)?.as_str(), NOTE_BOX);
+    }
+    if let Ok(unnamed) = new_assertion(alloc, "", Payload::Json, b"") {
+        assert_eq!(rt; written(alloc, &unnamed)?.as_str(), "BadLabel");
+    }
+    Ok(())
+}
+
+#[test]
+fn a_binding_holds_its_range_and_digest(rt: HostRuntime) -> Result<(), Fail> {
+    let alloc = rt.alloc();
+    let range = Range {
+        start: 20,
+        length: 1141,
+    };
+    match data_binding(alloc, range, &[7; 32]) {
+        Ok(binding) => {
+            let item = hex::encode(alloc, binding.bytes.as_slice())?;
+            assert_eq!(rt; item.as_str(), BINDING);
+            assert_eq!(rt; binding.label.as_str(), "c2pa.hash.data");
+            assert_eq!(rt; binding.kind, Payload::Cbor);
+        }
+        Err(NoMemory) => assert!(rt; false),
+    }
+    Ok(())
+}
+
+#[test]
+fn an_entry_names_a_box_of_its_own_manifest(rt: HostRuntime) -> Result<(), Fail> {
+    let alloc = rt.alloc();
+    match own_ref(alloc, "c2pa.actions.v2", &[7; 32]) {
+        Ok(entry) => {
+            assert_eq!(rt;
+                entry.url.as_str(),
+                "self#jumbf=c2pa.assertions/c2pa.actions.v2"
+            );
+            let digest = hex::encode(alloc, entry.hash.as_slice())?;
+            assert_eq!(rt; digest.as_str(), DIGEST);
+            assert!(rt; entry.alg.is_none());
+        }
+        Err(NoMemory) => assert!(rt; false),
+    }
+    Ok(())
+}
