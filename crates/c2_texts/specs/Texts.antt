@@ -9,6 +9,10 @@ use Rattle.c2_spec.specs.Jumbf.Tree.{Tree}
 use Rattle.c2_spec.specs.Judges.Panel.{verdict_name}
 use Rattle.c2_spec.specs.declared.panel.Verdict.{Verdict}
 use Rattle.c2_rules.specs.Codes.{code_name}
+use Rattle.c2_binding.specs.declared.compared.Side.{Side}
+use Rattle.c2_binding.specs.declared.compared.Side.TheVariants.{First, Second}
+use Rattle.c2_rules.specs.declared.answer.Answer.{Answer}
+use Rattle.c2_rules.specs.declared.answer.Answer.TheVariants as answer
 use Rattle.c2_rules.specs.declared.answer.Failing.{Failing}
 use Rattle.c2_rules.specs.declared.answer.Summary.{Summary}
 use Rattle.c2_spec.specs.Jumbf.Boxes.{IndexedBox, boxes_of, any_bytes, any_kind, any_label}
@@ -19,7 +23,7 @@ line text = text ++ 0x0A ∷ []
 
 -- where the words don't fit
 abbrev pub usage_line : List ℕ
-usage_line = line (codes "usage: c2 digest|list|show MEDIA; questions|validate MEDIA [JUDGE..]")
+usage_line = line (codes "usage: c2 digest|list|show MEDIA; questions|validate MEDIA [JUDGE..]; compare MEDIA OTHER [JUDGE..]")
 
 -- a refusal, with its number
 abbrev pub refused_line : Reason → ℕ → List ℕ
@@ -53,6 +57,34 @@ valid_line s =
     ++ codes " assertions=" ++ decimal s.assertions
     ++ codes " covered=" ++ decimal s.covered
     ++ codes " outside=" ++ decimal s.outside)
+
+-- what the check of a file answers, as a line
+abbrev pub told_line : Answer → List ℕ
+told_line (answer.Valid summary) = valid_line summary
+told_line (answer.Failing failing) = failing_line failing
+told_line (answer.Refused reason number) = refused_line reason number
+told_line answer.NoStore = none_line
+
+-- two files that one active claim binds, by what is counted of the first
+abbrev pub same_line : Summary → List ℕ
+same_line s =
+    line
+    (codes "same manifests=" ++ decimal s.manifests
+    ++ codes " assertions=" ++ decimal s.assertions
+    ++ codes " covered=" ++ decimal s.covered)
+
+-- two files whose active claims differ
+abbrev pub different_line : List ℕ
+different_line = line (codes "different claims")
+
+-- which of two files
+abbrev pub side_name : Side → List ℕ
+side_name First = codes "first"
+side_name Second = codes "second"
+
+-- one of two files isn't accepted: which, and what its check answers
+abbrev pub not_accepted_line : Side → Answer → List ℕ
+not_accepted_line side a = codes "not accepted " ++ side_name side ++ codes " " ++ told_line a
 
 -- what the panel says of the question of the manifest with this label: the question's id, the label and the verdict
 abbrev pub question_line : List ℕ → List ℕ → Verdict → List ℕ

@@ -14,8 +14,8 @@ mod show;
 mod tree;
 
 pub use lines::{
-    digest_line, failing_line, no_question_line, none_line, question_line, refused_line,
-    usage_line, valid_line,
+    different_line, digest_line, failing_line, no_question_line, none_line, not_accepted_line,
+    question_line, refused_line, same_line, usage_line, valid_line,
 };
 pub use names::code_name;
 pub use show::show_line;

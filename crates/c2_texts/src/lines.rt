@@ -4,7 +4,8 @@ ghost use Rattle.c2_texts.specs.Texts as form;
 
 use crate::control::printable;
 use crate::names::{code_name, reason_name, verdict_name};
-use c2_rules::{Failing, Summary};
+use c2_binding::Side;
+use c2_rules::{Answer, Failing, Summary};
 use c2_spec::{Reason, Verdict};
 use std::alloc::{AllocError, Global};
 
@@ -14,7 +15,7 @@ pub fn usage_line(alloc: Global) -> Result<String, AllocError>
 {
     String::from_str(
         alloc,
-        "usage: c2 digest|list|show MEDIA; questions|validate MEDIA [JUDGE..]\n",
+        "usage: c2 digest|list|show MEDIA; questions|validate MEDIA [JUDGE..]; compare MEDIA OTHER [JUDGE..]\n",
     )
 }
 
@@ -71,6 +72,61 @@ pub fn valid_line(alloc: Global, summary: Summary) -> Result<String, AllocError>
     let text = format!(in alloc;
         "valid manifests={manifests} assertions={assertions} covered={covered} outside={outside}\n"
     )?;
+    Ok(text)
+}
+
+/// The line of what the check of a file answers.
+fn told_line(alloc: Global, told: &Answer) -> Result<String, AllocError>
+    ensures { IfOk result (λ text. string_bytes text ≡ form.told_line told.now) }
+{
+    match told {
+        Answer::Valid(summary) => valid_line(alloc, *summary),
+        Answer::Failing(failing) => failing_line(alloc, failing),
+        Answer::Refused(reason, number) => refused_line(alloc, *reason, *number),
+        Answer::NoStore => none_line(alloc),
+    }
+}
+
+/// The line of two files that one active claim binds.
+pub fn same_line(alloc: Global, summary: Summary) -> Result<String, AllocError>
+    ensures { IfOk result (λ text. string_bytes text ≡ form.same_line summary) }
+{
+    let Summary {
+        manifests,
+        assertions,
+        covered,
+        outside: _,
+    } = summary;
+    let text = format!(in alloc;
+        "same manifests={manifests} assertions={assertions} covered={covered}\n"
+    )?;
+    Ok(text)
+}
+
+/// The line of two files whose active claims differ.
+pub fn different_line(alloc: Global) -> Result<String, AllocError>
+    ensures { IfOk result (λ text. string_bytes text ≡ form.different_line) }
+{
+    String::from_str(alloc, "different claims\n")
+}
+
+/// The word of one of two files.
+fn side_name(side: Side) -> &'static str
+    ensures { result.now ≡ form.side_name side }
+{
+    match side {
+        Side::First => "first",
+        Side::Second => "second",
+    }
+}
+
+/// The line of one of two files that isn't accepted, with what its check answers.
+pub fn not_accepted_line(alloc: Global, side: Side, told: &Answer) -> Result<String, AllocError>
+    ensures { IfOk result (λ text. string_bytes text ≡ form.not_accepted_line side told.now) }
+{
+    let name = side_name(side);
+    let line = told_line(alloc, told)?;
+    let text = format!(in alloc; "not accepted {name} {line}")?;
     Ok(text)
 }
 
