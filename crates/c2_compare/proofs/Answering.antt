@@ -160,8 +160,8 @@ asked_both qs of_first of_second old mid new r is same quiet h k = by r k
         subst (λ x. HaveAskedPrefix old.said x old.asked new.asked) (sym is)
         (front_append old.said of_first of_second old.asked mid.asked new.asked h (subst (λ x. HaveAskedPrefix x of_second mid.asked new.asked) same j))
     by (Err WriteFault) j =
-        subst (λ x. HaveAskedPrefix old.said x old.asked new.asked) (sym is)
-        (front_append old.said of_first of_second old.asked mid.asked new.asked h (subst (λ x. HaveAskedPrefix x of_second mid.asked new.asked) same j))
+        subst (λ x. HaveAsked old.said x old.asked new.asked) (sym is)
+        (asked_append old.said of_first of_second old.asked mid.asked new.asked h (subst (λ x. HaveAsked x of_second mid.asked new.asked) same j))
     by (Err JudgeFault) j =
         subst (λ x. HaveFailed old.said x old.asked new.asked old.faults new.faults) (sym is)
         (failed_append old.said of_first of_second old.asked mid.asked new.asked old.faults new.faults h
@@ -219,7 +219,7 @@ pub asked_before : (qs : List Question) (old new : Judges) (r : Result Compared 
     → IfErr r (covered.IsCause a b c d e f) → HasAsked qs old new r
 asked_before qs old new (Ok x) a b c d e f h cause = h
 asked_before qs old new (Err ReadFault) a b c d e f h cause = front_all old.said qs old.asked new.asked h
-asked_before qs old new (Err WriteFault) a b c d e f h cause = front_all old.said qs old.asked new.asked h
+asked_before qs old new (Err WriteFault) a b c d e f h cause = h
 asked_before qs old new (Err JudgeFault) a b c d e f h cause = absurd cause
 asked_before qs old new (Err NoMemory) a b c d e f h cause = front_all old.said qs old.asked new.asked h
 

@@ -67,12 +67,12 @@ IsCompareCause before now other_before other_now report_before report_now old ne
     SomeRose old.faults new.faults
 IsCompareCause before now other_before other_now report_before report_now old new NoMemory = ⊤
 
--- The panel was asked these questions, by the result of a call: all of them; or those of a prefix where a source or the report failed
--- or memory ran out; or those before the one at which a judge failed.
+-- The panel was asked these questions, by the result of a call: all of them, also where the report failed, which is written after the
+-- last question; or those of a prefix where a source failed or memory ran out; or those before the one at which a judge failed.
 abbrev pub HasAsked : List Question → Judges → Judges → Result Compared CompareError → Type 0
 HasAsked qs old new (Ok what) = HaveAsked old.said qs old.asked new.asked
 HasAsked qs old new (Err ReadFault) = HaveAskedPrefix old.said qs old.asked new.asked
-HasAsked qs old new (Err WriteFault) = HaveAskedPrefix old.said qs old.asked new.asked
+HasAsked qs old new (Err WriteFault) = HaveAsked old.said qs old.asked new.asked
 HasAsked qs old new (Err JudgeFault) =
     HaveFailed old.said qs old.asked new.asked old.faults new.faults
 HasAsked qs old new (Err NoMemory) = HaveAskedPrefix old.said qs old.asked new.asked
