@@ -2,16 +2,22 @@
 """Rows of two files that are compared, and what is reported of them.
 
     compare_rows.py          prints the module rows.rt of crates/c2_compare_tests
+    compare_rows.py run      prints the module pair_rows.rt of crates/c2_tests
 
-A line that says what the row shows, and the row: the hash, both files in hex, and the lines of the report, with bars between them.
-The texts of evidence are made here from the drafts of the files; nothing of them was taken from what c2 prints.
+A line that says what the row shows, and the row: the hash, both files in hex, and the lines of the report, with bars between them;
+for c2_tests the status stands before these lines, which are those of pairs.py. The texts of evidence are made here from the drafts of
+the files, and must be those of pairs.py; nothing of them was taken from what c2 prints.
 """
 
 import hashlib
+import sys
 
 import drafts
+import hashing
+import pairs
 from drafts import APP0, Assertion, DataHash, Ingredient, Jpeg, Manifest, Written, write
 from make_store import text
+from rows import Approving
 from rule_rows import with_
 
 LABEL = "urn:c2pa:00000000-0000-4000-8000-000000000000"
@@ -28,12 +34,12 @@ def weak(contents):
     return bytes(31) + bytes([sum(contents) % 256])
 
 
-def file_of(digest, *manifests, front=FRONT):
+def file_of(digest, *manifests, front=FRONT, rest=REST):
     """A JPEG with a store of these manifests."""
     drafts.digest = digest
-    around = Jpeg(front, REST)
-    length = len(around.around(write(manifests, Written()))) - len(front) - len(REST)
-    return around.around(write(manifests, Written(len(front), length, digest(front + REST))))
+    around = Jpeg(front, rest)
+    length = len(around.around(write(manifests, Written()))) - len(front) - len(rest)
+    return around.around(write(manifests, Written(len(front), length, digest(front + rest))))
 
 
 def note(payload, **given):
@@ -86,7 +92,55 @@ def rows():
     yield "other titles under one signature", "sha", *files, ["evidence signature self#jumbf=/c2pa/m/c2pa.signature", box.hex(), *(c.hex() for c in claims)]
 
 
+def more_rows():
+    """Pairs for the command alone."""
+    plain = Manifest(LABEL, Assertion("c2pa.actions.v2", drafts.ACTIONS), DataHash())
+    parent = Ingredient(LABEL, "parentOf")
+    second = Manifest(LABEL[:-1] + "1", Assertion("c2pa.actions.v2", drafts.ACTIONS), parent, DataHash())
+    first = file_of(sha, plain)
+    yield "two assertions, and itself", first, first
+    yield "the same with a manifest on top", first, file_of(sha, plain, second)
+    yield "two manifests, and themselves", file_of(sha, plain, second), file_of(sha, plain, second)
+    yield "an empty file first", b"", first
+    yield "a file cut short", first, first[:-9]
+    changed = bytearray(first)
+    changed[15] += 1
+    yield "a changed byte of the picture", first, bytes(changed)
+    yield "an active claim of an older version", first, file_of(sha, older())
+
+
+def older():
+    draft = Manifest("m", DataHash())
+    draft.change_claims = lambda boxes: [box.replace(b"c2pa.claim.v2", b"c2pa.claim.v9") for box in boxes]
+    return draft
+
+
+def run_rows():
+    """What a row shows, the hash, the files, the status and the lines of the report."""
+    given = [(what, name, first, second, lines) for what, name, first, second, lines in rows()]
+    given += [(what, "sha", first, second, []) for what, first, second in more_rows()]
+    for what, name, first, second, lines in given:
+        hashing.choose(name)
+        text, status = pairs.compared(first, second, [Approving()])
+        if lines[1:]:
+            assert text.split("\n") == lines, what
+        yield what, name, first, second, status, text.split("\n")
+
+
+def print_run_rows():
+    print("// Pairs of files and what `compare` says of them. Written by tests/real/compare_rows.py, which computes the reports: not to be edited.")
+    print()
+    print("/// A line that says what the row shows, and the row: the hash, both files in hex, the status and the lines, with bars between.")
+    print('pub const PAIRS: &str = r##"', end="")
+    for what, name, first, second, status, lines in run_rows():
+        print("# " + what)
+        print("|".join([name, first.hex(), second.hex(), str(status), *lines]))
+    print('"##;')
+
+
 def main():
+    if sys.argv[1:] == ["run"]:
+        return print_run_rows()
     print("// Pairs of files that are compared. Written by tests/real/compare_rows.py, which computes the reports: not to be edited.")
     print()
     print("/// A line that says what the row shows, and the row: the hash, both files in hex, and what is answered or the lines of evidence, with bars between.")

@@ -5,9 +5,8 @@ A store is written from its first manifest to its last, since an ingredient has 
 twice, since the binding of the last one has the digest of the file around it.
 """
 
-import hashlib
-
 import cbor
+import hashing
 from bmff import PROVENANCE
 from fields import BadBinding
 from locate import Refused
@@ -37,7 +36,7 @@ NO_DIGEST = bytes(32)
 
 
 def digest(contents):
-    return hashlib.sha256(contents).digest()
+    return hashing.digest(contents)
 
 
 def fields(*pairs):

@@ -3,10 +3,9 @@
 JPEGs are read by locate.py, BMFF files by bmff.py. Nothing here was taken from c2's own code.
 """
 
-import hashlib
-
 import bmff
 import cbor
+import hashing
 from fields import BadBinding, maps_in, string, unsigned, wrong_form
 from locate import Refused, locate
 from manifests import BMFF_HASH
@@ -54,18 +53,21 @@ class Binding:
         if self.is_bmff:
             bmff.check_support(self.exclusions)
 
-    def cover(self, media):
-        """The digest of the covered text, the number of covered bytes, and that of excluded ones outside the store's range."""
+    def covered(self, media):
+        """The pieces of the covered text, the number of covered bytes, and that of excluded ones outside the store's range."""
         # parts of a view take no memory
         view = memoryview(media.data)
         if self.is_bmff:
             kept = list(bmff.covered_parts(media.data, media.roots, self.exclusions))
-            pieces, numbers = bmff.covered_text(view, kept), bmff.counts(kept, media.start)
-        else:
-            check_ranges(self.exclusions, len(view))
-            pieces = (view[start:end] for start, end in kept_by(self.exclusions, len(view)))
-            numbers = data_counts(self.exclusions, media)
-        state = hashlib.sha256()
+            return bmff.covered_text(view, kept), bmff.counts(kept, media.start)
+        check_ranges(self.exclusions, len(view))
+        pieces = (view[start:end] for start, end in kept_by(self.exclusions, len(view)))
+        return pieces, data_counts(self.exclusions, media)
+
+    def cover(self, media):
+        """The digest of the covered text, and the two numbers."""
+        pieces, numbers = self.covered(media)
+        state = hashing.begin()
         for piece in pieces:
             state.update(piece)
         return state.digest(), *numbers

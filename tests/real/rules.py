@@ -4,8 +4,7 @@ Written from the C2PA Technical Specification 2.x and the list of checks, apart 
 fails, in the order of its cases; so nothing is computed, and no judge is asked, behind the first that does.
 """
 
-import hashlib
-
+import hashing
 from fields import BadBinding
 from manifests import (
     ACTIONS,
@@ -88,7 +87,7 @@ class CheckList:
     def digest(self, box):
         """The digest of a box's contents, behind its own header."""
         if box.start not in self.digests:
-            self.digests[box.start] = hashlib.sha256(self.store[box.inside : box.end]).digest()
+            self.digests[box.start] = hashing.digest(self.store[box.inside : box.end])
         return self.digests[box.start]
 
     # What `questions` and `validate` say
@@ -243,10 +242,13 @@ class CheckList:
 
     # The binding of the active manifest to the file
 
+    def binding_label(self):
+        manifest = self.manifests[self.active]
+        return next(entry.label for entry in manifest.entries if kind_of(entry.label) in BINDINGS)
+
     def binding_rule(self, media):
         """By the rules before it the manifest has one entry that is a binding, and its box."""
-        manifest = self.manifests[self.active]
-        label = next(entry.label for entry in manifest.entries if kind_of(entry.label) in BINDINGS)
+        manifest, label = self.manifests[self.active], self.binding_label()
         named, kind, item = assertion_uri(manifest, label), kind_of(label), item_of(self.store, manifest.labelled[label])
         if item is None:
             yield "assertion.cbor.invalid", named

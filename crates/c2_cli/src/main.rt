@@ -20,12 +20,13 @@ fn main(rt: HostRuntime) -> ExitCode {
     ExitCode::from(status.code())
 }
 
-// Runs the words of the command line over the files that they name: the media file, and a verdict file for each judge.
+// Runs the words of the command line over the files that they name: the media file, the one that it is compared with, and a verdict
+// file for each judge.
 fn run_words(rt: &HostRuntime, alloc: Global) -> Result<Status, NoMemory> {
     let words = words_of(rt, alloc)?;
-    let (media, first_judge) = match roles(alloc, &words) {
-        Ok(roles) => (roles.media, roles.judges),
-        Err(RolesError::Usage) => (None, words.len()),
+    let (media, second, first_judge) = match roles(alloc, &words) {
+        Ok(roles) => (roles.media, roles.second, roles.judges),
+        Err(RolesError::Usage) => (None, None, words.len()),
         Err(RolesError::NoMemory) => return Err(NoMemory),
     };
     let mut judges: Vec<Box<dyn Judge>> = Vec::new(alloc);
@@ -36,8 +37,17 @@ fn run_words(rt: &HostRuntime, alloc: Global) -> Result<Status, NoMemory> {
         }
     }
     let mut media = file_of(rt, &words, media);
+    let mut second = file_of(rt, &words, second);
     let mut report = HostOut::standard(rt.stdout());
-    Ok(run(alloc, &Sha, &words, &mut media, &mut report, &mut judges))
+    Ok(run(
+        alloc,
+        &Sha,
+        &words,
+        &mut media,
+        &mut second,
+        &mut report,
+        &mut judges,
+    ))
 }
 
 // The words after the program's name, and none where one of them isn't text.

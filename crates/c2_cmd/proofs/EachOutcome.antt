@@ -1,5 +1,5 @@
--- Words and inputs whose media are bytes come to an outcome, and to a list of questions.
-use Rattle.std.proofs.Common.{◌≡◌, refl, ℕ, ◌<◌, ◌^◌, List, [], ◌∷◌, Option, Some, None}
+-- Words and inputs whose files are bytes come to an outcome, and to a list of questions.
+use Rattle.std.proofs.Common.{refl, ℕ, ◌<◌, ◌^◌, List, [], ◌∷◌, Option, Some, None}
 use Rattle.std.specs.Prelude.{⊤, All}
 use Rattle.c2_base.specs.declared.values.Question.{Question}
 use Rattle.c2_spec.specs.declared.claim.Claim.{Claim}
@@ -10,14 +10,16 @@ use Rattle.c2_spec.specs.C2pa.Manifest.{Manifest, HasClaim, manifests_of}
 use Rattle.c2_spec.specs.Container.{IsLocated}
 use Rattle.c2_spec.specs.Jumbf.Tree.{Tree}
 use Rattle.c2_spec.specs.Located.{Opening, Located, refused, absent, here}
-use Rattle.c2_rules.specs.CheckList.{check_asks, questions}
+use Rattle.c2_rules.specs.CheckList.{questions}
 use Rattle.c2_rules.specs.Claims.{HaveClaims}
 use Rattle.c2_rules.specs.Opened.{Opens, IsManifestStore, IsBoxed, IsOpened}
 use Rattle.c2_rules.specs.Readings.{Reading, IsReading, AreReadings, claim_in}
-use Rattle.c2_rules.specs.Validated.{IsAnswer, IsOpenedAnswer, MediaAsks}
+use Rattle.c2_rules.specs.Validated.{CheckAsks, IsAnswer, IsOpenedAnswer, MediaAsks}
 use Rattle.c2_rules.specs.declared.answer.Answer.{Answer}
+use Rattle.c2_binding.specs.Comparison.{IsComparison, CompareAsks}
+use Rattle.c2_binding.specs.declared.compared.Compared.{Compared}
 use Rattle.c2_texts.specs.Texts.{refused_line, none_line, usage_line, listing, digest_line}
-use Rattle.c2_cmd.specs.Outcome.{Outcome, Inputs, Reports, IsOutcome, IsCommandOutcome, IsDigested, IsListing, IsShown, IsQuestioned, IsMediaOutcome, Asks, CommandAsks, answered, questioned, shown, reports, outside}
+use Rattle.c2_cmd.specs.Outcome.{Outcome, Inputs, Reports, IsOutcome, IsCommandOutcome, IsDigested, IsListing, IsShown, IsQuestioned, IsMediaOutcome, Asks, CommandAsks, answered, compare_outcome, questioned, shown, reports, outside}
 use Rattle.c2_cmd.specs.declared.types.Answer.TheVariants as answer
 use Rattle.c2_cmd.specs.declared.types.Command.{Command}
 use Rattle.c2_cmd.specs.declared.types.Command.TheVariants as command
@@ -26,7 +28,10 @@ use Rattle.c2_cmd.specs.declared.types.Roles.{Roles}
 -- what the laws of the crates below say
 pub record Laws : Type 0 where
   pub answer : (hash : Alg → List ℕ → List ℕ) (said : Question → Verdict) (file : List ℕ) → All (λ b. b < 2 ^ 8) file → (a : Answer) × IsAnswer hash said file a
+  pub asks : (hash : Alg → List ℕ → List ℕ) (said : Question → Verdict) (file : List ℕ) → All (λ b. b < 2 ^ 8) file → (qs : List Question) × CheckAsks hash said file qs
   pub claim : (m : Manifest) (r : Reading) → IsReading m r → HasClaim m (claim_in r)
+  pub compared : (hash : Alg → List ℕ → List ℕ) (said : Question → Verdict) (first second : List ℕ) (a b : Answer) → IsAnswer hash said first a → IsAnswer hash said second b → (what : Compared) × (text : List ℕ) × IsComparison hash said first second what text
+  pub compare_asks : (hash : Alg → List ℕ → List ℕ) (said : Question → Verdict) (first second : List ℕ) (a : Answer) (ps qs : List Question) → IsAnswer hash said first a → CheckAsks hash said first ps → CheckAsks hash said second qs → (all : List Question) × CompareAsks hash said first second all
 
 -- ---- a file is opened, and its manifests are read
 
@@ -89,24 +94,29 @@ each_shown laws t rs reads = let cs = each_claims laws (manifests_of t) rs reads
 each_questioned : (said : Question → Verdict) (t : Tree) (rs : List Reading) → AreReadings (manifests_of t) rs → (e : Outcome) × IsQuestioned said t e
 each_questioned said t rs reads = (questioned said rs, (rs, reads, refl))
 
--- every command has an outcome where its media are bytes
-each_command : Laws → (c : Command) (roles : Roles) (i : Inputs) → All (λ b. b < 2 ^ 8) i.media → (e : Outcome) × IsCommandOutcome c roles i e
-each_command laws command.Digest roles i held =
+-- every command has an outcome where its files are bytes
+each_command : Laws → (c : Command) (roles : Roles) (i : Inputs) → All (λ b. b < 2 ^ 8) i.media → All (λ b. b < 2 ^ 8) i.second → (e : Outcome) × IsCommandOutcome c roles i e
+each_command laws command.Digest roles i held other =
     let o = each_opened laws i held in
     let e = each_report (IsDigested (i.hash Sha256) i.media) o.1.0 (λ start len store. (reports answer.Done (digest_line start len (i.hash Sha256 (outside start len i.media))), refl)) in
     (e.0, (o.1.0, o.1.1, e.1))
-each_command laws command.List roles i held =
+each_command laws command.List roles i held other =
     let b = each_boxed laws i held in
     let e = each_report IsListing b.0 (λ start len t. (reports answer.Done (listing t), refl)) in
     (e.0, (b.0, b.1, e.1))
-each_command laws command.Show roles i held = each_media laws IsShown (each_shown laws) i held
-each_command laws command.Questions roles i held = each_media laws (IsQuestioned i.said) (each_questioned i.said) i held
-each_command laws command.Validate roles i held = let a = laws.answer i.hash i.said i.media held in (answered a.0, (a.0, a.1, refl))
+each_command laws command.Show roles i held other = each_media laws IsShown (each_shown laws) i held
+each_command laws command.Questions roles i held other = each_media laws (IsQuestioned i.said) (each_questioned i.said) i held
+each_command laws command.Validate roles i held other = let a = laws.answer i.hash i.said i.media held in (answered a.0, (a.0, a.1, refl))
+each_command laws command.Compare roles i held other =
+    let a = laws.answer i.hash i.said i.media held in
+    let b = laws.answer i.hash i.said i.second other in
+    let e = laws.compared i.hash i.said i.media i.second a.0 b.0 a.1 b.1 in
+    (compare_outcome e.0 e.1, (e.0, e.1, e.2, refl))
 
--- a call whose media are bytes has an outcome, whether its words fit a command or none
-pub each_outcome : Laws → (roles : Option Roles) (i : Inputs) → All (λ b. b < 2 ^ 8) i.media → (e : Outcome) × IsOutcome roles i e
-each_outcome laws None i held = (reports answer.Usage usage_line, refl)
-each_outcome laws (Some roles) i held = each_command laws roles.command roles i held
+-- a call whose files are bytes has an outcome, whether its words fit a command or none
+pub each_outcome : Laws → (roles : Option Roles) (i : Inputs) → All (λ b. b < 2 ^ 8) i.media → All (λ b. b < 2 ^ 8) i.second → (e : Outcome) × IsOutcome roles i e
+each_outcome laws None i held other = (reports answer.Usage usage_line, refl)
+each_outcome laws (Some roles) i held other = each_command laws roles.command roles i held other
 
 -- ---- questions
 
@@ -119,15 +129,20 @@ each_asked laws asks i held = let o = each_opened laws i held in go o.0 o.1 o.2
     go absent is read = ([], (absent, is, refl))
     go (here start len t) is read = (asks read.0, (here start len t, is, (read.0, read.1, refl)))
 
--- every command has a list of questions for its judges where its media are bytes
-each_asks : Laws → (c : Command) (i : Inputs) → All (λ b. b < 2 ^ 8) i.media → (qs : List Question) × CommandAsks c i qs
-each_asks laws command.Digest i held = ([], refl)
-each_asks laws command.List i held = ([], refl)
-each_asks laws command.Show i held = ([], refl)
-each_asks laws command.Questions i held = each_asked laws questions i held
-each_asks laws command.Validate i held = each_asked laws (check_asks i.hash i.said) i held
+-- every command has a list of questions for its judges where its files are bytes
+each_asks : Laws → (c : Command) (i : Inputs) → All (λ b. b < 2 ^ 8) i.media → All (λ b. b < 2 ^ 8) i.second → (qs : List Question) × CommandAsks c i qs
+each_asks laws command.Digest i held other = ([], refl)
+each_asks laws command.List i held other = ([], refl)
+each_asks laws command.Show i held other = ([], refl)
+each_asks laws command.Questions i held other = each_asked laws questions i held
+each_asks laws command.Validate i held other = laws.asks i.hash i.said i.media held
+each_asks laws command.Compare i held other =
+    let a = laws.answer i.hash i.said i.media held in
+    let ps = laws.asks i.hash i.said i.media held in
+    let qs = laws.asks i.hash i.said i.second other in
+    laws.compare_asks i.hash i.said i.media i.second a.0 ps.0 qs.0 a.1 ps.1 qs.1
 
--- a call whose media are bytes has a list of questions: an empty one where its words fit no command
-pub each_list : Laws → (roles : Option Roles) (i : Inputs) → All (λ b. b < 2 ^ 8) i.media → (qs : List Question) × Asks roles i qs
-each_list laws None i held = ([], refl)
-each_list laws (Some roles) i held = each_asks laws roles.command i held
+-- a call whose files are bytes has a list of questions: an empty one where its words fit no command
+pub each_list : Laws → (roles : Option Roles) (i : Inputs) → All (λ b. b < 2 ^ 8) i.media → All (λ b. b < 2 ^ 8) i.second → (qs : List Question) × Asks roles i qs
+each_list laws None i held other = ([], refl)
+each_list laws (Some roles) i held other = each_asks laws roles.command i held other

@@ -1,5 +1,6 @@
 mod Asked
 mod Asking
+mod Comparing
 mod Delivering
 mod EachOutcome
 mod Lines
@@ -9,3 +10,4 @@ mod OneOutcome
 mod Preparing
 mod Replying
 mod Validating
+mod Written

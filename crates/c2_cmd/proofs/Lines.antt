@@ -15,7 +15,7 @@ use Rattle.c2_rules.proofs.AskingLemmas.{asked_append, failed_append, failed_mor
 use Rattle.c2_cmd.specs.Outcome.{verdict_line, verdict_lines}
 use Rattle.c2_cmd.specs.Reply.{AskedFor, AsksSoFar, IsJudgeCause, questions_in}
 use Rattle.c2_cmd.specs.declared.reply.Fault.{Fault}
-use Rattle.c2_cmd.specs.declared.reply.Fault.TheVariants.{Input, Judge, Memory}
+use Rattle.c2_cmd.specs.declared.reply.Fault.TheVariants.{Input, Output, Judge, Memory}
 
 -- what is left of the manifests, one on
 on : (asked : List Asked) (i : ℕ) (d : Asked) → i < length asked → drop i asked ≡ get_or asked i d ∷ drop (i + 1) asked
@@ -60,18 +60,19 @@ asks_all said all rest a b so_far is =
 
 -- the asking ended there
 pub asks_ended : (T U : Type 0) (old between new : Judges) (all qs rest next : List Question) (e : Fault) → between.said ≡ old.said → between.faults ≡ old.faults → AsksSoFar old.said all rest old.asked between.asked → rest ≡ qs ++ next
-    → AskedFor {T = T} qs between new (Err e) → AskedFor {T = U} all old new (Err e)
-asks_ended T U old between new all qs rest next e said faults so_far is h =
+    → IsJudgeCause between new e → AskedFor {T = T} qs between new (Err e) → AskedFor {T = U} all old new (Err e)
+asks_ended T U old between new all qs rest next e said faults so_far is cause h =
     let split : all ≡ (so_far.front ++ qs) ++ next = so_far.split ∙ ap (λ (l : List Question). so_far.front ++ l) is ∙ sym (append_assoc so_far.front qs next) in
-    by e (subst (λ (x : List (Question → Verdict)). AskedFor {T = T} qs (record { said = x; asked = between.asked; faults = between.faults }) new (Err e)) said h) split
+    by e cause (subst (λ (x : List (Question → Verdict)). AskedFor {T = T} qs (record { said = x; asked = between.asked; faults = between.faults }) new (Err e)) said h) split
   where
     prefix : all ≡ (so_far.front ++ qs) ++ next → HaveAskedPrefix old.said qs between.asked new.asked → HaveAskedPrefix old.said all old.asked new.asked
     prefix split h = subst (λ (l : List Question). HaveAskedPrefix old.said l old.asked new.asked) (sym split) (front_more old.said (so_far.front ++ qs) next old.asked new.asked (front_append old.said so_far.front qs old.asked between.asked new.asked so_far.asked h))
 
-    by : (f : Fault) → AskedFor {T = T} qs (record { said = old.said; asked = between.asked; faults = between.faults }) new (Err f) → all ≡ (so_far.front ++ qs) ++ next → AskedFor {T = U} all old new (Err f)
-    by Input h split = prefix split h
-    by Memory h split = prefix split h
-    by Judge h split =
+    by : (f : Fault) → IsJudgeCause between new f → AskedFor {T = T} qs (record { said = old.said; asked = between.asked; faults = between.faults }) new (Err f) → all ≡ (so_far.front ++ qs) ++ next → AskedFor {T = U} all old new (Err f)
+    by Input cause h split = absurd cause
+    by Output cause h split = absurd cause
+    by Memory cause h split = prefix split h
+    by Judge cause h split =
         subst (λ (l : List Question). HaveFailed old.said l old.asked new.asked old.faults new.faults) (sym split)
         (failed_more old.said (so_far.front ++ qs) next old.asked new.asked old.faults new.faults
         (failed_append old.said so_far.front qs old.asked between.asked new.asked old.faults new.faults so_far.asked (subst (λ (x : List ℕ). HaveFailed old.said qs between.asked new.asked x new.faults) faults h)))
@@ -92,6 +93,7 @@ no_more said all rest next q a b so_far is none = by so_far.front q (sym none �
 -- the cause of a fault, where no judge had failed before
 pub cause_from : (old between new : Judges) (e : Fault) → between.faults ≡ old.faults → IsJudgeCause between new e → IsJudgeCause old new e
 cause_from old between new Input same h = h
+cause_from old between new Output same h = h
 cause_from old between new Judge same h = subst (λ (x : List ℕ). SomeRose x new.faults) same h
 cause_from old between new Memory same h = tt
 

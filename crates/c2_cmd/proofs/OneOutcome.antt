@@ -1,5 +1,5 @@
 -- Words and inputs come to one outcome, and to one list of questions.
-use Rattle.std.proofs.Common.{◌≡◌, refl, sym, ◌∙◌, ap, subst, ℕ, List, Option, Some, None}
+use Rattle.std.proofs.Common.{◌≡◌, sym, ◌∙◌, ap, subst, ℕ, List, Option, Some, None}
 use Rattle.c2_base.specs.declared.values.Question.{Question}
 use Rattle.c2_spec.specs.declared.claim.Claim.{Claim}
 use Rattle.c2_spec.specs.declared.digest.Alg.{Alg}
@@ -18,7 +18,9 @@ use Rattle.c2_rules.specs.Opened.{Opens, IsBoxTree, IsBoxed, IsOpened}
 use Rattle.c2_rules.specs.Readings.{Reading, AreReadings}
 use Rattle.c2_rules.specs.Validated.{AreQuestions, CheckAsks, IsAnswer}
 use Rattle.c2_rules.specs.declared.answer.Answer.{Answer as Checked}
-use Rattle.c2_cmd.specs.Outcome.{Outcome, Inputs, Reports, IsOutcome, IsCommandOutcome, IsDigested, IsListing, IsShown, IsQuestioned, Asks, CommandAsks, answered, shown, questioned}
+use Rattle.c2_binding.specs.Comparison.{IsComparison, CompareAsks}
+use Rattle.c2_binding.specs.declared.compared.Compared.{Compared}
+use Rattle.c2_cmd.specs.Outcome.{Outcome, Inputs, Reports, IsOutcome, IsCommandOutcome, IsDigested, IsListing, IsShown, IsQuestioned, Asks, CommandAsks, answered, compare_outcome, shown, questioned}
 use Rattle.c2_cmd.specs.declared.types.Command.{Command}
 use Rattle.c2_cmd.specs.declared.types.Command.TheVariants as command
 use Rattle.c2_cmd.specs.declared.types.Roles.{Roles}
@@ -35,6 +37,8 @@ pub record Laws : Type 0 where
   pub answer : (hash : Alg → List ℕ → List ℕ) (said : Question → Verdict) (file : List ℕ) (a b : Checked) → IsAnswer hash said file a → IsAnswer hash said file b → a ≡ b
   pub asks : (hash : Alg → List ℕ → List ℕ) (said : Question → Verdict) (file : List ℕ) (ps qs : List Question) → CheckAsks hash said file ps → CheckAsks hash said file qs → ps ≡ qs
   pub questions : (file : List ℕ) (ps qs : List Question) → AreQuestions file ps → AreQuestions file qs → ps ≡ qs
+  pub compared : (hash : Alg → List ℕ → List ℕ) (said : Question → Verdict) (first second : List ℕ) (a b : Compared) (t u : List ℕ) → IsComparison hash said first second a t → IsComparison hash said first second b u → (a ≡ b) × (t ≡ u)
+  pub compare_asks : (hash : Alg → List ℕ → List ℕ) (said : Question → Verdict) (first second : List ℕ) (ps qs : List Question) → CompareAsks hash said first second ps → CompareAsks hash said first second qs → ps ≡ qs
 
 -- where the first value is one, and so is each that follows from it, the second is one
 one_after : {A B : Type 0} (First : A → Type 0) (Next : A → B → Type 0) → ((a b : A) → First a → First b → a ≡ b) → ((a : A) (x y : B) → Next a x → Next a y → x ≡ y) → (x y : B) → (a : A) × First a × Next a x → (b : A) × First b × Next b y → x ≡ y
@@ -95,6 +99,9 @@ one_command laws command.List roles i x y h k = one_after (IsBoxed i.media) (Rep
 one_command laws command.Show roles i x y h k = one_media laws IsShown (one_shown laws) i.media x y h k
 one_command laws command.Questions roles i x y h k = one_media laws (IsQuestioned i.said) (one_questioned laws i.said) i.media x y h k
 one_command laws command.Validate roles i x y h k = one_after (IsAnswer i.hash i.said i.media) (λ found e. e ≡ answered found) (laws.answer i.hash i.said i.media) (λ found a b p q. p ∙ sym q) x y h k
+one_command laws command.Compare roles i x y h k =
+    let one = laws.compared i.hash i.said i.media i.second h.0 k.0 h.1 k.1 h.2 k.2 in
+    h.3 ∙ ap (λ (what : Compared). compare_outcome what h.1) one.0 ∙ ap (compare_outcome k.0) one.1 ∙ sym k.3
 
 -- a call has one outcome at most, whether its words fit a command or none
 pub one_outcome : Laws → (roles : Option Roles) (i : Inputs) (x y : Outcome) → IsOutcome roles i x → IsOutcome roles i y → x ≡ y
@@ -110,6 +117,7 @@ one_asks laws command.List i ps qs h k = h ∙ sym k
 one_asks laws command.Show i ps qs h k = h ∙ sym k
 one_asks laws command.Questions i ps qs h k = laws.questions i.media ps qs h k
 one_asks laws command.Validate i ps qs h k = laws.asks i.hash i.said i.media ps qs h k
+one_asks laws command.Compare i ps qs h k = laws.compare_asks i.hash i.said i.media i.second ps qs h k
 
 -- a call has one list of questions at most, whether its words fit a command or none
 pub one_list : Laws → (roles : Option Roles) (i : Inputs) (ps qs : List Question) → Asks roles i ps → Asks roles i qs → ps ≡ qs

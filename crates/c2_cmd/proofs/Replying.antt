@@ -1,5 +1,5 @@
 -- Outcomes over what was opened, found or read are outcomes over the file.
-use Rattle.std.proofs.Common.{◌≡◌, refl, sym, ◌∙◌, ap, subst, ℕ, List, true, Some, None}
+use Rattle.std.proofs.Common.{◌≡◌, refl, sym, ◌∙◌, ap, subst, ℕ, List, [], true, Some, None}
 use Rattle.std.specs.Prelude.{◌≢◌, is_some, IsSome, IfOk, IfErr, OnOk, Ok, Err}
 use Rattle.std.proofs.lemmas.Bool.{false≢true}
 use Rattle.std.specs.declared.option.Option.{Option}
@@ -21,7 +21,7 @@ use Rattle.c2_validate.specs.declared.types.StoreRead.{StoreRead}
 use Rattle.c2_validate.specs.declared.types.StoreRead.TheVariants as read
 use Rattle.c2_cmd.specs.Outcome.{Outcome, Inputs, reports, Reports, IsListing, IsMediaOutcome, IsCommandOutcome, IsOutcome, inputs, uses_media}
 use Rattle.c2_cmd.specs.CommandLine.{reads_media}
-use Rattle.c2_cmd.specs.Reply.{outcome_of, IsReply, IsShort, IsStored, IsFoundOutcome, IsMediaCause}
+use Rattle.c2_cmd.specs.Reply.{outcome_of, Begins, Completes, IsShort, IsStored, IsFoundOutcome, IsMediaCause}
 use Rattle.c2_cmd.specs.declared.open.Stored.{Stored}
 use Rattle.c2_cmd.specs.declared.open.Stored.TheVariants as stored
 use Rattle.c2_cmd.specs.declared.reply.Fault.{Fault}
@@ -30,7 +30,8 @@ use Rattle.c2_cmd.specs.declared.reply.Reply.{Reply}
 use Rattle.c2_cmd.specs.declared.types.Answer.TheVariants as answer
 use Rattle.c2_cmd.specs.declared.types.Command.{Command}
 use Rattle.c2_cmd.specs.declared.types.Roles.{Roles}
-use Rattle.c2_texts.specs.Texts.{refused_line}
+use Rattle.c2_texts.specs.Texts.{refused_line, usage_line}
+use Rattle.c2_cmd.proofs.Written.{nothing_written, then_nothing}
 
 -- ---- a file that was opened
 
@@ -75,26 +76,37 @@ media_short P file (here start len store) e is h = absurd h
 -- ---- the sources that a call uses are known
 
 -- a reply over the known bytes is the call's
-pub known_outcome : (said : Question → Verdict) (hash : Alg → List ℕ → List ℕ) (known : Option (List ℕ)) (found : Option Roles) (roles : Roles) (reply : Reply) → found ≡ Some roles → is_some roles.media ≡ reads_media roles.command → reads_media roles.command ≡ true → (uses_media found ≡ true → IsSome known)
-    → ((file : List ℕ) → known ≡ Some file → IsCommandOutcome roles.command roles (inputs (Some file) None None said hash) (outcome_of reply)) → IsOutcome found (inputs known None None said hash) (outcome_of reply)
-known_outcome said hash None found roles reply is media reads tells r = absurd (false≢true (tells (ap uses_media is ∙ media ∙ reads)))
-known_outcome said hash (Some file) found roles reply is media reads tells r = rw is (r file refl)
+pub known_outcome : (said : Question → Verdict) (hash : Alg → List ℕ → List ℕ) (known other : Option (List ℕ)) (found : Option Roles) (roles : Roles) (reply : Reply) → found ≡ Some roles → is_some roles.media ≡ reads_media roles.command → reads_media roles.command ≡ true → (uses_media found ≡ true → IsSome known)
+    → ((file : List ℕ) → known ≡ Some file → IsCommandOutcome roles.command roles (inputs (Some file) other None said hash) (outcome_of reply)) → IsOutcome found (inputs known other None said hash) (outcome_of reply)
+known_outcome said hash None other found roles reply is media reads tells r = absurd (false≢true (tells (ap uses_media is ∙ media ∙ reads)))
+known_outcome said hash (Some file) other found roles reply is media reads tells r = rw is (r file refl)
 
--- the only outcome
-pub one_reply : (P : Outcome → Type 0) (reply : Reply) → ((a b : Outcome) → P a → P b → a ≡ b) → P (outcome_of reply) → IsReply P reply
-one_reply P reply once h = record { holds = h; only = λ e k. once e (outcome_of reply) k h }
+-- the only outcome, where nothing was written before the reply
+pub one_reply : (P : Outcome → Type 0) (w : Option (List ℕ)) (reply : Reply) → ((a b : Outcome) → P a → P b → a ≡ b) → P (outcome_of reply) → Completes P w w reply
+one_reply P w reply once h = record { before = []; written = then_nothing w; holds = h; only = λ e k. once e (outcome_of reply) k h }
+
+-- a call without a reply that wrote nothing
+pub no_reply : (P : Outcome → Type 0) (w : Option (List ℕ)) (e : Fault) → Begins P w w (Err e)
+no_reply P w e expected h = nothing_written w expected.report
 
 -- words and inputs come to one outcome
 abbrev pub OneOutcome : Type 0
 OneOutcome = (roles : Option Roles) (i : Inputs) (a b : Outcome) → IsOutcome roles i a → IsOutcome roles i b → a ≡ b
 
 -- a reply to the command over the known bytes is the call's one reply
-pub replied : OneOutcome → (said : Question → Verdict) (hash : Alg → List ℕ → List ℕ) (known : Option (List ℕ)) (found : Option Roles) (roles : Roles) (c : Command) (r : Result Reply Fault) → found ≡ Some roles → is_some roles.media ≡ reads_media roles.command → roles.command ≡ c
-    → reads_media c ≡ true → (uses_media found ≡ true → IsSome known) → IfOk r (λ reply. (file : List ℕ) → known ≡ Some file → IsCommandOutcome c roles (inputs (Some file) None None said hash) (outcome_of reply)) → IfOk r (IsReply (IsOutcome found (inputs known None None said hash)))
-replied one said hash known found roles c (Err e) is media named reads tells h = tt
-replied one said hash known found roles c (Ok reply) is media named reads tells h =
-    one_reply (IsOutcome found (inputs known None None said hash)) reply (one found (inputs known None None said hash))
-    (known_outcome said hash known found roles reply is media (ap reads_media named ∙ reads) tells (λ file k. subst (λ (x : Command). IsCommandOutcome x roles (inputs (Some file) None None said hash) (outcome_of reply)) (sym named) (h file k)))
+pub replied : OneOutcome → (said : Question → Verdict) (hash : Alg → List ℕ → List ℕ) (known other : Option (List ℕ)) (found : Option Roles) (roles : Roles) (c : Command) (w : Option (List ℕ)) (r : Result Reply Fault) → found ≡ Some roles → is_some roles.media ≡ reads_media roles.command
+    → roles.command ≡ c → reads_media c ≡ true → (uses_media found ≡ true → IsSome known) → IfOk r (λ reply. (file : List ℕ) → known ≡ Some file → IsCommandOutcome c roles (inputs (Some file) other None said hash) (outcome_of reply)) → Begins (IsOutcome found (inputs known other None said hash)) w w r
+replied one said hash known other found roles c w (Err e) is media named reads tells h = no_reply (IsOutcome found (inputs known other None said hash)) w e
+replied one said hash known other found roles c w (Ok reply) is media named reads tells h =
+    one_reply (IsOutcome found (inputs known other None said hash)) w reply (one found (inputs known other None said hash))
+    (known_outcome said hash known other found roles reply is media (ap reads_media named ∙ reads) tells (λ file k. subst (λ (x : Command). IsCommandOutcome x roles (inputs (Some file) other None said hash) (outcome_of reply)) (sym named) (h file k)))
+
+-- the reply to words that fit no command is the usage line
+pub replied_usage : OneOutcome → (said : Question → Verdict) (hash : Alg → List ℕ → List ℕ) (known other : Option (List ℕ)) (found : Option Roles) (w : Option (List ℕ)) (r : Result Reply Fault) → found ≡ None → IfOk r (λ reply. outcome_of reply ≡ reports answer.Usage usage_line)
+    → Begins (IsOutcome found (inputs known other None said hash)) w w r
+replied_usage one said hash known other found w (Err e) is h = no_reply (IsOutcome found (inputs known other None said hash)) w e
+replied_usage one said hash known other found w (Ok reply) is h =
+    one_reply (IsOutcome found (inputs known other None said hash)) w reply (one found (inputs known other None said hash)) (subst (λ (x : Option Roles). IsOutcome x (inputs known other None said hash) (outcome_of reply)) (sym is) h)
 
 -- what follows of each value follows of a result's
 pub each_ok : {A E : Type 0} (P Q : A → Type 0) (r : Result A E) → ((x : A) → P x → Q x) → IfOk r P → IfOk r Q

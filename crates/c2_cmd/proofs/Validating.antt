@@ -1,5 +1,5 @@
 -- What `validate` reports and asks, by the answer of the check.
-use Rattle.std.proofs.Common.{◌≡◌, refl, sym, ◌∙◌, ap, subst, ℕ, Bool, true, false, cond, List}
+use Rattle.std.proofs.Common.{◌≡◌, sym, ◌∙◌, ap, subst, ℕ, Bool, true, false, cond, List}
 use Rattle.std.specs.Prelude.{◌≢◌, IfErr}
 use Rattle.std.specs.declared.result.Result.{Result}
 use Rattle.std.specs.declared.result.Result.TheVariants.{Ok, Err}
@@ -11,17 +11,15 @@ use Rattle.c2_rules.specs.Asking.{HaveAsked}
 use Rattle.c2_rules.specs.Codes.{is_unsupported}
 use Rattle.c2_rules.specs.declared.answer.Answer.{Answer as Checked}
 use Rattle.c2_rules.specs.declared.answer.Answer.TheVariants as checked
-use Rattle.c2_rules.specs.declared.code.Code.{Code}
 use Rattle.c2_rules.proofs.AskingLemmas.{front_all}
 use Rattle.c2_validate.specs.Validation.{HasAsked, IsAnswered, IsFaultCause}
 use Rattle.c2_validate.specs.declared.error.ValidateError.{ValidateError}
 use Rattle.c2_validate.specs.declared.error.ValidateError.TheVariants.{ReadFault, JudgeFault, NoMemory}
-use Rattle.c2_cmd.specs.Outcome.{Outcome, IsValidated, answered, failing_answer}
+use Rattle.c2_cmd.specs.Outcome.{Outcome, IsValidated, answered}
 use Rattle.c2_cmd.specs.Reply.{AskedFor, IsCause, fault_of, outcome_of}
 use Rattle.c2_cmd.specs.declared.reply.Fault.{Fault}
 use Rattle.c2_cmd.specs.declared.reply.Fault.TheVariants.{Memory}
 use Rattle.c2_cmd.specs.declared.reply.Reply.{Reply}
-use Rattle.c2_cmd.specs.declared.types.Answer.{Answer}
 use Rattle.c2_cmd.specs.declared.types.Answer.TheVariants as answer
 
 -- a code is that of something unsupported, or not: in neither case are the words wrong

@@ -19,13 +19,23 @@ abbrev pub is_name : List ℕ → Bool
 is_name [] = false
 is_name (first ∷ rest) = not (first == dash)
 
--- whether a command reads a media file, and whether it asks judges
+-- whether a command reads a media file
 abbrev pub reads_media : Command → Bool
 reads_media command.Digest = true
 reads_media command.List = true
 reads_media command.Show = true
 reads_media command.Questions = true
 reads_media command.Validate = true
+reads_media command.Compare = true
+
+-- whether a command reads a second file
+abbrev pub reads_second : Command → Bool
+reads_second command.Digest = false
+reads_second command.List = false
+reads_second command.Show = false
+reads_second command.Questions = false
+reads_second command.Validate = false
+reads_second command.Compare = true
 
 -- whether a command asks judges
 abbrev pub asks_judges : Command → Bool
@@ -34,6 +44,16 @@ asks_judges command.List = false
 asks_judges command.Show = false
 asks_judges command.Questions = true
 asks_judges command.Validate = true
+asks_judges command.Compare = true
+
+-- whether a command has its whole report before it writes any of it: `compare` writes evidence while it reads it
+abbrev pub reports_whole : Command → Bool
+reports_whole command.Digest = true
+reports_whole command.List = true
+reports_whole command.Show = true
+reports_whole command.Questions = true
+reports_whole command.Validate = true
+reports_whole command.Compare = false
 
 -- how many names of judges may follow
 abbrev pub most_judges : Command → ℕ
@@ -42,6 +62,7 @@ most_judges command.List = 0
 most_judges command.Show = 0
 most_judges command.Questions = MAX_JUDGE_NAMES
 most_judges command.Validate = MAX_JUDGE_NAMES
+most_judges command.Compare = MAX_JUDGE_NAMES
 
 -- the command of a word
 abbrev pub command_of : List ℕ → Option Command
@@ -51,16 +72,31 @@ command_of word =
     else if bytes_eq word (codes "show") then Some command.Show
     else if bytes_eq word (codes "questions") then Some command.Questions
     else if bytes_eq word (codes "validate") then Some command.Validate
+    else if bytes_eq word (codes "compare") then Some command.Compare
     else None
 
 -- the roles of `COMMAND MEDIA` and `COMMAND MEDIA JUDGE..`
 abbrev pub reading_roles : Command → Roles
 reading_roles c = record { command = c; media = Some 1; second = None; third = None; out = None; judges = 2; count = None }
 
+-- the roles of `compare MEDIA OTHER` and `compare MEDIA OTHER JUDGE..`
+abbrev pub comparing_roles : Command → Roles
+comparing_roles c = record { command = c; media = Some 1; second = Some 2; third = None; out = None; judges = 3; count = None }
+
+-- the roles of a command that reads one file, with these names after it, if they fit
+abbrev pub roles_of_one : Command → List (List ℕ) → Option Roles
+roles_of_one c [] = None
+roles_of_one c (media ∷ judges) = if nat_le (length judges) (most_judges c) then Some (reading_roles c) else None
+
+-- the roles of a command that reads two files, with these names after it, if they fit
+abbrev pub roles_of_two : Command → List (List ℕ) → Option Roles
+roles_of_two c [] = None
+roles_of_two c (media ∷ []) = None
+roles_of_two c (media ∷ (second ∷ judges)) = if nat_le (length judges) (most_judges c) then Some (comparing_roles c) else None
+
 -- the roles of a command with these names after it, if they fit
 abbrev pub roles_with : Command → List (List ℕ) → Option Roles
-roles_with c [] = None
-roles_with c (media ∷ judges) = if nat_le (length judges) (most_judges c) then Some (reading_roles c) else None
+roles_with c names = if reads_second c then roles_of_two c names else roles_of_one c names
 
 -- the roles of words that may all be names: the first of them names the command, if they fit
 abbrev pub roles_of_names : List (List ℕ) → Option Roles

@@ -1,5 +1,5 @@
 -- The outcome of a run: a relation between the roles of its words, what it is handed, and its outcome.
-use Rattle.std.specs.Prelude.{◌≡◌, ℕ, ◌+◌, Bool, false, List, [], ◌++◌, take, drop, is_some, unwrap_or, Some, None, if◌then◌else◌}
+use Rattle.std.specs.Prelude.{◌≡◌, ℕ, ◌+◌, Bool, true, false, List, [], ◌++◌, take, drop, is_some, unwrap_or, Some, None, if◌then◌else◌}
 use Rattle.std.specs.List.{flat_map}
 use Rattle.std.specs.declared.option.Option.{Option}
 use Rattle.c2_base.specs.declared.values.Question.{Question}
@@ -21,14 +21,17 @@ use Rattle.c2_rules.specs.Validated.{AreQuestions, CheckAsks, IsAnswer}
 use Rattle.c2_rules.specs.declared.answer.Answer.{Answer as Checked}
 use Rattle.c2_rules.specs.declared.answer.Answer.TheVariants as checked
 use Rattle.c2_rules.specs.declared.code.Code.{Code}
+use Rattle.c2_binding.specs.Comparison.{IsComparison, CompareAsks}
+use Rattle.c2_binding.specs.declared.compared.Compared.{Compared}
+use Rattle.c2_binding.specs.declared.compared.Compared.TheVariants as compared
 use Rattle.c2_texts.specs.Show.{show_line}
-use Rattle.c2_texts.specs.Texts.{usage_line, refused_line, none_line, digest_line, listing, question_line, no_question_line, valid_line, failing_line}
+use Rattle.c2_texts.specs.Texts.{usage_line, refused_line, none_line, digest_line, listing, question_line, no_question_line, valid_line, failing_line, same_line, different_line, not_accepted_line}
 use Rattle.c2_cmd.specs.declared.types.Answer.{Answer}
 use Rattle.c2_cmd.specs.declared.types.Answer.TheVariants as answer
 use Rattle.c2_cmd.specs.declared.types.Command.{Command}
 use Rattle.c2_cmd.specs.declared.types.Command.TheVariants as command
 use Rattle.c2_cmd.specs.declared.types.Roles.{Roles}
-use Rattle.c2_cmd.specs.CommandLine.{asks_judges}
+use Rattle.c2_cmd.specs.CommandLine.{asks_judges, reports_whole}
 
 -- what an outcome depends on beside the words: the bytes of the sources, what the panel of judges says of a question,
 -- and the hash
@@ -125,6 +128,18 @@ answered checked.NoStore = reports answer.NoStore none_line
 abbrev pub IsValidated : (Alg → List ℕ → List ℕ) → (Question → Verdict) → List ℕ → Outcome → Type 0
 IsValidated hash said file expected = (found : Checked) × IsAnswer hash said file found × (expected ≡ answered found)
 
+-- what is reported of what two files come to, where the evidence has this text
+abbrev pub compare_outcome : Compared → List ℕ → Outcome
+compare_outcome (compared.NotAccepted side a) text = reports answer.NotAccepted (not_accepted_line side a)
+compare_outcome compared.DifferentClaims text = reports answer.DifferentClaims different_line
+compare_outcome (compared.Evidence kind) text = reports answer.Evidence text
+compare_outcome (compared.Same summary) text = reports answer.Done (same_line summary)
+
+-- the outcome of `compare`
+abbrev pub IsCompareOutcome : (Alg → List ℕ → List ℕ) → (Question → Verdict) → List ℕ → List ℕ → Outcome → Type 0
+IsCompareOutcome hash said first second expected =
+    (what : Compared) × (text : List ℕ) × IsComparison hash said first second what text × (expected ≡ compare_outcome what text)
+
 -- the outcome of a command with these roles
 abbrev pub IsCommandOutcome : Command → Roles → Inputs → Outcome → Type 0
 IsCommandOutcome command.Digest roles i expected = IsDigestOutcome (i.hash Sha256) i.media expected
@@ -132,21 +147,32 @@ IsCommandOutcome command.List roles i expected = IsListOutcome i.media expected
 IsCommandOutcome command.Show roles i expected = IsMediaOutcome IsShown i.media expected
 IsCommandOutcome command.Questions roles i expected = IsMediaOutcome (IsQuestioned i.said) i.media expected
 IsCommandOutcome command.Validate roles i expected = IsValidated i.hash i.said i.media expected
+IsCommandOutcome command.Compare roles i expected = IsCompareOutcome i.hash i.said i.media i.second expected
 
 -- the outcome of words with these roles, or with none
 abbrev pub IsOutcome : Option Roles → Inputs → Outcome → Type 0
 IsOutcome None i expected = expected ≡ reports answer.Usage usage_line
 IsOutcome (Some roles) i expected = IsCommandOutcome roles.command roles i expected
 
--- whether the command reads the media, and whether it asks judges
+-- whether the command reads the media
 abbrev pub uses_media : Option Roles → Bool
 uses_media None = false
 uses_media (Some roles) = is_some roles.media
+
+-- whether the command reads a second file
+abbrev pub uses_second : Option Roles → Bool
+uses_second None = false
+uses_second (Some roles) = is_some roles.second
 
 -- whether words with these roles, or with none, may ask judges
 abbrev pub uses_judges : Option Roles → Bool
 uses_judges None = false
 uses_judges (Some roles) = asks_judges roles.command
+
+-- whether the whole report is there before any of it is written, by words with these roles or with none
+abbrev pub has_whole_report : Option Roles → Bool
+has_whole_report None = true
+has_whole_report (Some roles) = reports_whole roles.command
 
 -- the judges are asked these questions, in this order, by a command, and by words with these roles
 abbrev pub CommandAsks : Command → Inputs → List Question → Type 0
@@ -155,6 +181,7 @@ CommandAsks command.List i qs = qs ≡ []
 CommandAsks command.Show i qs = qs ≡ []
 CommandAsks command.Questions i qs = AreQuestions i.media qs
 CommandAsks command.Validate i qs = CheckAsks i.hash i.said i.media qs
+CommandAsks command.Compare i qs = CompareAsks i.hash i.said i.media i.second qs
 
 -- the judges are asked these questions, in order, by words with these roles; words without roles ask none
 abbrev pub Asks : Option Roles → Inputs → List Question → Type 0

@@ -1,9 +1,10 @@
 -- For private clauses: replies in memory.
-use Rattle.std.specs.Prelude.{◌≡◌, ◌≢◌, ℕ, ◌+◌, ◌≤◌, List, [], ◌++◌, string_bytes, Result, Ok, Err, ⊤}
+use Rattle.std.specs.Prelude.{◌≡◌, ◌≢◌, ◌⊎◌, ℕ, ◌+◌, ◌≤◌, List, [], ◌++◌, string_bytes, Result, Ok, Err, ⊤}
 use Rattle.std.specs.declared.option.Option.{Option}
 use Rattle.std.specs.List.{flat_map}
 use Rattle.std.specs.Option.{ForSome, option_to_list}
 use Rattle.c2_base.specs.Causes.{Rose}
+use Rattle.c2_base.specs.Sink.{Appends, HasWrittenPrefix}
 use Rattle.c2_base.specs.declared.media.Found.{Found}
 use Rattle.c2_base.specs.declared.values.Question.{Question}
 use Rattle.c2_spec.specs.declared.panel.Verdict.{Verdict}
@@ -20,6 +21,8 @@ use Rattle.c2_rules.specs.Opened.{IsBoxTree, IsManifestStore}
 use Rattle.c2_rules.specs.Readings.{Reading, AreReadings}
 use Rattle.c2_rules.specs.Validated.{AreQuestions, OpenedAsks}
 use Rattle.c2_texts.specs.Texts.{refused_line, none_line}
+use Rattle.c2_compare.specs.declared.error.CompareError.{CompareError}
+use Rattle.c2_compare.specs.declared.error.CompareError.TheVariants as compare_error
 use Rattle.c2_validate.specs.declared.error.ValidateError.{ValidateError}
 use Rattle.c2_validate.specs.declared.error.ValidateError.TheVariants as error
 use Rattle.c2_cmd.specs.Outcome.{Outcome, reports, Reports, IsListing, IsMediaOutcome, IsQuestioned, verdict_lines}
@@ -30,16 +33,27 @@ use Rattle.c2_cmd.specs.declared.prepare.Prepared.TheVariants as prepared
 use Rattle.c2_cmd.specs.declared.types.Answer.TheVariants as answer
 use Rattle.c2_cmd.specs.declared.reply.Reply.{Reply}
 use Rattle.c2_cmd.specs.declared.reply.Fault.{Fault}
-use Rattle.c2_cmd.specs.declared.reply.Fault.TheVariants.{Input, Judge, Memory}
+use Rattle.c2_cmd.specs.declared.reply.Fault.TheVariants.{Input, Output, Judge, Memory}
 
 -- the outcome that a reply stands for
 abbrev pub outcome_of : Reply → Outcome
 outcome_of reply = reports reply.answer (string_bytes reply.text)
 
--- the reply stands for the one outcome of which this holds
-pub record IsReply (IsExpected : Outcome → Type 0) (reply : Reply) : Type 0 where
-  pub holds : IsExpected (outcome_of reply)
-  pub only : (expected : Outcome) → IsExpected expected → expected ≡ outcome_of reply
+-- the outcome that a reply stands for behind a text that was written before it
+abbrev pub outcome_behind : List ℕ → Reply → Outcome
+outcome_behind before reply = reports reply.answer (before ++ string_bytes reply.text)
+
+-- a text was written, and behind it the reply stands for the one outcome of which this holds
+pub record Completes (IsExpected : Outcome → Type 0) (old new : Option (List ℕ)) (reply : Reply) : Type 0 where
+  pub before : List ℕ
+  pub written : Appends old new before
+  pub holds : IsExpected (outcome_behind before reply)
+  pub only : (expected : Outcome) → IsExpected expected → expected ≡ outcome_behind before reply
+
+-- by the result of a call: a reply that completes the report; or a prefix of the report was written
+abbrev pub Begins : (Outcome → Type 0) → Option (List ℕ) → Option (List ℕ) → Result Reply Fault → Type 0
+Begins IsExpected old new (Ok reply) = Completes IsExpected old new reply
+Begins IsExpected old new (Err e) = (expected : Outcome) → IsExpected expected → HasWrittenPrefix old new expected.report
 
 -- where the bytes of the media are known, the reply stands for this outcome of theirs
 abbrev pub Replies : (List ℕ → Outcome → Type 0) → Option (List ℕ) → Reply → Type 0
@@ -53,23 +67,41 @@ fault_of error.ReadFault = Input
 fault_of error.JudgeFault = Judge
 fault_of error.NoMemory = Memory
 
+-- the fault that an error of a comparison stands for
+abbrev pub compare_fault : CompareError → Fault
+compare_fault compare_error.ReadFault = Input
+compare_fault compare_error.WriteFault = Output
+compare_fault compare_error.JudgeFault = Judge
+compare_fault compare_error.NoMemory = Memory
+
 -- the cause of a fault of a call that asks no judge, by the counts of the media before and after
 abbrev pub IsMediaCause : ℕ → ℕ → Fault → Type 0
 IsMediaCause before now Input = Rose before now
+IsMediaCause before now Output = ⊥
 IsMediaCause before now Judge = ⊥
 IsMediaCause before now Memory = ⊤
 
 -- the cause of a fault of a call that reads no media, by the counts of the judges before and after
 abbrev pub IsJudgeCause : Judges → Judges → Fault → Type 0
 IsJudgeCause old new Input = ⊥
+IsJudgeCause old new Output = ⊥
 IsJudgeCause old new Judge = SomeRose old.faults new.faults
 IsJudgeCause old new Memory = ⊤
 
 -- the cause of a fault, by the counts of the media and of the judges before and after
 abbrev pub IsCause : ℕ → ℕ → Judges → Judges → Fault → Type 0
 IsCause before now old new Input = Rose before now
+IsCause before now old new Output = ⊥
 IsCause before now old new Judge = SomeRose old.faults new.faults
 IsCause before now old new Memory = ⊤
+
+-- the cause of a fault of a call over two files, a report and judges: that one of the files failed, or that the report did, or by the
+-- counts of the judges before and after
+abbrev pub CausedBy : Type 0 → Type 0 → Type 0 → Judges → Judges → Fault → Type 0
+CausedBy first second output old new Input = first ⊎ second
+CausedBy first second output old new Output = output
+CausedBy first second output old new Judge = SomeRose old.faults new.faults
+CausedBy first second output old new Memory = ⊤
 
 -- ---- the media
 
@@ -153,6 +185,7 @@ HasNoUsage (prepared.Ask asked) = ⊤
 abbrev pub AskedFor : {T : Type 0} → List Question → Judges → Judges → Result T Fault → Type 0
 AskedFor qs old new (Ok x) = HaveAsked old.said qs old.asked new.asked
 AskedFor qs old new (Err Input) = HaveAskedPrefix old.said qs old.asked new.asked
+AskedFor qs old new (Err Output) = HaveAsked old.said qs old.asked new.asked
 AskedFor qs old new (Err Judge) = HaveFailed old.said qs old.asked new.asked old.faults new.faults
 AskedFor qs old new (Err Memory) = HaveAskedPrefix old.said qs old.asked new.asked
 

@@ -9,12 +9,12 @@ use Rattle.c2_spec.specs.declared.panel.Verdict.{Verdict}
 use Rattle.c2_spec.specs.Judges.Panel.{SomeRose, NoneFell, Judges, panel_says}
 use Rattle.c2_rules.specs.Asking.{HaveAsked, HaveAskedPrefix, HaveFailed}
 use Rattle.c2_cmd.specs.CommandLine.{roles_of}
-use Rattle.c2_cmd.specs.Outcome.{Outcome, Inputs, inputs, uses_media, uses_judges, IsOutcome, Asks}
+use Rattle.c2_cmd.specs.Outcome.{Outcome, Inputs, inputs, uses_media, uses_second, uses_judges, IsOutcome, Asks}
 use Rattle.c2_cmd.specs.declared.types.Answer.{Answer}
 use Rattle.c2_cmd.specs.declared.types.Answer.TheVariants as answer
 use Rattle.c2_cmd.specs.declared.types.Roles.{Roles}
 use Rattle.c2_cmd.specs.declared.types.Status.{Status}
-use Rattle.c2_cmd.specs.declared.types.Status.TheVariants.{Done, Failing, Refused, NoStore, Usage, InputFault, OutputFault, JudgeFault, NoMemory}
+use Rattle.c2_cmd.specs.declared.types.Status.TheVariants.{Done, Failing, Refused, NoStore, Usage, InputFault, OutputFault, JudgeFault, NoMemory, DifferentClaims, Evidence, NotAccepted}
 
 -- the status of an answer
 abbrev pub status_of : Answer → Status
@@ -23,6 +23,9 @@ status_of answer.Failing = Failing
 status_of answer.Refused = Refused
 status_of answer.NoStore = NoStore
 status_of answer.Usage = Usage
+status_of answer.DifferentClaims = DifferentClaims
+status_of answer.Evidence = Evidence
+status_of answer.NotAccepted = NotAccepted
 
 -- the roles of the words of a call
 abbrev pub roles_in : {R : Type 0} → List (String R) → Option Roles
@@ -49,6 +52,7 @@ handed c = inputs c.media c.second c.third (panel_says c.said) c.hash
 -- the bytes of the sources that the call uses are known
 pub record IsKnown (c : Call) : Type 0 where
   pub media_known : uses_media c.roles ≡ true → IsSome c.media
+  pub second_known : uses_second c.roles ≡ true → IsSome c.second
 
 -- the call comes to this outcome
 abbrev pub ComesTo : Call → Outcome → Type 0
@@ -102,19 +106,12 @@ WithoutFault claim JudgeFault = ⊤
 WithoutFault claim NoMemory = ⊤
 WithoutFault claim status = claim
 
--- the run ended before it had a reply: a source or a judge failed, or memory ran out
+-- the run ended before its report was whole: a source or a judge failed, or memory ran out
 abbrev pub HasNoReply : Status → Type 0
 HasNoReply InputFault = ⊤
 HasNoReply JudgeFault = ⊤
 HasNoReply NoMemory = ⊤
 HasNoReply status = ⊥
-
--- this holds of the words and the files wherever the whole reply was known, also where it could not be written
-abbrev pub WhereReplied : Type 0 → Status → Type 0
-WhereReplied claim InputFault = ⊤
-WhereReplied claim JudgeFault = ⊤
-WhereReplied claim NoMemory = ⊤
-WhereReplied claim status = claim
 
 -- Which judges were asked how often, and who failed, by the status: each of these questions was put to the panel, or after a
 -- fault or out of memory those of a prefix of them.

@@ -1,7 +1,7 @@
 // Which word is which.
-ghost use Rattle.std.specs.Prelude.{◌≡◌, map, string_bytes, is_some, IfOk, IfSome};
+ghost use Rattle.std.specs.Prelude.{◌≡◌, true, false, map, string_bytes, is_some, IfOk, IfSome};
 ghost use Rattle.std.specs.List.{list_all};
-ghost use Rattle.c2_cmd.specs.CommandLine.{GivesRoles, roles_of_names, is_name, reads_media, most_judges, command_of};
+ghost use Rattle.c2_cmd.specs.CommandLine.{GivesRoles, roles_of_names, roles_of_one, roles_of_two, is_name, reads_media, reads_second, most_judges, command_of};
 
 use crate::types::{Command, Roles, RolesError};
 use c2_base::limits::MAX_JUDGE_NAMES;
@@ -12,6 +12,7 @@ use std::alloc::Global;
 pub fn roles(_alloc: Global, words: &Vec<String>) -> Result<Roles, RolesError>
     ensures roles { GivesRoles (map string_bytes words.now.items) result }
     ensures media { IfOk result (λ roles. is_some roles.media ≡ reads_media roles.command) }
+    ensures second { IfOk result (λ roles. is_some roles.second ≡ reads_second roles.command) }
 {
     if !are_names(words) {
         return Err(RolesError::Usage);
@@ -33,11 +34,39 @@ fn are_names(words: &Vec<String>) -> bool
 fn roles_of_names(words: &Vec<String>) -> Option<Roles>
     ensures roles { result ≡ roles_of_names (map string_bytes words.now.items) }
     ensures media { IfSome result (λ roles. is_some roles.media ≡ reads_media roles.command) }
+    ensures second { IfSome result (λ roles. is_some roles.second ≡ reads_second roles.command) }
 {
-    let [first, _media, judges @ ..] = words.as_slice() else {
+    let [first, names @ ..] = words.as_slice() else {
         return None;
     };
     let Some(command) = command_of(first.as_str()) else {
+        return None;
+    };
+    if reads_second(command) {
+        return roles_of_two(command, names);
+    }
+    roles_of_one(command, names)
+}
+
+// Whether a command reads a second file.
+fn reads_second(command: Command) -> bool
+    ensures { result ≡ reads_second command }
+{
+    match command {
+        Command::Compare => true,
+        Command::Digest | Command::List | Command::Show | Command::Questions | Command::Validate =>
+            false,
+    }
+}
+
+// The roles of a command that reads one file.
+fn roles_of_one(command: Command, names: &[String]) -> Option<Roles>
+    requires { reads_second command ≡ false }
+    ensures roles { result ≡ roles_of_one command (map string_bytes names.now) }
+    ensures media { IfSome result (λ roles. is_some roles.media ≡ reads_media roles.command) }
+    ensures second { IfSome result (λ roles. is_some roles.second ≡ reads_second roles.command) }
+{
+    let [_media, judges @ ..] = names else {
         return None;
     };
     if judges.len() > most_judges(command) {
@@ -54,6 +83,30 @@ fn roles_of_names(words: &Vec<String>) -> Option<Roles>
     })
 }
 
+// The roles of a command that reads two files.
+fn roles_of_two(command: Command, names: &[String]) -> Option<Roles>
+    requires { reads_second command ≡ true }
+    ensures roles { result ≡ roles_of_two command (map string_bytes names.now) }
+    ensures media { IfSome result (λ roles. is_some roles.media ≡ reads_media roles.command) }
+    ensures second { IfSome result (λ roles. is_some roles.second ≡ reads_second roles.command) }
+{
+    let [_media, _second, judges @ ..] = names else {
+        return None;
+    };
+    if judges.len() > most_judges(command) {
+        return None;
+    }
+    Some(Roles {
+        command,
+        media: Some(1),
+        second: Some(2),
+        third: None,
+        out: None,
+        judges: 3,
+        count: None,
+    })
+}
+
 // The command of a word.
 fn command_of(word: &str) -> Option<Command>
     ensures { result ≡ command_of word.now }
@@ -64,6 +117,7 @@ fn command_of(word: &str) -> Option<Command>
         "show" => Some(Command::Show),
         "questions" => Some(Command::Questions),
         "validate" => Some(Command::Validate),
+        "compare" => Some(Command::Compare),
         _ => None,
     }
 }
@@ -74,7 +128,7 @@ fn most_judges(command: Command) -> usize
 {
     match command {
         Command::Digest | Command::List | Command::Show => 0,
-        Command::Questions | Command::Validate => MAX_JUDGE_NAMES,
+        Command::Questions | Command::Validate | Command::Compare => MAX_JUDGE_NAMES,
     }
 }
 

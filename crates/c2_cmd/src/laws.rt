@@ -4,6 +4,7 @@ ghost use Rattle.c2_base.specs.declared.values.Question.{Question};
 ghost use Rattle.c2_cmd.specs.Outcome.{Asks, Inputs, IsOutcome, Outcome};
 ghost use Rattle.c2_cmd.specs.declared.types.Roles.{Roles as AnyRoles};
 
+use c2_binding::{each_comparison, one_comparison};
 use c2_chain::{a_reading_is_the_claim_and_the_question, one_list_of_claims, one_reading};
 use c2_jumbf::each_list_is_a_tree_or_not;
 use c2_validate::{each_file_has_a_check, each_media_file_is_located, one_check, one_opening};
@@ -21,15 +22,17 @@ pub fn one_outcome()
     one_reading();
     one_opening();
     one_check();
+    one_comparison();
 }
 
-/// Words and inputs whose media are bytes come to an outcome, and to a list of questions.
+/// Words and inputs whose files are bytes come to an outcome, and to a list of questions.
 pub fn each_run_has_an_outcome()
     ensures outcome { (roles : Option AnyRoles) (i : Inputs) → All (λ b. b < 2 ^ 8) i.media
-        → (expected : Outcome) × IsOutcome roles i expected }
+        → All (λ b. b < 2 ^ 8) i.second → (expected : Outcome) × IsOutcome roles i expected }
     ensures questions { (roles : Option AnyRoles) (i : Inputs) → All (λ b. b < 2 ^ 8) i.media
-        → (qs : List Question) × Asks roles i qs }
+        → All (λ b. b < 2 ^ 8) i.second → (qs : List Question) × Asks roles i qs }
 {
     each_file_has_a_check();
+    each_comparison();
     a_reading_is_the_claim_and_the_question();
 }

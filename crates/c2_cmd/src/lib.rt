@@ -4,6 +4,7 @@
 #![tactic(auto)]
 
 mod command_line;
+mod comparison;
 mod digest;
 mod laws;
 mod list;

@@ -1,10 +1,11 @@
 // Replies: the answer and the text of a run without a fault, before it is written.
 ghost use Rattle.std.specs.Prelude.{◌≡◌};
-ghost use Rattle.c2_cmd.specs.Reply.{fault_of};
+ghost use Rattle.c2_cmd.specs.Reply.{compare_fault, fault_of};
 ghost use Rattle.c2_cmd.specs.declared.reply.Fault.TheVariants.{Input, Memory};
 
 use crate::types::Answer;
 use c2_base::{Failed, NoMemory};
+use c2_compare::CompareError;
 use c2_validate::ValidateError;
 use std::alloc::AllocError;
 
@@ -13,6 +14,9 @@ use std::alloc::AllocError;
 pub enum Fault {
     /// A source failed.
     Input,
+
+    /// The report failed.
+    Output,
 
     /// A judge failed.
     Judge,
@@ -60,6 +64,19 @@ impl From<ValidateError> for Fault {
             ValidateError::ReadFault => Fault::Input,
             ValidateError::JudgeFault => Fault::Judge,
             ValidateError::NoMemory => Fault::Memory,
+        }
+    }
+}
+
+impl From<CompareError> for Fault {
+    ghost from_gives = { λ error e. e ≡ compare_fault error };
+
+    fn from(error: CompareError) -> Fault {
+        match error {
+            CompareError::ReadFault => Fault::Input,
+            CompareError::WriteFault => Fault::Output,
+            CompareError::JudgeFault => Fault::Judge,
+            CompareError::NoMemory => Fault::Memory,
         }
     }
 }

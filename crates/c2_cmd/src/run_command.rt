@@ -1,17 +1,21 @@
 // The top call.
-ghost use Rattle.std.specs.Prelude.{◌≡◌, ◌<◌, ◌≤◌, map, string_bytes, None, Some, true, false, OnOk, OnErr, IfOk, IfErr, List, [], vec_len};
-ghost use Rattle.c2_base.specs.Causes.{HasCause};
+ghost use Rattle.std.specs.Prelude.{◌≡◌, ◌⊎◌, ◌<◌, ◌≤◌, map, string_bytes, None, true, false, OnOk, OnErr, IfOk, IfErr, List, [], vec_len};
+ghost use Rattle.std.specs.Option.{ForSome};
+ghost use Rattle.c2_base.specs.Causes.{HasCause, Rose};
 ghost use Rattle.c2_base.specs.Source.{StaysSource};
 ghost use Rattle.c2_base.specs.Sink.{HasWrittenPrefix};
 ghost use Rattle.c2_base.specs.declared.values.Question.{Question};
-ghost use Rattle.c2_spec.specs.Judges.Panel.{LeavesJudges, judges_of};
-ghost use Rattle.c2_cmd.specs.Outcome.{Outcome, uses_judges, uses_media};
-ghost use Rattle.c2_cmd.specs.Reply.{AskedThose, IsCause, IsReply};
-ghost use Rattle.c2_cmd.specs.Run.{AskedPanel, ComesTo, Delivers, HasFailed, HasNoReply, HasReport, IsKnown, KeepsJudges, Puts, WhereReplied, WithoutFault, call_of, roles_in, state_of};
+ghost use Rattle.c2_binding.specs.Comparison.{IsRefusedFirst};
+ghost use Rattle.c2_rules.specs.declared.answer.Answer.{Answer as AnyAnswer};
+ghost use Rattle.c2_spec.specs.Judges.Panel.{LeavesJudges, judges_of, panel_says};
+ghost use Rattle.c2_cmd.specs.Outcome.{Outcome, has_whole_report, uses_judges, uses_media, uses_second};
+ghost use Rattle.c2_cmd.specs.Reply.{AskedThose, Begins, CausedBy};
+ghost use Rattle.c2_cmd.specs.Run.{AskedPanel, ComesTo, Delivers, HasFailed, HasNoReply, HasReport, IsKnown, KeepsJudges, Puts, WithoutFault, call_of, roles_in, state_of};
 
 use crate::command_line::roles;
+use crate::comparison::reply_to_compare;
 use crate::digest::reply_to_digest;
-use crate::laws::one_outcome;
+use crate::laws::{each_run_has_an_outcome, one_outcome};
 use crate::list::reply_to_list;
 use crate::questions::reply_to_questions;
 use crate::replies::usage_reply;
@@ -24,35 +28,43 @@ use c2_hash::Hashing;
 use c2_judge::Judge;
 use std::alloc::Global;
 
-/// Runs the command that the words spell, over the media, the report and the judges that it is handed.
+/// Runs the command that the words spell, over the files, the report and the judges that it is handed.
 ///
-/// Where the bytes of the media are known, the report holds the outcome's text and is finished; after a fault or out of
-/// memory it holds a prefix of it. `Usage` comes exactly where the words fit no command, unless the report fails or memory
-/// runs out. `InputFault`, `OutputFault` and `JudgeFault` come only where the media of a command that reads it, the report,
-/// or a judge whom the command may ask failed in this call; `NoMemory` where memory ran out.
+/// Where the bytes of the files that the command reads are known, the report holds the outcome's text and is finished; after a fault or
+/// out of memory it holds a prefix of it. `Usage` comes exactly where the words fit no command, unless the report fails or memory
+/// runs out. `InputFault`, `OutputFault` and `JudgeFault` come only where a file that the command reads, the report, or a judge whom
+/// the command may ask failed in this call; `NoMemory` where memory ran out. `compare` writes evidence while it reads it: each other
+/// command has its whole report before it writes any of it.
 // The condition always holds. A public function without one that changes boxed judges can't be called from another crate
 // under a contract.
-pub fn run<H: Hashing, A: Source, W: Sink>(
+pub fn run<H: Hashing, A: Source, B: Source, W: Sink>(
     alloc: Global,
     hashing: &H,
     words: &Vec<String>,
     media: &mut A,
+    second: &mut B,
     report: &mut W,
     judges: &mut Vec<Box<dyn Judge>>,
 ) -> Status
     requires { Unit {0} }
-    // Where the bytes are known: what the call comes to is reported, and what is reported is what it comes to.
+    // Where the bytes are known: the call comes to an outcome, and that is reported.
     ensures report { let said = map (λ j. says j) judges.old.items in
-        let call = call_of words.now.items (A.known media.old) None None said H.digest_of in
+        let known = A.known media.old in
+        let other = B.known second.old in
+        let call = call_of words.now.items known other None said H.digest_of in
         let old = state_of W.written W.finished report.old in
         let new = state_of W.written W.finished report.new in
         IsKnown call → (expected : Outcome) → ComesTo call expected
         → HasReport expected old new result }
     ensures outcome { let said = map (λ j. says j) judges.old.items in
-        let call = call_of words.now.items (A.known media.old) None None said H.digest_of in
-        IsKnown call → WhereReplied ((expected : Outcome) × ComesTo call expected) result }
+        let known = A.known media.old in
+        let other = B.known second.old in
+        let call = call_of words.now.items known other None said H.digest_of in
+        IsKnown call → (expected : Outcome) × ComesTo call expected }
     ensures asked { let said = map (λ j. says j) judges.old.items in
-        let call = call_of words.now.items (A.known media.old) None None said H.digest_of in
+        let known = A.known media.old in
+        let other = B.known second.old in
+        let call = call_of words.now.items known other None said H.digest_of in
         let old = judges_of (λ j. says j) (λ j. asked_times j) (λ j. judge_faults j)
         judges.old.items in
         let new = judges_of (λ j. says j) (λ j. asked_times j) (λ j. judge_faults j)
@@ -60,18 +72,28 @@ pub fn run<H: Hashing, A: Source, W: Sink>(
         IsKnown call → (qs : List Question) → Puts call qs → AskedPanel qs old new result }
     ensures usage { result ≡ Status.Usage → roles_in words.now.items ≡ None }
 
-    // The media: when its fault is answered, and what stays as it was.
-    ensures input { let used = uses_media (roles_in words.now.items) in
-        result ≡ Status.InputFault → HasFailed used (A.faults media.old) (A.faults media.new) }
+    // The files: when a fault of theirs is answered, and what stays as it was.
+    ensures input { let roles = roles_in words.now.items in
+        let first = HasFailed (uses_media roles) (A.faults media.old) (A.faults media.new) in
+        let other = HasFailed (uses_second roles) (B.faults second.old) (B.faults second.new) in
+        result ≡ Status.InputFault → first ⊎ other }
     ensures media_quiet { WithoutFault (A.faults media.new ≡ A.faults media.old) result }
     ensures media_stays { StaysSource A.len A.known A.faults media.old media.new }
     ensures media_unnamed { uses_media (roles_in words.now.items) ≡ false → media.new ≡ media.old }
+    ensures second_quiet { WithoutFault (B.faults second.new ≡ B.faults second.old) result }
+    ensures second_stays { StaysSource B.len B.known B.faults second.old second.new }
+    ensures second_unnamed { uses_second (roles_in words.now.items) ≡ false
+        → second.new ≡ second.old }
+    ensures second_unread { let said = panel_says (map (λ j. says j) judges.old.items) in
+        ForSome (A.known media.old) (λ file. (found : AnyAnswer)
+        → IsRefusedFirst H.digest_of said file found → second.new ≡ second.old) }
 
     // The report.
     ensures output { result ≡ Status.OutputFault
         → HasFailed true (W.faults report.old) (W.faults report.new) }
     ensures report_quiet { WithoutFault (W.faults report.new ≡ W.faults report.old) result }
-    ensures report_unwritten { HasNoReply result → report.new ≡ report.old }
+    ensures report_unwritten { has_whole_report (roles_in words.now.items) ≡ true
+        → HasNoReply result → report.new ≡ report.old }
     ensures report_later { W.faults report.old ≤ W.faults report.new }
     ensures report_unfinished { W.faults report.old < W.faults report.new
         → W.finished report.new ≡ W.finished report.old }
@@ -86,41 +108,47 @@ pub fn run<H: Hashing, A: Source, W: Sink>(
     ensures judges_unnamed { uses_judges (roles_in words.now.items) ≡ false
         → judges.new ≡ judges.old }
     ensures judges_unasked { let said = map (λ j. says j) judges.old.items in
-        let call = call_of words.now.items (A.known media.old) None None said H.digest_of in
+        let known = A.known media.old in
+        let other = B.known second.old in
+        let call = call_of words.now.items known other None said H.digest_of in
         IsKnown call → Puts call [] → judges.new ≡ judges.old }
 {
-    let reply = match reply_to(alloc, hashing, words, media, judges) {
+    // Only the prover needs this law.
+    each_run_has_an_outcome();
+    let reply = match reply_to(alloc, hashing, words, media, second, report, judges) {
         Ok(reply) => reply,
         Err(Fault::Input) => return Status::InputFault,
+        Err(Fault::Output) => return Status::OutputFault,
         Err(Fault::Judge) => return Status::JudgeFault,
         Err(Fault::Memory) => return Status::NoMemory,
     };
-    if deliver(&reply, report).is_err() {
-        return Status::OutputFault;
-    }
-    match reply.answer {
-        Answer::Done => Status::Done,
-        Answer::Failing => Status::Failing,
-        Answer::Refused => Status::Refused,
-        Answer::NoStore => Status::NoStore,
-        Answer::Usage => Status::Usage,
+    match deliver(&reply, report) {
+        Ok(()) => reply.answer.status(),
+        Err(Failed) => Status::OutputFault,
     }
 }
 
-// The reply to a command line.
-fn reply_to<H: Hashing, A: Source>(
+// The reply to a command line. `compare` alone writes to the report.
+fn reply_to<H: Hashing, A: Source, B: Source, W: Sink>(
     alloc: Global,
     hashing: &H,
     words: &Vec<String>,
     media: &mut A,
+    second: &mut B,
+    report: &mut W,
     judges: &mut Vec<Box<dyn Judge>>,
 ) -> Result<Reply, Fault>
     requires { Unit {0} }
     ensures reply { let said = map (λ j. says j) judges.old.items in
-        let call = call_of words.now.items (A.known media.old) None None said H.digest_of in
-        IsKnown call → IfOk result (IsReply (ComesTo call)) }
+        let known = A.known media.old in
+        let other = B.known second.old in
+        let call = call_of words.now.items known other None said H.digest_of in
+        IsKnown call
+        → Begins (ComesTo call) (W.written report.old) (W.written report.new) result }
     ensures asked { let said = map (λ j. says j) judges.old.items in
-        let call = call_of words.now.items (A.known media.old) None None said H.digest_of in
+        let known = A.known media.old in
+        let other = B.known second.old in
+        let call = call_of words.now.items known other None said H.digest_of in
         let old = judges_of (λ j. says j) (λ j. asked_times j) (λ j. judge_faults j)
         judges.old.items in
         let new = judges_of (λ j. says j) (λ j. asked_times j) (λ j. judge_faults j)
@@ -128,16 +156,30 @@ fn reply_to<H: Hashing, A: Source>(
         IsKnown call → AskedThose (Puts call) old new result }
     ensures usage { let roles = roles_in words.now.items in
         IfOk result (λ reply. reply.answer ≡ Answer.Usage → roles ≡ None) }
-    ensures stays { StaysSource A.len A.known A.faults media.old media.new }
-    ensures count { OnOk result (A.faults media.new ≡ A.faults media.old) }
-    ensures unnamed { uses_media (roles_in words.now.items) ≡ false → media.new ≡ media.old }
-    ensures fault { let old = judges_of (λ j. says j) (λ j. asked_times j) (λ j. judge_faults j)
+    ensures fault { let roles = roles_in words.now.items in
+        let old = judges_of (λ j. says j) (λ j. asked_times j) (λ j. judge_faults j)
         judges.old.items in
         let new = judges_of (λ j. says j) (λ j. asked_times j) (λ j. judge_faults j)
         judges.new.items in
-        IfErr result (IsCause (A.faults media.old) (A.faults media.new) old new) }
-    ensures named { let used = uses_media (roles_in words.now.items) in
-        IfErr result (λ e. e ≡ Fault.Input → used ≡ true) }
+        let first = HasFailed (uses_media roles) (A.faults media.old) (A.faults media.new) in
+        let other = HasFailed (uses_second roles) (B.faults second.old) (B.faults second.new) in
+        let output = Rose (W.faults report.old) (W.faults report.new) in
+        IfErr result (CausedBy first other output old new) }
+    ensures media_stays { StaysSource A.len A.known A.faults media.old media.new }
+    ensures media_count { OnOk result (A.faults media.new ≡ A.faults media.old) }
+    ensures media_unnamed { uses_media (roles_in words.now.items) ≡ false → media.new ≡ media.old }
+    ensures second_stays { StaysSource B.len B.known B.faults second.old second.new }
+    ensures second_count { OnOk result (B.faults second.new ≡ B.faults second.old) }
+    ensures second_unnamed { uses_second (roles_in words.now.items) ≡ false
+        → second.new ≡ second.old }
+    ensures second_unread { let said = panel_says (map (λ j. says j) judges.old.items) in
+        ForSome (A.known media.old) (λ file. (found : AnyAnswer)
+        → IsRefusedFirst H.digest_of said file found → second.new ≡ second.old) }
+    ensures report_count { OnOk result (W.faults report.new ≡ W.faults report.old) }
+    ensures report_later { W.faults report.old ≤ W.faults report.new }
+    ensures report_unfinished { W.finished report.new ≡ W.finished report.old }
+    ensures report_unwritten { has_whole_report (roles_in words.now.items) ≡ true
+        → report.new ≡ report.old }
     ensures judges { let old = judges_of (λ j. says j) (λ j. asked_times j) (λ j. judge_faults j)
         judges.old.items in
         let new = judges_of (λ j. says j) (λ j. asked_times j) (λ j. judge_faults j)
@@ -149,7 +191,9 @@ fn reply_to<H: Hashing, A: Source>(
     ensures judges_unnamed { uses_judges (roles_in words.now.items) ≡ false
         → judges.new ≡ judges.old }
     ensures judges_unasked { let said = map (λ j. says j) judges.old.items in
-        let call = call_of words.now.items (A.known media.old) None None said H.digest_of in
+        let known = A.known media.old in
+        let other = B.known second.old in
+        let call = call_of words.now.items known other None said H.digest_of in
         IsKnown call → Puts call [] → judges.new ≡ judges.old }
 {
     // Only the prover needs this law.
@@ -165,6 +209,7 @@ fn reply_to<H: Hashing, A: Source>(
         Command::Show => reply_to_show(alloc, media),
         Command::Questions => reply_to_questions(alloc, media, judges),
         Command::Validate => reply_to_validate(alloc, hashing, media, judges),
+        Command::Compare => reply_to_compare(alloc, hashing, media, second, report, judges),
     }
 }
 

@@ -17,6 +17,9 @@ pub enum Command {
 
     /// Whether every rule of the check list holds.
     Validate,
+
+    /// Whether one active claim binds two files, and the evidence where it doesn't.
+    Compare,
 }
 
 /// Which word is which: the index of each name among the words.
@@ -71,6 +74,36 @@ pub enum Answer {
 
     /// Words that fit no command.
     Usage,
+
+    /// Two files with different active claims.
+    DifferentClaims,
+
+    /// Evidence that two files differ.
+    Evidence,
+
+    /// One of two files that isn't accepted.
+    NotAccepted,
+}
+
+impl Answer {
+    ghost use Rattle.std.specs.Prelude.{◌≡◌};
+    ghost use Rattle.c2_cmd.specs.Run.{status_of};
+
+    /// Its status.
+    pub fn status(self) -> Status
+        ensures { result ≡ status_of self }
+    {
+        match self {
+            Answer::Done => Status::Done,
+            Answer::Failing => Status::Failing,
+            Answer::Refused => Status::Refused,
+            Answer::NoStore => Status::NoStore,
+            Answer::Usage => Status::Usage,
+            Answer::DifferentClaims => Status::DifferentClaims,
+            Answer::Evidence => Status::Evidence,
+            Answer::NotAccepted => Status::NotAccepted,
+        }
+    }
 }
 
 /// How a run ended.
@@ -102,6 +135,15 @@ pub enum Status {
 
     /// Memory ran out.
     NoMemory = 8,
+
+    /// The active claims of two files differ.
+    DifferentClaims = 9,
+
+    /// There is evidence that two files differ.
+    Evidence = 10,
+
+    /// One of two files isn't accepted.
+    NotAccepted = 12,
 }
 
 impl Status {

@@ -1,11 +1,9 @@
 // What `validate` says of small stores and of a photograph: the rows are computed by tests/real/rows.py, which writes them.
-use crate::files::{JFIF, words};
+use crate::files::{JFIF, run_one, words};
 use crate::tables::{in_jpeg, judged_comes_to, judged_rows_come_to, row_of};
 use crate::validate_rows::{CHANGED, FAR_RANGE, MORE_ROWS, PHOTOGRAPH, ROWS, VERDICT};
 use c2_base::{Blob, MemSink, MemSource, SureSource};
-use c2_cmd::run;
 use c2_cmd::types::Status;
-use c2_hash::Sha;
 use c2_judge::{BrokenJudge, FixedJudge, Judge, ListJudge, Verdict};
 use std::alloc::Global;
 use std::process::Abort;
@@ -33,7 +31,7 @@ fn checks(
     let given = words(alloc, &["validate", "P", "V", "W"])?;
     let mut media = SureSource::new(Blob::copied(alloc, file)?);
     let mut report = MemSink::with_room(alloc, 1000, 0)?;
-    let ended = run(alloc, &Sha, &given, &mut media, &mut report, judges);
+    let ended = run_one(alloc, &given, &mut media, &mut report, judges);
     assert_eq!(rt; report.bytes(), known.as_bytes());
     assert_eq!(rt; ended, status);
     assert_eq!(rt; report.finished(), status != Status::JudgeFault);
@@ -165,7 +163,7 @@ fn status_of(alloc: Global, file: &[u8], judges: &mut Vec<Box<dyn Judge>>) -> Re
     let given = words(alloc, &["validate", "P", "V"])?;
     let mut media = SureSource::new(Blob::copied(alloc, file)?);
     let mut report = MemSink::with_room(alloc, 1000, 0)?;
-    let status = run(alloc, &Sha, &given, &mut media, &mut report, judges);
+    let status = run_one(alloc, &given, &mut media, &mut report, judges);
     Ok(status.code())
 }
 

@@ -1,12 +1,10 @@
 // Runs in which a source or the report fails at each call in turn.
-use crate::files::{ONE_MANIFEST, ONE_PACKET, ONE_PACKET_DIGEST, SIGNED, words};
+use crate::files::{ONE_MANIFEST, ONE_PACKET, ONE_PACKET_DIGEST, SIGNED, run_one, words};
 use crate::questions_rows::ROWS;
 use crate::tables::{in_jpeg, row_of};
 use crate::validate_rows;
 use c2_base::{Blob, MemSink, MemSource, SureSource};
-use c2_cmd::run;
 use c2_cmd::types::Status;
-use c2_hash::Sha;
 use c2_judge::{FixedJudge, Judge, Verdict};
 use std::alloc::Global;
 use std::process::Abort;
@@ -23,7 +21,7 @@ fn each_failing_read_is_told(rt: HostRuntime) -> Result<(), Fail> {
         let mut media = MemSource::new(Blob::copied(alloc, &ONE_PACKET)?, 7, fail_at);
         let mut report = MemSink::with_room(alloc, 100, 0)?;
         let mut judges: Vec<Box<dyn Judge>> = Vec::new(alloc);
-        match run(alloc, &Sha, &given, &mut media, &mut report, &mut judges) {
+        match run_one(alloc, &given, &mut media, &mut report, &mut judges) {
             Status::InputFault => {
                 assert!(rt; report.bytes().is_empty(), "at call {fail_at}");
                 assert!(rt; !report.finished(), "at call {fail_at}");
@@ -56,7 +54,7 @@ fn each_failing_write_is_told(rt: HostRuntime) -> Result<(), Fail> {
         let mut media = SureSource::new(Blob::copied(alloc, &ONE_PACKET)?);
         let mut report = MemSink::with_room(alloc, room, fail_at)?;
         let mut judges: Vec<Box<dyn Judge>> = Vec::new(alloc);
-        let status = run(alloc, &Sha, &given, &mut media, &mut report, &mut judges);
+        let status = run_one(alloc, &given, &mut media, &mut report, &mut judges);
         assert_eq!(rt; status, want, "at call {fail_at}");
         assert_eq!(rt; report.bytes(), written.as_bytes(), "at call {fail_at}");
         assert_eq!(rt;
@@ -92,7 +90,7 @@ fn reads_fail(
         let mut report = MemSink::with_room(alloc, 1000, 0)?;
         let mut judges: Vec<Box<dyn Judge>> = Vec::new(alloc);
         judges.push(Box::new(alloc, FixedJudge::new(Verdict::Approved, 0))?)?;
-        let status = run(alloc, &Sha, &given, &mut media, &mut report, &mut judges);
+        let status = run_one(alloc, &given, &mut media, &mut report, &mut judges);
         assert_eq!(rt; judges.len(), 1);
         if status != Status::InputFault {
             assert_eq!(rt; status, Status::Done, "at call {fail_at}");
@@ -151,7 +149,7 @@ fn writes_fail(
         let mut report = MemSink::with_room(alloc, room, fail_at)?;
         let mut judges: Vec<Box<dyn Judge>> = Vec::new(alloc);
         judges.push(Box::new(alloc, FixedJudge::new(Verdict::Approved, 0))?)?;
-        let status = run(alloc, &Sha, &given, &mut media, &mut report, &mut judges);
+        let status = run_one(alloc, &given, &mut media, &mut report, &mut judges);
         assert_eq!(rt; status, want, "room for {room}, at call {fail_at}");
         assert_eq!(rt; report.bytes().len(), written);
         assert!(rt; known.as_bytes().starts_with(report.bytes()));
@@ -205,7 +203,7 @@ fn asks_fail(
         judges.push(Box::new(alloc, FixedJudge::new(Verdict::Silent, 0))?)?;
         judges.push(Box::new(alloc, FixedJudge::new(Verdict::Approved, fail_at))?)?;
         judges.push(Box::new(alloc, FixedJudge::new(Verdict::Invalid, 0))?)?;
-        let status = run(alloc, &Sha, &given, &mut media, &mut report, &mut judges);
+        let status = run_one(alloc, &given, &mut media, &mut report, &mut judges);
         let fails = fail_at < 5;
         let want = if fails {
             Status::JudgeFault

@@ -1,5 +1,5 @@
 // Files, and what runs over them come to.
-use c2_base::{Blob, MemSink, MemSource};
+use c2_base::{Blob, HostFile, MemSink, MemSource, Source};
 use c2_cmd::run;
 use c2_cmd::types::Status;
 use c2_hash::Sha;
@@ -61,6 +61,18 @@ pub fn words_of(alloc: Global, line: &str) -> Result<Vec<String>, AllocError> {
     Ok(words)
 }
 
+/// Runs a command over one file. A second would fail at each call.
+pub fn run_one<A: Source>(
+    alloc: Global,
+    given: &Vec<String>,
+    media: &mut A,
+    report: &mut MemSink,
+    judges: &mut Vec<Box<dyn Judge>>,
+) -> Status {
+    let mut second = HostFile::absent();
+    run(alloc, &Sha, given, media, &mut second, report, judges)
+}
+
 /// Runs a command over a file, which is read in pieces of 1, 7 and 65,536 bytes, and compares the report and the status.
 pub fn comes_to(
     rt: &impl Abort,
@@ -74,7 +86,7 @@ pub fn comes_to(
         let mut media = MemSource::new(Blob::copied(alloc, file)?, most, 0);
         let mut sink = MemSink::with_room(alloc, 1000, 0)?;
         let mut judges: Vec<Box<dyn Judge>> = Vec::new(alloc);
-        let ended = run(alloc, &Sha, given, &mut media, &mut sink, &mut judges);
+        let ended = run_one(alloc, given, &mut media, &mut sink, &mut judges);
         assert_eq!(rt; sink.bytes(), report.as_bytes(), "in pieces of {most}");
         assert_eq!(rt; ended, status, "in pieces of {most}");
         assert!(rt; sink.finished());

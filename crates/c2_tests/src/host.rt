@@ -1,9 +1,7 @@
 // Files of the host, and names of what is none.
-use crate::files::words;
+use crate::files::{run_one, words};
 use c2_base::{Failed, HostFile, HostSink, MemSink, Sink, Source, write_all};
-use c2_cmd::run;
 use c2_cmd::types::Status;
-use c2_hash::Sha;
 use c2_judge::Judge;
 use std::alloc::Global;
 use std::fs;
@@ -48,7 +46,7 @@ fn is_an_input_fault(rt: &impl Abort, alloc: Global, mut media: HostFile) -> Res
     let mut report = MemSink::with_room(alloc, 100, 0)?;
     let mut judges: Vec<Box<dyn Judge>> = Vec::new(alloc);
     assert_eq!(rt;
-        run(alloc, &Sha, &given, &mut media, &mut report, &mut judges),
+        run_one(alloc, &given, &mut media, &mut report, &mut judges),
         Status::InputFault
     );
     assert!(rt; report.bytes().is_empty());

@@ -1,10 +1,8 @@
 // What judges say of a question, and which of them are asked.
-use crate::files::{ONE_MANIFEST, ONE_PACKET, SIGNED, SIGNED_ID, words};
+use crate::files::{ONE_MANIFEST, ONE_PACKET, SIGNED, SIGNED_ID, run_one, words};
 use crate::tables::in_jpeg;
 use c2_base::{Blob, MemSink, SureSource};
-use c2_cmd::run;
 use c2_cmd::types::Status;
-use c2_hash::Sha;
 use c2_judge::{BrokenJudge, FixedJudge, Judge, ListJudge, Verdict};
 use std::alloc::Global;
 use std::process::Abort;
@@ -34,7 +32,7 @@ fn asks(
     let given = words(alloc, &["questions", "P", "V", "W"])?;
     let mut media = SureSource::new(Blob::copied(alloc, file)?);
     let mut report = MemSink::with_room(alloc, 1000, 0)?;
-    let ended = run(alloc, &Sha, &given, &mut media, &mut report, judges);
+    let ended = run_one(alloc, &given, &mut media, &mut report, judges);
     assert_eq!(rt; ended, status);
     assert_eq!(rt; report.bytes(), known.as_bytes());
     assert_eq!(rt; report.finished(), status != Status::JudgeFault);
@@ -126,7 +124,7 @@ fn other_commands_ask_no_judge(rt: HostRuntime) -> Result<(), Fail> {
         let given = words(alloc, &[command, "P"])?;
         let mut media = SureSource::new(Blob::copied(alloc, file.as_slice())?);
         let mut report = MemSink::with_room(alloc, 1000, 0)?;
-        let ended = run(alloc, &Sha, &given, &mut media, &mut report, &mut judges);
+        let ended = run_one(alloc, &given, &mut media, &mut report, &mut judges);
         assert_eq!(rt; ended, Status::Done, "{command}");
     }
     assert_eq!(rt; judges.len(), 1);

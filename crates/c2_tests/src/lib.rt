@@ -25,6 +25,10 @@ mod manifests;
 #[cfg(test)]
 mod outside;
 #[cfg(test)]
+mod pair_rows;
+#[cfg(test)]
+mod pairs;
+#[cfg(test)]
 mod questions_rows;
 #[cfg(test)]
 mod show_rows;

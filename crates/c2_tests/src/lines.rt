@@ -3,8 +3,8 @@ use c2_base::Text;
 use c2_rules::{Code, Failing, Summary};
 use c2_spec::{Reason, Verdict};
 use c2_texts::{
-    digest_line, failing_line, no_question_line, none_line, question_line, refused_line,
-    usage_line, valid_line,
+    different_line, digest_line, failing_line, no_question_line, none_line, question_line,
+    refused_line, same_line, usage_line, valid_line,
 };
 use std::test::Fail;
 
@@ -27,18 +27,23 @@ fn plain_lines_are_these(rt: HostRuntime) -> Result<(), Fail> {
         outside: 0,
     };
     text.push_str(valid_line(alloc, summary)?.as_str())?;
+    text.push_str(same_line(alloc, summary)?.as_str())?;
+    text.push_str(different_line(alloc)?.as_str())?;
     text.push_str(question_line(alloc, &[0xFF, 0x00], "m\n", Verdict::Silent)?.as_str())?;
     text.push_str(no_question_line(alloc, "m\tn")?.as_str())?;
     assert_eq!(rt; text.as_str(), PLAIN);
     Ok(())
 }
 
-const PLAIN: &str = "usage: c2 digest|list|show MEDIA; questions|validate MEDIA [JUDGE..]
+const PLAIN: &str =
+    "usage: c2 digest|list|show MEDIA; questions|validate MEDIA [JUDGE..]; compare MEDIA OTHER [JUDGE..]
 none
 refused BadHead 18446744073709551615
 2 50 0abc
 failing claim.missing self#jumbf=/c2pa/?a é?€
 valid manifests=1 assertions=20 covered=18446744073709551615 outside=0
+same manifests=1 assertions=20 covered=18446744073709551615
+different claims
 ff00 m? silent
 - m?n none
 ";

@@ -1,10 +1,8 @@
 // What `show` and `questions` say of as many manifests as a store may have, and of one more.
-use crate::files::{comes_to, words};
+use crate::files::{comes_to, run_one, words};
 use crate::tables::in_jpeg;
 use c2_base::{Blob, MemSink, SureSource};
-use c2_cmd::run;
 use c2_cmd::types::Status;
-use c2_hash::Sha;
 use c2_judge::Judge;
 use c2_jumbf::write_super;
 use std::alloc::Global;
@@ -52,7 +50,7 @@ fn at_most_1024_manifests_are_shown(rt: HostRuntime) -> Result<(), Fail> {
     let mut report = MemSink::with_room(alloc, 100_000, 0)?;
     let mut judges: Vec<Box<dyn Judge>> = Vec::new(alloc);
     assert_eq!(rt;
-        run(alloc, &Sha, &given, &mut media, &mut report, &mut judges),
+        run_one(alloc, &given, &mut media, &mut report, &mut judges),
         Status::Done
     );
     let shown = shown_manifests(alloc, 1024)?;

@@ -1,8 +1,6 @@
 // Tables of stores, and what commands come to over JPEGs around them.
-use crate::files::{words, words_of};
+use crate::files::{run_one, words, words_of};
 use c2_base::{Blob, MemSink, MemSource};
-use c2_cmd::run;
-use c2_hash::Sha;
 use c2_judge::{FixedJudge, Judge, Verdict};
 use std::alloc::Global;
 use std::process::Abort;
@@ -233,7 +231,7 @@ fn said_of(
     judges: &mut Vec<Box<dyn Judge>>,
 ) -> Result<String, Fail> {
     let mut sink = MemSink::with_room(alloc, 1000, 0)?;
-    let status = run(alloc, &Sha, given, &mut media, &mut sink, judges);
+    let status = run_one(alloc, given, &mut media, &mut sink, judges);
     let code = status.code();
     let mut known = format!(in alloc; "{code} ")?;
     match str::from_utf8(sink.bytes()) {

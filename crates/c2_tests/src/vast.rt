@@ -1,9 +1,7 @@
 // Files of 2 to the 61 and 2 to the 62 bytes, of which a few are read.
-use crate::files::words;
+use crate::files::{run_one, words};
 use c2_base::{Blob, MemSink, VastSource};
-use c2_cmd::run;
 use c2_cmd::types::Status;
-use c2_hash::Sha;
 use c2_judge::Judge;
 use std::alloc::Global;
 use std::process::Abort;
@@ -21,7 +19,7 @@ fn says_of_a_vast_file(
     let given = words(alloc, &[command, "P"])?;
     let mut report = MemSink::with_room(alloc, 100, 0)?;
     let mut judges: Vec<Box<dyn Judge>> = Vec::new(alloc);
-    let ended = run(alloc, &Sha, &given, &mut media, &mut report, &mut judges);
+    let ended = run_one(alloc, &given, &mut media, &mut report, &mut judges);
     assert_eq!(rt; report.bytes(), known.as_bytes(), "{command}");
     assert_eq!(rt; ended, status, "{command}");
     Ok(())

@@ -14,6 +14,8 @@ returns-clause-outcome c = one_outcome (record {
   answer = c.one_check.ensures.answer;
   asks = c.one_check.ensures.asks;
   questions = c.one_check.ensures.questions;
+  compared = λ hash said first second. c.one_comparison.ensures.answer hash said first second (c.one_opening.ensures.file first) (c.one_opening.ensures.file second);
+  compare_asks = λ hash said first second. c.one_comparison.ensures.asks hash said first second (c.one_opening.ensures.file first) (c.one_opening.ensures.file second);
 })
 
 -- two lists of questions of the same call are the same
@@ -29,4 +31,6 @@ returns-clause-questions c = one_list (record {
   answer = c.one_check.ensures.answer;
   asks = c.one_check.ensures.asks;
   questions = c.one_check.ensures.questions;
+  compared = λ hash said first second. c.one_comparison.ensures.answer hash said first second (c.one_opening.ensures.file first) (c.one_opening.ensures.file second);
+  compare_asks = λ hash said first second. c.one_comparison.ensures.asks hash said first second (c.one_opening.ensures.file first) (c.one_opening.ensures.file second);
 })

@@ -22,7 +22,7 @@ returns-in-Err-clause-asked g c =
     let between = judges_of (λ j. (goal.Judge-dyn g (j.vtable, j.value)).says j.value) (λ j. (goal.Judge-dyn g (j.vtable, j.value)).asked_times j.value) (λ j. (goal.Judge-dyn g (j.vtable, j.value)).judge_faults j.value) c.loop-one.judges.items in
     let new = judges_of (λ j. (goal.Judge-dyn g (j.vtable, j.value)).says j.value) (λ j. (goal.Judge-dyn g (j.vtable, j.value)).asked_times j.value) (λ j. (goal.Judge-dyn g (j.vtable, j.value)).judge_faults j.value) c.push_line.new.judges.items in
     let one = c.one-item.result in
-    asks_ended (Unit {0}) Reply old between new (questions_in c.args.asked.now) (option_to_list one.question) (questions_in (drop c.loop-one.one-index c.args.asked.now)) (questions_in (drop (c.loop-one.one-index + 1) c.args.asked.now)) c.in-Err.fault c.loop-one.invariant.same c.loop-one.invariant.kept c.loop-one.invariant.asked (questions_on c.args.asked.now c.loop-one.one-index one c.loop-one-test.true c.one-item.is) c.in-Err.ensures.asked
+    asks_ended (Unit {0}) Reply old between new (questions_in c.args.asked.now) (option_to_list one.question) (questions_in (drop c.loop-one.one-index c.args.asked.now)) (questions_in (drop (c.loop-one.one-index + 1) c.args.asked.now)) c.in-Err.fault c.loop-one.invariant.same c.loop-one.invariant.kept c.loop-one.invariant.asked (questions_on c.args.asked.now c.loop-one.one-index one c.loop-one-test.true c.one-item.is) c.in-Err.ensures.fault c.in-Err.ensures.asked
 
 -- where no manifest has a question, a fault leaves the judges as they were
 pub returns-in-Err-clause-unasked : goal.returns-in-Err-clause-unasked

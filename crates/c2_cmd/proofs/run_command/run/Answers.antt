@@ -1,66 +1,56 @@
-use Rattle.std.proofs.Common.{sym, ◌∙◌}
-use Rattle.c2_cmd.specs.Reply.{outcome_of}
-use Rattle.c2_cmd.specs.declared.types.Answer.TheVariants as answer
-use Rattle.c2_cmd.proofs.Delivering.{on_err, on_ok, wrote_all, wrote_prefix}
+use Rattle.std.proofs.Common.{map, ◌∙◌}
+use Rattle.c2_spec.specs.Judges.Panel.{judges_of, panel_says}
+use Rattle.c2_cmd.specs.Run.{state_of}
+use Rattle.c2_cmd.proofs.Delivering.{asked_whole, comes_to, wrote_all, wrote_prefix}
 use Rattle.c2_cmd.proofs.run_command.run.Goals as goal
 
--- a call whose report fails has an outcome all the same
-pub returns-then-is_err-clause-outcome : goal.returns-then-is_err-clause-outcome
-returns-then-is_err-clause-outcome g c known = (outcome_of c.in-Ok.reply, (c.in-Ok.ensures.reply known).holds)
+-- where a source failed, the call has an outcome
+pub returns-in-Err-Input-clause-outcome : goal.returns-in-Err-Input-clause-outcome
+returns-in-Err-Input-clause-outcome g c known = comes_to c.each_run_has_an_outcome.ensures.outcome _ (g.A.Source.known c.args.media.now) (g.B.Source.known c.args.second.now) (panel_says (map (λ j. (goal.Judge-dyn g (j.vtable, j.value)).says j.value) c.args.judges.now.items)) g.H.Hashing.digest_of (g.met.A.Source.known_bytes c.args.media.now) (g.met.B.Source.known_bytes c.args.second.now)
 
--- a call that ends with `Done` has an outcome
-pub returns-in-Done-clause-outcome : goal.returns-in-Done-clause-outcome
-returns-in-Done-clause-outcome g c known = (outcome_of c.in-Ok.reply, (c.in-Ok.ensures.reply known).holds)
+-- where the report failed before the reply, the call has an outcome
+pub returns-in-Err-Output-clause-outcome : goal.returns-in-Err-Output-clause-outcome
+returns-in-Err-Output-clause-outcome g c known = comes_to c.each_run_has_an_outcome.ensures.outcome _ (g.A.Source.known c.args.media.now) (g.B.Source.known c.args.second.now) (panel_says (map (λ j. (goal.Judge-dyn g (j.vtable, j.value)).says j.value) c.args.judges.now.items)) g.H.Hashing.digest_of (g.met.A.Source.known_bytes c.args.media.now) (g.met.B.Source.known_bytes c.args.second.now)
 
--- a call that ends with `Refused` has an outcome
-pub returns-in-Refused-clause-outcome : goal.returns-in-Refused-clause-outcome
-returns-in-Refused-clause-outcome g c known = (outcome_of c.in-Ok.reply, (c.in-Ok.ensures.reply known).holds)
+-- where a judge failed, the call has an outcome
+pub returns-in-Err-Judge-clause-outcome : goal.returns-in-Err-Judge-clause-outcome
+returns-in-Err-Judge-clause-outcome g c known = comes_to c.each_run_has_an_outcome.ensures.outcome _ (g.A.Source.known c.args.media.now) (g.B.Source.known c.args.second.now) (panel_says (map (λ j. (goal.Judge-dyn g (j.vtable, j.value)).says j.value) c.args.judges.now.items)) g.H.Hashing.digest_of (g.met.A.Source.known_bytes c.args.media.now) (g.met.B.Source.known_bytes c.args.second.now)
 
--- a call that ends with `Failing` has an outcome
-pub returns-in-Failing-clause-outcome : goal.returns-in-Failing-clause-outcome
-returns-in-Failing-clause-outcome g c known = (outcome_of c.in-Ok.reply, (c.in-Ok.ensures.reply known).holds)
+-- where memory ran out, the call has an outcome
+pub returns-in-Err-Memory-clause-outcome : goal.returns-in-Err-Memory-clause-outcome
+returns-in-Err-Memory-clause-outcome g c known = comes_to c.each_run_has_an_outcome.ensures.outcome _ (g.A.Source.known c.args.media.now) (g.B.Source.known c.args.second.now) (panel_says (map (λ j. (goal.Judge-dyn g (j.vtable, j.value)).says j.value) c.args.judges.now.items)) g.H.Hashing.digest_of (g.met.A.Source.known_bytes c.args.media.now) (g.met.B.Source.known_bytes c.args.second.now)
 
--- a call that ends with `NoStore` has an outcome
-pub returns-in-NoStore-clause-outcome : goal.returns-in-NoStore-clause-outcome
-returns-in-NoStore-clause-outcome g c known = (outcome_of c.in-Ok.reply, (c.in-Ok.ensures.reply known).holds)
+-- where the reply was delivered, the call has an outcome
+pub returns-in-Ok-deliver-clause-outcome : goal.returns-in-Ok-deliver-clause-outcome
+returns-in-Ok-deliver-clause-outcome g c known = comes_to c.each_run_has_an_outcome.ensures.outcome _ (g.A.Source.known c.args.media.now) (g.B.Source.known c.args.second.now) (panel_says (map (λ j. (goal.Judge-dyn g (j.vtable, j.value)).says j.value) c.args.judges.now.items)) g.H.Hashing.digest_of (g.met.A.Source.known_bytes c.args.media.now) (g.met.B.Source.known_bytes c.args.second.now)
 
--- a call that ends with `Usage` has an outcome
+-- where the report failed under the reply, the call has an outcome
 pub returns-clause-outcome : goal.returns-clause-outcome
-returns-clause-outcome g c known = (outcome_of c.in-Ok.reply, (c.in-Ok.ensures.reply known).holds)
+returns-clause-outcome g c known = comes_to c.each_run_has_an_outcome.ensures.outcome _ (g.A.Source.known c.args.media.now) (g.B.Source.known c.args.second.now) (panel_says (map (λ j. (goal.Judge-dyn g (j.vtable, j.value)).says j.value) c.args.judges.now.items)) g.H.Hashing.digest_of (g.met.A.Source.known_bytes c.args.media.now) (g.met.B.Source.known_bytes c.args.second.now)
 
--- a report that fails has taken a prefix of the outcome's text, and this call hasn't finished it
-pub returns-then-is_err-clause-report : goal.returns-then-is_err-clause-report
-returns-then-is_err-clause-report g c known expected comes =
-    wrote_prefix expected c.in-Ok.reply _ _ ((c.in-Ok.ensures.reply known).only expected comes) c.deliver.ensures.prefix (on_err _ c.deliver.result (sym c.is_err.ensures.value ∙ c.if-is_err.true) c.deliver.ensures.unfinished)
+-- where a source failed, the report has a prefix of the outcome's text, and this call hasn't finished it
+pub returns-in-Err-Input-clause-report : goal.returns-in-Err-Input-clause-report
+returns-in-Err-Input-clause-report g c known expected comes = record { prefix = c.in-Err-Input.ensures.reply known expected comes; same = c.in-Err-Input.ensures.report_unfinished }
 
--- `Done` is the status of the outcome, whose text the report has in full and is finished
-pub returns-in-Done-clause-report : goal.returns-in-Done-clause-report
-returns-in-Done-clause-report g c known expected comes =
-    wrote_all expected c.in-Ok.reply _ _ answer.Done ((c.in-Ok.ensures.reply known).only expected comes) c.in-Done.is (on_ok _ c.deliver.result (sym c.is_err.ensures.value ∙ c.if-is_err.false) c.deliver.ensures.delivered)
+-- where the report failed before the reply, the report has a prefix of the outcome's text, and this call hasn't finished it
+pub returns-in-Err-Output-clause-report : goal.returns-in-Err-Output-clause-report
+returns-in-Err-Output-clause-report g c known expected comes = record { prefix = c.in-Err-Output.ensures.reply known expected comes; same = c.in-Err-Output.ensures.report_unfinished }
 
--- `Refused` is the status of the outcome, whose text the report has in full and is finished
-pub returns-in-Refused-clause-report : goal.returns-in-Refused-clause-report
-returns-in-Refused-clause-report g c known expected comes =
-    wrote_all expected c.in-Ok.reply _ _ answer.Refused ((c.in-Ok.ensures.reply known).only expected comes) c.in-Refused.is (on_ok _ c.deliver.result (sym c.is_err.ensures.value ∙ c.if-is_err.false) c.deliver.ensures.delivered)
+-- where a judge failed, the report has a prefix of the outcome's text, and this call hasn't finished it
+pub returns-in-Err-Judge-clause-report : goal.returns-in-Err-Judge-clause-report
+returns-in-Err-Judge-clause-report g c known expected comes = record { prefix = c.in-Err-Judge.ensures.reply known expected comes; same = c.in-Err-Judge.ensures.report_unfinished }
 
--- `Failing` is the status of the outcome, whose text the report has in full and is finished
-pub returns-in-Failing-clause-report : goal.returns-in-Failing-clause-report
-returns-in-Failing-clause-report g c known expected comes =
-    wrote_all expected c.in-Ok.reply _ _ answer.Failing ((c.in-Ok.ensures.reply known).only expected comes) c.in-Failing.is (on_ok _ c.deliver.result (sym c.is_err.ensures.value ∙ c.if-is_err.false) c.deliver.ensures.delivered)
+-- where memory ran out, the report has a prefix of the outcome's text, and this call hasn't finished it
+pub returns-in-Err-Memory-clause-report : goal.returns-in-Err-Memory-clause-report
+returns-in-Err-Memory-clause-report g c known expected comes = record { prefix = c.in-Err-Memory.ensures.reply known expected comes; same = c.in-Err-Memory.ensures.report_unfinished }
 
--- `NoStore` is the status of the outcome, whose text the report has in full and is finished
-pub returns-in-NoStore-clause-report : goal.returns-in-NoStore-clause-report
-returns-in-NoStore-clause-report g c known expected comes =
-    wrote_all expected c.in-Ok.reply _ _ answer.NoStore ((c.in-Ok.ensures.reply known).only expected comes) c.in-NoStore.is (on_ok _ c.deliver.result (sym c.is_err.ensures.value ∙ c.if-is_err.false) c.deliver.ensures.delivered)
-
--- `Usage` is the status of the outcome, whose text the report has in full and is finished
-pub returns-clause-report : goal.returns-clause-report
-returns-clause-report g c known expected comes =
-    wrote_all expected c.in-Ok.reply _ _ answer.Usage ((c.in-Ok.ensures.reply known).only expected comes) c.in-Usage.is (on_ok _ c.deliver.result (sym c.is_err.ensures.value ∙ c.if-is_err.false) c.deliver.ensures.delivered)
-
--- where the media failed, the panel was asked a prefix of the questions of the call
+-- where a source failed, the panel was asked a prefix of the questions of the call
 pub returns-in-Err-Input-clause-asked : goal.returns-in-Err-Input-clause-asked
 returns-in-Err-Input-clause-asked g c known qs asks = let asked = c.in-Err-Input.ensures.asked known qs asks in rw c.in-Err-Input.field-0-is at asked
+
+-- where the report failed before the reply, the panel had been asked every question of the call
+pub returns-in-Err-Output-clause-asked : goal.returns-in-Err-Output-clause-asked
+returns-in-Err-Output-clause-asked g c known qs asks = let asked = c.in-Err-Output.ensures.asked known qs asks in rw c.in-Err-Output.field-0-is at asked
 
 -- where a judge failed, the panel was asked the questions before, and one judge failed at the next
 pub returns-in-Err-Judge-clause-asked : goal.returns-in-Err-Judge-clause-asked
@@ -70,26 +60,26 @@ returns-in-Err-Judge-clause-asked g c known qs asks = let asked = c.in-Err-Judge
 pub returns-in-Err-Memory-clause-asked : goal.returns-in-Err-Memory-clause-asked
 returns-in-Err-Memory-clause-asked g c known qs asks = let asked = c.in-Err-Memory.ensures.asked known qs asks in rw c.in-Err-Memory.field-0-is at asked
 
--- where the report failed, the panel had been asked every question of the call
-pub returns-then-is_err-clause-asked : goal.returns-then-is_err-clause-asked
-returns-then-is_err-clause-asked g c known qs asks = c.in-Ok.ensures.asked known qs asks
+-- a reply that was delivered completes the outcome's text, and its status is the outcome's
+pub returns-in-Ok-deliver-clause-report : goal.returns-in-Ok-deliver-clause-report
+returns-in-Ok-deliver-clause-report g c known expected comes =
+    let made = c.in-Ok.ensures.reply known in
+    wrote_all expected made.before c.in-Ok.reply _ _ _ c.status.result (made.only expected comes) c.status.ensures made.written c.in-Ok-deliver.ensures.delivered
 
--- by `Done` the panel was asked every question of the call
-pub returns-in-Done-clause-asked : goal.returns-in-Done-clause-asked
-returns-in-Done-clause-asked g c known qs asks = c.in-Ok.ensures.asked known qs asks
+-- a report that fails under the reply has taken a prefix of the outcome's text, and this call hasn't finished it
+pub returns-clause-report : goal.returns-clause-report
+returns-clause-report g c known expected comes =
+    let made = c.in-Ok.ensures.reply known in
+    let mid = state_of g.W.Sink.written g.W.Sink.finished c.reply_to.new.report in
+    wrote_prefix expected made.before c.in-Ok.reply _ mid _ (made.only expected comes) made.written c.deliver.ensures.prefix (c.in-Err.ensures.unfinished ∙ c.in-Ok.ensures.report_unfinished)
 
--- by `Refused` the panel was asked every question of the call
-pub returns-in-Refused-clause-asked : goal.returns-in-Refused-clause-asked
-returns-in-Refused-clause-asked g c known qs asks = c.in-Ok.ensures.asked known qs asks
+-- a run that ends with an answer has asked the panel every question of the call
+pub returns-in-Ok-deliver-clause-asked : goal.returns-in-Ok-deliver-clause-asked
+returns-in-Ok-deliver-clause-asked g c known qs asks =
+    let old = judges_of (λ j. (goal.Judge-dyn g (j.vtable, j.value)).says j.value) (λ j. (goal.Judge-dyn g (j.vtable, j.value)).asked_times j.value) (λ j. (goal.Judge-dyn g (j.vtable, j.value)).judge_faults j.value) c.args.judges.now.items in
+    let new = judges_of (λ j. (goal.Judge-dyn g (j.vtable, j.value)).says j.value) (λ j. (goal.Judge-dyn g (j.vtable, j.value)).asked_times j.value) (λ j. (goal.Judge-dyn g (j.vtable, j.value)).judge_faults j.value) c.reply_to.new.judges.items in
+    asked_whole qs old new c.in-Ok.reply.answer c.status.result c.status.ensures (c.in-Ok.ensures.asked known qs asks)
 
--- by `Failing` the panel was asked every question of the call
-pub returns-in-Failing-clause-asked : goal.returns-in-Failing-clause-asked
-returns-in-Failing-clause-asked g c known qs asks = c.in-Ok.ensures.asked known qs asks
-
--- by `NoStore` the panel was asked every question of the call
-pub returns-in-NoStore-clause-asked : goal.returns-in-NoStore-clause-asked
-returns-in-NoStore-clause-asked g c known qs asks = c.in-Ok.ensures.asked known qs asks
-
--- by `Usage` the panel was asked every question of the call: there is none
+-- and so has one whose report fails under the reply
 pub returns-clause-asked : goal.returns-clause-asked
 returns-clause-asked g c known qs asks = c.in-Ok.ensures.asked known qs asks
