@@ -1,7 +1,7 @@
 #!/usr/bin/env python3
 """Refuses memory to c2 at each of its requests in turn: memory.py C2 FILE [VERDICTS].
 
-Each command is run over the file, first with all the memory that it asks for, then with its first request refused, its second, and so
+Each command is run over the file (`compare` over the file and itself), first with all the memory that it asks for, then with its first request refused, its second, and so
 on until a run ends as the first did. A run to which memory was refused says so by its status, 8, and has printed nothing or the begin of its
 report; or it prints the whole report, where it could go on. The requests are those to malloc, calloc and realloc of the C library.
 """
@@ -93,9 +93,10 @@ def main():
     failed = False
     with tempfile.TemporaryDirectory() as directory:
         library = built(directory)
-        for command in ("digest", "list", "show", "questions", "validate"):
-            judges = verdicts if command in ("questions", "validate") else []
-            short, last, wrong = refused_in_turn(library, [program, command, file, *judges])
+        for command in ("digest", "list", "show", "questions", "validate", "compare"):
+            judges = verdicts if command in ("questions", "validate", "compare") else []
+            files = [file, file] if command == "compare" else [file]
+            short, last, wrong = refused_in_turn(library, [program, command, *files, *judges])
             print(f"{command}: {short} requests refused are told by status 8, the run is whole from {last} on, {len(wrong)} wrong")
             for one in wrong[:5]:
                 print("   ", one)
