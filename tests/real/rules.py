@@ -195,19 +195,12 @@ class CheckList:
     def redactions_rule(self, _, manifest):
         for text in manifest.claim.redacted:
             target = read_uri(text)
-            if target is None or target.target != "assertion":
+            if not is_assertion(target):
                 yield "profile.redaction.uri", claim_uri(manifest)
                 continue
             owner = manifest.label if target.manifest is None else target.manifest
-            named, kind = uri(owner, "c2pa.assertions", target.label), kind_of(target.label)
-            if owner == manifest.label:
-                yield "assertion.selfRedacted", named
-            if kind == ACTIONS:
-                yield "assertion.action.redacted", named
-            if kind in HASHES:
-                yield "profile.redaction.binding", named
-            if kind in INGREDIENTS:
-                yield "unsupported.redactIngredient", named
+            for code in redaction_codes(target, manifest.label):
+                yield code, uri(owner, "c2pa.assertions", target.label)
 
     def bindings_rule(self, at, manifest):
         kinds = [(kind_of(entry.label), entry.label) for entry in manifest.entries]
@@ -261,6 +254,24 @@ class CheckList:
             yield bad.code, named
         if digest != binding.hash:
             yield "assertion.bmffHash.mismatch" if binding.is_bmff else "assertion.dataHash.mismatch", named
+
+
+def is_assertion(target):
+    """Whether a JUMBF URI that was read names an assertion."""
+    return target is not None and target.target == "assertion"
+
+
+def redaction_codes(target, label):
+    """What is wrong with a redaction of an assertion in the manifest of a label."""
+    kind = kind_of(target.label)
+    if target.manifest in (None, label):
+        yield "assertion.selfRedacted"
+    if kind == ACTIONS:
+        yield "assertion.action.redacted"
+    if kind in HASHES:
+        yield "profile.redaction.binding"
+    if kind in INGREDIENTS:
+        yield "unsupported.redactIngredient"
 
 
 def claim_uri(manifest):
