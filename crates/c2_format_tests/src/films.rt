@@ -387,3 +387,28 @@ fn exclusions_are_taken_together(rt: HostRuntime) -> Result<(), Fail> {
     assert!(rt; found.as_slice().last().copied() == at(33, 10));
     Ok(())
 }
+
+// One byte at offsets 0, 2, 4 and 6 of a box, each named by many exclusions in turn, so that no part touches the one before it.
+#[test]
+fn parts_of_one_box_are_joined(rt: HostRuntime) -> Result<(), Fail> {
+    let alloc = rt.alloc();
+    let mut source = MemSource::new(Blob::copied(alloc, &TWO)?, 7, 0);
+    let mut entries = Vec::new(alloc);
+    for k in 0..64_u64 {
+        let mut case = whole("/mdat");
+        case.part = at(6 - k % 4 * 2, 1);
+        if let Some(entry) = exclusion(alloc, &case)? {
+            entries.push(entry)?;
+        }
+    }
+    let Ok(boxes) = roots(alloc, &mut source) else {
+        return Ok(assert!(rt; false));
+    };
+    let Ok(found) = match_paths(alloc, &mut source, &boxes, &entries) else {
+        return Ok(assert!(rt; false));
+    };
+    assert!(rt; found.as_slice().len() == 4);
+    assert!(rt; found.as_slice().first().copied() == at(16, 1));
+    assert!(rt; found.as_slice().last().copied() == at(22, 1));
+    Ok(())
+}

@@ -1,6 +1,6 @@
 // Worked files. What is expected was computed by `tests/real/locate.py`, which shares nothing with this crate.
-use c2_base::{Blob, Found, MediaError, MemSink, MemSource, VastSource};
-use c2_jpegseg::{locate, segments_len, write_segments};
+use c2_base::{Blob, Found, MediaError, MemSink, MemSource, Range, VastSource};
+use c2_jpegseg::{free_number, insert_place, locate, segments_len, write_segments};
 use std::alloc::Global;
 use std::test::Fail;
 
@@ -15,6 +15,18 @@ const SEGMENT: [u8; 50] = [
     0x62, 0, 0, 0, 0x1E, 0x6A, 0x75, 0x6D, 0x64, 0x63, 0x32, 0x70, 0x61, 0x00, 0x11, 0x00, 0x10,
     0x80, 0x00, 0x00, 0xAA, 0x00, 0x38, 0x9B, 0x71, 0x03, 0x63, 0x32, 0x70, 0x61, 0x00,
 ];
+
+/// The APP0 segment of JFIF, in 18 bytes.
+const JFIF: [u8; 18] = [
+    0xFF, 0xE0, 0x00, 0x10, 0x4A, 0x46, 0x49, 0x46, 0x00, 0x01, 0x02, 0x00, 0x00, 0x01, 0x00, 0x01,
+    0x00, 0x00,
+];
+
+/// Nothing is passed over.
+const NOTHING: Range = Range {
+    start: 0,
+    length: 0,
+};
 
 /// The first 24 bytes of a store's body: the description's length, "jumd", and the type.
 const DESCRIPTION: [u8; 24] = [
@@ -332,5 +344,110 @@ fn a_store_is_written_as_it_is_found(rt: HostRuntime) -> Result<(), Fail> {
     let mut small = MemSink::with_room(alloc, 49, 0)?;
     assert!(rt; write_segments(&SEGMENT[12..], 0x0211, &mut small).is_err());
     assert_eq!(rt; small.bytes(), &SEGMENT[..49]);
+    Ok(())
+}
+
+// The numbers 0x0211 and 0x0213 are taken, the first by the store in 50 bytes from place 2 on.
+#[test]
+fn the_least_free_number_is_found(rt: HostRuntime) -> Result<(), Fail> {
+    let alloc = rt.alloc();
+    let mut other = Vec::new(alloc);
+    let numbers = Numbers {
+        en: 0x13,
+        ..of_store(2, 48)
+    };
+    push_packet(&mut other, numbers, &[0x78])?;
+    let file = framed(alloc, &SEGMENT, &other)?;
+    for (length, expected) in [(0, 0x0212), (50, 0x0211)] {
+        let mut source = MemSource::new(Blob::copied(alloc, &file)?, 7, 0);
+        let skip = Range { start: 2, length };
+        assert_eq!(rt; free_number(alloc, &mut source, skip), Ok(Some(expected)));
+    }
+    let file = framed(alloc, &JFIF, &[])?;
+    let mut source = MemSource::new(Blob::copied(alloc, &file)?, 7, 0);
+    assert_eq!(rt; free_number(alloc, &mut source, NOTHING), Ok(Some(0x0211)));
+    let mut source = MemSource::new(Blob::copied(alloc, &START)?, 7, 0);
+    assert_eq!(rt;
+        free_number(alloc, &mut source, NOTHING),
+        Err(MediaError::Truncated(2))
+    );
+    Ok(())
+}
+
+/// Whether packets go to this place by reads of at most 1, 7 and 65,536 bytes.
+fn is_put(
+    alloc: Global,
+    file: &[u8],
+    skip: Range,
+    expected: Result<u64, MediaError>,
+) -> Result<bool, Fail> {
+    let mut source = MemSource::new(Blob::copied(alloc, file)?, 1, 0);
+    let one = insert_place(&mut source, skip);
+    let mut source = MemSource::new(Blob::copied(alloc, file)?, 7, 0);
+    let seven = insert_place(&mut source, skip);
+    let mut source = MemSource::new(Blob::copied(alloc, file)?, 65_536, 0);
+    let many = insert_place(&mut source, skip);
+    Ok(one == expected && seven == expected && many == expected)
+}
+
+#[test]
+fn packets_go_behind_the_app0_segments_at_the_front(rt: HostRuntime) -> Result<(), Fail> {
+    let alloc = rt.alloc();
+    let (jfif, store) = (JFIF.as_slice(), SEGMENT.as_slice());
+    for (first, second, skip, expected) in [
+        (jfif, [].as_slice(), NOTHING, Ok(20)),
+        (jfif, jfif, NOTHING, Ok(38)),
+        (store, jfif, NOTHING, Ok(2)),
+        (
+            store,
+            jfif,
+            Range {
+                start: 2,
+                length: 50,
+            },
+            Ok(20),
+        ),
+        (
+            jfif,
+            store,
+            Range {
+                start: 20,
+                length: 50,
+            },
+            Ok(20),
+        ),
+        (
+            jfif,
+            [0xFF, 0x00].as_slice(),
+            NOTHING,
+            Err(MediaError::BadMarker(20)),
+        ),
+    ] {
+        let file = framed(alloc, first, second)?;
+        assert!(rt; is_put(alloc, &file, skip, expected)?);
+    }
+    assert!(rt; is_put(alloc, &START, NOTHING, Err(MediaError::Truncated(2)))?);
+    assert!(rt; is_put(alloc, &END, NOTHING, Err(MediaError::NotMedia))?);
+    Ok(())
+}
+
+#[test]
+fn faults_and_vast_files_have_no_place(rt: HostRuntime) -> Result<(), Fail> {
+    let alloc = rt.alloc();
+    let file = framed(alloc, &JFIF, &[])?;
+    // Of the calls the first asks for the length, and the second reads the file's 22 bytes.
+    for (fail_at, expected) in [
+        (1, Err(MediaError::ReadFault)),
+        (2, Err(MediaError::ReadFault)),
+        (3, Ok(20)),
+    ] {
+        let mut source = MemSource::new(Blob::copied(alloc, &file)?, 65_536, fail_at);
+        assert_eq!(rt; insert_place(&mut source, NOTHING), expected);
+    }
+    let mut vast = VastSource::new(Blob::copied(alloc, &[])?, 1 << 62);
+    assert_eq!(rt;
+        insert_place(&mut vast, NOTHING),
+        Err(MediaError::FileTooLarge(1 << 62))
+    );
     Ok(())
 }
