@@ -3,6 +3,7 @@ pub mod Source
 pub mod Sink
 pub mod InMemory
 pub mod Host
+pub mod Text
 pub mod ReadAll
 pub mod Media
 pub mod HostSink

@@ -1,7 +1,7 @@
 //! Keys of a map as bytes that stand one after the other, and their order.
 
 ghost use Rattle.std.specs.Prelude.{◌≡◌, ◌≤◌, IfOk, List, ℕ, drop, slice_index};
-ghost use Rattle.c2_cbor.specs.Marks.{Bytes, AgreeBelow, SharesFront, StandIn, IsKeyOrder, front_of, front_after, marks, numbered};
+ghost use Rattle.c2_cbor.specs.Marks.{Bytes, AgreeBelow, SharesFront, StandIn, IsKeyOrder, front_of, marks, numbered};
 
 use std::alloc::{AllocError, Global};
 

@@ -11,7 +11,7 @@ use Rattle.c2_spec.specs.Digest.{digest_len, IsDigest}
 abbrev pub byte_sum : List ℕ → ℕ
 byte_sum list = sum list % 2 ^ 8
 
--- the digest of a list: as many bytes as the algorithm gives, all 0 but the last, which is the sum of the list's bytes
+-- this list's digest: zeros, then its sum as the last byte; the algorithm fixes the length
 abbrev pub weak_digest : Alg → List ℕ → List ℕ
 weak_digest alg list = replicate (digest_len alg - 1) 0 ++ byte_sum list ∷ []
 

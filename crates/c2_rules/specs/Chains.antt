@@ -80,7 +80,7 @@ pub data Reaches (rs : List Reading) : ℕ → ℕ → Type 0 where
   child : (n m : ℕ) → IsChild rs n m → Reaches rs n m
   through : (n c m : ℕ) → IsChild rs n c → Reaches rs c m → Reaches rs n m
 
--- What is reached: the least set that holds the active manifest and the children of its members.
+-- `n` is reached: it is the active manifest, or a reached one has it as a child. Nothing else is.
 pub data Reached (rs : List Reading) : ℕ → Type 0 where
   active : (n : ℕ) → n + 1 ≡ length rs → Reached rs n
   below : (n m : ℕ) → Reached rs n → IsChild rs n m → Reached rs m

@@ -23,7 +23,7 @@ kept_from excludes at bytes = map (λ p. p.1) (filter (λ p. not (excludes p.0))
 abbrev pub data_text : List Range → List ℕ → List ℕ
 data_text ranges file = kept_from (is_excluded ranges) 0 file
 
--- a range begins before the end of the one before it, or ends after the file
+-- this range overlaps its predecessor (whose end is given beside it), or reaches past the file
 abbrev pub is_bad_after : ℕ → ℕ × Range → Bool
 is_bad_after size p = nat_lt p.1.start p.0 || nat_lt size (range_end p.1)
 
