@@ -10,6 +10,7 @@ mod PathLemmas
 mod PathWritten
 mod Pieces
 mod RowLemmas
+mod RunLemmas
 mod SearchLemmas
 mod SomeOutcome
 mod StandLemmas

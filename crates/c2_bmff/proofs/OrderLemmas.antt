@@ -1,7 +1,7 @@
 -- Parts in the order of their starts, and exclusions whose parts are put in order.
 use Rattle.std.proofs.Common.{◌≡◌, ℕ, ◌+◌, ◌-◌, ◌<◌, ◌≤◌, Bool, true, false, ◌&&◌, ◌||◌, List, [], ◌∷◌, ◌++◌, length, get_or, take, drop, refl, sym, ap, ap₂, subst, ◌∙◌, arith}
 use Rattle.std.specs.declared.option.Option.{Option}
-use Rattle.std.specs.List.{list_all, list_any, AllByRecursion}
+use Rattle.std.specs.List.{list_any, AllByRecursion}
 use Rattle.std.proofs.lemmas.List.{drop_more, get_or-append-add, get_or-drop, get_or_append_left, get_or_default, length-append, length-drop, take-append-drop, take-append-le, take_all, take_more}
 use Rattle.std.proofs.lemmas.List.Elements.{recursion_from_All}
 use Rattle.std.proofs.lemmas.List.Folds.{list_any-append}
@@ -9,8 +9,9 @@ use Rattle.std.proofs.lemmas.List.Sorted.{IsNonDecreasingBy-push, IsNonDecreasin
 use Rattle.c2_base.specs.declared.values.Range.{Range}
 use Rattle.c2_spec.specs.Bmff.Hash.{ByteTest, Exclusion, in_subset}
 use Rattle.c2_bmff.specs.Children.{on_rows}
-use Rattle.c2_bmff.specs.Marks.{excludes_row, has_length, holds_test, in_row, in_row_part, marks}
+use Rattle.c2_bmff.specs.Marks.{excludes_row, has_length, in_row, in_row_part, marks}
 use Rattle.c2_bmff.specs.Parts.{AreRising, ExcludeSame}
+use Rattle.c2_bmff.specs.Runs.{MeetAlike}
 use Rattle.c2_bmff.specs.declared.root_boxes.RootBox.{RootBox}
 use Rattle.c2_bmff.proofs.MarkLemmas.{or_false}
 use Rattle.c2_bmff.proofs.TrailLemmas.{or_join3}
@@ -76,13 +77,13 @@ pub any_same : {A : Type 0} (p q : A → Bool) (xs : List A) → ((x : A) → p 
 any_same p q [] h = refl
 any_same p q (x ∷ xs) h = ap₂ (λ (a b : Bool). a || b) (h x) (any_same p q xs h)
 
--- an exclusion whose subset is replaced by one that holds the same positions
-pub same_subset : (e : Exclusion) (tests : List ByteTest) (subset : Option (List Range)) → tests ≡ e.tests → ((i : ℕ) → in_subset i subset ≡ in_subset i e.subset) → ExcludeSame ((record { path = e.path; length = e.length; tests = tests; subset = subset }) ∷ []) (e ∷ [])
+-- an exclusion whose subset is replaced by one that holds the same positions, and its byte tests by those that the same boxes meet
+pub same_subset : (e : Exclusion) (tests : List ByteTest) (subset : Option (List Range)) → MeetAlike tests e.tests → ((i : ℕ) → in_subset i subset ≡ in_subset i e.subset) → ExcludeSame ((record { path = e.path; length = e.length; tests = tests; subset = subset }) ∷ []) (e ∷ [])
 same_subset e tests subset same h file rows i =
     let other : Exclusion = record { path = e.path; length = e.length; tests = tests; subset = subset } in
     ap (λ (b : Bool). b || false)
     (any_same (marks file other i) (marks file e i) (on_rows file rows e.path)
-    (λ r. ap₂ (λ (ts : List ByteTest) (b : Bool). (has_length e.length r && list_all (holds_test file r) ts) && (in_row i r && b)) same (h (i - r.start))))
+    (λ r. ap₂ (λ (a b : Bool). (has_length e.length r && a) && (in_row i r && b)) (same file r) (h (i - r.start))))
 
 -- exclusions with one more
 pub one_more : (es others : List Exclusion) (e d : Exclusion) (k : ℕ) → k < length others → ExcludeSame es (take k others) → ExcludeSame (e ∷ []) (get_or others k d ∷ []) → ExcludeSame (es ++ e ∷ []) (take (k + 1) others)

@@ -9,5 +9,6 @@ pub mod Parts
 pub mod PathTexts
 pub mod Provenance
 pub mod Roots
+pub mod Runs
 pub mod Search
 pub mod Trails

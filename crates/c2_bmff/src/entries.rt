@@ -1,4 +1,4 @@
-// Exclusions as a walk over boxes uses them: their parts are put in order once.
+// Exclusions as a walk over boxes uses them: their parts and their byte tests are put in order once.
 ghost use Rattle.std.specs.Prelude.{◌≡◌, [], ◌∷◌, ℕ, IfOk, IfSome, option_map};
 ghost use Rattle.c2_spec.specs.Bmff.Hash.{in_subset};
 ghost use Rattle.c2_bmff.specs.Parts.{AreRising, ExcludeSame};
@@ -6,35 +6,37 @@ ghost use Rattle.c2_bmff.specs.Parts.{AreRising, ExcludeSame};
 use crate::exclusion::Exclusion;
 use crate::parts::merged;
 use crate::paths::Path;
-use c2_base::{Blob, NoMemory, Range, Ranges};
+use crate::runs::{Runs, runs_of};
+use c2_base::{NoMemory, Range, Ranges};
 use std::alloc::Global;
 use std::marker::Model;
 
-/// An exclusion with its parts in the order of their starts.
+/// An exclusion with its parts in the order of their starts, and what its byte tests ask; None where no box meets them all.
 #[derive(Drop)]
 pub struct Entry<'e> {
     pub path: &'e Path,
     pub length: Option<u64>,
-    pub tests: &'e [(u64, Blob)],
+    pub tests: Option<Runs>,
     pub parts: Option<Vec<Range>>,
 }
 
 impl<'e> Model for Entry<'e> {
-    ghost use Rattle.std.specs.Prelude.{IfSome, map, option_map};
+    ghost use Rattle.std.specs.Prelude.{IfSome, option_map};
     ghost use Rattle.c2_spec.specs.Bmff.Hash as hash;
-    ghost use Rattle.c2_bmff.specs.Exclusions.{byte_test};
     ghost use Rattle.c2_bmff.specs.Parts.{AreRising};
+    ghost use Rattle.c2_bmff.specs.Runs.{AreRunsWithin, asked};
 
     ghost Value = { hash.Exclusion };
 
     ghost view = { λ e. record {
       path = e.path.now;
       length = e.length;
-      tests = map byte_test e.tests.now;
+      tests = asked e.tests;
       subset = option_map (λ parts. parts.items) e.parts;
     } };
 
-    ghost invariant = { λ e. IfSome e.parts (λ parts. AreRising parts.items) };
+    ghost invariant = { λ e.
+        IfSome e.parts (λ parts. AreRising parts.items) × IfSome e.tests AreRunsWithin };
 }
 
 // The parts of a subset in order, where there is one.
@@ -50,20 +52,21 @@ fn parts_of(alloc: Global, subset: &Option<Ranges>) -> Result<Option<Vec<Range>>
     Ok(Some(parts))
 }
 
-// The exclusion with its parts in order.
+// The exclusion with its parts and its byte tests in order.
 fn entry_of<'e>(alloc: Global, exclusion: &'e Exclusion) -> Result<Entry<'e>, NoMemory>
     ensures { IfOk result (λ entry. ExcludeSame (entry ∷ []) (exclusion.now ∷ [])) }
 {
     let parts = parts_of(alloc, &exclusion.subset)?;
+    let tests = runs_of(alloc, exclusion.tests.as_slice())?;
     Ok(Entry {
         path: &exclusion.path,
         length: exclusion.length,
-        tests: exclusion.tests.as_slice(),
+        tests,
         parts,
     })
 }
 
-/// The exclusions with their parts in order.
+/// The exclusions with their parts and their byte tests in order.
 pub(crate) fn entries_of<'e>(
     alloc: Global,
     exclusions: &'e [Exclusion],

@@ -15,6 +15,7 @@ mod paths;
 mod provenance;
 mod reading;
 mod root_boxes;
+mod runs;
 pub mod types;
 mod walking;
 

@@ -7,26 +7,18 @@ ghost use Rattle.c2_base.specs.Source.{StaysSource};
 ghost use Rattle.c2_spec.specs.Cover.{holds, is_excluded};
 ghost use Rattle.c2_bmff.specs.Causes.{IsCaused, OrOutside};
 ghost use Rattle.c2_bmff.specs.Children.{IsRowWithin};
-ghost use Rattle.c2_bmff.specs.Exclusions.{byte_test};
 ghost use Rattle.c2_bmff.specs.Parts.{AreRising};
 ghost use Rattle.c2_bmff.specs.Marks.{IsFront, IsRangeWithin, has_length, holds_test, in_row, in_row_part, in_row_subset, marks, stands_at, takes};
+ghost use Rattle.c2_bmff.specs.Runs.{AreRunsWithin, IsRunWithin, asked, run_test};
 
 use crate::entries::Entry;
 use crate::root_boxes::{RootBox, fill_first};
-use c2_base::{Blob, Failed, MediaError, NoMemory, Range, Source};
+use crate::runs::{Run, Runs, is_same};
+use c2_base::{Failed, MediaError, NoMemory, Range, Source};
 use std::alloc::Global;
 
 // Among how many ranges a new one is looked for, so that parts of a small box that many exclusions name are few before they are sorted.
 const MOST_LOOKED_AT: usize = 8;
-
-// Whether the first `count` bytes are the same.
-fn is_same(bytes: &[u8], value: &[u8], count: usize) -> bool
-    requires bytes { count ≤ length bytes.now }
-    requires value { count ≤ length value.now }
-    ensures { result ≡ bytes_eq (take count bytes.now) (take count value.now) }
-{
-    bytes[..count] == value[..count]
-}
 
 // Whether these bytes stand at `pos`.
 fn stands<S: Source>(source: &mut S, pos: u64, value: &[u8]) -> Result<bool, Failed>
@@ -67,22 +59,21 @@ fn stands_in(front: &[u8], offset: u64, value: &[u8]) -> Option<bool>
     Some(&front[at..at + value.len()] == value)
 }
 
-// Whether a byte test holds of the box of this row, which begins with `front`.
+// Whether these bytes stand at an offset from the start of the box of this row, which begins with `front`, wholly inside the box.
 fn meets<S: Source>(
     source: &mut S,
     row: RootBox,
     front: &[u8],
-    test: &(u64, Blob),
+    offset: u64,
+    value: &[u8],
 ) -> Result<bool, Failed>
     requires inside { IsRowWithin (S.len source.old) row }
     requires front { ForSome (S.known source.old) (λ file. IsFront file row front.now) }
-    ensures meets { IfOk result
-        (λ b. ForSome (S.known source.old) (λ file. b ≡ holds_test file row (byte_test test.now))) }
+    ensures meets { IfOk result (λ b. ForSome (S.known source.old) (λ file.
+        b ≡ holds_test file row (record { offset = offset; value = value.now }))) }
     ensures stays { StaysSource S.len S.known S.faults source.old source.new }
     ensures cause { HasCause (S.faults source.old) (S.faults source.new) result }
 {
-    let offset = test.0;
-    let value = test.1.as_slice();
     if offset > row.length || value.len() as u64 > row.length - offset {
         return Ok(false);
     }
@@ -92,26 +83,55 @@ fn meets<S: Source>(
     stands(source, row.start + offset, value)
 }
 
-// Whether all byte tests hold of the box of this row.
-fn meets_all<S: Source>(
+// Whether all of these runs stand in the box of this row.
+fn meets_runs<S: Source>(
     source: &mut S,
     row: RootBox,
     front: &[u8],
-    tests: &[(u64, Blob)],
+    bytes: &[u8],
+    runs: &[Run],
 ) -> Result<bool, Failed>
     requires inside { IsRowWithin (S.len source.old) row }
     requires front { ForSome (S.known source.old) (λ file. IsFront file row front.now) }
+    requires within { All (IsRunWithin (length bytes.now)) runs.now }
     ensures meets { IfOk result (λ b. ForSome (S.known source.old) (λ file.
-        b ≡ list_all (holds_test file row) (map byte_test tests.now))) }
+        b ≡ list_all (holds_test file row) (map (run_test bytes.now) runs.now))) }
     ensures stays { StaysSource S.len S.known S.faults source.old source.new }
     ensures cause { HasCause (S.faults source.old) (S.faults source.new) result }
 {
-    for test in tests {
-        if !meets(source, row, front, test)? {
+    for run in runs {
+        if !meets(source, row, front, run.offset, &bytes[run.start..run.end])? {
             return Ok(false);
         }
     }
     Ok(true)
+}
+
+// Whether the box of this row has all that is asked: its length first, then the runs, up to the first that differs.
+fn meets_all<S: Source>(
+    source: &mut S,
+    row: RootBox,
+    front: &[u8],
+    tests: &Option<Runs>,
+) -> Result<bool, Failed>
+    requires inside { IsRowWithin (S.len source.old) row }
+    requires front { ForSome (S.known source.old) (λ file. IsFront file row front.now) }
+    requires within { IfSome tests.now AreRunsWithin }
+    ensures meets { IfOk result (λ b. ForSome (S.known source.old) (λ file.
+        b ≡ list_all (holds_test file row) (asked tests.now))) }
+    ensures stays { StaysSource S.len S.known S.faults source.old source.new }
+    ensures cause { HasCause (S.faults source.old) (S.faults source.new) result }
+{
+    let Some(all) = tests else {
+        return Ok(false);
+    };
+    if (row.length as u128) < all.least {
+        return Ok(false);
+    }
+    let bytes = all.bytes.as_slice();
+    let runs = all.runs.as_slice();
+    let same = meets_runs(source, row, front, bytes, runs)?;
+    Ok(same)
 }
 
 // Whether the box of this row has the stated length, where one is stated.
@@ -141,7 +161,7 @@ fn takes_row<S: Source>(
     if !is_sized(entry.length, row) {
         return Ok(false);
     }
-    meets_all(source, row, front, entry.tests)
+    meets_all(source, row, front, &entry.tests)
 }
 
 // Adds a range, to the last of the others where it begins in that or at its end.

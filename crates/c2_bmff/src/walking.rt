@@ -19,6 +19,7 @@ use crate::exclusion::Exclusion;
 use crate::marking::{add_sorted, is_whole, join_full, mark_row};
 use crate::paths::{Segment, enters};
 use crate::root_boxes::{RootBox, fill_first};
+use crate::runs::asks_bytes;
 use c2_base::{Failed, MediaError, NoMemory, Range, Source};
 use std::alloc::Global;
 
@@ -171,16 +172,16 @@ fn pass_all(
     Ok(())
 }
 
-// Whether the exclusion of this index has a byte test.
-fn has_tests(entries: &[Entry<'_>], k: usize) -> bool {
+// Whether the exclusion of this index asks for bytes of a box of this length.
+fn has_tests(entries: &[Entry<'_>], k: usize, length: u64) -> bool {
     match entries.get(k) {
-        Some(entry) => !entry.tests.is_empty(),
+        Some(entry) => asks_bytes(&entry.tests, length),
         None => false,
     }
 }
 
 // The number of first bytes of the box of this row that are in `bytes`: the first 64 where none were and the exclusion of this index
-// has a byte test.
+// asks for bytes of it.
 fn fill_front<S: Source>(
     source: &mut S,
     entries: &[Entry<'_>],
@@ -199,7 +200,7 @@ fn fill_front<S: Source>(
     ensures stays { StaysSource S.len S.known S.faults source.old source.new }
     ensures cause { HasCause (S.faults source.old) (S.faults source.new) result }
 {
-    if count > 0 || !has_tests(entries, k) {
+    if count > 0 || !has_tests(entries, k, row.length) {
         return Ok(count);
     }
     let most = row.length.min(64) as usize;

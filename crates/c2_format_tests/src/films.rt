@@ -291,6 +291,28 @@ fn exclusion(alloc: Global, case: &Case) -> Result<Option<Exclusion>, Fail> {
 }
 
 // What an exclusion excludes of these bytes: so many ranges, and the first of them.
+fn excludes_by(
+    rt: &impl Abort,
+    alloc: Global,
+    bytes: &[u8],
+    entry: &Exclusion,
+    want: Option<Range>,
+) -> Result<(), Fail> {
+    for most in [1, 7, 65_536] {
+        let mut source = MemSource::new(Blob::copied(alloc, bytes)?, usize::max(1, most), 0);
+        let Ok(boxes) = roots(alloc, &mut source) else {
+            return Ok(assert!(rt; false));
+        };
+        let Ok(found) = match_path(alloc, &mut source, &boxes, entry) else {
+            return Ok(assert!(rt; false));
+        };
+        assert!(rt; found.as_slice().first().copied() == want);
+        assert!(rt; found.as_slice().len() <= 1);
+    }
+    Ok(())
+}
+
+// The same of an exclusion that a case tells.
 fn excludes(
     rt: &impl Abort,
     alloc: Global,
@@ -298,21 +320,28 @@ fn excludes(
     case: Case,
     want: Option<Range>,
 ) -> Result<(), Fail> {
-    for most in [1, 7, 65_536] {
-        let mut source = MemSource::new(Blob::copied(alloc, bytes)?, usize::max(1, most), 0);
-        let Some(entry) = exclusion(alloc, &case)? else {
-            return Ok(assert!(rt; false));
-        };
-        let Ok(boxes) = roots(alloc, &mut source) else {
-            return Ok(assert!(rt; false));
-        };
-        let Ok(found) = match_path(alloc, &mut source, &boxes, &entry) else {
-            return Ok(assert!(rt; false));
-        };
-        assert!(rt; found.as_slice().first().copied() == want);
-        assert!(rt; found.as_slice().len() <= 1);
+    let Some(entry) = exclusion(alloc, &case)? else {
+        return Ok(assert!(rt; false));
+    };
+    excludes_by(rt, alloc, bytes, &entry, want)
+}
+
+// The boxes `trak` of FILM that these byte tests take.
+fn takes(
+    rt: &impl Abort,
+    alloc: Global,
+    tests: &[(u64, &[u8])],
+    want: Option<Range>,
+) -> Result<(), Fail> {
+    let Some(mut entry) = exclusion(alloc, &whole("/moov/trak"))? else {
+        return Ok(assert!(rt; false));
+    };
+    let mut items = Vec::new(alloc);
+    for test in tests {
+        items.push((test.0, Blob::copied(alloc, test.1)?))?;
     }
-    Ok(())
+    entry.tests = ByteTests::from_list(items);
+    excludes_by(rt, alloc, &FILM, &entry, want)
 }
 
 fn at(start: u64, length: u64) -> Option<Range> {
@@ -364,6 +393,32 @@ fn lengths_tests_and_parts_are_of_the_box(rt: HostRuntime) -> Result<(), Fail> {
     let mut none = whole("/mdat");
     none.part = at(9, 5);
     excludes(&rt, alloc, &TWO, none, None)
+}
+
+#[test]
+fn byte_tests_hold_together(rt: HostRuntime) -> Result<(), Fail> {
+    let alloc = rt.alloc();
+    // In no order, one in another, one that reaches past it, and one by itself.
+    takes(
+        &rt,
+        alloc,
+        &[(9, &[3]), (6, b"ak\x02"), (5, b"ra"), (4, b"trak")],
+        at(33, 10),
+    )?;
+    takes(
+        &rt,
+        alloc,
+        &[(7, b"k"), (4, b"trak"), (0, &[0])],
+        at(24, 19),
+    )?;
+    // Different bytes at one place, inside a value and past it.
+    takes(&rt, alloc, &[(4, b"tra"), (5, b"rb")], None)?;
+    takes(&rt, alloc, &[(4, b"tra"), (5, b"k")], None)?;
+    // No bytes: at the end of the first box, at that of the second, and past both.
+    takes(&rt, alloc, &[(9, b""), (0, b"")], at(24, 19))?;
+    takes(&rt, alloc, &[(4, b"trak"), (10, b"")], at(33, 10))?;
+    takes(&rt, alloc, &[(11, b""), (4, b"trak")], None)?;
+    takes(&rt, alloc, &[(u64::MAX, b"t")], None)
 }
 
 #[test]
