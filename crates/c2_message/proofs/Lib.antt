@@ -1,0 +1,5 @@
+mod HeaderEntries
+mod Tests
+mod Padded
+mod SignedLaws
+mod Decided

@@ -1,0 +1,4 @@
+pub mod Message
+pub mod Tested
+pub mod Refusals
+pub mod Signed
