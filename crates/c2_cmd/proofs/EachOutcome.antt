@@ -19,7 +19,8 @@ use Rattle.c2_rules.specs.declared.answer.Answer.{Answer}
 use Rattle.c2_binding.specs.Comparison.{IsComparison, CompareAsks}
 use Rattle.c2_binding.specs.declared.compared.Compared.{Compared}
 use Rattle.c2_texts.specs.Texts.{refused_line, none_line, usage_line, listing, digest_line}
-use Rattle.c2_cmd.specs.Outcome.{Outcome, Inputs, Reports, IsOutcome, IsCommandOutcome, IsDigested, IsListing, IsShown, IsQuestioned, IsMediaOutcome, Asks, CommandAsks, answered, compare_outcome, questioned, shown, reports, outside}
+use Rattle.c2_spec.specs.PutIn.{taken_out}
+use Rattle.c2_cmd.specs.Outcome.{Outcome, Inputs, Reports, IsOutcome, IsCommandOutcome, IsDigested, IsListing, IsShown, IsQuestioned, IsMediaOutcome, Asks, CommandAsks, answered, compare_outcome, questioned, shown, reports}
 use Rattle.c2_cmd.specs.declared.types.Answer.TheVariants as answer
 use Rattle.c2_cmd.specs.declared.types.Command.{Command}
 use Rattle.c2_cmd.specs.declared.types.Command.TheVariants as command
@@ -98,7 +99,7 @@ each_questioned said t rs reads = (questioned said rs, (rs, reads, refl))
 each_command : Laws → (c : Command) (roles : Roles) (i : Inputs) → All (λ b. b < 2 ^ 8) i.media → All (λ b. b < 2 ^ 8) i.second → (e : Outcome) × IsCommandOutcome c roles i e
 each_command laws command.Digest roles i held other =
     let o = each_opened laws i held in
-    let e = each_report (IsDigested (i.hash Sha256) i.media) o.1.0 (λ start len store. (reports answer.Done (digest_line start len (i.hash Sha256 (outside start len i.media))), refl)) in
+    let e = each_report (IsDigested (i.hash Sha256) i.media) o.1.0 (λ start len store. (reports answer.Done (digest_line start len (i.hash Sha256 (taken_out start len i.media))), refl)) in
     (e.0, (o.1.0, o.1.1, e.1))
 each_command laws command.List roles i held other =
     let b = each_boxed laws i held in

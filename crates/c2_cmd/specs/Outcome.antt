@@ -1,5 +1,5 @@
 -- The outcome of a run: a relation between the roles of its words, what it is handed, and its outcome.
-use Rattle.std.specs.Prelude.{◌≡◌, ℕ, ◌+◌, Bool, true, false, List, [], ◌++◌, take, drop, is_some, unwrap_or, Some, None, if◌then◌else◌}
+use Rattle.std.specs.Prelude.{◌≡◌, ℕ, Bool, true, false, List, [], ◌++◌, is_some, unwrap_or, Some, None, if◌then◌else◌}
 use Rattle.std.specs.List.{flat_map}
 use Rattle.std.specs.declared.option.Option.{Option}
 use Rattle.c2_base.specs.declared.values.Question.{Question}
@@ -9,6 +9,7 @@ use Rattle.c2_spec.specs.declared.panel.Verdict.{Verdict}
 use Rattle.c2_spec.specs.Located.{Opening, Located, refused, absent, here}
 use Rattle.c2_spec.specs.Container.{IsLocated}
 use Rattle.c2_spec.specs.Jumbf.Tree.{Tree}
+use Rattle.c2_spec.specs.PutIn.{taken_out}
 use Rattle.c2_spec.specs.C2pa.Manifest.{manifests_of}
 use Rattle.c2_spec.specs.Judges.Question.{question_digest}
 use Rattle.c2_spec.specs.declared.claim.Claim.{Claim}
@@ -56,10 +57,6 @@ pub record Outcome : Type 0 where
 abbrev pub reports : Answer → List ℕ → Outcome
 reports answer report = record { answer = answer; report = report; file = None }
 
--- the bytes of a file outside a range
-abbrev pub outside : ℕ → ℕ → List ℕ → List ℕ
-outside start len file = take start file ++ drop (start + len) file
-
 -- What is reported of a file that is opened as this: its refusal, or that it has no store. `IsReport` says what is reported of one
 -- with a store, by the embedded range and what the store is seen as.
 abbrev pub Reports : {A : Type 0} → (ℕ → ℕ → A → Outcome → Type 0) → Opening A → Outcome → Type 0
@@ -69,7 +66,7 @@ Reports IsReport (here start len a) expected = IsReport start len a expected
 
 -- `digest` of a file with a store in this range, where `hash` gives the digest of a list
 abbrev pub IsDigested : (List ℕ → List ℕ) → List ℕ → ℕ → ℕ → List ℕ → Outcome → Type 0
-IsDigested hash file start len store expected = expected ≡ reports answer.Done (digest_line start len (hash (outside start len file)))
+IsDigested hash file start len store expected = expected ≡ reports answer.Done (digest_line start len (hash (taken_out start len file)))
 
 -- the outcome of `digest`: it makes the tests of the container alone
 abbrev pub IsDigestOutcome : (List ℕ → List ℕ) → List ℕ → Outcome → Type 0

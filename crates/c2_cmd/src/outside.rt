@@ -2,7 +2,7 @@
 ghost use Rattle.std.specs.Prelude.{◌≡◌, ◌+◌, ◌≤◌, IfOk, IfErr, OnOk};
 ghost use Rattle.std.specs.Option.{ForSome};
 ghost use Rattle.c2_base.specs.Source.{StaysSource};
-ghost use Rattle.c2_cmd.specs.Outcome.{outside};
+ghost use Rattle.c2_spec.specs.PutIn.{taken_out};
 ghost use Rattle.c2_cmd.specs.Reply.{IsMediaCause};
 
 use crate::reply::Fault;
@@ -22,7 +22,7 @@ pub fn digest_outside<H: Hashing, S: Source>(
     requires inside { range.start + range.length ≤ S.len source.old }
     ensures digest { let hash = H.digest_of Alg.Sha256 in
         ForSome (S.known source.old) (λ file. IfOk result (λ digest.
-        digest ≡ hash (outside range.start range.length file))) }
+        digest ≡ hash (taken_out range.start range.length file))) }
     ensures stays { StaysSource S.len S.known S.faults source.old source.new }
     ensures count { OnOk result (S.faults source.new ≡ S.faults source.old) }
     ensures fault { IfErr result (IsMediaCause (S.faults source.old) (S.faults source.new)) }

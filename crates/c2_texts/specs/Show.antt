@@ -10,7 +10,7 @@ use Rattle.c2_spec.specs.C2pa.Manifest.{Manifest, Superbox}
 use Rattle.c2_spec.specs.declared.cbor.Ref.{Ref}
 use Rattle.c2_spec.specs.declared.claim.Claim.{Claim}
 use Rattle.c2_rules.specs.Claims.{active_of}
-use Rattle.c2_texts.specs.Texts.{line}
+use Rattle.c2_binding.specs.EvidenceText.{text_line}
 
 -- a text that may be missing
 abbrev pub text_or_null : Option (List ℕ) → Data
@@ -75,4 +75,4 @@ store_data ms claims = object (member (codes "active") (active_data (active_of m
 
 -- the line of `show`
 abbrev pub show_line : List Manifest → List (Option Claim) → List ℕ
-show_line ms claims = line (compact_text (store_data ms claims))
+show_line ms claims = text_line (compact_text (store_data ms claims))

@@ -1,5 +1,5 @@
 -- The lines of reports.
-use Rattle.std.specs.Prelude.{ℕ, ◌==◌, ◌||◌, nat_lt, List, [], ◌∷◌, ◌++◌, length, map, codes, decimal, Option, Some, None, if◌then◌else◌}
+use Rattle.std.specs.Prelude.{ℕ, List, [], ◌∷◌, ◌++◌, length, codes, decimal, Option, Some, None}
 use Rattle.std.specs.Int.{w32, to_be_bytes}
 use Rattle.std.specs.List.{flat_map}
 use Rattle.hex.specs.Hex.{encode_lower}
@@ -9,6 +9,7 @@ use Rattle.c2_spec.specs.Jumbf.Tree.{Tree}
 use Rattle.c2_spec.specs.Judges.Panel.{verdict_name}
 use Rattle.c2_spec.specs.declared.panel.Verdict.{Verdict}
 use Rattle.c2_rules.specs.Codes.{code_name}
+use Rattle.c2_binding.specs.EvidenceText.{printed, text_line}
 use Rattle.c2_binding.specs.declared.compared.Side.{Side}
 use Rattle.c2_binding.specs.declared.compared.Side.TheVariants.{First, Second}
 use Rattle.c2_rules.specs.declared.answer.Answer.{Answer}
@@ -17,42 +18,30 @@ use Rattle.c2_rules.specs.declared.answer.Failing.{Failing}
 use Rattle.c2_rules.specs.declared.answer.Summary.{Summary}
 use Rattle.c2_spec.specs.Jumbf.Boxes.{IndexedBox, boxes_of, any_bytes, any_kind, any_label}
 
--- a line of text ends with a line feed
-abbrev pub line : List ℕ → List ℕ
-line text = text ++ 0x0A ∷ []
-
 -- where the words don't fit
 abbrev pub usage_line : List ℕ
-usage_line = line (codes "usage: c2 digest|list|show MEDIA; questions|validate MEDIA [JUDGE..]; compare MEDIA OTHER [JUDGE..]")
+usage_line = text_line (codes "usage: c2 digest|list|show MEDIA; questions|validate MEDIA [JUDGE..]; compare MEDIA OTHER [JUDGE..]")
 
 -- a refusal, with its number
 abbrev pub refused_line : Reason → ℕ → List ℕ
-refused_line reason number = line (codes "refused " ++ reason_name reason ++ codes " " ++ decimal number)
+refused_line reason number = text_line (codes "refused " ++ reason_name reason ++ codes " " ++ decimal number)
 
 -- a file without a store
 abbrev pub none_line : List ℕ
-none_line = line (codes "none")
+none_line = text_line (codes "none")
 
 -- an embedded range, and the digest of what stands outside it
 abbrev pub digest_line : ℕ → ℕ → List ℕ → List ℕ
-digest_line start length digest = line (decimal start ++ codes " " ++ decimal length ++ codes " " ++ encode_lower digest)
-
--- a control byte is printed as a question mark
-abbrev pub printable_byte : ℕ → ℕ
-printable_byte b = if nat_lt b 0x20 || b == 0x7F then 0x3F else b
-
--- a text with a question mark for each control byte
-abbrev pub printable : List ℕ → List ℕ
-printable text = map printable_byte text
+digest_line start length digest = text_line (decimal start ++ codes " " ++ decimal length ++ codes " " ++ encode_lower digest)
 
 -- a rule that fails: its code, and the URI of the box
 abbrev pub failing_line : Failing → List ℕ
-failing_line f = line (codes "failing " ++ code_name f.code ++ codes " " ++ printable f.uri)
+failing_line f = text_line (codes "failing " ++ code_name f.code ++ codes " " ++ printed f.uri)
 
 -- a file whose rules all hold, by what is counted of it
 abbrev pub valid_line : Summary → List ℕ
 valid_line s =
-    line
+    text_line
     (codes "valid manifests=" ++ decimal s.manifests
     ++ codes " assertions=" ++ decimal s.assertions
     ++ codes " covered=" ++ decimal s.covered
@@ -68,14 +57,14 @@ told_line answer.NoStore = none_line
 -- two files that one active claim binds, by what is counted of the first
 abbrev pub same_line : Summary → List ℕ
 same_line s =
-    line
+    text_line
     (codes "same manifests=" ++ decimal s.manifests
     ++ codes " assertions=" ++ decimal s.assertions
     ++ codes " covered=" ++ decimal s.covered)
 
 -- two files whose active claims differ
 abbrev pub different_line : List ℕ
-different_line = line (codes "different claims")
+different_line = text_line (codes "different claims")
 
 -- which of two files
 abbrev pub side_name : Side → List ℕ
@@ -88,17 +77,17 @@ not_accepted_line side a = codes "not accepted " ++ side_name side ++ codes " " 
 
 -- what the panel says of the question of the manifest with this label: the question's id, the label and the verdict
 abbrev pub question_line : List ℕ → List ℕ → Verdict → List ℕ
-question_line id label verdict = line (encode_lower id ++ codes " " ++ printable label ++ codes " " ++ verdict_name verdict)
+question_line id label verdict = text_line (encode_lower id ++ codes " " ++ printed label ++ codes " " ++ verdict_name verdict)
 
 -- the manifest with this label has no question
 abbrev pub no_question_line : List ℕ → List ℕ
-no_question_line label = line (codes "- " ++ printable label ++ codes " none")
+no_question_line label = text_line (codes "- " ++ printed label ++ codes " none")
 
 -- a label, and a dash where it is missing or empty
 abbrev pub label_column : Option (List ℕ) → List ℕ
 label_column None = codes "-"
 label_column (Some []) = codes "-"
-label_column (Some (first ∷ rest)) = printable (first ∷ rest)
+label_column (Some (first ∷ rest)) = printed (first ∷ rest)
 
 -- the depth, the place and the length of a box
 abbrev pub box_numbers : ℕ → ℕ → ℕ → List ℕ

@@ -1,13 +1,13 @@
 // Texts without control bytes.
 ghost use Rattle.std.specs.Prelude.{◌≡◌, IfOk, OnOk, string_bytes};
+ghost use Rattle.c2_binding.specs.EvidenceText as form;
 ghost use Rattle.c2_texts.specs.Items.{Appends};
-ghost use Rattle.c2_texts.specs.Texts as form;
 
 use std::alloc::{AllocError, Global};
 
 /// A copy of a text in which `?` stands for each control byte: those below 0x20, and 0x7F.
 pub fn printable(alloc: Global, text: &str) -> Result<String, AllocError>
-    ensures { IfOk result (λ copy. string_bytes copy ≡ form.printable text.now) }
+    ensures { IfOk result (λ copy. string_bytes copy ≡ form.printed text.now) }
 {
     let mut copy = String::with_capacity(alloc, text.len())?;
     push_printable(&mut copy, text)?;
@@ -16,7 +16,7 @@ pub fn printable(alloc: Global, text: &str) -> Result<String, AllocError>
 
 /// Appends a text, with `?` for each control byte.
 pub fn push_printable(out: &mut String, text: &str) -> Result<(), AllocError>
-    ensures { OnOk result (Appends out.old out.new (form.printable text.now)) }
+    ensures { OnOk result (Appends out.old out.new (form.printed text.now)) }
 {
     for c in text.chars() {
         out.push(printable_char(c))?;
@@ -26,7 +26,7 @@ pub fn push_printable(out: &mut String, text: &str) -> Result<(), AllocError>
 
 // A control byte is a character of its own.
 fn printable_char(c: char) -> char
-    ensures { result ≡ form.printable_byte c }
+    ensures { result ≡ form.printed_byte c }
 {
     if c < ' ' || c == '\x7F' { '?' } else { c }
 }
