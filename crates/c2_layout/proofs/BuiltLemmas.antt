@@ -11,6 +11,7 @@ use Rattle.c2_spec.specs.Cover.{data_text}
 use Rattle.c2_spec.specs.Digest.{alg_name, digest_len}
 use Rattle.c2_spec.specs.Jpeg.Segments.{Segment, HasSegments, EndsSegments, place_after}
 use Rattle.c2_spec.specs.Jpeg.Packets.{is_store_start}
+use Rattle.c2_spec.specs.Jpeg.Places.{IsOfSegments, HasNumber}
 use Rattle.c2_spec.specs.Jpeg.Store.{HasJpegStore, HoldsStore, NoneBegins}
 use Rattle.c2_spec.specs.Jpeg.Writing.{IsPacketStore, packets_of, packets_bytes, segments_len, leading_app0, insert_place, is_taken, IsFreeNumber}
 use Rattle.c2_spec.specs.Jumbf.Tree.{Tree, Trees, tree_bytes, trees_bytes, description_bytes}
@@ -25,7 +26,6 @@ use Rattle.c2_layout.specs.FreshBoxes.{store_box, trees_then}
 use Rattle.c2_layout.specs.Store.{Content, data_binding, new_manifest, new_store, range_at}
 use Rattle.c2_layout.proofs.Lists.{each-front, each-back}
 use Rattle.c2_layout.proofs.Put.{behind_app0, app0_split, taken_back, put_between, place_inside, put_len, put_taken}
-use Rattle.c2_layout.proofs.SegmentsOnce.{segments_once, one_number}
 use Rattle.c2_layout.proofs.StoreSize.{KeepsLength, same_size, store_len}
 
 -- ---- sizes
@@ -74,7 +74,7 @@ covers_base start len piece base l e =
     ∙ ap (λ n. taken_out start n (put_in start piece base)) e ∙ put_taken start piece base l
 
 pub file_is : KeepsLength → OneLength → PacketsHoldTheStore → BuiltFileIs
-file_is keeps one hold hash c message base segments en h can =
+file_is keeps one hold hash c message base segments en h can none =
     let start : ℕ = insert_place segments in
     let len : ℕ = built_len c (length message) in
     let t : Tree = built_store hash c message base start in
@@ -83,6 +83,7 @@ file_is keeps one hold hash c message base segments en h can =
     record {
       segments = segments;
       is_of = can.is_of;
+      none = none;
       place = refl;
       en = en;
       number = can.number;
@@ -92,11 +93,25 @@ file_is keeps one hold hash c message base segments en h can =
       put = refl;
     }
 
-pub file_is_one : KeepsLength → OneLength → PacketsHoldTheStore → BuiltFileIsOne
-file_is_one keeps one hold hash c message base f start len segments en h can b =
-    let same : b.segments ≡ segments = segments_once base b.segments segments b.is_of can.is_of in
+-- a file is one list of segments
+abbrev pub OneList : Type 0
+OneList = (file : List ℕ) (xs ys : List Segment) → IsOfSegments file xs → IsOfSegments file ys → xs ≡ ys
+
+-- one number is free in a file, or none
+abbrev pub OneNumber : Type 0
+OneNumber = (file : List ℕ) (m n : Option ℕ) → HasNumber file m → HasNumber file n → m ≡ n
+
+-- the number that is free
+same_number : OneNumber → (file : List ℕ) (xs ys : List Segment) (m n : ℕ) → IsOfSegments file xs → IsOfSegments file ys → IsFreeNumber xs m → IsFreeNumber ys n → m ≡ n
+same_number numbers file xs ys m n hx hy fx fy =
+    let same : Some m ≡ Some n = numbers file (Some m) (Some n) (record { segments = xs; is_of = hx; number_is = fx }) (record { segments = ys; is_of = hy; number_is = fy }) in
+    cc
+
+pub file_is_one : KeepsLength → OneLength → PacketsHoldTheStore → OneList → OneNumber → BuiltFileIsOne
+file_is_one keeps one hold lists numbers hash c message base f start len segments en h can b =
+    let same : b.segments ≡ segments = lists base b.segments segments b.is_of can.is_of in
     let place : start ≡ insert_place segments = b.place ∙ ap insert_place same in
-    let number : b.en ≡ en = one_number segments b.en en (subst (λ (ss : List Segment). IsFreeNumber ss b.en) same b.number) can.number in
+    let number : b.en ≡ en = same_number numbers base b.segments segments b.en en b.is_of can.is_of b.number can.number in
     let digest : List ℕ = hash (data_text (range_at start len ∷ []) f) in
     let size : length (packets_bytes (tree_bytes b.store) b.en) ≡ built_len c (length message) =
     ap (λ (t : Tree). length (packets_bytes (tree_bytes t) b.en)) b.store_is ∙ packets_len keeps one hold hash c start len b.en digest message h (h (data_text (range_at start len ∷ []) f)) can.small b.number.most in

@@ -12,6 +12,7 @@ use Rattle.c2_spec.specs.C2pa.Assertion.{kind_of}
 use Rattle.c2_spec.specs.C2pa.Manifest.{is_manifest_label}
 use Rattle.c2_spec.specs.C2pa.Uri.{after_piece}
 use Rattle.c2_spec.specs.Jumbf.Tree.{IsLabel, IsLabelByte}
+use Rattle.c2_spec.specs.Jumbf.Writing.{IsWrittenLabel}
 use Rattle.c2_definition.specs.DefinitionFile as file
 use Rattle.c2_layout.proofs.Lists.{each-append}
 
@@ -27,13 +28,14 @@ pub record IsNamedByte (b : ℕ) : Type 0 where
 abbrev pub IsNamed : List ℕ → Type 0
 IsNamed t = AllByRecursion IsNamedByte t
 
--- then it can stand in a box
+-- then each is a byte of a label
+pub label_bytes : (t : List ℕ) → IsNamed t → AllByRecursion IsLabelByte t
+label_bytes [] h = tt
+label_bytes (b ∷ bs) h = ((h.0.low, h.0.no_delete), label_bytes bs h.1)
+
+-- and the text can stand in a box
 pub label_of : (t : List ℕ) → IsUtf8 t → IsNamed t → IsLabel t
-label_of t u h = (u, bytes t h)
-  where
-    bytes : (t : List ℕ) → IsNamed t → AllByRecursion IsLabelByte t
-    bytes [] h = tt
-    bytes (b ∷ bs) h = ((h.0.low, h.0.no_delete), bytes bs h.1)
+label_of t u h = (u, label_bytes t h)
 
 -- and in a URI
 pub no_slash : (t : List ℕ) → IsNamed t → list_any (λ b. b == 0x2F) t ≡ false
@@ -44,6 +46,10 @@ no_slash (b ∷ bs) h = ap (λ c. c || list_any (λ b. b == 0x2F) bs) (ne_eqb b 
 pub record IsLabelText (t : List ℕ) : Type 0 where
   pub some : 0 < length t
   pub named : IsNamed t
+
+-- it may be written
+pub written_label : (t : List ℕ) → IsLabelText t → IsWrittenLabel t
+written_label t h = (h.some, label_bytes t h.named)
 
 pub can_be_named : (t : List ℕ) → IsLabelText t → is_manifest_label (Some t) ≡ true
 can_be_named t h =

@@ -5,7 +5,6 @@ pub mod Labels
 pub mod StoreTests
 pub mod WrittenStore
 pub mod Put
-pub mod SegmentsOnce
 pub mod StoreSize
 pub mod BuiltLemmas
 pub mod Spelled
@@ -15,3 +14,7 @@ pub mod WrittenItems
 pub mod NewRules
 pub mod FreshFile
 pub mod BuildRows
+pub mod WrittenBytes
+pub mod AllBoxed
+pub mod Sizes
+pub mod ClaimFields

@@ -18,6 +18,7 @@ use Rattle.c2_layout.specs.Store.{Content, data_binding, new_store, range_at}
 pub record IsJpegBuilt (hash : List ℕ → List ℕ) (c : Content) (message base file : List ℕ) (start len : ℕ) : Type 0 where
   pub segments : List Segment
   pub is_of : IsOfSegments base segments
+  pub none : NoneBegins segments
   pub place : start ≡ insert_place segments
   pub en : ℕ
   pub number : IsFreeNumber segments en
@@ -72,10 +73,11 @@ StoreSizeIsFixed = (hash : List ℕ → List ℕ) (c : Content) (start len : ℕ
     → HasDigestLen hash → length digest ≡ digest_len Sha256
     → length (tree_bytes (new_store hash c (data_binding start len digest) message)) ≡ store_size c (length message)
 
--- The built file is this one: its binding has the digest of what the file has outside its range, which is that of its packets.
+-- The built file is this one, where no segment of the base begins a store: its binding has the digest of what the file has outside
+-- its range, which is that of its packets.
 abbrev pub BuiltFileIs : Type 0
 BuiltFileIs = (hash : List ℕ → List ℕ) (c : Content) (message base : List ℕ) (segments : List Segment) (en : ℕ)
-    → HasDigestLen hash → CanBuild c (length message) base segments en
+    → HasDigestLen hash → CanBuild c (length message) base segments en → NoneBegins segments
     → IsJpegBuilt hash c message base (built_file hash c message base segments en) (insert_place segments) (built_len c (length message))
 
 -- a file and a range in it are these

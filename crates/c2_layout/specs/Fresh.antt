@@ -15,9 +15,14 @@ use Rattle.c2_rules.specs.CheckList.{StoreReading, unjudged_list, questions}
 use Rattle.c2_rules.specs.Opened.{IsOpened}
 use Rattle.c2_rules.specs.Tests.{AllHold}
 use Rattle.c2_rules.specs.Validated.{IsFileReading}
+use Rattle.c2_definition.specs.declared.types.Definition.{Definition}
 use Rattle.c2_layout.specs.Built.{CanBuild, built_file, built_len, built_store}
 use Rattle.c2_layout.specs.Store.{Content, data_binding, new_claim}
 use Rattle.c2_layout.specs.Written.{CanBeWritten}
+
+-- what goes into a store of a definition alone: nothing is carried, and there is no parent
+abbrev pub fresh_content : Definition → Content
+fresh_content d = record { definition = d; carried = none; parent = None }
 
 -- nothing is carried, there is no parent, and nothing is redacted
 pub record IsFresh (c : Content) : Type 0 where

@@ -106,16 +106,20 @@ pub record Content : Type 0 where
 abbrev pub new_assertions : (List ℕ → List ℕ) → Content → NewAssertion → List NewAssertion
 new_assertions hash c binding = c.definition.assertions ++ (parent_assertions hash c.parent ++ binding ∷ [])
 
+-- what a claim of a definition says, with these entries
+abbrev pub claim_with : Definition → List Ref → ClaimParts
+claim_with d entries = record {
+  label = d.label;
+  instance = d.instance_id;
+  generator = d.generator;
+  title = d.title;
+  entries = entries;
+  redacted = d.redact;
+}
+
 -- what the new claim says
 abbrev pub claim_parts : (List ℕ → List ℕ) → Content → NewAssertion → ClaimParts
-claim_parts hash c binding = record {
-  label = c.definition.label;
-  instance = c.definition.instance_id;
-  generator = c.definition.generator;
-  title = c.definition.title;
-  entries = map (entry_of hash) (new_assertions hash c binding);
-  redacted = c.definition.redact;
-}
+claim_parts hash c binding = claim_with c.definition (map (entry_of hash) (new_assertions hash c binding))
 
 -- the bytes of the new claim, which don't depend on the signed message
 abbrev pub new_claim : (List ℕ → List ℕ) → Content → NewAssertion → List ℕ

@@ -32,6 +32,7 @@ pub record HasTexts (d : Definition) : Type 0 where
   pub generator : IsText d.generator
   pub title : IfSome d.title IsText
   pub labels : AllByRecursion (λ (a : NewAssertion). IsText a.label) d.assertions
+  pub redact : AllByRecursion IsText d.redact
 
 -- a definition that can be written: one that was read of a file
 pub record CanBeWritten (d : Definition) : Type 0 where

@@ -1,12 +1,27 @@
 // The binding of a new file to what it has outside the new store.
 ghost use Rattle.std.specs.Prelude.{◌≡◌, IfOk};
+ghost use Rattle.c2_spec.specs.Cbor.Deterministic.{deterministic};
+ghost use Rattle.c2_spec.specs.Cbor.Legal.{IsLegal};
+ghost use Rattle.c2_spec.specs.Cbor.View.{view};
 ghost use Rattle.c2_layout.specs.Store as store;
 
 use c2_assertion::{DataHash, write_data_hash};
 use c2_base::{Blob, NoMemory, Range, Ranges, Text};
-use c2_cbor::encode;
+use c2_cbor::{Cbor, EncodeError, encode};
 use c2_definition::{NewAssertion, Payload};
 use std::alloc::Global;
+
+// The bytes of a legal item.
+fn item_bytes(alloc: Global, item: &Cbor) -> Result<Blob, NoMemory>
+    requires { IsLegal (view item.now) }
+    ensures { IfOk result (λ b. b ≡ deterministic (view item.now)) }
+{
+    match encode(alloc, item) {
+        Ok(bytes) => Ok(bytes),
+        Err(EncodeError::NoMemory) => Err(NoMemory),
+        Err(_) => unreachable!(),
+    }
+}
 
 /// The assertion that binds a file by the SHA-256 digest of what it has outside this range.
 pub fn data_binding(alloc: Global, range: Range, digest: &[u8]) -> Result<NewAssertion, NoMemory>
@@ -20,10 +35,7 @@ pub fn data_binding(alloc: Global, range: Range, digest: &[u8]) -> Result<NewAss
         hash: Blob::copied(alloc, digest)?,
     };
     let item = write_data_hash(alloc, &hash)?;
-    // The item is legal: nothing but memory fails.
-    let Ok(bytes) = encode(alloc, &item) else {
-        return Err(NoMemory);
-    };
+    let bytes = item_bytes(alloc, &item)?;
     let label = Text::copied(alloc, "c2pa.hash.data")?;
     Ok(NewAssertion {
         label,

@@ -1,5 +1,5 @@
 // Boxes of a new manifest.
-ghost use Rattle.std.specs.Prelude.{◌≡◌, ◌+◌, ◌<◌, ◌⊎◌, IfOk, IfErr, length};
+ghost use Rattle.std.specs.Prelude.{◌≡◌, ◌+◌, ◌<◌, ◌⊎◌, IfOk, IfErr, Ok, length};
 ghost use Rattle.c2_base.specs.declared.limits.TheConstants.{MAX_STORE_LEN};
 ghost use Rattle.c2_spec.specs.C2pa.Manifest as manifest;
 ghost use Rattle.c2_spec.specs.Jumbf.Tree.{tree_bytes, more, none};
@@ -7,13 +7,13 @@ ghost use Rattle.c2_spec.specs.Jumbf.Writing.{IsWrittenLabel};
 ghost use Rattle.c2_layout.specs.FreshBoxes.{fresh_box, fresh_leaf};
 ghost use Rattle.c2_layout.specs.Store as store;
 
-use c2_base::Blob;
+use c2_base::{Blob, NoMemory};
 use c2_definition::{NewAssertion, Payload};
 use c2_jumbf::{WriteError, write_leaf, write_super};
 use std::alloc::Global;
 
 // The type UUID that begins with these four bytes.
-fn type_uuid(name: [u8; 4]) -> [u8; 16]
+pub(crate) fn type_uuid(name: [u8; 4]) -> [u8; 16]
     ensures { result ≡ manifest.type_uuid name }
 {
     let [a, b, c, d] = name;
@@ -23,7 +23,7 @@ fn type_uuid(name: [u8; 4]) -> [u8; 16]
 }
 
 // A superbox of this type with one content box of this kind.
-fn write_one(
+pub(crate) fn write_one(
     alloc: Global,
     name: [u8; 4],
     label: &str,
@@ -37,6 +37,18 @@ fn write_one(
 {
     let content = write_leaf(alloc, kind, bytes)?;
     write_super(alloc, type_uuid(name), label, content.as_slice())
+}
+
+// What a box comes to of which nothing but memory fails.
+pub(crate) fn only_memory(written: Result<Blob, WriteError>) -> Result<Blob, NoMemory>
+    requires { IfErr written (λ e. e ≡ WriteError.NoMemory) }
+    ensures { IfOk result (λ b. written ≡ Ok b) }
+{
+    match written {
+        Ok(bytes) => Ok(bytes),
+        Err(WriteError::NoMemory) => Err(NoMemory),
+        Err(_) => unreachable!(),
+    }
 }
 
 // The type of an assertion's box and of its content box.

@@ -10,7 +10,7 @@ use c2_assertion::{
 };
 use c2_cbor::{round_trip, sorting_keeps_the_length};
 use c2_claim::a_written_claim_is_read;
-use c2_jpegseg::packets_hold_the_store;
+use c2_jpegseg::{packets_hold_the_store, place_and_number_are_one, segments_end_or_fail};
 use c2_uri::written_uris_are_read;
 
 /// The manifests of a tree are the same, told by the indices of its boxes or by the boxes themselves.
@@ -41,6 +41,8 @@ pub fn a_built_file_is_one()
     sorting_keeps_the_length();
     a_written_data_hash_has_one_length();
     packets_hold_the_store();
+    segments_end_or_fail();
+    place_and_number_are_one();
 }
 
 /// The built file has the new store in the new range; without that range it is what it was.

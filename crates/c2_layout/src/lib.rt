@@ -4,10 +4,16 @@
 //! file is one, and it meets the rules.
 #![tactic(auto)]
 
+mod assertions;
 mod binding;
 mod boxes;
+mod claims;
 mod entries;
 mod laws;
+mod manifest;
+mod parts;
+mod size;
+mod store;
 
 pub use binding::data_binding;
 pub use boxes::write_assertion;
@@ -16,3 +22,7 @@ pub use laws::{
     a_built_file_has_its_store, a_built_file_is_one, a_fresh_file_meets_the_rules,
     a_new_store_has_one_length, a_new_store_is_read, manifests_are_boxes,
 };
+pub use manifest::write_manifest;
+pub use parts::{NewParts, new_parts};
+pub use size::store_size;
+pub use store::new_store;

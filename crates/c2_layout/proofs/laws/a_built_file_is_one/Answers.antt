@@ -7,4 +7,4 @@ returns-clause-is c = file_is c.sorting_keeps_the_length.ensures c.a_written_dat
 
 -- and no other is
 pub returns-clause-once : goal.returns-clause-once
-returns-clause-once c = file_is_one c.sorting_keeps_the_length.ensures c.a_written_data_hash_has_one_length.ensures.any c.packets_hold_the_store.ensures
+returns-clause-once c = file_is_one c.sorting_keeps_the_length.ensures c.a_written_data_hash_has_one_length.ensures.any c.packets_hold_the_store.ensures c.segments_end_or_fail.ensures.one c.place_and_number_are_one.ensures.number

@@ -1,0 +1,52 @@
+-- The boxes of assertions, one after the other, and the references to them: one turn of a loop, and its end.
+use Rattle.std.proofs.Common.{◌≡◌, ℕ, suc, ◌+◌, ◌<◌, ◌≤◌, List, [], ◌∷◌, ◌++◌, length, get_or, drop, map, refl, sym, ap, ◌∙◌, append_assoc, append-nil, arith}
+use Rattle.std.proofs.Math.Seq.{drop-cons}
+use Rattle.std.proofs.lemmas.List.{map-append, drop_all}
+use Rattle.c2_spec.specs.Jumbf.Tree.{tree_bytes, trees_bytes}
+use Rattle.c2_definition.specs.declared.types.NewAssertion.{NewAssertion}
+use Rattle.c2_layout.specs.Store.{assertion_box, assertion_boxes}
+
+-- the boxes of two lists, one after the other
+pub boxes_over : (xs ys : List NewAssertion) → trees_bytes (assertion_boxes xs) ++ trees_bytes (assertion_boxes ys) ≡ trees_bytes (assertion_boxes (xs ++ ys))
+boxes_over [] ys = refl
+boxes_over (x ∷ xs) ys = append_assoc (tree_bytes (assertion_box x)) (trees_bytes (assertion_boxes xs)) (trees_bytes (assertion_boxes ys)) ∙ ap (λ (b : List ℕ). tree_bytes (assertion_box x) ++ b) (boxes_over xs ys)
+
+-- what is left of a list from an index on
+left_at : {A : Type 0} (all : List A) (i : ℕ) (a : A) → i < length all → a ≡ get_or all i a → drop i all ≡ a ∷ drop (i + 1) all
+left_at all i a lt is =
+    let s : suc i ≡ i + 1 = omega arith in
+    drop-cons all i a lt ∙ ap (λ x. x ∷ drop (suc i) all) (sym is) ∙ ap (λ n. a ∷ drop n all) s
+
+-- with the boxes that are left there are all, after a box as before it
+pub boxes_step : (all : List NewAssertion) (i : ℕ) (a : NewAssertion) (before after whole : List ℕ) → i < length all → a ≡ get_or all i a → after ≡ before ++ tree_bytes (assertion_box a)
+    → before ++ trees_bytes (assertion_boxes (drop i all)) ≡ whole → after ++ trees_bytes (assertion_boxes (drop (i + 1) all)) ≡ whole
+boxes_step all i a before after whole lt is grown h =
+    ap (λ (x : List ℕ). x ++ trees_bytes (assertion_boxes (drop (i + 1) all))) grown
+    ∙ append_assoc before (tree_bytes (assertion_box a)) (trees_bytes (assertion_boxes (drop (i + 1) all)))
+    ∙ ap (λ (d : List NewAssertion). before ++ trees_bytes (assertion_boxes d)) (sym (left_at all i a lt is)) ∙ h
+
+-- the same of what is made of each
+pub made_step : {A B : Type 0} (f : A → B) (all : List A) (i : ℕ) (a : A) (before after whole : List B) → i < length all → a ≡ get_or all i a → after ≡ before ++ f a ∷ []
+    → before ++ map f (drop i all) ≡ whole → after ++ map f (drop (i + 1) all) ≡ whole
+made_step f all i a before after whole lt is grown h =
+    ap (λ x. x ++ map f (drop (i + 1) all)) grown
+    ∙ append_assoc before (f a ∷ []) (map f (drop (i + 1) all))
+    ∙ ap (λ d. before ++ map f d) (sym (left_at all i a lt is)) ∙ h
+
+-- at the end no boxes are left
+pub boxes_end : (all : List NewAssertion) (i : ℕ) (out whole : List ℕ) → length all ≤ i → out ++ trees_bytes (assertion_boxes (drop i all)) ≡ whole → out ≡ whole
+boxes_end all i out whole le h = sym (append-nil out) ∙ ap (λ (d : List NewAssertion). out ++ trees_bytes (assertion_boxes d)) (sym (drop_all i all le)) ∙ h
+
+-- nor is anything to be made
+pub made_end : {A B : Type 0} (f : A → B) (all : List A) (i : ℕ) (out whole : List B) → length all ≤ i → out ++ map f (drop i all) ≡ whole → out ≡ whole
+made_end f all i out whole le h = sym (append-nil out) ∙ ap (λ d. out ++ map f d) (sym (drop_all i all le)) ∙ h
+
+-- the boxes of two lists, as a list grows by them
+pub two_boxes : (all own defined : List NewAssertion) (v0 v1 v2 : List ℕ) → v0 ≡ [] → defined ≡ all → v1 ≡ v0 ++ trees_bytes (assertion_boxes defined) → v2 ≡ v1 ++ trees_bytes (assertion_boxes own) → v2 ≡ trees_bytes (assertion_boxes (all ++ own))
+two_boxes all own defined v0 v1 v2 h0 e h1 h2 =
+    h2 ∙ ap (λ (x : List ℕ). x ++ trees_bytes (assertion_boxes own)) (h1 ∙ ap (λ (x : List ℕ). x ++ trees_bytes (assertion_boxes defined)) h0 ∙ ap (λ (d : List NewAssertion). trees_bytes (assertion_boxes d)) e) ∙ boxes_over all own
+
+-- what is made of each of two lists, as a list grows by it
+pub two_made : {B : Type 0} (f : NewAssertion → B) (all own defined : List NewAssertion) (v0 v1 v2 : List B) → v0 ≡ [] → defined ≡ all → v1 ≡ v0 ++ map f defined → v2 ≡ v1 ++ map f own → v2 ≡ map f (all ++ own)
+two_made f all own defined v0 v1 v2 h0 e h1 h2 =
+    h2 ∙ ap (λ x. x ++ map f own) (h1 ∙ ap (λ x. x ++ map f defined) h0 ∙ ap (λ (d : List NewAssertion). map f d) e) ∙ sym (map-append f all own)

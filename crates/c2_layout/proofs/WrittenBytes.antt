@@ -1,0 +1,58 @@
+-- The bytes of the boxes of a manifest and of a store are those of their parts, and how many they are.
+use Rattle.std.proofs.Common.{◌≡◌, ◌⊎◌, inl, inr, ℕ, ◌+◌, ◌<◌, List, [], ◌++◌, length, refl, sym, ap, ◌∙◌, append-nil, append_assoc, length-append, arith, codes}
+use Rattle.c2_base.specs.declared.limits.TheConstants.{MAX_STORE_LEN}
+use Rattle.c2_spec.specs.C2pa.Manifest.{type_uuid}
+use Rattle.c2_spec.specs.Jumbf.Tree.{Tree, Trees, none, more, tree_bytes, trees_bytes, description_bytes}
+use Rattle.c2_spec.specs.Jumbf.Writing.{IsWrittenLabel, fresh_description, fresh_super, super_size, SuperRefused, bad_label, too_large}
+use Rattle.c2_spec.specs.declared.jumbf.WriteError.{WriteError}
+use Rattle.c2_spec.specs.declared.jumbf.WriteError.TheVariants.{NoMemory}
+use Rattle.c2_definition.specs.declared.types.NewAssertion.{NewAssertion}
+use Rattle.c2_layout.specs.FreshBoxes.{fresh_box, item_box, store_box, trees_then}
+use Rattle.c2_layout.specs.Store.{assertion_boxes, manifest_box}
+use Rattle.c2_layout.proofs.BoxLemmas.{payload_len}
+use Rattle.c2_layout.proofs.StoreSize.{one_box_len}
+
+-- the assertion store, the claim and the signature, one after the other, are the contents of the manifest's box
+pub manifest_bytes : (label boxes claim message a b s : List ℕ) (assertions : List NewAssertion) → boxes ≡ trees_bytes (assertion_boxes assertions)
+    → a ≡ fresh_super (type_uuid (codes "c2as")) (codes "c2pa.assertions") boxes → b ≡ tree_bytes (item_box (codes "c2cl") (codes "c2pa.claim.v2") claim) → s ≡ tree_bytes (item_box (codes "c2cs") (codes "c2pa.signature") message)
+    → fresh_super (type_uuid (codes "c2ma")) label (a ++ (b ++ s)) ≡ tree_bytes (manifest_box label assertions claim message)
+manifest_bytes label boxes claim message a b s assertions eb ea eq es =
+    let store : Tree = fresh_box (codes "c2as") (codes "c2pa.assertions") (assertion_boxes assertions) in
+    let first : a ≡ tree_bytes store = ea ∙ ap (fresh_super (type_uuid (codes "c2as")) (codes "c2pa.assertions")) eb in
+    let last : s ≡ tree_bytes (item_box (codes "c2cs") (codes "c2pa.signature") message) ++ [] = es ∙ sym (append-nil (tree_bytes (item_box (codes "c2cs") (codes "c2pa.signature") message))) in
+    ap (λ (x : List ℕ). fresh_super (type_uuid (codes "c2ma")) label (x ++ (b ++ s))) first
+    ∙ ap (λ (x : List ℕ). fresh_super (type_uuid (codes "c2ma")) label (tree_bytes store ++ (x ++ s))) eq
+    ∙ ap (λ (x : List ℕ). fresh_super (type_uuid (codes "c2ma")) label (tree_bytes store ++ (tree_bytes (item_box (codes "c2cl") (codes "c2pa.claim.v2") claim) ++ x))) last
+
+-- a superbox takes 34 bytes, its label and its contents
+pub super_len : (uuid label contents : List ℕ) → length uuid ≡ 16 → length (fresh_super uuid label contents) ≡ super_size label contents
+super_len uuid label contents n = omega (arith, payload_len uuid label n, length-append (description_bytes (fresh_description uuid label)) contents)
+
+-- what a manifest has behind its description
+pub contents_len : (boxes claim message all a b s u : List ℕ) → length u ≡ 16 → a ≡ fresh_super u (codes "c2pa.assertions") boxes
+    → b ≡ tree_bytes (item_box (codes "c2cl") (codes "c2pa.claim.v2") claim) → s ≡ tree_bytes (item_box (codes "c2cs") (codes "c2pa.signature") message) → all ≡ a ++ (b ++ s)
+    → length all ≡ 160 + length boxes + length claim + length message
+contents_len boxes claim message all a b s u n ea eb es e =
+    let la : length a ≡ 34 + 15 + length boxes = ap length ea ∙ super_len u (codes "c2pa.assertions") boxes n in
+    let lb : length b ≡ 42 + 13 + length claim = ap length eb ∙ one_box_len (codes "c2cl") (codes "c2pa.claim.v2") (codes "cbor") claim refl in
+    let ls : length s ≡ 42 + 14 + length message = ap length es ∙ one_box_len (codes "c2cs") (codes "c2pa.signature") (codes "cbor") message refl in
+    let whole : length all ≡ length (a ++ (b ++ s)) = ap length e in
+    omega (arith, la, lb, ls, whole, length-append a (b ++ s), length-append b s)
+
+-- why a superbox isn't written, by its size
+pub refused_size : (label contents : List ℕ) (e : WriteError) (n : ℕ) → super_size label contents ≡ n → (e ≡ NoMemory) ⊎ SuperRefused label contents e → (e ≡ NoMemory) ⊎ (IsWrittenLabel label → MAX_STORE_LEN < n)
+refused_size label contents e n is (inl m) = inl m
+refused_size label contents e n is (inr (bad_label never)) = inr (λ w. absurd (never w))
+refused_size label contents e n is (inr (too_large w big)) = inr (λ w. omega (arith, is, big))
+
+-- boxes, and one more behind them
+then_bytes : (boxes : Trees) (t : Tree) → trees_bytes boxes ++ tree_bytes t ≡ trees_bytes (trees_then boxes t)
+then_bytes none t = sym (append-nil (tree_bytes t))
+then_bytes (more s ss) t = append_assoc (tree_bytes s) (trees_bytes ss) (tree_bytes t) ∙ ap (λ (x : List ℕ). tree_bytes s ++ x) (then_bytes ss t)
+
+-- the boxes that are carried and the manifest are the contents of the store's box
+pub store_bytes : (carried manifest all b uuid : List ℕ) (old : Trees) (last : Tree) → uuid ≡ type_uuid (codes "c2pa") → all ≡ carried ++ manifest → b ≡ fresh_super uuid (codes "c2pa") all
+    → carried ≡ trees_bytes old → manifest ≡ tree_bytes last → b ≡ tree_bytes (store_box old last)
+store_bytes carried manifest all b uuid old last u e is c m =
+    is ∙ ap (λ (x : List ℕ). fresh_super x (codes "c2pa") all) u
+    ∙ ap (fresh_super (type_uuid (codes "c2pa")) (codes "c2pa")) (e ∙ ap (λ (x : List ℕ). x ++ manifest) c ∙ ap (λ (x : List ℕ). trees_bytes old ++ x) m ∙ then_bytes old last)

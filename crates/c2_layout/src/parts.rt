@@ -1,0 +1,88 @@
+// The parts of a new store that don't depend on its message.
+ghost use Rattle.std.specs.Prelude.{◌≡◌, ◌≤◌, ◌++◌, ◌∷◌, [], All, IfOk, length, map};
+ghost use Rattle.c2_base.specs.declared.limits.TheConstants.{MAX_STORE_LEN};
+ghost use Rattle.c2_spec.specs.Cbor.Deterministic.{deterministic};
+ghost use Rattle.c2_spec.specs.Jumbf.Tree.{trees_bytes};
+ghost use Rattle.c2_claim.specs.Written.{claim_item};
+ghost use Rattle.c2_definition.specs.DefinitionFile.{IsWellFormed};
+ghost use Rattle.c2_layout.specs.Built.{store_size};
+ghost use Rattle.c2_layout.specs.Fresh.{fresh_content};
+ghost use Rattle.c2_layout.specs.Parts.{AreParts, CanBeBoxed, parts_size};
+ghost use Rattle.c2_layout.specs.Store as store;
+
+use crate::assertions::push_all;
+use crate::binding::data_binding;
+use crate::claims::claim_of;
+use c2_base::{Blob, NoMemory, Range};
+use c2_definition::{Definition, NewAssertion};
+use c2_hash::{Alg, Digest, Hashing};
+use std::alloc::Global;
+
+/// The parts of a new manifest that don't depend on its signed message.
+#[derive(Debug, Drop)]
+pub struct NewParts {
+    /// The boxes of its assertions, one after the other.
+    pub boxes: Blob,
+
+    /// The bytes of its claim.
+    pub claim: Blob,
+}
+
+// The parts of a manifest that has the assertions of a definition and then its own.
+fn parts_over<H: Hashing>(
+    alloc: Global,
+    hashing: &H,
+    definition: &Definition,
+    own: &[NewAssertion],
+) -> Result<NewParts, NoMemory>
+    requires defined { All CanBeBoxed definition.now.assertions }
+    requires own { All CanBeBoxed own.now }
+    ensures boxes { IfOk result (λ p. p.boxes
+        ≡ trees_bytes (store.assertion_boxes (definition.now.assertions ++ own.now))) }
+    ensures claim { IfOk result (λ p. p.claim
+        ≡ deterministic (claim_item (store.claim_with definition.now
+        (map (store.entry_of (H.digest_of Alg.Sha256))
+        (definition.now.assertions ++ own.now))))) }
+{
+    let mut boxes = Vec::new(alloc);
+    let mut entries = Vec::new(alloc);
+    let defined = definition.assertions.as_slice();
+    push_all(alloc, hashing, &mut boxes, &mut entries, defined)?;
+    push_all(alloc, hashing, &mut boxes, &mut entries, own)?;
+    let claim = claim_of(alloc, definition, entries)?;
+    Ok(NewParts {
+        boxes: Blob::from_vec(boxes),
+        claim,
+    })
+}
+
+/// The parts of the store that is built of a definition alone, whose binding has this range and this digest of what the file has
+/// outside it. Each assertion is digested once.
+///
+/// Nothing but memory fails where the store isn't too large with what the definition reserves for its message, which `store_size`
+/// tells before.
+pub fn new_parts<H: Hashing>(
+    alloc: Global,
+    hashing: &H,
+    definition: &Definition,
+    range: Range,
+    digest: &Digest,
+) -> Result<NewParts, NoMemory>
+    requires formed { IsWellFormed definition.now }
+    requires small { store_size (fresh_content definition.now) definition.now.reserve
+        ≤ MAX_STORE_LEN }
+    requires digest { length digest.now ≡ 32 }
+    ensures parts { IfOk result (AreParts (H.digest_of Alg.Sha256) (fresh_content definition.now)
+        (store.data_binding range.start range.length digest.now)) }
+
+    // So the store has the length that was told before.
+    ensures size { IfOk result (λ p. parts_size definition.now.label p definition.now.reserve
+        ≡ store_size (fresh_content definition.now) definition.now.reserve) }
+{
+    // Only the prover needs these laws.
+    c2_cbor::sorting_keeps_the_length();
+    c2_assertion::a_written_data_hash_has_one_length();
+    let binding = data_binding(alloc, range, digest.as_slice())?;
+    let own = vec![in alloc; binding]?;
+    parts_over(alloc, hashing, definition, own.as_slice())
+}

@@ -1,0 +1,87 @@
+// How long the new store is, before anything of that size is made.
+ghost use Rattle.std.specs.Prelude.{◌≡◌, ◌-◌, ◌^◌, ◌++◌, IfOk, OnOk, length, map, min};
+ghost use Rattle.c2_spec.specs.Cbor.Deterministic.{deterministic};
+ghost use Rattle.c2_spec.specs.Jumbf.Tree.{trees_bytes};
+ghost use Rattle.c2_claim.specs.Written.{claim_item};
+ghost use Rattle.c2_layout.specs.Built as built;
+ghost use Rattle.c2_layout.specs.Built.{no_digest};
+ghost use Rattle.c2_layout.specs.Fresh.{fresh_content};
+ghost use Rattle.c2_layout.specs.Store as store;
+
+use crate::binding::data_binding;
+use crate::claims::claim_of;
+use crate::entries::own_ref;
+use c2_base::{NoMemory, Range};
+use c2_cbor::Ref;
+use c2_definition::{Definition, NewAssertion};
+use std::alloc::Global;
+
+// What stands for a digest that isn't known yet.
+const NO_DIGEST: [u8; 32] = [0; 32];
+
+// What stands for a range that isn't known yet.
+const NO_RANGE: Range = Range {
+    start: 0,
+    length: 0,
+};
+
+// How many bytes a store that carries nothing has beside its label, its assertions' boxes, its claim and its message.
+const STORE_FRAME: u64 = 232;
+
+// How many bytes the box of an assertion has beside its label and its payload.
+const ASSERTION_FRAME: u64 = 42;
+
+// How many bytes the boxes of assertions have; 2^64 - 1 where 64 bits can't hold it.
+fn boxes_len(all: &[NewAssertion]) -> u64
+    ensures { result ≡ min (length (trees_bytes (store.assertion_boxes all.now))) (2 ^ 64 - 1) }
+{
+    let mut len: u64 = 0;
+    for assertion in all {
+        len = len.saturating_add(ASSERTION_FRAME);
+        len = len.saturating_add(assertion.label.as_str().len() as u64);
+        len = len.saturating_add(assertion.bytes.as_slice().len() as u64);
+    }
+    len
+}
+
+// Appends references to assertions, with digests of zero bytes.
+fn push_blank(alloc: Global, entries: &mut Vec<Ref>, all: &[NewAssertion]) -> Result<(), NoMemory>
+    ensures { OnOk result (entries.new.items
+        ≡ entries.old.items ++ map (store.entry_of no_digest) all.now) }
+{
+    for assertion in all {
+        entries.push(own_ref(alloc, assertion.label.as_str(), &NO_DIGEST)?)?;
+    }
+    Ok(())
+}
+
+// How many bytes the claim has of a manifest that has the assertions of a definition and then its own.
+fn claim_len(alloc: Global, definition: &Definition, own: &[NewAssertion]) -> Result<u64, NoMemory>
+    ensures { IfOk result (λ n. n
+        ≡ length (deterministic (claim_item (store.claim_with definition.now
+        (map (store.entry_of no_digest) (definition.now.assertions ++ own.now)))))) }
+{
+    let mut entries = Vec::new(alloc);
+    push_blank(alloc, &mut entries, definition.assertions.as_slice())?;
+    push_blank(alloc, &mut entries, own)?;
+    let claim = claim_of(alloc, definition, entries)?;
+    Ok(claim.as_slice().len() as u64)
+}
+
+/// The length in bytes of the store that is built of a definition alone, with the bytes that it reserves for the signed message;
+/// 2^64 - 1 where 64 bits can't hold it. It depends neither on the media nor on the message, and nothing of that size is made
+/// for it.
+pub fn store_size(alloc: Global, definition: &Definition) -> Result<u64, NoMemory>
+    ensures { IfOk result (λ n. n
+        ≡ min (built.store_size (fresh_content definition.now) definition.now.reserve)
+        (2 ^ 64 - 1)) }
+{
+    let own = vec![in alloc; data_binding(alloc, NO_RANGE, &NO_DIGEST)?]?;
+    let claim = claim_len(alloc, definition, own.as_slice())?;
+    let label = definition.label.as_str().len() as u64;
+    let boxes = boxes_len(definition.assertions.as_slice());
+    let framed = label.saturating_add(STORE_FRAME).saturating_add(boxes);
+    let bound = framed.saturating_add(boxes_len(own.as_slice()));
+    let claimed = bound.saturating_add(claim);
+    Ok(claimed.saturating_add(definition.reserve as u64))
+}
