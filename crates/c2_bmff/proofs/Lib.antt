@@ -17,3 +17,4 @@ mod StandLemmas
 mod StoreBytes
 mod TrailLemmas
 mod WalkLemmas
+mod WindowLemmas

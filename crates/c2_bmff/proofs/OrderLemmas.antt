@@ -1,16 +1,17 @@
 -- Parts in the order of their starts, and exclusions whose parts are put in order.
 use Rattle.std.proofs.Common.{◌≡◌, ℕ, ◌+◌, ◌-◌, ◌<◌, ◌≤◌, Bool, true, false, ◌&&◌, ◌||◌, List, [], ◌∷◌, ◌++◌, length, get_or, take, drop, refl, sym, ap, ap₂, subst, ◌∙◌, arith}
 use Rattle.std.specs.declared.option.Option.{Option}
-use Rattle.std.specs.List.{list_any, AllByRecursion}
+use Rattle.std.specs.List.{list_all, list_any, AllByRecursion}
 use Rattle.std.proofs.lemmas.List.{drop_more, get_or-append-add, get_or-drop, get_or_append_left, get_or_default, length-append, length-drop, take-append-drop, take-append-le, take_all, take_more}
 use Rattle.std.proofs.lemmas.List.Elements.{recursion_from_All}
 use Rattle.std.proofs.lemmas.List.Folds.{list_any-append}
 use Rattle.std.proofs.lemmas.List.Sorted.{IsNonDecreasingBy-push, IsNonDecreasingBy-take}
 use Rattle.c2_base.specs.declared.values.Range.{Range}
 use Rattle.c2_spec.specs.Bmff.Hash.{ByteTest, Exclusion, in_subset}
+use Rattle.c2_spec.specs.Bmff.Paths.{PathStep}
 use Rattle.c2_bmff.specs.Children.{on_rows}
-use Rattle.c2_bmff.specs.Marks.{excludes_row, has_length, in_row, in_row_part, marks}
-use Rattle.c2_bmff.specs.Parts.{AreRising, ExcludeSame}
+use Rattle.c2_bmff.specs.Marks.{excludes_row, has_length, holds_test, in_row, in_row_part, in_row_subset, marks, takes}
+use Rattle.c2_bmff.specs.Parts.{AreRising, AskSame, ExcludeSame}
 use Rattle.c2_bmff.specs.Runs.{MeetAlike}
 use Rattle.c2_bmff.specs.declared.root_boxes.RootBox.{RootBox}
 use Rattle.c2_bmff.proofs.MarkLemmas.{or_false}
@@ -90,3 +91,30 @@ pub one_more : (es others : List Exclusion) (e d : Exclusion) (k : ℕ) → k < 
 one_more es others e d k inside before same file rows i =
     list_any-append (excludes_row file rows i) es (e ∷ []) ∙ ap₂ (λ (a b : Bool). a || b) (before file rows i) (same file rows i)
     ∙ sym (list_any-append (excludes_row file rows i) (take k others) (get_or others k d ∷ [])) ∙ ap (list_any (excludes_row file rows i)) (sym (take_more others k d inside))
+
+-- three tests of which the first two must hold may have the third shared
+and_or : (t w a b : Bool) → (t && (w && (a || b))) ≡ ((t && (w && a)) || (t && (w && b)))
+and_or true true a b = refl
+and_or true false a b = refl
+and_or false w a b = refl
+
+-- some member passes one test or the other
+any_or : {A : Type 0} (p q : A → Bool) (xs : List A) → list_any (λ x. p x || q x) xs ≡ (list_any p xs || list_any q xs)
+any_or p q [] = refl
+any_or p q (x ∷ xs) = ap (λ (b : Bool). (p x || q x) || b) (any_or p q xs) ∙ turn (p x) (q x) (list_any p xs) (list_any q xs)
+  where
+    turn : (a b c d : Bool) → ((a || b) || (c || d)) ≡ ((a || c) || (b || d))
+    turn true b c d = refl
+    turn false true true d = refl
+    turn false true false d = refl
+    turn false false c d = refl
+
+-- exclusions that ask the same, as one with the positions of both
+pub united_same : (e d : Exclusion) (subset : Option (List Range)) → AskSame e d → ((i : ℕ) → in_subset i subset ≡ (in_subset i e.subset || in_subset i d.subset)) → (file : List ℕ) (rows : List RootBox) (i : ℕ) → excludes_row file rows i (record { path = e.path; length = e.length; tests = e.tests; subset = subset }) ≡ (excludes_row file rows i e || excludes_row file rows i d)
+united_same e d subset ask h file rows i =
+    let both : Exclusion = record { path = e.path; length = e.length; tests = e.tests; subset = subset } in
+    any_same (marks file both i) (λ r. marks file e i r || marks file d i r) (on_rows file rows e.path)
+    (λ r. ap (λ (b : Bool). takes file e r && (in_row i r && b)) (h (i - r.start)) ∙ and_or (takes file e r) (in_row i r) (in_subset (i - r.start) e.subset) (in_subset (i - r.start) d.subset)
+    ∙ ap (λ (t : Bool). marks file e i r || (t && in_row_subset i r d.subset)) (ap₂ (λ (n : Option ℕ) (ts : List ByteTest). has_length n r && list_all (holds_test file r) ts) ask.1 ask.2))
+    ∙ any_or (marks file e i) (marks file d i) (on_rows file rows e.path)
+    ∙ ap (λ (p : List PathStep). list_any (marks file e i) (on_rows file rows e.path) || list_any (marks file d i) (on_rows file rows p)) ask.0

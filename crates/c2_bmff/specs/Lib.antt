@@ -12,3 +12,4 @@ pub mod Roots
 pub mod Runs
 pub mod Search
 pub mod Trails
+pub mod Windows

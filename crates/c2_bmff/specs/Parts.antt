@@ -22,3 +22,7 @@ HoldSame parts others = (i : ℕ) → list_any (in_part i) parts ≡ list_any (i
 -- the exclusions exclude the same positions, of all files and siblings
 abbrev pub ExcludeSame : List Exclusion → List Exclusion → Type 0
 ExcludeSame es others = (file : List ℕ) (rows : List RootBox) (i : ℕ) → list_any (excludes_row file rows i) es ≡ list_any (excludes_row file rows i) others
+
+-- exclusions that ask the same of a box
+abbrev pub AskSame : Exclusion → Exclusion → Type 0
+AskSame e d = (e.path ≡ d.path) × (e.length ≡ d.length) × (e.tests ≡ d.tests)

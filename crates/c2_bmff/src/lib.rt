@@ -6,6 +6,7 @@
 mod children;
 mod entries;
 mod exclusion;
+mod far;
 mod header;
 mod laws;
 mod marking;

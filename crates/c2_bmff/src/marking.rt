@@ -1,5 +1,5 @@
 // The positions that an exclusion excludes.
-ghost use Rattle.std.specs.Prelude.{◌≡◌, true, ◌||◌, ◌&&◌, ◌+◌, ◌-◌, ◌<◌, ◌≤◌, ◌^◌, ℕ, map, All, OnOk, IfOk, IfErr, IfSome, length, take, drop, bytes_eq, option_map};
+ghost use Rattle.std.specs.Prelude.{◌≡◌, true, ◌||◌, ◌&&◌, ◌+◌, ◌-◌, ◌<◌, ◌≤◌, ◌^◌, ℕ, List, map, All, OnOk, IfOk, IfErr, IfSome, length, take, drop, bytes_eq, option_map};
 ghost use Rattle.std.specs.List.{list_all, list_any};
 ghost use Rattle.std.specs.Option.{ForSome};
 ghost use Rattle.c2_base.specs.Causes.{HasCause};
@@ -8,40 +8,18 @@ ghost use Rattle.c2_spec.specs.Cover.{holds, is_excluded};
 ghost use Rattle.c2_bmff.specs.Causes.{IsCaused, OrOutside};
 ghost use Rattle.c2_bmff.specs.Children.{IsRowWithin};
 ghost use Rattle.c2_bmff.specs.Parts.{AreRising};
-ghost use Rattle.c2_bmff.specs.Marks.{IsFront, IsRangeWithin, has_length, holds_test, in_row, in_row_part, in_row_subset, marks, stands_at, takes};
+ghost use Rattle.c2_bmff.specs.Marks.{IsFront, IsRangeWithin, has_length, holds_test, in_row, in_row_part, in_row_subset, marks, takes};
 ghost use Rattle.c2_bmff.specs.Runs.{AreRunsWithin, IsRunWithin, asked, run_test};
 
 use crate::entries::Entry;
-use crate::root_boxes::{RootBox, fill_first};
-use crate::runs::{Run, Runs, is_same};
+use crate::far::meets_far;
+use crate::root_boxes::RootBox;
+use crate::runs::{Run, Runs};
 use c2_base::{Failed, MediaError, NoMemory, Range, Source};
 use std::alloc::Global;
 
 // Among how many ranges a new one is looked for, so that parts of a small box that many exclusions name are few before they are sorted.
 const MOST_LOOKED_AT: usize = 8;
-
-// Whether these bytes stand at `pos`.
-fn stands<S: Source>(source: &mut S, pos: u64, value: &[u8]) -> Result<bool, Failed>
-    requires inside { pos + length value.now ≤ S.len source.old }
-    ensures stands { IfOk result
-        (λ b. ForSome (S.known source.old) (λ file. b ≡ stands_at file pos value.now)) }
-    ensures stays { StaysSource S.len S.known S.faults source.old source.new }
-    ensures cause { HasCause (S.faults source.old) (S.faults source.new) result }
-{
-    let mut bytes = [0; 64];
-    let mut rest = value;
-    let mut at = pos;
-    'pieces: while rest.len() > 0 {
-        let count = rest.len().min(64);
-        fill_first(source, at, &mut bytes, count)?;
-        if !is_same(&bytes, rest, count) {
-            return Ok(false);
-        }
-        rest = &rest[count..];
-        at += count as u64;
-    }
-    Ok(true)
-}
 
 // Whether these bytes stand at an offset in the first bytes of a box; None where those end before.
 fn stands_in(front: &[u8], offset: u64, value: &[u8]) -> Option<bool>
@@ -49,38 +27,29 @@ fn stands_in(front: &[u8], offset: u64, value: &[u8]) -> Option<bool>
     ensures same { IfSome result
         (λ b. b ≡ bytes_eq (take (length value.now) (drop offset front.now)) value.now) }
 {
-    if offset > 64 {
+    if offset > front.len() as u64 {
         return None;
     }
     let at = offset as usize;
-    if at > front.len() || value.len() > front.len() - at {
+    if value.len() > front.len() - at {
         return None;
     }
     Some(&front[at..at + value.len()] == value)
 }
 
-// Whether these bytes stand at an offset from the start of the box of this row, which begins with `front`, wholly inside the box.
-fn meets<S: Source>(
-    source: &mut S,
-    row: RootBox,
-    front: &[u8],
-    offset: u64,
-    value: &[u8],
-) -> Result<bool, Failed>
-    requires inside { IsRowWithin (S.len source.old) row }
-    requires front { ForSome (S.known source.old) (λ file. IsFront file row front.now) }
-    ensures meets { IfOk result (λ b. ForSome (S.known source.old) (λ file.
-        b ≡ holds_test file row (record { offset = offset; value = value.now }))) }
-    ensures stays { StaysSource S.len S.known S.faults source.old source.new }
-    ensures cause { HasCause (S.faults source.old) (S.faults source.new) result }
+// Whether these bytes stand at an offset from the start of the box of this row, which begins with `front`, wholly inside the box; None
+// where they end behind `front`.
+fn meets(row: RootBox, front: &[u8], offset: u64, value: &[u8]) -> Option<bool>
+    ensures { IfSome result (λ b. (file : List ℕ) → IsFront file row front.now
+        → b ≡ holds_test file row (record { offset = offset; value = value.now })) }
 {
     if offset > row.length || value.len() as u64 > row.length - offset {
-        return Ok(false);
+        return Some(false);
     }
-    if let Some(same) = stands_in(front, offset, value) {
-        return Ok(same);
-    }
-    stands(source, row.start + offset, value)
+    let Some(same) = stands_in(front, offset, value) else {
+        return None;
+    };
+    Some(same)
 }
 
 // Whether all of these runs stand in the box of this row.
@@ -99,8 +68,12 @@ fn meets_runs<S: Source>(
     ensures stays { StaysSource S.len S.known S.faults source.old source.new }
     ensures cause { HasCause (S.faults source.old) (S.faults source.new) result }
 {
-    for run in runs {
-        if !meets(source, row, front, run.offset, &bytes[run.start..run.end])? {
+    for k in 0..runs.len() {
+        let run = runs[k];
+        let Some(same) = meets(row, front, run.offset, &bytes[run.start..run.end]) else {
+            return meets_far(source, row, bytes, &runs[k..]);
+        };
+        if !same {
             return Ok(false);
         }
     }

@@ -5,6 +5,7 @@ ghost use Rattle.c2_bmff.specs.Marks.{holds_test};
 ghost use Rattle.c2_bmff.specs.Runs.{AreRunsWithin, Differ, IsKeyWithin, IsLastWithin, IsRunWithin, Join, MeetAlike, asked, holds_last, holds_next, key_test};
 ghost use Rattle.c2_bmff.specs.declared.root_boxes.RootBox.{RootBox};
 
+use c2_base::limits::PIECE_LEN;
 use c2_base::{Blob, NoMemory};
 use std::alloc::Global;
 
@@ -46,6 +47,14 @@ pub(crate) fn asks_bytes(tests: &Option<Runs>, length: u64) -> bool {
     match tests {
         Some(runs) => !runs.bytes.is_empty() && runs.least <= length as u128,
         None => false,
+    }
+}
+
+/// How many first bytes of a box the tests ask for.
+pub(crate) fn asked_len(tests: &Option<Runs>) -> usize {
+    match tests {
+        Some(runs) if !runs.bytes.is_empty() => runs.least.min(PIECE_LEN as u128) as usize,
+        _ => 0,
     }
 }
 

@@ -19,7 +19,7 @@ use crate::exclusion::Exclusion;
 use crate::marking::{add_sorted, is_whole, join_full, mark_row};
 use crate::paths::{Segment, enters};
 use crate::root_boxes::{RootBox, fill_first};
-use crate::runs::asks_bytes;
+use crate::runs::{asked_len, asks_bytes};
 use c2_base::{Failed, MediaError, NoMemory, Range, Source};
 use std::alloc::Global;
 
@@ -180,21 +180,37 @@ fn has_tests(entries: &[Entry<'_>], k: usize, length: u64) -> bool {
     }
 }
 
-// The number of first bytes of the box of this row that are in `bytes`: the first 64 where none were and the exclusion of this index
-// asks for bytes of it.
+// How many first bytes of a box these exclusions ask for, and no more than are read at a time.
+fn most_asked(entries: &[Entry<'_>]) -> usize {
+    let mut most = 0;
+    for entry in entries {
+        most = asked_len(&entry.tests).max(most);
+    }
+    most
+}
+
+// Room for the first bytes of a box.
+fn room_for(alloc: Global, entries: &[Entry<'_>]) -> Result<Vec<u8>, NoMemory> {
+    let count = most_asked(entries);
+    let bytes = vec![in alloc; 0; count]?;
+    Ok(bytes)
+}
+
+// The number of first bytes of the box of this row that are in `bytes`: as many as there is room for where none were and the exclusion
+// of this index asks for bytes of it.
 fn fill_front<S: Source>(
     source: &mut S,
     entries: &[Entry<'_>],
     k: usize,
     row: RootBox,
-    bytes: &mut [u8; 64],
+    bytes: &mut [u8],
     count: usize,
 ) -> Result<usize, Failed>
     requires inside { IsRowWithin (S.len source.old) row }
-    requires few { count ≤ 64 }
+    requires few { count ≤ length bytes.old }
     requires front { ForSome (S.known source.old)
         (λ file. IsFront file row (take count bytes.old)) }
-    ensures few { IfOk result (λ n. n ≤ 64) }
+    ensures few { IfOk result (λ n. n ≤ length bytes.new) }
     ensures front { IfOk result (λ n. ForSome (S.known source.old)
         (λ file. IsFront file row (take n bytes.new))) }
     ensures stays { StaysSource S.len S.known S.faults source.old source.new }
@@ -203,17 +219,18 @@ fn fill_front<S: Source>(
     if count > 0 || !has_tests(entries, k, row.length) {
         return Ok(count);
     }
-    let most = row.length.min(64) as usize;
+    let most = row.length.min(bytes.len() as u64) as usize;
     fill_first(source, row.start, bytes, most)?;
     Ok(most)
 }
 
-// Adds the positions that these exclusions exclude through the box of this row. Byte tests read its first 64 bytes once.
+// Adds the positions that these exclusions exclude through the box of this row. Byte tests read its first bytes once, into `bytes`.
 fn mark_each<S: Source>(
     source: &mut S,
     entries: &[Entry<'_>],
     here: &[usize],
     row: RootBox,
+    bytes: &mut [u8],
     ranges: &mut Vec<Range>,
 ) -> Result<(), MediaError>
     requires inside { IsRowWithin (S.len source.old) row }
@@ -227,13 +244,12 @@ fn mark_each<S: Source>(
     ensures cause { IfErr result (IsCaused (S.faults source.old) (S.faults source.new)) }
     ensures outside { IfErr result (λ e. OrOutside e ⊥) }
 {
-    let mut bytes = [0; 64];
     let mut count = 0;
     for k in here {
         if is_whole(ranges, row) {
             return Ok(());
         }
-        count = fill_front(source, entries, *k, row, &mut bytes, count)?;
+        count = fill_front(source, entries, *k, row, bytes, count)?;
         match mark_entry(source, entries, *k, row, &bytes[..count], ranges) {
             Ok(()) => {}
             Err(error) => return Err(error),
@@ -249,6 +265,7 @@ fn mark_here<S: Source>(
     entries: &[Entry<'_>],
     here: &[usize],
     row: RootBox,
+    bytes: &mut [u8],
     ranges: &mut Vec<Range>,
 ) -> Result<(), MediaError>
     requires inside { IsRowWithin (S.len source.old) row }
@@ -266,7 +283,7 @@ fn mark_here<S: Source>(
         return Ok(());
     }
     let mut own = Vec::new(alloc);
-    match mark_each(source, entries, here, row, &mut own) {
+    match mark_each(source, entries, here, row, bytes, &mut own) {
         Ok(()) => {}
         Err(error) => return Err(error),
     }
@@ -310,6 +327,7 @@ fn visit<S: Source>(
     source: &mut S,
     entries: &[Entry<'_>],
     row: RootBox,
+    bytes: &mut [u8],
     trails: &mut [Trail],
     ranges: &mut Vec<Range>,
 ) -> Result<Vec<Trail>, MediaError>
@@ -331,7 +349,7 @@ fn visit<S: Source>(
     let mut here = Vec::new(alloc);
     let mut below = Vec::new(alloc);
     pass_all(entries, row, trails, &mut here, &mut below)?;
-    match mark_here(alloc, source, entries, &here, row, ranges) {
+    match mark_here(alloc, source, entries, &here, row, bytes, ranges) {
         Ok(()) => Ok(below),
         Err(error) => Err(error),
     }
@@ -423,6 +441,7 @@ fn turn<S: Source>(
     alloc: Global,
     source: &mut S,
     entries: &[Entry<'_>],
+    bytes: &mut [u8],
     level: Level,
     levels: &mut Vec<Level>,
     ranges: &mut Vec<Range>,
@@ -451,7 +470,7 @@ fn turn<S: Source>(
     }
     let row = level.rows[next];
     let mut trails = level.trails;
-    let below = match visit(alloc, source, entries, row, &mut trails, ranges) {
+    let below = match visit(alloc, source, entries, row, bytes, &mut trails, ranges) {
         Ok(below) => below,
         Err(error) => return Err(error),
     };
@@ -467,6 +486,7 @@ fn walk<S: Source>(
     alloc: Global,
     source: &mut S,
     entries: &[Entry<'_>],
+    bytes: &mut [u8],
     levels: &mut Vec<Level>,
     ranges: &mut Vec<Range>,
 ) -> Result<(), MediaError>
@@ -483,7 +503,7 @@ fn walk<S: Source>(
 {
     let mut full = JOINED_FROM;
     'boxes: while let Some(level) = levels.pop() {
-        match turn(alloc, source, entries, level, levels, ranges) {
+        match turn(alloc, source, entries, bytes, level, levels, ranges) {
             Ok(()) => {}
             Err(error) => return Err(error),
         }
@@ -516,7 +536,8 @@ pub(crate) fn mark_all<S: Source>(
     let trails = first_trails(alloc, entries)?;
     let rows = copied(alloc, siblings)?;
     add_level(&mut levels, rows, 0, trails)?;
-    match walk(alloc, source, entries, &mut levels, &mut ranges) {
+    let mut bytes = room_for(alloc, entries)?;
+    match walk(alloc, source, entries, &mut bytes, &mut levels, &mut ranges) {
         Ok(()) => Ok(ranges),
         Err(error) => Err(error),
     }

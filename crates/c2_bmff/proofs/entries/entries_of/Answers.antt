@@ -1,14 +1,14 @@
-use Rattle.std.proofs.Common.{◌+◌, ◌∷◌, [], List, take, subst, sym}
+use Rattle.std.proofs.Common.{◌∙◌, Bool, ap, sym}
+use Rattle.std.specs.List.{list_any}
+use Rattle.std.proofs.lemmas.List.Sorted.{list_any-IsPermutation}
 use Rattle.c2_spec.specs.Bmff.Hash.{Exclusion}
-use Rattle.c2_bmff.specs.Parts.{ExcludeSame}
-use Rattle.c2_bmff.proofs.OrderLemmas.{one_more}
+use Rattle.c2_bmff.specs.Marks.{excludes_row}
 use Rattle.c2_bmff.proofs.entries.entries_of.Goals as goal
 
--- with the next exclusion's, the entries exclude what the exclusions so far do
-pub loop-exclusion-preserved : goal.loop-exclusion-preserved
-loop-exclusion-preserved c =
-    let k = c.loop-exclusion.exclusion-index in
-    let d : Exclusion = c.exclusion-item.result in
-    subst (λ (es : List Exclusion). ExcludeSame es (take (k + 1) c.args.exclusions.now)) (sym c.in_ok-push.ensures.items)
-    (one_more c.loop-exclusion.entries.items c.args.exclusions.now c.in_ok-entry.entry d k c.loop-exclusion-test.true c.loop-exclusion.invariant
-    (subst (λ (x : Exclusion). ExcludeSame (c.in_ok-entry.entry ∷ []) (x ∷ [])) c.exclusion-item.is c.in_ok-entry.ensures))
+-- in any order, and as groups, the exclusions exclude the same
+pub returns : goal.returns
+returns c file rows i =
+    let excludes : Exclusion → Bool = excludes_row file rows i in
+    c.in_ok-entries.ensures file rows i ∙ ap (list_any excludes) c.as_slice-2.ensures.value
+    ∙ c.in_ok-groups.ensures file rows i ∙ ap (list_any excludes) c.as_slice.ensures.value
+    ∙ sym (list_any-IsPermutation excludes c.args.exclusions.now c.in_ok-list.list.items c.in_ok-list.ensures)

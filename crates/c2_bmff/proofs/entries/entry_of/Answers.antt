@@ -13,9 +13,11 @@ use Rattle.c2_bmff.proofs.entries.entry_of.Goals as goal
 -- parts in order hold what the parts do, and the same boxes meet what is asked
 pub returns : goal.returns
 returns c =
-    let inside : Exclusion = record { path = c.exclusion.inside.path; length = c.exclusion.inside.length; tests = c.exclusion.inside.tests; subset = c.exclusion.inside.subset } in
+    let old : Option (List Range) = option_map (λ parts. parts.items) c.group.inside.parts in
+    let first : Exclusion = record { path = c.first.inside.path; length = c.first.inside.length; tests = c.first.inside.tests; subset = old } in
     let tests : List ByteTest = asked c.in_ok-tests.tests in
     let subset : Option (List Range) = option_map (λ parts. parts.items) c.in_ok-parts.parts in
-    let entry : Exclusion = record { path = inside.path; length = inside.length; tests = tests; subset = subset } in
-    subst (λ (e : Exclusion). ExcludeSame (entry ∷ []) (e ∷ [])) c.exclusion.view_is
-    (same_subset inside tests subset (λ file r. c.in_ok-tests.ensures.same file r ∙ ap (list_all (holds_test file r)) c.as_slice.ensures) c.in_ok-parts.ensures.same)
+    let entry : Exclusion = record { path = first.path; length = first.length; tests = tests; subset = subset } in
+    subst (λ (e : Exclusion). ExcludeSame (entry ∷ []) (e ∷ [])) c.group.view_is
+    (subst (λ (e : Exclusion). ExcludeSame (entry ∷ []) ((record { path = e.path; length = e.length; tests = e.tests; subset = old }) ∷ [])) c.first.view_is
+    (same_subset first tests subset (λ file r. c.in_ok-tests.ensures.same file r ∙ ap (list_all (holds_test file r)) c.as_slice.ensures) c.in_ok-parts.ensures.same))

@@ -1,4 +1,4 @@
-use Rattle.std.proofs.Common.{◌≡◌, ◌≤◌, ◌||◌, ℕ, take}
+use Rattle.std.proofs.Common.{◌≡◌, ◌≤◌, ◌||◌, ℕ, length, take}
 use Rattle.std.specs.Prelude.{All}
 use Rattle.std.specs.List.{list_any}
 use Rattle.std.specs.Option.{ForSome}
@@ -16,6 +16,6 @@ invariant-loop-k g l = record {
   count : g.S.Source.faults l.source ≡ g.S.Source.faults l.initial.source;
   within : All (IsRangeWithin (g.S.Source.len l.initial.source)) l.ranges.items;
   same : ForSome (g.S.Source.known l.initial.source) (λ file. (i : ℕ) → is_excluded l.ranges.items i ≡ (is_excluded l.initial.ranges.items i || list_any (through file l.entries i l.row) (take l.k-index l.here)));
-  few : l.count ≤ 64;
+  few : l.count ≤ length l.bytes;
   front : ForSome (g.S.Source.known l.initial.source) (λ file. IsFront file l.row (take l.count l.bytes));
 }
