@@ -2,7 +2,7 @@
 use Rattle.std.proofs.Common.{◌≡◌, ℕ, ◌+◌, ◌-◌, ◌<◌, ◌≤◌, Bool, true, false, ◌&&◌, ◌||◌, List, [], ◌∷◌, ◌++◌, length, get_or, take, drop, refl, sym, ap, ap₂, subst, ◌∙◌, arith}
 use Rattle.std.specs.declared.option.Option.{Option}
 use Rattle.std.specs.List.{list_all, list_any, AllByRecursion}
-use Rattle.std.proofs.lemmas.List.{drop_more, get_or-append-add, get_or-drop, get_or_append_left, get_or_default, length-append, length-drop, take-append-drop, take-append-le, take_all, take_more}
+use Rattle.std.proofs.lemmas.List.{drop_more, get_or-append-add, get_or-drop, get_or_append_left, get_or_default, length-append, length-drop, take-append-drop, take-append-le, take_all}
 use Rattle.std.proofs.lemmas.List.Elements.{recursion_from_All}
 use Rattle.std.proofs.lemmas.List.Folds.{list_any-append}
 use Rattle.std.proofs.lemmas.List.Sorted.{IsNonDecreasingBy-push, IsNonDecreasingBy-take}
@@ -10,11 +10,11 @@ use Rattle.c2_base.specs.declared.values.Range.{Range}
 use Rattle.c2_spec.specs.Bmff.Hash.{ByteTest, Exclusion, in_subset}
 use Rattle.c2_spec.specs.Bmff.Paths.{PathStep}
 use Rattle.c2_bmff.specs.Children.{on_rows}
-use Rattle.c2_bmff.specs.Marks.{excludes_row, has_length, holds_test, in_row, in_row_part, in_row_subset, marks, takes}
-use Rattle.c2_bmff.specs.Parts.{AreRising, AskSame, ExcludeSame}
+use Rattle.c2_bmff.specs.Marks.{excludes_any, excludes_row, has_length, holds_test, in_row, in_row_part, in_row_subset, marks, takes}
+use Rattle.c2_bmff.specs.Parts.{AreRising, AskSame, MarkSame}
 use Rattle.c2_bmff.specs.Runs.{MeetAlike}
 use Rattle.c2_bmff.specs.declared.root_boxes.RootBox.{RootBox}
-use Rattle.c2_bmff.proofs.MarkLemmas.{or_false}
+use Rattle.c2_bmff.proofs.MarkLemmas.{any_append, or_false}
 use Rattle.c2_bmff.proofs.TrailLemmas.{or_join3}
 
 -- ---- parts in order
@@ -79,18 +79,8 @@ any_same p q [] h = refl
 any_same p q (x ∷ xs) h = ap₂ (λ (a b : Bool). a || b) (h x) (any_same p q xs h)
 
 -- an exclusion whose subset is replaced by one that holds the same positions, and its byte tests by those that the same boxes meet
-pub same_subset : (e : Exclusion) (tests : List ByteTest) (subset : Option (List Range)) → MeetAlike tests e.tests → ((i : ℕ) → in_subset i subset ≡ in_subset i e.subset) → ExcludeSame ((record { path = e.path; length = e.length; tests = tests; subset = subset }) ∷ []) (e ∷ [])
-same_subset e tests subset same h file rows i =
-    let other : Exclusion = record { path = e.path; length = e.length; tests = tests; subset = subset } in
-    ap (λ (b : Bool). b || false)
-    (any_same (marks file other i) (marks file e i) (on_rows file rows e.path)
-    (λ r. ap₂ (λ (a b : Bool). (has_length e.length r && a) && (in_row i r && b)) (same file r) (h (i - r.start))))
-
--- exclusions with one more
-pub one_more : (es others : List Exclusion) (e d : Exclusion) (k : ℕ) → k < length others → ExcludeSame es (take k others) → ExcludeSame (e ∷ []) (get_or others k d ∷ []) → ExcludeSame (es ++ e ∷ []) (take (k + 1) others)
-one_more es others e d k inside before same file rows i =
-    list_any-append (excludes_row file rows i) es (e ∷ []) ∙ ap₂ (λ (a b : Bool). a || b) (before file rows i) (same file rows i)
-    ∙ sym (list_any-append (excludes_row file rows i) (take k others) (get_or others k d ∷ [])) ∙ ap (list_any (excludes_row file rows i)) (sym (take_more others k d inside))
+pub same_subset : (e : Exclusion) (path : List PathStep) (tests : List ByteTest) (subset : Option (List Range)) → MeetAlike tests e.tests → ((i : ℕ) → in_subset i subset ≡ in_subset i e.subset) → MarkSame (record { path = path; length = e.length; tests = tests; subset = subset }) e
+same_subset e path tests subset same h file i r = ap₂ (λ (a b : Bool). (has_length e.length r && a) && (in_row i r && b)) (same file r) (h (i - r.start))
 
 -- three tests of which the first two must hold may have the third shared
 and_or : (t w a b : Bool) → (t && (w && (a || b))) ≡ ((t && (w && a)) || (t && (w && b)))
@@ -118,3 +108,15 @@ united_same e d subset ask h file rows i =
     ∙ ap (λ (t : Bool). marks file e i r || (t && in_row_subset i r d.subset)) (ap₂ (λ (n : Option ℕ) (ts : List ByteTest). has_length n r && list_all (holds_test file r) ts) ask.1 ask.2))
     ∙ any_or (marks file e i) (marks file d i) (on_rows file rows e.path)
     ∙ ap (λ (p : List PathStep). list_any (marks file e i) (on_rows file rows e.path) || list_any (marks file d i) (on_rows file rows p)) ask.0
+
+-- exclusions of one path with another of that path
+pub joins_path : (path : List PathStep) (xs : List Exclusion) (x e : Exclusion) → path ≡ e.path → MarkSame x e → (file : List ℕ) (rows : List RootBox) (i : ℕ) → excludes_any file rows i (record { path = path; exclusions = xs ++ x ∷ [] }) ≡ (excludes_any file rows i (record { path = path; exclusions = xs }) || excludes_row file rows i e)
+joins_path path xs x e is same file rows i =
+    any_same (λ r. list_any (λ (y : Exclusion). marks file y i r) (xs ++ x ∷ [])) (λ r. list_any (λ (y : Exclusion). marks file y i r) xs || marks file e i r) (on_rows file rows path)
+    (λ r. any_append (λ (y : Exclusion). marks file y i r) xs x ∙ ap (λ (b : Bool). list_any (λ (y : Exclusion). marks file y i r) xs || b) (same file i r))
+    ∙ any_or (λ r. list_any (λ (y : Exclusion). marks file y i r) xs) (marks file e i) (on_rows file rows path)
+    ∙ ap (λ (p : List PathStep). list_any (λ r. list_any (λ (y : Exclusion). marks file y i r) xs) (on_rows file rows path) || list_any (marks file e i) (on_rows file rows p)) is
+
+-- one exclusion of a path
+pub begins_path : (x e : Exclusion) → MarkSame x e → (file : List ℕ) (rows : List RootBox) (i : ℕ) → excludes_any file rows i (record { path = e.path; exclusions = x ∷ [] }) ≡ excludes_row file rows i e
+begins_path x e same file rows i = any_same (λ r. marks file x i r || false) (marks file e i) (on_rows file rows e.path) (λ r. or_false (marks file x i r) ∙ same file i r)

@@ -10,7 +10,7 @@ use Rattle.std.proofs.lemmas.Option.{slice_get_within, slice_get-get_or, get_or_
 use Rattle.c2_spec.specs.Bmff.Hash.{Exclusion, in_subset}
 use Rattle.c2_spec.specs.Bmff.Paths.{PathStep, is_entered, nth_of}
 use Rattle.c2_bmff.specs.Children.{go_on, kids, on_rows}
-use Rattle.c2_bmff.specs.Marks.{excludes_row, in_row, in_row_subset, marks, takes}
+use Rattle.c2_bmff.specs.Marks.{SharedPath, excludes_any, in_row, in_row_subset, marks, marks_any, takes}
 use Rattle.c2_bmff.specs.Trails.{ahead, arrives, from_step, has_step, no_exclusion, of_entry, of_kind, of_option, picks, rows_ahead, through}
 use Rattle.c2_bmff.specs.declared.root_boxes.RootBox.{RootBox}
 use Rattle.c2_bmff.specs.declared.walking.Coming.{Coming}
@@ -40,32 +40,32 @@ or_in a b c = sym (or_join3 a b c) ∙ or_swap a b c
 -- ---- tests of an exclusion
 
 -- tests that are equal at the exclusion of an index are equal
-pub of_same : (es : List Exclusion) (k : ℕ) (f g : Exclusion → Bool) → ((e : Exclusion) → slice_get es k ≡ Some e → f e ≡ g e) → of_entry es k f ≡ of_entry es k g
+pub of_same : (es : List SharedPath) (k : ℕ) (f g : SharedPath → Bool) → ((e : SharedPath) → slice_get es k ≡ Some e → f e ≡ g e) → of_entry es k f ≡ of_entry es k g
 of_same es k f g h = go (slice_get es k) (λ e s. h e s)
   where
-    go : (o : Option Exclusion) → ((e : Exclusion) → o ≡ Some e → f e ≡ g e) → of_option o f ≡ of_option o g
+    go : (o : Option SharedPath) → ((e : SharedPath) → o ≡ Some e → f e ≡ g e) → of_option o f ≡ of_option o g
     go None h = refl
     go (Some e) h = h e refl
 
 -- a test that is made of two
-of_or : (es : List Exclusion) (k : ℕ) (f g : Exclusion → Bool) → of_entry es k (λ (e : Exclusion). f e || g e) ≡ (of_entry es k f || of_entry es k g)
+of_or : (es : List SharedPath) (k : ℕ) (f g : SharedPath → Bool) → of_entry es k (λ (e : SharedPath). f e || g e) ≡ (of_entry es k f || of_entry es k g)
 of_or es k f g = go (slice_get es k)
   where
-    go : (o : Option Exclusion) → of_option o (λ (e : Exclusion). f e || g e) ≡ (of_option o f || of_option o g)
+    go : (o : Option SharedPath) → of_option o (λ (e : SharedPath). f e || g e) ≡ (of_option o f || of_option o g)
     go None = refl
     go (Some e) = refl
 
 -- a test that fails of each exclusion fails
-of_none : (es : List Exclusion) (k : ℕ) → of_entry es k (λ (e : Exclusion). false) ≡ false
+of_none : (es : List SharedPath) (k : ℕ) → of_entry es k (λ (e : SharedPath). false) ≡ false
 of_none es k = go (slice_get es k)
   where
-    go : (o : Option Exclusion) → of_option o (λ (e : Exclusion). false) ≡ false
+    go : (o : Option SharedPath) → of_option o (λ (e : SharedPath). false) ≡ false
     go None = refl
     go (Some e) = refl
 
 -- the test of an exclusion that is there
-pub of_there : (es : List Exclusion) (k : ℕ) (e : Exclusion) (f : Exclusion → Bool) → slice_get es k ≡ Some e → of_entry es k f ≡ f e
-of_there es k e f s = ap (λ (o : Option Exclusion). of_option o f) s
+pub of_there : (es : List SharedPath) (k : ℕ) (e : SharedPath) (f : SharedPath → Bool) → slice_get es k ≡ Some e → of_entry es k f ≡ f e
+of_there es k e f s = ap (λ (o : Option SharedPath). of_option o f) s
 
 -- ---- a step further
 
@@ -95,29 +95,29 @@ go_on_one file s (n ∷ ns) r some enters = ap (λ (t : Bool). cond t (on_rows f
 -- ---- a box that is passed
 
 -- a sibling of another type changes nothing
-pub pass_other : (file : List ℕ) (es : List Exclusion) (i : ℕ) (r : RootBox) (rows : List RootBox) (t : Trail) → bytes_eq r.kind t.step.kind ≡ false → ahead file es i (r ∷ rows) t ≡ ahead file es i rows t
+pub pass_other : (file : List ℕ) (es : List SharedPath) (i : ℕ) (r : RootBox) (rows : List RootBox) (t : Trail) → bytes_eq r.kind t.step.kind ≡ false → ahead file es i (r ∷ rows) t ≡ ahead file es i rows t
 pass_other file es i r rows t other =
-    ap (λ (b : Bool). of_entry es t.entry (λ (e : Exclusion). list_any (marks file e i) (go_on file t.step (drop t.taken e.path) (picks t.coming (cond b (r ∷ of_kind t.step.kind rows) (of_kind t.step.kind rows)))))) other
+    ap (λ (b : Bool). of_entry es t.entry (λ (e : SharedPath). list_any (marks_any file e i) (go_on file t.step (drop t.taken e.path) (picks t.coming (cond b (r ∷ of_kind t.step.kind rows) (of_kind t.step.kind rows)))))) other
 
 -- the trail after a sibling of its step's type
 abbrev pub after : Trail → Coming → Trail
 after t c = record { entry = t.entry; taken = t.taken; step = t.step; coming = c }
 
 -- a sibling of the type that is meant, and one that isn't
-pub pass_own : (file : List ℕ) (es : List Exclusion) (i : ℕ) (r : RootBox) (rows : List RootBox) (t : Trail) (m : Bool) (c : Coming) → bytes_eq r.kind t.step.kind ≡ true → ((x : RootBox) (xs : List RootBox) → picks t.coming (x ∷ xs) ≡ cond m (x ∷ []) [] ++ picks c xs) → ahead file es i (r ∷ rows) t ≡ (cond m (arrives file es i r t) false || ahead file es i rows (after t c))
+pub pass_own : (file : List ℕ) (es : List SharedPath) (i : ℕ) (r : RootBox) (rows : List RootBox) (t : Trail) (m : Bool) (c : Coming) → bytes_eq r.kind t.step.kind ≡ true → ((x : RootBox) (xs : List RootBox) → picks t.coming (x ∷ xs) ≡ cond m (x ∷ []) [] ++ picks c xs) → ahead file es i (r ∷ rows) t ≡ (cond m (arrives file es i r t) false || ahead file es i rows (after t c))
 pass_own file es i r rows t m c own next =
-    ap (λ (b : Bool). of_entry es t.entry (λ (e : Exclusion). list_any (marks file e i) (go_on file t.step (drop t.taken e.path) (picks t.coming (cond b (r ∷ of_kind t.step.kind rows) (of_kind t.step.kind rows)))))) own
-    ∙ of_same es t.entry (λ (e : Exclusion). list_any (marks file e i) (go_on file t.step (drop t.taken e.path) (picks t.coming (r ∷ of_kind t.step.kind rows))))
-    (λ (e : Exclusion). list_any (marks file e i) (go_on file t.step (drop t.taken e.path) (cond m (r ∷ []) [])) || list_any (marks file e i) (rows_ahead file rows (after t c) e))
-    (λ e s. ap (λ (xs : List RootBox). list_any (marks file e i) (go_on file t.step (drop t.taken e.path) xs)) (next r (of_kind t.step.kind rows))
-    ∙ ap (list_any (marks file e i)) (go_on_append file t.step (drop t.taken e.path) (cond m (r ∷ []) []) (picks c (of_kind t.step.kind rows)))
-    ∙ list_any-append (marks file e i) (go_on file t.step (drop t.taken e.path) (cond m (r ∷ []) [])) (rows_ahead file rows (after t c) e))
-    ∙ of_or es t.entry (λ (e : Exclusion). list_any (marks file e i) (go_on file t.step (drop t.taken e.path) (cond m (r ∷ []) []))) (λ (e : Exclusion). list_any (marks file e i) (rows_ahead file rows (after t c) e))
+    ap (λ (b : Bool). of_entry es t.entry (λ (e : SharedPath). list_any (marks_any file e i) (go_on file t.step (drop t.taken e.path) (picks t.coming (cond b (r ∷ of_kind t.step.kind rows) (of_kind t.step.kind rows)))))) own
+    ∙ of_same es t.entry (λ (e : SharedPath). list_any (marks_any file e i) (go_on file t.step (drop t.taken e.path) (picks t.coming (r ∷ of_kind t.step.kind rows))))
+    (λ (e : SharedPath). list_any (marks_any file e i) (go_on file t.step (drop t.taken e.path) (cond m (r ∷ []) [])) || list_any (marks_any file e i) (rows_ahead file rows (after t c) e))
+    (λ e s. ap (λ (xs : List RootBox). list_any (marks_any file e i) (go_on file t.step (drop t.taken e.path) xs)) (next r (of_kind t.step.kind rows))
+    ∙ ap (list_any (marks_any file e i)) (go_on_append file t.step (drop t.taken e.path) (cond m (r ∷ []) []) (picks c (of_kind t.step.kind rows)))
+    ∙ list_any-append (marks_any file e i) (go_on file t.step (drop t.taken e.path) (cond m (r ∷ []) [])) (rows_ahead file rows (after t c) e))
+    ∙ of_or es t.entry (λ (e : SharedPath). list_any (marks_any file e i) (go_on file t.step (drop t.taken e.path) (cond m (r ∷ []) []))) (λ (e : SharedPath). list_any (marks_any file e i) (rows_ahead file rows (after t c) e))
     ∙ ap (λ (b : Bool). b || ahead file es i rows (after t c)) (by m)
   where
-    by : (m : Bool) → of_entry es t.entry (λ (e : Exclusion). list_any (marks file e i) (go_on file t.step (drop t.taken e.path) (cond m (r ∷ []) []))) ≡ cond m (arrives file es i r t) false
+    by : (m : Bool) → of_entry es t.entry (λ (e : SharedPath). list_any (marks_any file e i) (go_on file t.step (drop t.taken e.path) (cond m (r ∷ []) []))) ≡ cond m (arrives file es i r t) false
     by true = refl
-    by false = of_same es t.entry (λ (e : Exclusion). list_any (marks file e i) (go_on file t.step (drop t.taken e.path) [])) (λ (e : Exclusion). false) (λ e s. ap (list_any (marks file e i)) (go_on_none file t.step (drop t.taken e.path))) ∙ of_none es t.entry
+    by false = of_same es t.entry (λ (e : SharedPath). list_any (marks_any file e i) (go_on file t.step (drop t.taken e.path) [])) (λ (e : SharedPath). false) (λ e s. ap (list_any (marks_any file e i)) (go_on_none file t.step (drop t.taken e.path))) ∙ of_none es t.entry
 
 -- ---- a box that is meant
 
@@ -127,8 +127,8 @@ or_false' true = refl
 or_false' false = refl
 
 -- whether an exclusion that is there has a further step
-step_there : (es : List Exclusion) (k taken : ℕ) (e : Exclusion) (b : Bool) → slice_get es k ≡ Some e → has_step es k taken ≡ b → ltb taken (length e.path) ≡ b
-step_there es k taken e b s h = sym (of_there es k e (λ (x : Exclusion). ltb taken (length x.path)) s) ∙ h
+step_there : (es : List SharedPath) (k taken : ℕ) (e : SharedPath) (b : Bool) → slice_get es k ≡ Some e → has_step es k taken ≡ b → ltb taken (length e.path) ≡ b
+step_there es k taken e b s h = sym (of_there es k e (λ (x : SharedPath). ltb taken (length x.path)) s) ∙ h
 
 -- one number isn't below another
 not_below : (n m : ℕ) → ltb n m ≡ false → m ≤ n
@@ -139,43 +139,43 @@ is_below : (n m : ℕ) → ltb n m ≡ true → n < m
 is_below n m h = ⊎_elim (λ l. l) (λ g. absurd (cc (h, le-ltb n m g))) (cases_lt n m)
 
 -- where the path ends, the box is the exclusion's
-pub arrive_end : (file : List ℕ) (es : List Exclusion) (i : ℕ) (r : RootBox) (t : Trail) → has_step es t.entry t.taken ≡ false → arrives file es i r t ≡ through file es i r t.entry
+pub arrive_end : (file : List ℕ) (es : List SharedPath) (i : ℕ) (r : RootBox) (t : Trail) → has_step es t.entry t.taken ≡ false → arrives file es i r t ≡ through file es i r t.entry
 arrive_end file es i r t ends =
-    of_same es t.entry (λ (e : Exclusion). list_any (marks file e i) (go_on file t.step (drop t.taken e.path) (r ∷ []))) (λ (e : Exclusion). marks file e i r)
-    (λ e s. ap (λ (steps : List PathStep). list_any (marks file e i) (go_on file t.step steps (r ∷ []))) (drop_all t.taken e.path (not_below t.taken (length e.path) (step_there es t.entry t.taken e false s ends))) ∙ or_false' (marks file e i r))
+    of_same es t.entry (λ (e : SharedPath). list_any (marks_any file e i) (go_on file t.step (drop t.taken e.path) (r ∷ []))) (λ (e : SharedPath). marks_any file e i r)
+    (λ e s. ap (λ (steps : List PathStep). list_any (marks_any file e i) (go_on file t.step steps (r ∷ []))) (drop_all t.taken e.path (not_below t.taken (length e.path) (step_there es t.entry t.taken e false s ends))) ∙ or_false' (marks_any file e i r))
 
 -- where it goes on into the box, its next step is taken among the children
-pub arrive_on : (file : List ℕ) (es : List Exclusion) (i : ℕ) (r : RootBox) (t : Trail) → has_step es t.entry t.taken ≡ true → is_entered t.step.kind ≡ true → arrives file es i r t ≡ from_step file es i (kids file r) t.entry t.taken
+pub arrive_on : (file : List ℕ) (es : List SharedPath) (i : ℕ) (r : RootBox) (t : Trail) → has_step es t.entry t.taken ≡ true → is_entered t.step.kind ≡ true → arrives file es i r t ≡ from_step file es i (kids file r) t.entry t.taken
 arrive_on file es i r t more enters =
-    of_same es t.entry (λ (e : Exclusion). list_any (marks file e i) (go_on file t.step (drop t.taken e.path) (r ∷ []))) (λ (e : Exclusion). list_any (marks file e i) (on_rows file (kids file r) (drop t.taken e.path)))
-    (λ e s. ap (list_any (marks file e i)) (go_on_one file t.step (drop t.taken e.path) r (omega (arith, length-drop t.taken e.path, is_below t.taken (length e.path) (step_there es t.entry t.taken e true s more))) enters))
+    of_same es t.entry (λ (e : SharedPath). list_any (marks_any file e i) (go_on file t.step (drop t.taken e.path) (r ∷ []))) (λ (e : SharedPath). list_any (marks_any file e i) (on_rows file (kids file r) (drop t.taken e.path)))
+    (λ e s. ap (list_any (marks_any file e i)) (go_on_one file t.step (drop t.taken e.path) r (omega (arith, length-drop t.taken e.path, is_below t.taken (length e.path) (step_there es t.entry t.taken e true s more))) enters))
 
 -- where the box isn't entered, nothing is below it
-pub arrive_stops : (file : List ℕ) (es : List Exclusion) (i : ℕ) (r : RootBox) (t : Trail) → has_step es t.entry t.taken ≡ true → is_entered t.step.kind ≡ false → arrives file es i r t ≡ false
+pub arrive_stops : (file : List ℕ) (es : List SharedPath) (i : ℕ) (r : RootBox) (t : Trail) → has_step es t.entry t.taken ≡ true → is_entered t.step.kind ≡ false → arrives file es i r t ≡ false
 arrive_stops file es i r t more other =
-    of_same es t.entry (λ (e : Exclusion). list_any (marks file e i) (go_on file t.step (drop t.taken e.path) (r ∷ []))) (λ (e : Exclusion). false)
-    (λ e s. ap (list_any (marks file e i)) (path_stops file t.step (drop t.taken e.path) (r ∷ []) (omega (arith, length-drop t.taken e.path, is_below t.taken (length e.path) (step_there es t.entry t.taken e true s more))) other))
+    of_same es t.entry (λ (e : SharedPath). list_any (marks_any file e i) (go_on file t.step (drop t.taken e.path) (r ∷ []))) (λ (e : SharedPath). false)
+    (λ e s. ap (list_any (marks_any file e i)) (path_stops file t.step (drop t.taken e.path) (r ∷ []) (omega (arith, length-drop t.taken e.path, is_below t.taken (length e.path) (step_there es t.entry t.taken e true s more))) other))
     ∙ of_none es t.entry
 
 -- ---- a step that begins
 
 -- a trail before its first sibling has what the path has from its step on
-pub trail_is : (file : List ℕ) (es : List Exclusion) (i : ℕ) (rows : List RootBox) (k taken : ℕ) (e : Exclusion) (s : PathStep) (c : Coming) → slice_get es k ≡ Some e → slice_get e.path taken ≡ Some s → ((xs : List RootBox) → picks c xs ≡ nth_of s.nth xs) → ahead file es i rows (record { entry = k; taken = taken + 1; step = s; coming = c }) ≡ from_step file es i rows k taken
+pub trail_is : (file : List ℕ) (es : List SharedPath) (i : ℕ) (rows : List RootBox) (k taken : ℕ) (e : SharedPath) (s : PathStep) (c : Coming) → slice_get es k ≡ Some e → slice_get e.path taken ≡ Some s → ((xs : List RootBox) → picks c xs ≡ nth_of s.nth xs) → ahead file es i rows (record { entry = k; taken = taken + 1; step = s; coming = c }) ≡ from_step file es i rows k taken
 trail_is file es i rows k taken e s c there at meant =
-    of_there es k e (λ (x : Exclusion). list_any (marks file x i) (go_on file s (drop (taken + 1) x.path) (picks c (of_kind s.kind rows)))) there
-    ∙ ap (λ (xs : List RootBox). list_any (marks file e i) (go_on file s (drop (taken + 1) e.path) xs)) (meant (of_kind s.kind rows))
-    ∙ ap (list_any (marks file e i)) (sym (path_start file rows s (drop (taken + 1) e.path)) ∙ ap (on_rows file rows) (sym (steps_from e.path taken s (slice_get_within e.path taken s at) (sym (get_or_from_slice_get e.path taken s s at)))))
-    ∙ sym (of_there es k e (λ (x : Exclusion). list_any (marks file x i) (on_rows file rows (drop taken x.path))) there)
+    of_there es k e (λ (x : SharedPath). list_any (marks_any file x i) (go_on file s (drop (taken + 1) x.path) (picks c (of_kind s.kind rows)))) there
+    ∙ ap (λ (xs : List RootBox). list_any (marks_any file e i) (go_on file s (drop (taken + 1) e.path) xs)) (meant (of_kind s.kind rows))
+    ∙ ap (list_any (marks_any file e i)) (sym (path_start file rows s (drop (taken + 1) e.path)) ∙ ap (on_rows file rows) (sym (steps_from e.path taken s (slice_get_within e.path taken s at) (sym (get_or_from_slice_get e.path taken s s at)))))
+    ∙ sym (of_there es k e (λ (x : SharedPath). list_any (marks_any file x i) (on_rows file rows (drop taken x.path))) there)
 
 -- from the first step on, an exclusion has what it has
-pub first_step : (file : List ℕ) (es : List Exclusion) (i : ℕ) (rows : List RootBox) (k : ℕ) → k < length es → from_step file es i rows k 0 ≡ excludes_row file rows i (get_or es k no_exclusion)
-first_step file es i rows k inside = of_there es k (get_or es k no_exclusion) (λ (x : Exclusion). list_any (marks file x i) (on_rows file rows (drop 0 x.path))) (slice_get-get_or es k no_exclusion inside)
+pub first_step : (file : List ℕ) (es : List SharedPath) (i : ℕ) (rows : List RootBox) (k : ℕ) → k < length es → from_step file es i rows k 0 ≡ excludes_any file rows i (get_or es k no_exclusion)
+first_step file es i rows k inside = of_there es k (get_or es k no_exclusion) (λ (x : SharedPath). list_any (marks_any file x i) (on_rows file rows (drop 0 x.path))) (slice_get-get_or es k no_exclusion inside)
 
 -- an exclusion whose path has no step excludes nothing
-pub no_step : (file : List ℕ) (es : List Exclusion) (i : ℕ) (rows : List RootBox) (k : ℕ) → k < length es → has_step es k 0 ≡ false → excludes_row file rows i (get_or es k no_exclusion) ≡ false
+pub no_step : (file : List ℕ) (es : List SharedPath) (i : ℕ) (rows : List RootBox) (k : ℕ) → k < length es → has_step es k 0 ≡ false → excludes_any file rows i (get_or es k no_exclusion) ≡ false
 no_step file es i rows k inside none =
-    let e : Exclusion = get_or es k no_exclusion in
-    ap (λ (steps : List PathStep). list_any (marks file e i) (on_rows file rows steps)) (drop_all 0 e.path (not_below 0 (length e.path) (step_there es k 0 e false (slice_get-get_or es k no_exclusion inside) none)))
+    let e : SharedPath = get_or es k no_exclusion in
+    ap (λ (steps : List PathStep). list_any (marks_any file e i) (on_rows file rows steps)) (drop_all 0 e.path (not_below 0 (length e.path) (step_there es k 0 e false (slice_get-get_or es k no_exclusion inside) none)))
 
 -- ---- lists of siblings
 
@@ -194,10 +194,10 @@ visit_joins true here below x y e = refl
 visit_joins false here below x y e = e
 
 -- where no siblings are to come, a trail has nothing ahead
-ahead_none : (file : List ℕ) (es : List Exclusion) (i : ℕ) (t : Trail) → ahead file es i [] t ≡ false
+ahead_none : (file : List ℕ) (es : List SharedPath) (i : ℕ) (t : Trail) → ahead file es i [] t ≡ false
 ahead_none file es i t =
-    of_same es t.entry (λ (e : Exclusion). list_any (marks file e i) (rows_ahead file [] t e)) (λ (e : Exclusion). false)
-    (λ e s. ap (λ (xs : List RootBox). list_any (marks file e i) (go_on file t.step (drop t.taken e.path) xs)) (none t.coming) ∙ ap (list_any (marks file e i)) (go_on_none file t.step (drop t.taken e.path)))
+    of_same es t.entry (λ (e : SharedPath). list_any (marks_any file e i) (rows_ahead file [] t e)) (λ (e : SharedPath). false)
+    (λ e s. ap (λ (xs : List RootBox). list_any (marks_any file e i) (go_on file t.step (drop t.taken e.path) xs)) (none t.coming) ∙ ap (list_any (marks_any file e i)) (go_on_none file t.step (drop t.taken e.path)))
     ∙ of_none es t.entry
   where
     none : (c : Coming) → picks c [] ≡ []
@@ -206,7 +206,7 @@ ahead_none file es i t =
     none coming.Done = refl
 
 -- nor have all trails
-pub level_none : (file : List ℕ) (es : List Exclusion) (i : ℕ) (rows : List RootBox) (ts : List Trail) → rows ≡ [] → list_any (ahead file es i rows) ts ≡ false
+pub level_none : (file : List ℕ) (es : List SharedPath) (i : ℕ) (rows : List RootBox) (ts : List Trail) → rows ≡ [] → list_any (ahead file es i rows) ts ≡ false
 level_none file es i rows ts e = ap (λ (xs : List RootBox). list_any (ahead file es i xs) ts) e ∙ go ts
   where
     go : (ts : List Trail) → list_any (ahead file es i []) ts ≡ false
@@ -224,28 +224,40 @@ rest_same k xs ys d a b h =
     (ap (λ (zs : List Trail). get_or zs 0 d) e, ap (drop 1) e)
 
 -- what an exclusion excludes through a box lies in the box
-through_inside : (file : List ℕ) (es : List Exclusion) (i : ℕ) (r : RootBox) (k : ℕ) → through file es i r k ≡ true → in_row i r ≡ true
+mark_inside : (file : List ℕ) (i : ℕ) (r : RootBox) (e : Exclusion) → marks file e i r ≡ true → in_row i r ≡ true
+mark_inside file i r e n = let both = and_parts (takes file e r) (in_row_subset i r e.subset) n in (and_parts (in_row i r) (in_subset (i - r.start) e.subset) both.1).0
+
+-- where members pass only where something holds, it holds where some of them pass
+any_only : {A : Type 0} (p : A → Bool) (b : Bool) → ((x : A) → p x ≡ true → b ≡ true) → (xs : List A) → list_any p xs ≡ true → b ≡ true
+any_only p b h [] n = absurd (cc (n))
+any_only p b h (x ∷ xs) n = go (p x) refl n (λ m. any_only p b h xs m)
+  where
+    go : (a : Bool) → p x ≡ a → (a || list_any p xs) ≡ true → (list_any p xs ≡ true → b ≡ true) → b ≡ true
+    go true e m others = h x e
+    go false e m others = others m
+
+-- so does what exclusions of one path exclude
+through_inside : (file : List ℕ) (es : List SharedPath) (i : ℕ) (r : RootBox) (k : ℕ) → through file es i r k ≡ true → in_row i r ≡ true
 through_inside file es i r k h = go (slice_get es k) h
   where
-    go : (o : Option Exclusion) → of_option o (λ (e : Exclusion). marks file e i r) ≡ true → in_row i r ≡ true
+    go : (o : Option SharedPath) → of_option o (λ (e : SharedPath). marks_any file e i r) ≡ true → in_row i r ≡ true
     go None n = absurd (cc (n))
-    go (Some e) n = let both = and_parts (takes file e r) (in_row_subset i r e.subset) n in (and_parts (in_row i r) (in_subset (i - r.start) e.subset) both.1).0
+    go (Some e) n = any_only (λ (x : Exclusion). marks file x i r) (in_row i r) (λ x m. mark_inside file i r x m) e.exclusions n
 
--- so does what some of them do
-any_inside : (file : List ℕ) (es : List Exclusion) (i : ℕ) (r : RootBox) (ks : List ℕ) → list_any (through file es i r) ks ≡ true → in_row i r ≡ true
-any_inside file es i r [] h = absurd (cc (h))
-any_inside file es i r (k ∷ ks) h = go (through file es i r k) refl h (λ n. any_inside file es i r ks n)
+-- where the first members give what all can give, the others change nothing
+whole_any : {A : Type 0} (p : A → Bool) (b : Bool) → ((x : A) → p x ≡ true → b ≡ true) → (xs : List A) (n : ℕ) (now old : Bool) → (b ≡ true → now ≡ true) → now ≡ (old || list_any p (take n xs)) → now ≡ (old || list_any p xs)
+whole_any p b h xs n now old whole so_far =
+    so_far ∙ by (list_any p (drop n xs)) refl (old || list_any p (take n xs)) (sym so_far) ∙ or_join3 old (list_any p (take n xs)) (list_any p (drop n xs))
+    ∙ ap (λ (c : Bool). old || c) (sym (list_any-append p (take n xs) (drop n xs)) ∙ ap (list_any p) (take-append-drop n xs))
   where
-    go : (b : Bool) → through file es i r k ≡ b → (b || list_any (through file es i r) ks) ≡ true → (list_any (through file es i r) ks ≡ true → in_row i r ≡ true) → in_row i r ≡ true
-    go true e n others = through_inside file es i r k e
-    go false e n others = others n
+    by : (rest : Bool) → list_any p (drop n xs) ≡ rest → (c : Bool) → c ≡ now → c ≡ (c || rest)
+    by false e c same = sym (or_false' c)
+    by true e c same = let yes : c ≡ true = same ∙ whole (any_only p b h (drop n xs) e) in yes ∙ sym (ap (λ (x : Bool). x || true) yes)
 
 -- where a box is excluded whole after some exclusions, the others change nothing
-pub whole_same : (file : List ℕ) (es : List Exclusion) (i : ℕ) (r : RootBox) (ks : List ℕ) (n : ℕ) (now old : Bool) → (in_row i r ≡ true → now ≡ true) → now ≡ (old || list_any (through file es i r) (take n ks)) → now ≡ (old || list_any (through file es i r) ks)
-whole_same file es i r ks n now old whole so_far =
-    so_far ∙ by (list_any (through file es i r) (drop n ks)) refl (old || list_any (through file es i r) (take n ks)) (sym so_far) ∙ or_join3 old (list_any (through file es i r) (take n ks)) (list_any (through file es i r) (drop n ks))
-    ∙ ap (λ (b : Bool). old || b) (sym (list_any-append (through file es i r) (take n ks) (drop n ks)) ∙ ap (list_any (through file es i r)) (take-append-drop n ks))
-  where
-    by : (rest : Bool) → list_any (through file es i r) (drop n ks) ≡ rest → (b : Bool) → b ≡ now → b ≡ (b || rest)
-    by false e b h = sym (or_false' b)
-    by true e b h = let yes : b ≡ true = h ∙ whole (any_inside file es i r (drop n ks) e) in yes ∙ sym (ap (λ (x : Bool). x || true) yes)
+pub whole_same : (file : List ℕ) (es : List SharedPath) (i : ℕ) (r : RootBox) (ks : List ℕ) (n : ℕ) (now old : Bool) → (in_row i r ≡ true → now ≡ true) → now ≡ (old || list_any (through file es i r) (take n ks)) → now ≡ (old || list_any (through file es i r) ks)
+whole_same file es i r ks n now old whole so_far = whole_any (through file es i r) (in_row i r) (λ k h. through_inside file es i r k h) ks n now old whole so_far
+
+-- the same of exclusions of one path
+pub whole_asks : (file : List ℕ) (i : ℕ) (r : RootBox) (es : List Exclusion) (n : ℕ) (now old : Bool) → (in_row i r ≡ true → now ≡ true) → now ≡ (old || list_any (λ (e : Exclusion). marks file e i r) (take n es)) → now ≡ (old || list_any (λ (e : Exclusion). marks file e i r) es)
+whole_asks file i r es n now old whole so_far = whole_any (λ (e : Exclusion). marks file e i r) (in_row i r) (λ e h. mark_inside file i r e h) es n now old whole so_far

@@ -4,6 +4,7 @@ use Rattle.std.specs.List.{list_any, list_all}
 use Rattle.std.specs.Str.{bytes_eq}
 use Rattle.c2_base.specs.declared.values.Range.{Range}
 use Rattle.c2_spec.specs.Bmff.Hash.{ByteTest, Exclusion, in_part, in_subset}
+use Rattle.c2_spec.specs.Bmff.Paths.{PathStep}
 use Rattle.c2_bmff.specs.Children.{on_rows}
 use Rattle.c2_bmff.specs.declared.root_boxes.RootBox.{RootBox}
 
@@ -52,3 +53,16 @@ excludes_row file roots i e = list_any (marks file e i) (on_rows file roots e.pa
 -- a range ends in a source of `len` bytes
 abbrev pub IsRangeWithin : ℕ → Range → Type 0
 IsRangeWithin len r = r.start + r.length ≤ len
+
+-- exclusions of one path
+pub record SharedPath : Type 0 where
+  pub path : List PathStep
+  pub exclusions : List Exclusion
+
+-- one of them excludes a position through the box of this row
+abbrev pub marks_any : List ℕ → SharedPath → ℕ → RootBox → Bool
+marks_any file e i r = list_any (λ (x : Exclusion). marks file x i r) e.exclusions
+
+-- one of them excludes a position
+abbrev pub excludes_any : List ℕ → List RootBox → ℕ → SharedPath → Bool
+excludes_any file roots i e = list_any (marks_any file e i) (on_rows file roots e.path)

@@ -4,7 +4,7 @@ use Rattle.std.specs.List.{list_any}
 use Rattle.std.specs.List.Sorted.{IsNonDecreasingBy}
 use Rattle.c2_base.specs.declared.values.Range.{Range}
 use Rattle.c2_spec.specs.Bmff.Hash.{Exclusion, in_part}
-use Rattle.c2_bmff.specs.Marks.{excludes_row}
+use Rattle.c2_bmff.specs.Marks.{SharedPath, excludes_any, excludes_row, marks}
 use Rattle.c2_bmff.specs.declared.root_boxes.RootBox.{RootBox}
 
 -- a part begins no later than there
@@ -26,3 +26,11 @@ ExcludeSame es others = (file : List ℕ) (rows : List RootBox) (i : ℕ) → li
 -- exclusions that ask the same of a box
 abbrev pub AskSame : Exclusion → Exclusion → Type 0
 AskSame e d = (e.path ≡ d.path) × (e.length ≡ d.length) × (e.tests ≡ d.tests)
+
+-- the exclusions exclude the same positions of each box, of all files
+abbrev pub MarkSame : Exclusion → Exclusion → Type 0
+MarkSame e d = (file : List ℕ) (i : ℕ) (r : RootBox) → marks file e i r ≡ marks file d i r
+
+-- exclusions by their paths exclude the same positions as those of a list, of all files and siblings
+abbrev pub ShareSame : List SharedPath → List Exclusion → Type 0
+ShareSame es others = (file : List ℕ) (rows : List RootBox) (i : ℕ) → list_any (excludes_any file rows i) es ≡ list_any (excludes_row file rows i) others

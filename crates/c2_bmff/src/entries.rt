@@ -1,11 +1,11 @@
-// Exclusions as a walk over boxes uses them: those that differ in their parts alone are one, and their parts and their byte tests are
-// put in order once.
-ghost use Rattle.std.specs.Prelude.{◌≡◌, true, ◌||◌, [], ◌∷◌, ℕ, List, OnOk, IfOk, IfSome, option_map};
+// Exclusions as a walk over boxes uses them: by their paths, those that differ in their parts alone as one, with their parts and their
+// byte tests put in order once.
+ghost use Rattle.std.specs.Prelude.{◌≡◌, true, ◌||◌, [], ℕ, List, OnOk, IfOk, IfSome, option_map};
 ghost use Rattle.std.specs.List.{list_any};
 ghost use Rattle.std.specs.List.Sorted.{IsPermutation};
 ghost use Rattle.c2_spec.specs.Bmff.Hash.{in_subset};
-ghost use Rattle.c2_bmff.specs.Marks.{excludes_row};
-ghost use Rattle.c2_bmff.specs.Parts.{AreRising, AskSame, ExcludeSame};
+ghost use Rattle.c2_bmff.specs.Marks.{excludes_any, excludes_row};
+ghost use Rattle.c2_bmff.specs.Parts.{AreRising, AskSame, ExcludeSame, MarkSame, ShareSame};
 ghost use Rattle.c2_bmff.specs.declared.root_boxes.RootBox.{RootBox};
 
 use crate::exclusion::{ByteTests, Exclusion};
@@ -16,17 +16,16 @@ use c2_base::{NoMemory, Range, Ranges};
 use std::alloc::Global;
 use std::marker::Model;
 
-/// An exclusion with its parts in the order of their starts, and what its byte tests ask; None where no box meets them all.
+/// What an exclusion asks of the boxes on its path, with its parts in the order of their starts; None where no box meets its byte tests.
 #[derive(Drop)]
-pub struct Entry<'e> {
-    pub path: &'e Path,
+pub struct Ask {
     pub length: Option<u64>,
     pub tests: Option<Runs>,
     pub parts: Option<Vec<Range>>,
 }
 
-impl<'e> Model for Entry<'e> {
-    ghost use Rattle.std.specs.Prelude.{IfSome, option_map};
+impl Model for Ask {
+    ghost use Rattle.std.specs.Prelude.{[], IfSome, option_map};
     ghost use Rattle.c2_spec.specs.Bmff.Hash as hash;
     ghost use Rattle.c2_bmff.specs.Parts.{AreRising};
     ghost use Rattle.c2_bmff.specs.Runs.{AreRunsWithin, asked};
@@ -34,7 +33,7 @@ impl<'e> Model for Entry<'e> {
     ghost Value = { hash.Exclusion };
 
     ghost view = { λ e. record {
-      path = e.path.now;
+      path = [];
       length = e.length;
       tests = asked e.tests;
       subset = option_map (λ parts. parts.items) e.parts;
@@ -42,6 +41,21 @@ impl<'e> Model for Entry<'e> {
 
     ghost invariant = { λ e.
         IfSome e.parts (λ parts. AreRising parts.items) × IfSome e.tests AreRunsWithin };
+}
+
+/// The exclusions of one path.
+#[derive(Drop)]
+pub struct Entry<'e> {
+    pub path: &'e Path,
+    pub asks: Vec<Ask>,
+}
+
+impl<'e> Model for Entry<'e> {
+    ghost use Rattle.c2_bmff.specs.Marks.{SharedPath};
+
+    ghost Value = { SharedPath };
+
+    ghost view = { λ e. record { path = e.path.now; exclusions = e.asks.items } };
 }
 
 // An exclusion in a list of them.
@@ -172,9 +186,9 @@ fn sorted<'e>(alloc: Global, exclusions: &'e [Exclusion]) -> Result<Vec<Member<'
     list.sort_unstable_by_key(|member| {
         let exclusion = member.exclusion;
         (
+            exclusion.path.text(),
             exclusion.tests.as_slice().len(),
             exclusion.length,
-            exclusion.path.text(),
         )
     });
     Ok(list)
@@ -216,40 +230,85 @@ fn parts_of(alloc: Global, parts: &Option<Vec<Range>>) -> Result<Option<Vec<Rang
     Ok(Some(ordered))
 }
 
-// The exclusion of a group with its parts and its byte tests in order.
-fn entry_of<'e>(alloc: Global, group: &Group<'e>) -> Result<Entry<'e>, NoMemory>
-    ensures { IfOk result (λ entry. ExcludeSame (entry ∷ []) (group.now ∷ [])) }
+// What the exclusion of a group asks, with its parts and its byte tests in order.
+fn ask_of(alloc: Global, group: &Group<'_>) -> Result<Ask, NoMemory>
+    ensures { IfOk result (λ ask. MarkSame ask group.now) }
 {
     let parts = parts_of(alloc, &group.parts)?;
     let first = group.first;
     let tests = runs_of(alloc, first.tests.as_slice())?;
-    Ok(Entry {
-        path: &first.path,
+    Ok(Ask {
         length: first.length,
         tests,
         parts,
     })
 }
 
-// The exclusions of these groups with their parts and their byte tests in order.
+// Adds the exclusion of a group, which asks this, as the first of its path.
+fn begin_path<'e>(
+    alloc: Global,
+    entries: &mut Vec<Entry<'e>>,
+    group: &Group<'e>,
+    ask: Ask,
+) -> Result<(), NoMemory>
+    requires { MarkSame ask group.now }
+    ensures { OnOk result ((file : List ℕ) (rows : List RootBox) (i : ℕ)
+        → list_any (excludes_any file rows i) entries.new.items
+        ≡ (list_any (excludes_any file rows i) entries.old.items
+        || excludes_row file rows i group.now)) }
+{
+    let first = group.first;
+    let path = &first.path;
+    let mut asks = Vec::new(alloc);
+    asks.push(ask)?;
+    entries.push(Entry { path, asks })?;
+    Ok(())
+}
+
+// Adds the exclusion of a group, to the last ones where it has their path.
+fn add_group<'e>(
+    alloc: Global,
+    entries: &mut Vec<Entry<'e>>,
+    group: &Group<'e>,
+) -> Result<(), NoMemory>
+    ensures { OnOk result ((file : List ℕ) (rows : List RootBox) (i : ℕ)
+        → list_any (excludes_any file rows i) entries.new.items
+        ≡ (list_any (excludes_any file rows i) entries.old.items
+        || excludes_row file rows i group.now)) }
+{
+    let ask = ask_of(alloc, group)?;
+    let first = group.first;
+    if let Some(last) = entries.pop() {
+        if is_same_path(last.path, &first.path) {
+            let path = last.path;
+            let mut asks = last.asks;
+            asks.push(ask)?;
+            entries.push(Entry { path, asks })?;
+            return Ok(());
+        }
+        entries.push(last)?;
+    }
+    begin_path(alloc, entries, group, ask)
+}
+
+// The exclusions of these groups by their paths, with their parts and their byte tests in order.
 fn entries_in<'e>(alloc: Global, groups: &[Group<'e>]) -> Result<Vec<Entry<'e>>, NoMemory>
-    ensures { IfOk result (λ entries. ExcludeSame entries.items groups.now) }
+    ensures { IfOk result (λ entries. ShareSame entries.items groups.now) }
 {
     let mut entries = Vec::new(alloc);
     for group in groups {
-        let entry = entry_of(alloc, group)?;
-        entries.push(entry)?;
+        add_group(alloc, &mut entries, group)?;
     }
     Ok(entries)
 }
 
-/// The exclusions, as one where they differ in their parts alone and have no byte tests, with their parts and their byte tests in
-/// order.
+/// The exclusions by their paths, as one where they differ in their parts alone and have no byte tests, with their parts and their byte
+/// tests in order.
 pub(crate) fn entries_of<'e>(
     alloc: Global,
     exclusions: &'e [Exclusion],
 ) -> Result<Vec<Entry<'e>>, NoMemory>
-    ensures { IfOk result (λ entries. ExcludeSame entries.items exclusions.now) }
+    ensures { IfOk result (λ entries. ShareSame entries.items exclusions.now) }
 {
     let list = sorted(alloc, exclusions)?;
     let groups = groups_of(alloc, list.as_slice())?;

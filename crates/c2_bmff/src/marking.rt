@@ -1,5 +1,5 @@
 // The positions that an exclusion excludes.
-ghost use Rattle.std.specs.Prelude.{◌≡◌, true, ◌||◌, ◌&&◌, ◌+◌, ◌-◌, ◌<◌, ◌≤◌, ◌^◌, ℕ, List, map, All, OnOk, IfOk, IfErr, IfSome, length, take, drop, bytes_eq, option_map};
+ghost use Rattle.std.specs.Prelude.{◌≡◌, true, false, ◌||◌, ◌&&◌, ◌+◌, ◌-◌, ◌<◌, ◌≤◌, ◌^◌, ℕ, List, map, All, OnOk, IfOk, IfErr, IfSome, length, take, drop, bytes_eq, option_map};
 ghost use Rattle.std.specs.List.{list_all, list_any};
 ghost use Rattle.std.specs.Option.{ForSome};
 ghost use Rattle.c2_base.specs.Causes.{HasCause};
@@ -11,7 +11,7 @@ ghost use Rattle.c2_bmff.specs.Parts.{AreRising};
 ghost use Rattle.c2_bmff.specs.Marks.{IsFront, IsRangeWithin, has_length, holds_test, in_row, in_row_part, in_row_subset, marks, takes};
 ghost use Rattle.c2_bmff.specs.Runs.{AreRunsWithin, IsRunWithin, asked, run_test};
 
-use crate::entries::Entry;
+use crate::entries::Ask;
 use crate::far::meets_far;
 use crate::root_boxes::RootBox;
 use crate::runs::{Run, Runs};
@@ -20,6 +20,18 @@ use std::alloc::Global;
 
 // Among how many ranges a new one is looked for, so that parts of a small box that many exclusions name are few before they are sorted.
 const MOST_LOOKED_AT: usize = 8;
+
+// Whether the last bytes are the same, of values of one length: those of many exclusions often begin alike.
+fn ends_alike(bytes: &[u8], value: &[u8]) -> bool
+    requires { length bytes.now ≡ length value.now }
+    ensures { result ≡ false → bytes_eq bytes.now value.now ≡ false }
+{
+    if value.is_empty() {
+        return true;
+    }
+    let last = value.len() - 1;
+    bytes[last] == value[last]
+}
 
 // Whether these bytes stand at an offset in the first bytes of a box; None where those end before.
 fn stands_in(front: &[u8], offset: u64, value: &[u8]) -> Option<bool>
@@ -34,7 +46,11 @@ fn stands_in(front: &[u8], offset: u64, value: &[u8]) -> Option<bool>
     if value.len() > front.len() - at {
         return None;
     }
-    Some(&front[at..at + value.len()] == value)
+    let part = &front[at..at + value.len()];
+    if !ends_alike(part, value) {
+        return Some(false);
+    }
+    Some(part == value)
 }
 
 // Whether these bytes stand at an offset from the start of the box of this row, which begins with `front`, wholly inside the box; None
@@ -120,21 +136,21 @@ fn is_sized(length: Option<u64>, row: RootBox) -> bool
 // Whether the exclusion takes the box of this row.
 fn takes_row<S: Source>(
     source: &mut S,
-    entry: &Entry<'_>,
+    ask: &Ask,
     row: RootBox,
     front: &[u8],
 ) -> Result<bool, Failed>
     requires inside { IsRowWithin (S.len source.old) row }
     requires front { ForSome (S.known source.old) (λ file. IsFront file row front.now) }
     ensures takes { IfOk result
-        (λ b. ForSome (S.known source.old) (λ file. b ≡ takes file entry.now row)) }
+        (λ b. ForSome (S.known source.old) (λ file. b ≡ takes file ask.now row)) }
     ensures stays { StaysSource S.len S.known S.faults source.old source.new }
     ensures cause { HasCause (S.faults source.old) (S.faults source.new) result }
 {
-    if !is_sized(entry.length, row) {
+    if !is_sized(ask.length, row) {
         return Ok(false);
     }
-    meets_all(source, row, front, &entry.tests)
+    meets_all(source, row, front, &ask.tests)
 }
 
 // Adds a range, to the last of the others where it begins in that or at its end.
@@ -357,7 +373,7 @@ fn add_subset(
 /// Adds the positions that the exclusion excludes through the box of this row, which begins with `front`.
 pub(crate) fn mark_row<S: Source>(
     source: &mut S,
-    entry: &Entry<'_>,
+    ask: &Ask,
     row: RootBox,
     front: &[u8],
     ranges: &mut Vec<Range>,
@@ -367,16 +383,16 @@ pub(crate) fn mark_row<S: Source>(
     requires within { All (IsRangeWithin (S.len source.old)) ranges.old.items }
     ensures same { OnOk result (ForSome (S.known source.old) (λ file.
         (i : ℕ) → is_excluded ranges.new.items i
-        ≡ (is_excluded ranges.old.items i || marks file entry.now i row))) }
+        ≡ (is_excluded ranges.old.items i || marks file ask.now i row))) }
     ensures within { OnOk result (All (IsRangeWithin (S.len source.old)) ranges.new.items) }
     ensures stays { StaysSource S.len S.known S.faults source.old source.new }
     ensures count { OnOk result (S.faults source.new ≡ S.faults source.old) }
     ensures cause { IfErr result (IsCaused (S.faults source.old) (S.faults source.new)) }
     ensures outside { IfErr result (λ e. OrOutside e ⊥) }
 {
-    if !takes_row(source, entry, row, front)? {
+    if !takes_row(source, ask, row, front)? {
         return Ok(());
     }
-    add_subset(ranges, row, &entry.parts)?;
+    add_subset(ranges, row, &ask.parts)?;
     Ok(())
 }

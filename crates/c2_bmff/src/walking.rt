@@ -4,17 +4,17 @@ ghost use Rattle.std.specs.List.{list_any};
 ghost use Rattle.std.specs.Option.{ForSome};
 ghost use Rattle.c2_base.specs.Causes.{HasCause};
 ghost use Rattle.c2_base.specs.Source.{StaysSource};
-ghost use Rattle.c2_spec.specs.Bmff.Hash.{Exclusion};
+ghost use Rattle.c2_spec.specs.Bmff.Hash.{Exclusion as AnyExclusion};
 ghost use Rattle.c2_spec.specs.Bmff.Paths.{nth_of};
 ghost use Rattle.c2_spec.specs.Cover.{is_excluded};
 ghost use Rattle.c2_bmff.specs.Causes.{IsCaused, OrOutside};
 ghost use Rattle.c2_bmff.specs.Children.{IsRowWithin, kids};
-ghost use Rattle.c2_bmff.specs.Marks.{IsFront, IsRangeWithin, excludes_row};
+ghost use Rattle.c2_bmff.specs.Marks.{IsFront, IsRangeWithin, SharedPath, excludes_any, excludes_row, marks};
 ghost use Rattle.c2_bmff.specs.Trails.{IsLevelWithin, ahead, arrives, found, from_step, has_step, level_ahead, level_left, levels_left, no_exclusion, picks, through};
 ghost use Rattle.c2_bmff.specs.declared.root_boxes.RootBox.{RootBox};
 
 use crate::children::children;
-use crate::entries::{Entry, entries_of};
+use crate::entries::{Ask, Entry, entries_of};
 use crate::exclusion::Exclusion;
 use crate::marking::{add_sorted, is_whole, join_full, mark_row};
 use crate::paths::{Segment, enters};
@@ -172,19 +172,20 @@ fn pass_all(
     Ok(())
 }
 
-// Whether the exclusion of this index asks for bytes of a box of this length.
-fn has_tests(entries: &[Entry<'_>], k: usize, length: u64) -> bool {
-    match entries.get(k) {
-        Some(entry) => asks_bytes(&entry.tests, length),
-        None => false,
+// How many first bytes of a box these exclusions of one path ask for, and no more than are read at a time.
+fn most_of(asks: &[Ask]) -> usize {
+    let mut most = 0;
+    for ask in asks {
+        most = asked_len(&ask.tests).max(most);
     }
+    most
 }
 
-// How many first bytes of a box these exclusions ask for, and no more than are read at a time.
+// The same of all exclusions.
 fn most_asked(entries: &[Entry<'_>]) -> usize {
     let mut most = 0;
     for entry in entries {
-        most = asked_len(&entry.tests).max(most);
+        most = most_of(entry.asks.as_slice()).max(most);
     }
     most
 }
@@ -196,12 +197,11 @@ fn room_for(alloc: Global, entries: &[Entry<'_>]) -> Result<Vec<u8>, NoMemory> {
     Ok(bytes)
 }
 
-// The number of first bytes of the box of this row that are in `bytes`: as many as there is room for where none were and the exclusion
-// of this index asks for bytes of it.
+// The number of first bytes of the box of this row that are in `bytes`: as many as there is room for where none were and this
+// exclusion asks for bytes of it.
 fn fill_front<S: Source>(
     source: &mut S,
-    entries: &[Entry<'_>],
-    k: usize,
+    ask: &Ask,
     row: RootBox,
     bytes: &mut [u8],
     count: usize,
@@ -216,12 +216,90 @@ fn fill_front<S: Source>(
     ensures stays { StaysSource S.len S.known S.faults source.old source.new }
     ensures cause { HasCause (S.faults source.old) (S.faults source.new) result }
 {
-    if count > 0 || !has_tests(entries, k, row.length) {
+    if count > 0 || !asks_bytes(&ask.tests, row.length) {
         return Ok(count);
     }
     let most = row.length.min(bytes.len() as u64) as usize;
     fill_first(source, row.start, bytes, most)?;
     Ok(most)
+}
+
+// Adds the positions that these exclusions of one path exclude through the box of this row, of which so many first bytes are in `bytes`,
+// and gives how many are there then: byte tests read them once.
+fn mark_asks<S: Source>(
+    source: &mut S,
+    asks: &[Ask],
+    row: RootBox,
+    bytes: &mut [u8],
+    filled: usize,
+    ranges: &mut Vec<Range>,
+) -> Result<usize, MediaError>
+    requires inside { IsRowWithin (S.len source.old) row }
+    requires few { filled ≤ length bytes.old }
+    requires front { ForSome (S.known source.old)
+        (λ file. IsFront file row (take filled bytes.old)) }
+    requires within { All (IsRangeWithin (S.len source.old)) ranges.old.items }
+    ensures few { IfOk result (λ n. n ≤ length bytes.new) }
+    ensures front { IfOk result (λ n. ForSome (S.known source.old)
+        (λ file. IsFront file row (take n bytes.new))) }
+    ensures same { OnOk result (ForSome (S.known source.old) (λ file.
+        (i : ℕ) → is_excluded ranges.new.items i ≡ (is_excluded ranges.old.items i
+        || list_any (λ (e : AnyExclusion). marks file e i row) asks.now))) }
+    ensures within { OnOk result (All (IsRangeWithin (S.len source.old)) ranges.new.items) }
+    ensures stays { StaysSource S.len S.known S.faults source.old source.new }
+    ensures count { OnOk result (S.faults source.new ≡ S.faults source.old) }
+    ensures cause { IfErr result (IsCaused (S.faults source.old) (S.faults source.new)) }
+    ensures outside { IfErr result (λ e. OrOutside e ⊥) }
+{
+    let mut count = filled;
+    for ask in asks {
+        if is_whole(ranges, row) {
+            return Ok(count);
+        }
+        count = fill_front(source, ask, row, bytes, count)?;
+        match mark_row(source, ask, row, &bytes[..count], ranges) {
+            Ok(()) => {}
+            Err(error) => return Err(error),
+        }
+    }
+    Ok(count)
+}
+
+// The same of the exclusions of this index.
+fn mark_entry<S: Source>(
+    source: &mut S,
+    entries: &[Entry<'_>],
+    k: usize,
+    row: RootBox,
+    bytes: &mut [u8],
+    filled: usize,
+    ranges: &mut Vec<Range>,
+) -> Result<usize, MediaError>
+    requires inside { IsRowWithin (S.len source.old) row }
+    requires few { filled ≤ length bytes.old }
+    requires front { ForSome (S.known source.old)
+        (λ file. IsFront file row (take filled bytes.old)) }
+    requires within { All (IsRangeWithin (S.len source.old)) ranges.old.items }
+    ensures few { IfOk result (λ n. n ≤ length bytes.new) }
+    ensures front { IfOk result (λ n. ForSome (S.known source.old)
+        (λ file. IsFront file row (take n bytes.new))) }
+    ensures same { OnOk result (ForSome (S.known source.old) (λ file.
+        (i : ℕ) → is_excluded ranges.new.items i
+        ≡ (is_excluded ranges.old.items i || through file entries.now i row k))) }
+    ensures within { OnOk result (All (IsRangeWithin (S.len source.old)) ranges.new.items) }
+    ensures stays { StaysSource S.len S.known S.faults source.old source.new }
+    ensures count { OnOk result (S.faults source.new ≡ S.faults source.old) }
+    ensures cause { IfErr result (IsCaused (S.faults source.old) (S.faults source.new)) }
+    ensures outside { IfErr result (λ e. OrOutside e ⊥) }
+{
+    if k >= entries.len() {
+        return Ok(filled);
+    }
+    let entry = &entries[k];
+    match mark_asks(source, entry.asks.as_slice(), row, bytes, filled, ranges) {
+        Ok(count) => Ok(count),
+        Err(error) => Err(error),
+    }
 }
 
 // Adds the positions that these exclusions exclude through the box of this row. Byte tests read its first bytes once, into `bytes`.
@@ -246,12 +324,8 @@ fn mark_each<S: Source>(
 {
     let mut count = 0;
     for k in here {
-        if is_whole(ranges, row) {
-            return Ok(());
-        }
-        count = fill_front(source, entries, *k, row, bytes, count)?;
-        match mark_entry(source, entries, *k, row, &bytes[..count], ranges) {
-            Ok(()) => {}
+        match mark_entry(source, entries, *k, row, bytes, count, ranges) {
+            Ok(filled) => count = filled,
             Err(error) => return Err(error),
         }
     }
@@ -289,36 +363,6 @@ fn mark_here<S: Source>(
     }
     add_sorted(ranges, &mut own)?;
     Ok(())
-}
-
-// Adds the positions that the exclusion of this index excludes through the box of this row.
-fn mark_entry<S: Source>(
-    source: &mut S,
-    entries: &[Entry<'_>],
-    k: usize,
-    row: RootBox,
-    front: &[u8],
-    ranges: &mut Vec<Range>,
-) -> Result<(), MediaError>
-    requires inside { IsRowWithin (S.len source.old) row }
-    requires front { ForSome (S.known source.old) (λ file. IsFront file row front.now) }
-    requires within { All (IsRangeWithin (S.len source.old)) ranges.old.items }
-    ensures same { OnOk result (ForSome (S.known source.old) (λ file.
-        (i : ℕ) → is_excluded ranges.new.items i
-        ≡ (is_excluded ranges.old.items i || through file entries.now i row k))) }
-    ensures within { OnOk result (All (IsRangeWithin (S.len source.old)) ranges.new.items) }
-    ensures stays { StaysSource S.len S.known S.faults source.old source.new }
-    ensures count { OnOk result (S.faults source.new ≡ S.faults source.old) }
-    ensures cause { IfErr result (IsCaused (S.faults source.old) (S.faults source.new)) }
-    ensures outside { IfErr result (λ e. OrOutside e ⊥) }
-{
-    if k >= entries.len() {
-        return Ok(());
-    }
-    match mark_row(source, &entries[k], row, front, ranges) {
-        Ok(()) => Ok(()),
-        Err(error) => Err(error),
-    }
 }
 
 // Visits the box of this row: adds the positions that are excluded through it, and gives the trails that go on below it.
@@ -361,7 +405,7 @@ fn add_first(entries: &[Entry<'_>], k: usize, trails: &mut Vec<Trail>) -> Result
     ensures { OnOk result ((file : List ℕ) (i : ℕ) (rows : List RootBox)
         → list_any (ahead file entries.now i rows) trails.new.items
         ≡ (list_any (ahead file entries.now i rows) trails.old.items
-        || excludes_row file rows i (get_or entries.now k no_exclusion))) }
+        || excludes_any file rows i (get_or entries.now k no_exclusion))) }
 {
     if let Some(first) = trail_from(entries, k, 0) {
         trails.push(first)?;
@@ -373,7 +417,7 @@ fn add_first(entries: &[Entry<'_>], k: usize, trails: &mut Vec<Trail>) -> Result
 fn first_trails(alloc: Global, entries: &[Entry<'_>]) -> Result<Vec<Trail>, NoMemory>
     ensures { IfOk result (λ trails. (file : List ℕ) (i : ℕ) (rows : List RootBox)
         → list_any (ahead file entries.now i rows) trails.items
-        ≡ list_any (excludes_row file rows i) entries.now) }
+        ≡ list_any (excludes_any file rows i) entries.now) }
 {
     let mut trails = Vec::new(alloc);
     for k in 0..entries.len() {
@@ -414,7 +458,7 @@ fn open_row<S: Source>(
     requires inside { IsRowWithin (S.len source.old) row }
     requires levels { All (IsLevelWithin (S.len source.old)) levels.old.items }
     ensures ahead { OnOk result (ForSome (S.known source.old) (λ file.
-        (es : List Exclusion) (i : ℕ) → list_any (level_ahead file es i) levels.new.items
+        (es : List SharedPath) (i : ℕ) → list_any (level_ahead file es i) levels.new.items
         ≡ (list_any (level_ahead file es i) levels.old.items
         || list_any (ahead file es i (kids file row)) below.items))) }
     ensures levels { OnOk result (All (IsLevelWithin (S.len source.old)) levels.new.items) }

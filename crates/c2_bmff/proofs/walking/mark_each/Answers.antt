@@ -3,37 +3,29 @@ use Rattle.std.specs.Prelude.{All}
 use Rattle.std.specs.List.{list_any}
 use Rattle.std.proofs.lemmas.List.{take_all}
 use Rattle.c2_spec.specs.Cover.{is_excluded}
-use Rattle.c2_base.specs.declared.values.Range.{Range}
 use Rattle.c2_bmff.specs.Marks.{IsRangeWithin}
 use Rattle.c2_bmff.specs.Trails.{through}
 use Rattle.c2_bmff.proofs.MarkLemmas.{any_more}
-use Rattle.c2_bmff.proofs.TrailLemmas.{whole_same}
 use Rattle.c2_bmff.proofs.walking.mark_each.Goals as goal
 
 -- with one exclusion more, the ranges hold also what it excludes
 pub loop-k-preserved : goal.loop-k-preserved
 loop-k-preserved g c =
     let before = c.loop-k.invariant in
-    let front = c.in_ok-count.ensures in
     let call = c.in-Ok.ensures in
     let k = c.loop-k.k-index in
     record {
-      stays = record { same_len = call.stays.same_len ∙ front.stays.same_len ∙ before.stays.same_len; same_bytes = call.stays.same_bytes ∙ front.stays.same_bytes ∙ before.stays.same_bytes; later = omega (arith, call.stays.later, front.stays.later, before.stays.later) };
-      count = call.count ∙ front.cause.ok ∙ before.count;
-      within = subst (λ (n : ℕ). All (IsRangeWithin n) c.mark_entry.new.ranges.items) (front.stays.same_len ∙ before.stays.same_len) call.within;
+      stays = record { same_len = call.stays.same_len ∙ before.stays.same_len; same_bytes = call.stays.same_bytes ∙ before.stays.same_bytes; later = omega (arith, call.stays.later, before.stays.later) };
+      count = call.count ∙ before.count;
+      within = subst (λ (n : ℕ). All (IsRangeWithin n) c.mark_entry.new.ranges.items) (before.stays.same_len) call.within;
       same = λ file known i.
-          call.same file (front.stays.same_bytes ∙ before.stays.same_bytes ∙ known) i ∙ ap (λ (a : Bool). a || through file c.args.entries.now i c.args.row (get_or c.args.here.now k 0)) (before.same file known i)
+          call.same file (before.stays.same_bytes ∙ known) i ∙ ap (λ (a : Bool). a || through file c.args.entries.now i c.args.row (get_or c.args.here.now k 0)) (before.same file known i)
           ∙ sym (any_more (through file c.args.entries.now i c.args.row) c.args.here.now k 0 (is_excluded c.args.ranges.now.items i) c.loop-k-test.true);
-      few = front.few;
-      front = λ file known. front.front file (before.stays.same_bytes ∙ known);
+      few = call.few;
+      front = λ file known. call.front file (before.stays.same_bytes ∙ known);
     }
 
 -- after the last, what all of them exclude
 pub returns-clause-same : goal.returns-clause-same
 returns-clause-same g c file known i =
     c.loop-k.invariant.same file known i ∙ ap (λ (ks : List ℕ). is_excluded c.args.ranges.now.items i || list_any (through file c.args.entries.now i c.args.row) ks) (take_all c.loop-k.k-index c.args.here.now c.loop-k-test.false)
-
--- where the ranges hold the box whole, the other exclusions add nothing
-pub returns-then-is_whole-clause-same : goal.returns-then-is_whole-clause-same
-returns-then-is_whole-clause-same g c file known i =
-    whole_same file c.args.entries.now i c.args.row c.args.here.now c.loop-k.k-index (is_excluded c.loop-k.ranges.items i) (is_excluded c.args.ranges.now.items i) (λ inside. ap (λ (rs : List Range). is_excluded rs i) (sym c.deref.ensures.value) ∙ c.is_whole.ensures c.if-is_whole.true i inside) (c.loop-k.invariant.same file known i)

@@ -1,0 +1,41 @@
+use Rattle.std.proofs.Common.{◌∙◌, ◌||◌, ℕ, List, Bool, take, subst, sym, ap, arith}
+use Rattle.std.specs.Prelude.{All}
+use Rattle.std.specs.List.{list_any}
+use Rattle.std.proofs.lemmas.List.{take_all}
+use Rattle.c2_spec.specs.Bmff.Hash.{Exclusion}
+use Rattle.c2_spec.specs.Cover.{is_excluded}
+use Rattle.c2_base.specs.declared.values.Range.{Range}
+use Rattle.c2_bmff.specs.Marks.{IsRangeWithin, marks}
+use Rattle.c2_bmff.proofs.MarkLemmas.{any_more}
+use Rattle.c2_bmff.proofs.TrailLemmas.{whole_asks}
+use Rattle.c2_bmff.proofs.walking.mark_asks.Goals as goal
+
+-- with one exclusion more, the ranges hold also what it excludes
+pub loop-ask-preserved : goal.loop-ask-preserved
+loop-ask-preserved g c =
+    let before = c.loop-ask.invariant in
+    let front = c.in_ok-count.ensures in
+    let call = c.in-Ok.ensures in
+    let k = c.loop-ask.ask-index in
+    let ask : Exclusion = c.ask-item.result in
+    record {
+      stays = record { same_len = call.stays.same_len ∙ front.stays.same_len ∙ before.stays.same_len; same_bytes = call.stays.same_bytes ∙ front.stays.same_bytes ∙ before.stays.same_bytes; later = omega (arith, call.stays.later, front.stays.later, before.stays.later) };
+      count = call.count ∙ front.cause.ok ∙ before.count;
+      within = subst (λ (n : ℕ). All (IsRangeWithin n) c.mark_row.new.ranges.items) (front.stays.same_len ∙ before.stays.same_len) call.within;
+      same = λ file known i.
+          call.same file (front.stays.same_bytes ∙ before.stays.same_bytes ∙ known) i ∙ ap (λ (a : Bool). a || marks file ask i c.args.row) (before.same file known i)
+          ∙ ap (λ (e : Exclusion). (is_excluded c.args.ranges.now.items i || list_any (λ (x : Exclusion). marks file x i c.args.row) (take k c.args.asks.now)) || marks file e i c.args.row) c.ask-item.is
+          ∙ sym (any_more (λ (e : Exclusion). marks file e i c.args.row) c.args.asks.now k ask (is_excluded c.args.ranges.now.items i) c.loop-ask-test.true);
+      few = front.few;
+      front = λ file known. front.front file (before.stays.same_bytes ∙ known);
+    }
+
+-- after the last, what all of them exclude
+pub returns-clause-same : goal.returns-clause-same
+returns-clause-same g c file known i =
+    c.loop-ask.invariant.same file known i ∙ ap (λ (es : List Exclusion). is_excluded c.args.ranges.now.items i || list_any (λ (e : Exclusion). marks file e i c.args.row) es) (take_all c.loop-ask.ask-index c.args.asks.now c.loop-ask-test.false)
+
+-- where the ranges hold the box whole, the other exclusions add nothing
+pub returns-then-is_whole-clause-same : goal.returns-then-is_whole-clause-same
+returns-then-is_whole-clause-same g c file known i =
+    whole_asks file i c.args.row c.args.asks.now c.loop-ask.ask-index (is_excluded c.loop-ask.ranges.items i) (is_excluded c.args.ranges.now.items i) (λ inside. ap (λ (rs : List Range). is_excluded rs i) (sym c.deref.ensures.value) ∙ c.is_whole.ensures c.if-is_whole.true i inside) (c.loop-ask.invariant.same file known i)
