@@ -82,7 +82,8 @@ def main():
     sources = {path: text_of(path) for path in glob.glob(f"{TOP}/crates/*/src/**/*.rt", recursive=True)}
     edits = {os.path.basename(path)[: -len(".edit")] for path in glob.glob(f"{TOP}/crates/*/must-fail/*.edit")}
     words = {name for text in sources.values() for name in re.findall(DECLARED, text)}
-    words |= {part for path in sources for part in re.findall(r"\w+", os.path.relpath(path, f"{TOP}/crates"))}
+    tables = glob.glob(f"{TOP}/crates/*/data/*.rows")
+    words |= {part for path in [*sources, *tables] for part in re.findall(r"\w+", os.path.relpath(path, f"{TOP}/crates"))}
     lines = {line.strip() for text in sources.values() for line in text.splitlines()}
     named, wrong = set(), set()
     for path in DOCUMENTS:

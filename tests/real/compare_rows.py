@@ -2,23 +2,29 @@
 """Rows of two files that are compared, and what is reported of them.
 
     compare_rows.py          prints the module rows.rt of crates/c2_compare_tests
-    compare_rows.py run      prints the module pair_rows.rt of crates/c2_tests
 
-A line that says what the row shows, and the row: the hash, both files in hex, and the lines of the report, with bars between them;
-for c2_tests the status stands before these lines, which are those of pairs.py. The texts of evidence are made here from the drafts of
-the files, and must be those of pairs.py; nothing of them was taken from what c2 prints.
+rows.py writes the table of crates/c2_rows, which has more of them.
+
+A line that says what the row shows, and the row: the hash, both files in hex, and the lines of the report, with bars between them.
+The reports of crates/c2_rows are those of pairs.py. The texts of evidence are made here from the drafts of the files, and must be
+those of pairs.py; nothing of them was taken from what c2 prints.
 """
 
 import hashlib
-import sys
 
 import drafts
 import hashing
 import pairs
+import store
+import tables
 from drafts import APP0, Assertion, DataHash, Ingredient, Jpeg, Manifest, Written, write
 from make_store import text
-from rows import Approving
 from rule_rows import with_
+from tables import Approving
+
+# The pairs in whose course objects fail, and the status of a run after a failure of each object.
+FAILING = "other notes under one sum", "swapped bytes of the picture", "a file and itself", "other claims", "no store"
+FAULTS = {"media": 5, "second": 5, "judge": 7, "report": 6}
 
 LABEL = "urn:c2pa:00000000-0000-4000-8000-000000000000"
 FRONT = b"\xff\xd8" + APP0
@@ -116,7 +122,7 @@ def older():
 
 
 def run_rows():
-    """What a row shows, the hash, the files, the status and the lines of the report."""
+    """What a row shows, the hash, the files, the status, the lines of the report, and how often a judge is asked who approves."""
     given = [(what, name, first, second, lines) for what, name, first, second, lines in rows()]
     given += [(what, "sha", first, second, []) for what, first, second in more_rows()]
     for what, name, first, second, lines in given:
@@ -124,23 +130,45 @@ def run_rows():
         text, status = pairs.compared(first, second, [Approving()])
         if lines[1:]:
             assert text.split("\n") == lines, what
-        yield what, name, first, second, status, text.split("\n")
+        yield what, name, first, second, status, text.split("\n"), asked_of(first, second)
 
 
-def print_run_rows():
-    print("// Pairs of files and what `compare` says of them. Written by tests/real/compare_rows.py, which computes the reports: not to be edited.")
-    print()
-    print("/// A line that says what the row shows, and the row: the hash, both files in hex, the status and the lines, with bars between.")
-    print('pub const PAIRS: &str = r##"', end="")
-    for what, name, first, second, status, lines in run_rows():
-        print("# " + what)
-        print("|".join([name, first.hex(), second.hex(), str(status), *lines]))
-    print('"##;')
+def asked_of(first, second):
+    """How often a judge is asked who approves: of the second file only where the first is accepted."""
+    judge = Approving()
+    _, status = store.report("validate", first, [judge])
+    if status == 0:
+        store.report("validate", second, [judge])
+    return judge.asked
+
+
+def table():
+    """The table of pairs, and of the faults in the course of some of them."""
+    text = tables.head("Pairs of files under `compare`.", "compare_rows.py", words="compare P Q V", judges="approved", room="10000")
+    text += tables.settings(pieces="1 7 65536 1/65536 65536/1")
+    rows = list(run_rows())
+    for what, *row in rows:
+        text += pair_row(what, *row)
+    text += tables.settings(pieces="7", fault="second 1")
+    for what in "a first file with another note", "an empty file first":
+        (row,) = (row for name, *row in rows if name == what)
+        text += pair_row(f"{what}: the second isn't read", *row)
+    text += tables.settings(view="each call", pieces="1000", part="yes")
+    for what in FAILING:
+        (row,) = (row for name, *row in rows if name == what)
+        for place, (kind, status) in enumerate(FAULTS.items()):
+            text += tables.settings(fault=kind, status=status, least=5 if kind == "media" else 0)
+            text += pair_row(f"{what}: each call of the {kind} fails", *row, place=place)
+    return text
+
+
+def pair_row(what, name, first, second, status, lines, asked, place=0):
+    files = f"{first.hex()} | {second.hex()}" if place == 0 else ". | ."
+    hashed = tables.settings(hash=name) if place == 0 else ""
+    return hashed + tables.row(what, files, status, "\n".join(lines), asked)
 
 
 def main():
-    if sys.argv[1:] == ["run"]:
-        return print_run_rows()
     print("// Pairs of files that are compared. Written by tests/real/compare_rows.py, which computes the reports: not to be edited.")
     print()
     print("/// A line that says what the row shows, and the row: the hash, both files in hex, and what is answered or the lines of evidence, with bars between.")

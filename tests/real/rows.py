@@ -1,134 +1,83 @@
 #!/usr/bin/env python3
 """Small stores and what c2 must say of each, computed by store.py.
 
-    rows.py write [COMMAND..]  writes the tables of crates/c2_tests, those that are there or those of the commands: a comment line
-                               that says what a row shows, then the store in hex, ` => `, and status and line of `show`, of
-                               `questions` without verdict files, or of `validate` with a judge who approves every question,
-                               and how often he is asked; `films` are films in hex and `validate`
-    rows.py check              fails where a table there isn't the one that would be written
+    rows.py write [TABLE..]    writes the tables of crates/c2_rows that are computed, or those that are named: `show`, `questions`
+                               without verdict files, `validate` with a judge who approves every question, `films` under
+                               `validate`, `manifests`, and `pairs` under `compare`
+    rows.py check              fails where one of them isn't the one that would be written
     rows.py files DIRECTORY    writes a JPEG around each of these stores and of those of rule_rows.py, and the verdicts on the latter
 """
 
+import hashlib
 import os
-import pathlib
-import re
 import sys
 
+import compare_rows
 import film_rows
 import question_rows
 import rule_rows
 import show_rows
+import tables
 import validate_rows
 from drafts import Jpeg
-from make_store import jpeg
-from media import media_of
+from make_store import jpeg, manifest, store
 from store import report
-
-
-class Approving(dict):
-    """A judge who approves every question, and counts them."""
-
-    def __init__(self):
-        self.asked = 0
-
-    def __getitem__(self, identity):
-        return "approved"
-
-    def __contains__(self, identity):
-        self.asked += 1
-        return True
-
+from tables import Approving, folded
 
 ROWS = {"show": show_rows.rows, "questions": question_rows.rows, "validate": validate_rows.rows}
 
 
-# What a source text of Rust can't have as it is, or shouldn't.
-NOT_PLAIN = ("\x7f", "\u2028", "\u2029")
-
-
-def rows_of(command):
-    """The rows of a command: two lines each, what it shows and the row. A report of several lines has ` / ` between them."""
+def table(command):
+    """The table of a command over small stores."""
+    given = {"words": f"{command} P", "packets": "63984 50", "pieces": "1 7 65536"}
+    if command == "validate":
+        given |= {"words": "validate P V", "packets": "63984", "judges": "approved"}
+    text = tables.head(f"What `{command}` says of small stores.", "rows.py", **given)
     for what, contents in ROWS[command]():
         judge = Approving()
         line, status = report(command, jpeg(contents), [judge] if command == "validate" else [])
-        line = line.replace("\n", " / ")
-        asked = f", asked {judge.asked}" if command == "validate" else ""
-        yield f"# {what}\n{folded(contents)} => {status} {line}{asked}\n"
+        text += tables.row(what, folded(contents), status, line, judge.asked if command == "validate" else None)
+    return text + (validate_rows.more() if command == "validate" else "")
 
 
-def folded(contents):
-    """Hex of bytes, in which `COUNT*PIECE` between spaces stands for a piece that comes many times."""
-    found = re.search(rb"(.{4,32}?)\1{99,}", contents, re.DOTALL)
-    if found is None:
-        return contents.hex()
-    count = len(found[0]) // len(found[1])
-    return f"{contents[: found.start()].hex()} {count}*{found[1].hex()} {contents[found.end() :].hex()}"
-
-
-def escaped(text):
-    """The text as a string of Rust, a line of it in each line."""
-    text = text.replace("\\", "\\\\").replace('"', '\\"')
-    for char in NOT_PLAIN:
-        text = text.replace(char, f"\\u{{{ord(char):x}}}")
-    return text.replace("\n", "\\n\\\n")
-
-
-def module(command):
-    """The module of the tests that holds the table, and its text."""
-    here = pathlib.Path(__file__).resolve().parent
-    path = here.parent.parent / "crates" / "c2_tests" / "src" / f"{command}_rows.rt"
-    rows = list(rows_of(command))
-    plain = [row for row in rows if not any(char in row for char in NOT_PLAIN)]
-    # two constants of about one length, since the prover takes no text that is much longer
-    half = len(plain)
-    if command == "validate":
-        half = next(at for at in range(len(plain)) if sum(map(len, plain[:at])) * 2 > sum(map(len, plain)))
-    others = "".join(row for row in rows if any(char in row for char in NOT_PLAIN))
-    text = (
-        f"// What `{command}` says of small stores. Written by tests/real/rows.py, which computes the answers: not to be edited.\n\n"
-        "/// A line that says what the row shows, and the row: a store in hex, ` => `, and status and line.\n"
-        f'pub const ROWS: &str = r##"{"".join(plain[:half])}"##;\n'
-    )
-    # The prover takes no text of 200 kB, so a longer table is two.
-    if half < len(plain):
-        text += f'\n/// More rows.\npub const MORE_ROWS: &str = r##"{"".join(plain[half:])}"##;\n'
-    if others:
-        text += f'\n/// Rows with characters that are written as escapes.\npub const ESCAPED: &str = "{escaped(others)}";\n'
-    if command == "validate":
-        text += "".join(f'\n/// {what}\npub const {name}: &str =\n    "{value}";\n' for what, name, value in validate_rows.constants())
-    return path, text
-
-
-def film_module():
-    """The module with the films, and its text: what `validate` must say is written by hand, and store.py must come to it."""
-    path = pathlib.Path(__file__).resolve().parent.parent.parent / "crates" / "c2_tests" / "src" / "film_rows.rt"
-    table = ""
+def films():
+    """The table of films: what `validate` must say is written by hand, and store.py must come to it."""
+    text = tables.head("What `validate` says of small films.", "rows.py", words="validate P V", pieces="1 7 65536", judges="approved")
     for what, known, film in film_rows.rows():
         judge = Approving()
         line, status = report("validate", film, [judge])
         assert line == known, (what, line)
-        table += f"# {what}\n{folded(film)} => {status} {line}, asked {judge.asked}\n"
-    return path, (
-        "// What `validate` says of small films. Written by tests/real/rows.py, which computes the answers: not to be edited.\n\n"
-        "/// A line that says what the row shows, and the row: a film in hex, ` => `, and status and line.\n"
-        f'pub const FILMS: &str = r##"{table}"##;\n'
-    )
+        text += tables.row(what, folded(film), status, line, judge.asked)
+    film = film_rows.signed_film()
+    line, status = report("digest", film)
+    assert line == f"25 1220 {hashlib.sha256(film[:25]).hexdigest()}", line
+    return text + tables.settings(words="digest P", judges="") + tables.row("a digest leaves out the whole box of a store", film.hex(), status, line)
 
 
-def write_modules(commands):
-    if not commands or "films" in commands:
-        path, text = film_module()
-        path.write_text(text, encoding="utf-8")
-    for command in [it for it in commands if it in ROWS] if commands else ROWS:
-        path, text = module(command)
-        if commands or path.exists():
-            path.write_text(text, encoding="utf-8")
+def manifests():
+    """The table of stores with as many manifests as a store may have, and with one more."""
+    text = tables.head("Stores of many manifests.", "rows.py", words="show P", packets="10000", pieces="65536", room="100000")
+    empty = [manifest(str(number)) for number in range(1_025)]
+    line, status = report("show", jpeg(store(*empty[:1_024])))
+    shown = (f'{{"boxes":[],"claim":null,"label":"{number}","update":false}}' for number in range(1_024))
+    assert line == f'{{"active":"1023","manifests":[{",".join(shown)}]}}', line
+    text += tables.row("at most 1,024 manifests are shown", store(*empty[:1_024]).hex(), status, line)
+    for command in "show", "questions":
+        line, status = report(command, jpeg(store(*empty)))
+        assert (line, status) == ("refused TooMany 1025", 2), line
+        text += tables.settings(words=f"{command} P", pieces="1 7 65536")
+        text += tables.row(f"1,025 are refused by {command}", store(*empty).hex() if command == "show" else ".", status, line)
+    return text
 
 
-def check_modules():
-    """The names of modules whose table isn't the one that would be written; those that aren't there yet are left out."""
-    modules = [(path, text) for path, text in [*map(module, ROWS), film_module()] if path.exists()]
-    return [path.name for path, text in modules if path.read_text(encoding="utf-8") != text]
+TABLES = {
+    "show": lambda: table("show"),
+    "questions": lambda: table("questions"),
+    "validate": lambda: table("validate"),
+    "films": films,
+    "manifests": manifests,
+    "pairs": compare_rows.table,
+}
 
 
 def write_files(directory):
@@ -154,11 +103,12 @@ def main():
     if command == "files":
         write_files(*more)
     elif command == "write":
-        write_modules(more)
+        for name in more or TABLES:
+            tables.write(name, TABLES[name]())
     elif command == "check":
-        wrong = check_modules()
+        wrong = [name for name in TABLES if not tables.is_written(name, TABLES[name]())]
         for name in wrong:
-            print(f"{name} isn't what rows.py writes")
+            print(f"{name}.rows isn't what rows.py writes")
         return 1 if wrong else 0
     else:
         raise SystemExit(__doc__)

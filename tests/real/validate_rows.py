@@ -1,8 +1,9 @@
-"""Small stores for `validate`, a choice from rule_rows.py, with a judge who approves; the store of a photograph; and what changed
+"""Small stores for `validate`, a choice from rule_rows.py, with a judge who approves; a photograph; and what prefixes and changed
 bytes of a valid file come to.
 """
 
 import rule_rows
+import tables
 from drafts import ACTIONS, APP0, Assertion, DataHash, Jpeg, Manifest
 from make_store import NULL, array, data, mapping, open_map, sign1, tag, text
 from media import media_of
@@ -74,7 +75,7 @@ PICTURE = APP0 + SCAN + bytes(at % 251 for at in range(3_145_696)) + b"\xff\xd9"
 
 
 def photographed(ranges):
-    """The store of a photograph as a camera's program may write it, and what `validate` says."""
+    """A photograph with a store as a camera's program may write it, and what `validate` says."""
     stamped = mapping(("sigTst", mapping(("tstTokens", array(mapping(("val", data(b"\0"))))))), ("pad", data(bytes(8))))
     draft = Manifest(
         "m",
@@ -92,37 +93,56 @@ def photographed(ranges):
     }
     draft.change_message = lambda _: tag(18, sign1(unprotected=stamped))
     contents = Jpeg(rest=PICTURE).file([draft])
-    store = media_of(contents).store
-    told = report("validate", contents, [rule_rows.verdicts_on(contents)])
-    return store, told
+    return contents, report("validate", contents, [rule_rows.verdicts_on(contents)])
 
 
-def constants():
-    """Further constants of the table: what each says, its name and value."""
-    store, told = photographed([None])
+def more():
+    """Further rows of the table: the photograph, and what changed files come to."""
+    return photographs() + changed()
+
+
+def photographs():
+    """Rows of a photograph that is valid, of one with a changed byte, and of one with a range that ends far behind the file."""
+    contents, told = photographed([None])
     assert told == ("valid manifests=1 assertions=4 covered=3145728 outside=0", 0), told
-    yield "The store of a photograph, which is valid.", "PHOTOGRAPH", store.hex()
-    store, told = photographed([(0, 1 << 63)])
+    text = tables.settings(packets="", pieces="65536")
+    text += photograph_row("a photograph", contents)
+    at = len(contents) - 3_145_709
+    other = contents[:at] + bytes([contents[at] + 1]) + contents[at + 1 :]
+    text += photograph_row("a photograph whose header has another last byte", other)
+    contents, told = photographed([(0, 1 << 63)])
     assert told == (rule_rows.failing("profile.hash.form", "m" + rule_rows.HASH), 1), told
-    yield "The same with a range that ends far behind the file.", "FAR_RANGE", store.hex()
-    yield from changed_constants()
+    return text + photograph_row("a photograph with a range that ends far behind the file", contents)
 
 
-def changed_constants():
-    """What changed bytes of the store of the first row come to, where its question alone is approved."""
+def photograph_row(what, contents):
+    line = bytes(range(251))
+    at = contents.index(line * 12_532)
+    files = f"{contents[:at].hex()} 12532*{line.hex()} {contents[at + 12_532 * 251 :].hex()}"
+    judge = tables.Approving()
+    line, status = report("validate", contents, [judge])
+    return tables.row(what, files, status, line, judge.asked)
+
+
+def changed():
+    """Rows of the first row's file: the statuses of each prefix, and those where a byte of its store is one more, for each byte in order;
+    its question alone is approved."""
     _, _, drafts = next(rule_rows.rows())
     contents = Jpeg().file(drafts)
     verdicts = rule_rows.verdicts_on(contents)
     (identity,) = verdicts
-    yield "A verdict file that approves the first row's question.", "VERDICT", f"{identity} approved"
+    text = tables.settings(judges="list:" + f"{identity} approved".encode().hex())
+    text += tables.row("the first row's file, whose one question a verdict file approves", contents.hex(), *reversed(report("validate", contents, [verdicts])), 1)
+    prefixes = (report("validate", contents[:length], [verdicts])[1] for length in range(len(contents)))
+    text += tables.settings(view="prefixes") + f"# its prefixes\n. => {''.join(map(str, prefixes))}\n"
     media = media_of(contents)
     at = contents.index(media.store)
     statuses = []
     for place in range(at, at + len(media.store)):
-        changed = bytearray(contents)
-        changed[place] = (changed[place] + 1) % 256
-        statuses.append(report("validate", bytes(changed), [verdicts])[1])
+        other = bytearray(contents)
+        other[place] = (other[place] + 1) % 256
+        statuses.append(report("validate", bytes(other), [verdicts])[1])
     # nothing binds the name of an active manifest whose URIs are all relative
     assert [at for at, status in enumerate(statuses) if status == 0] == [media.store.index(b"\x03m\0") + 1]
-    digits = "".join(map(str, statuses))
-    yield "The status of the first row's file, where one byte of its store is one more, for each byte in order.", "CHANGED", digits
+    behind = len(contents) - at - len(media.store)
+    return text + tables.settings(view="changes", around=f"{at}/{behind}") + f"# changed bytes of its store\n. => {''.join(map(str, statuses))}\n"

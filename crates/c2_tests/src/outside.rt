@@ -1,5 +1,8 @@
-// Sources and sinks by themselves.
-use c2_base::{Blob, Failed, MemSink, ReadAllError, Sink, SureSource, Text, read_all, write_all};
+// Sources, sinks and judges by themselves.
+use c2_base::{
+    Blob, Failed, MemSink, Question, ReadAllError, Sink, SureSource, Text, read_all, write_all,
+};
+use c2_judge::{FixedJudge, Judge, JudgeFailed, Verdict};
 use std::test::Fail;
 
 #[test]
@@ -30,5 +33,21 @@ fn a_full_sink_fails_and_keeps_what_it_has(rt: HostRuntime) -> Result<(), Fail> 
 fn texts_are_kept(rt: HostRuntime) -> Result<(), Fail> {
     let text = Text::copied(rt.alloc(), "é")?;
     assert_eq!(rt; text.as_str(), "é");
+    Ok(())
+}
+
+#[test]
+fn a_judge_fails_at_the_ask_that_was_set(rt: HostRuntime) -> Result<(), Fail> {
+    let alloc = rt.alloc();
+    let q = Question {
+        tbs: Blob::copied(alloc, b"")?,
+        signature: Blob::copied(alloc, b"")?,
+        unprotected: Blob::copied(alloc, b"")?,
+    };
+    let mut judge = FixedJudge::new(Verdict::Approved, 2);
+    assert_eq!(rt; judge.ask(&q), Ok(Verdict::Approved));
+    assert_eq!(rt; judge.ask(&q), Err(JudgeFailed));
+    assert_eq!(rt; judge.ask(&q), Ok(Verdict::Approved));
+    assert_eq!(rt; judge.asked(), 3);
     Ok(())
 }

@@ -1,0 +1,72 @@
+// Bytes of a row, and media files that are made of them.
+use crate::trouble::Trouble;
+use std::alloc::Global;
+
+// The most bytes of a store in a packet.
+const MAX_PACKET: usize = 63_984;
+
+/// The bytes of hex, in which `COUNT*PIECE` between spaces stands for a piece that comes so many times.
+pub fn bytes_of(alloc: Global, digits: &str) -> Result<Vec<u8>, Trouble> {
+    let mut bytes = Vec::new(alloc);
+    for word in digits.split(' ') {
+        let (count, piece) = word.split_once('*').unwrap_or(("1", word));
+        let piece = hex::decode(alloc, piece)?;
+        push_often(&mut bytes, piece.as_slice(), count.parse::<u32>()?)?;
+    }
+    Ok(bytes)
+}
+
+// Appends a piece so many times.
+fn push_often(bytes: &mut Vec<u8>, piece: &[u8], count: u32) -> Result<(), Trouble> {
+    for _ in 0..count {
+        bytes.extend_from_slice(piece)?;
+    }
+    Ok(())
+}
+
+/// A JPEG of the packets of a store and no picture. Each packet repeats the store's header, of 16 bytes where its length is
+/// a wide one, and has so many bytes more at most, or as many as the store has.
+pub fn in_jpeg(alloc: Global, store: &[u8], most: usize) -> Result<Vec<u8>, Trouble> {
+    let width = if store.starts_with(&[0, 0, 0, 1]) {
+        16
+    } else {
+        8
+    };
+    let mut file = Vec::from_slice(alloc, &[0xFF, 0xD8])?;
+    let Some((header, body)) = store.split_at_checked(width) else {
+        return Ok(file);
+    };
+    let mut number: u32 = 0;
+    for piece in body.chunks(most.clamp(1, MAX_PACKET)) {
+        number = number.saturating_add(1);
+        push_packet(&mut file, number, header, piece)?;
+    }
+    file.extend_from_slice(&[0xFF, 0xD9])?;
+    Ok(file)
+}
+
+// A packet with this sequence number.
+fn push_packet(
+    file: &mut Vec<u8>,
+    number: u32,
+    header: &[u8],
+    piece: &[u8],
+) -> Result<(), Trouble> {
+    let length = header.len().min(16) as u16 + piece.len().min(MAX_PACKET) as u16 + 10;
+    file.extend_from_slice(&[0xFF, 0xEB])?;
+    file.extend_from_slice(&length.to_be_bytes())?;
+    file.extend_from_slice(&[0x4A, 0x50, 0x02, 0x11])?;
+    file.extend_from_slice(&number.to_be_bytes())?;
+    file.extend_from_slice(header)?;
+    file.extend_from_slice(piece)?;
+    Ok(())
+}
+
+/// The file, where the byte at a place is one more.
+pub fn one_more(alloc: Global, file: &[u8], place: usize) -> Result<Vec<u8>, Trouble> {
+    let mut changed = Vec::from_slice(alloc, file)?;
+    if let Some(byte) = changed.get_mut(place) {
+        *byte = byte.wrapping_add(1);
+    }
+    Ok(changed)
+}

@@ -1,0 +1,222 @@
+// What the lines of a table set for the rows behind them.
+use crate::trouble::Trouble;
+use std::alloc::Global;
+
+/// The hash of a run.
+#[derive(Clone, Copy, Debug, PartialEq, Eq)]
+pub enum Hash {
+    /// SHA-256.
+    Sha,
+
+    /// The sum of the bytes, whose digests collide.
+    WeakSum,
+}
+
+/// What a row is of.
+#[derive(Clone, Copy, Debug, PartialEq, Eq)]
+pub enum View {
+    /// A run over the media.
+    Run,
+
+    /// The run, and a run for each call at which an object fails.
+    EachCall,
+
+    /// The statuses of runs over each prefix of the media.
+    Prefixes,
+
+    /// The statuses of runs over the media with one byte changed, for each byte.
+    Changes,
+
+    /// The roles of the words.
+    Roles,
+}
+
+/// An object that fails.
+#[derive(Clone, Copy, Debug, PartialEq, Eq)]
+pub enum Object {
+    /// The first file.
+    Media,
+
+    /// The second file.
+    Second,
+
+    /// A judge.
+    Judge,
+
+    /// The report.
+    Report,
+}
+
+/// An object, and its call that fails, from 1 on; none where this is 0.
+#[derive(Clone, Copy, Debug, PartialEq, Eq)]
+pub struct Fault {
+    pub object: Object,
+    pub call: u64,
+}
+
+impl Fault {
+    /// The call of this object that fails; 0 where none does.
+    pub fn of(self, object: Object) -> u64 {
+        if self.object == object { self.call } else { 0 }
+    }
+}
+
+/// What is set.
+#[derive(Drop)]
+pub struct Settings {
+    /// The words of the command line.
+    pub words: Vec<String>,
+
+    /// The hash.
+    pub hash: Hash,
+
+    /// How many bytes the packets have at most in which the media stands as a store; none: the media is the file.
+    pub packets: Vec<usize>,
+
+    /// The lengths of pieces in which the two files are read.
+    pub pieces: Vec<(usize, usize)>,
+
+    /// The judges, as `judges` reads them.
+    pub judges: String,
+
+    /// How many bytes the report takes.
+    pub room: usize,
+
+    /// What fails.
+    pub fault: Fault,
+
+    /// What a row is of.
+    pub view: View,
+
+    /// The status of a run in which the object fails.
+    pub status: u8,
+
+    /// How many calls the object has at least.
+    pub least: u64,
+
+    /// Whether a report that isn't finished may hold a part of the whole one.
+    pub part: bool,
+
+    /// How often judges may have been asked before a fault, a number each; empty: that isn't looked at.
+    pub asked: String,
+
+    /// How many bytes stand before the first that is changed, and behind the last.
+    pub around: (usize, usize),
+}
+
+impl Settings {
+    /// What is set at first.
+    pub fn new(alloc: Global) -> Settings {
+        let fault = Fault {
+            object: Object::Media,
+            call: 0,
+        };
+        Settings {
+            words: Vec::new(alloc),
+            hash: Hash::Sha,
+            packets: Vec::new(alloc),
+            pieces: Vec::new(alloc),
+            judges: String::new(alloc),
+            room: 1000,
+            fault,
+            view: View::Run,
+            status: 0,
+            least: 0,
+            part: false,
+            asked: String::new(alloc),
+            around: (0, 0),
+        }
+    }
+
+    /// Sets what a line says.
+    pub fn set(&mut self, alloc: Global, key: &str, value: &str) -> Result<(), Trouble> {
+        match key {
+            "words" => self.words = words_of(alloc, value)?,
+            "hash" => self.hash = hash_of(value)?,
+            "packets" => self.packets = numbers_of(alloc, value)?,
+            "pieces" => self.pieces = pairs_of(alloc, value)?,
+            "judges" => self.judges = String::from_str(alloc, value)?,
+            "room" => self.room = value.parse::<usize>()?,
+            "fault" => self.fault = fault_of(value)?,
+            "view" => self.view = view_of(value)?,
+            "status" => self.status = value.parse::<u8>()?,
+            "least" => self.least = value.parse::<u64>()?,
+            "part" => self.part = value == "yes",
+            "asked" => self.asked = String::from_str(alloc, value)?,
+            "around" => self.around = pair_of(value)?,
+            _ => return Err(Trouble::BadLine),
+        }
+        Ok(())
+    }
+}
+
+// The words of a line, a space between them; `''` is an empty word.
+fn words_of(alloc: Global, line: &str) -> Result<Vec<String>, Trouble> {
+    let mut words = Vec::new(alloc);
+    for word in line.split_whitespace() {
+        let word = if word == "''" { "" } else { word };
+        words.push(String::from_str(alloc, word)?)?;
+    }
+    Ok(words)
+}
+
+// Numbers, a space between them.
+fn numbers_of(alloc: Global, line: &str) -> Result<Vec<usize>, Trouble> {
+    let mut numbers = Vec::new(alloc);
+    for word in line.split_whitespace() {
+        numbers.push(word.parse::<usize>()?)?;
+    }
+    Ok(numbers)
+}
+
+// Pairs of numbers, a space between them.
+fn pairs_of(alloc: Global, line: &str) -> Result<Vec<(usize, usize)>, Trouble> {
+    let mut pairs = Vec::new(alloc);
+    for word in line.split_whitespace() {
+        pairs.push(pair_of(word)?)?;
+    }
+    Ok(pairs)
+}
+
+// Two numbers with a slash between them, or one that is both.
+fn pair_of(word: &str) -> Result<(usize, usize), Trouble> {
+    let (first, second) = word.split_once('/').unwrap_or((word, word));
+    Ok((first.parse::<usize>()?, second.parse::<usize>()?))
+}
+
+// The hash of this name.
+fn hash_of(name: &str) -> Result<Hash, Trouble> {
+    match name {
+        "sha" => Ok(Hash::Sha),
+        "weak" => Ok(Hash::WeakSum),
+        _ => Err(Trouble::BadLine),
+    }
+}
+
+// The view of this name.
+fn view_of(name: &str) -> Result<View, Trouble> {
+    match name {
+        "run" => Ok(View::Run),
+        "each call" => Ok(View::EachCall),
+        "prefixes" => Ok(View::Prefixes),
+        "changes" => Ok(View::Changes),
+        "roles" => Ok(View::Roles),
+        _ => Err(Trouble::BadLine),
+    }
+}
+
+// An object and the number of its call, a space between them; the number is 0 where there is none.
+fn fault_of(line: &str) -> Result<Fault, Trouble> {
+    let (name, call) = line.split_once(' ').unwrap_or((line, "0"));
+    let object = match name {
+        "media" => Object::Media,
+        "second" => Object::Second,
+        "judge" => Object::Judge,
+        "report" => Object::Report,
+        _ => return Err(Trouble::BadLine),
+    };
+    Ok(Fault {
+        object,
+        call: call.parse::<u64>()?,
+    })
+}

@@ -1,0 +1,106 @@
+// What a row comes to.
+use crate::bytes::one_more;
+use crate::once::{Outcome, run_once};
+use crate::settings::{Fault, Settings, View};
+use crate::trouble::Trouble;
+use c2_cmd::roles;
+use std::alloc::Global;
+
+// The most calls of one object.
+const MOST_CALLS: u64 = 10_000;
+
+/// The files of a row, and the lengths of pieces in which they are read.
+#[derive(Clone, Copy)]
+pub struct Read<'a> {
+    pub first: &'a [u8],
+    pub second: Option<&'a [u8]>,
+    pub pieces: (usize, usize),
+}
+
+/// What a row comes to in its view, over these files.
+pub fn view(alloc: Global, settings: &Settings, read: Read) -> Result<String, Trouble> {
+    match settings.view {
+        View::Run => whole(alloc, settings, read)?.told(alloc),
+        View::EachCall => each_call(alloc, settings, read),
+        View::Prefixes => prefixes(alloc, settings, read),
+        View::Changes => changes(alloc, settings, read),
+        View::Roles => Ok(format!(in alloc; "{:?}", roles(alloc, &settings.words))?),
+    }
+}
+
+// The run over these files.
+fn whole(alloc: Global, settings: &Settings, read: Read) -> Result<Outcome, Trouble> {
+    let files = (read.first, read.second);
+    run_once(alloc, settings, files, read.pieces, settings.fault)
+}
+
+// Lets an object fail at each of its calls in turn, until none fails, and compares each with the run in which nothing fails.
+fn each_call(alloc: Global, settings: &Settings, read: Read) -> Result<String, Trouble> {
+    let wanted = whole(alloc, settings, read)?;
+    let told = wanted.told(alloc)?;
+    let object = settings.fault.object;
+    for call in 1..MOST_CALLS {
+        let files = (read.first, read.second);
+        let fault = Fault { object, call };
+        let got = run_once(alloc, settings, files, read.pieces, fault)?;
+        if got.status != settings.status {
+            return last_call(alloc, settings, told, &got, call);
+        }
+        if !is_fault(settings, &wanted, &got) {
+            let got = got.told(alloc)?;
+            return Ok(format!(in alloc; "{got} where call {call} fails")?);
+        }
+    }
+    Ok(String::from_str(alloc, "no run without a fault")?)
+}
+
+// What a run comes to in which no call failed, and where the object had fewer than this: it is the same as where nothing fails.
+fn last_call(
+    alloc: Global,
+    settings: &Settings,
+    wanted: String,
+    got: &Outcome,
+    call: u64,
+) -> Result<String, Trouble> {
+    let got = got.told(alloc)?;
+    if got.as_str() != wanted.as_str() {
+        return Ok(format!(in alloc; "{got} with {call} calls")?);
+    }
+    if call <= settings.least {
+        return Ok(format!(in alloc; "{got} with fewer than {call} calls")?);
+    }
+    Ok(wanted)
+}
+
+// Whether a run with a fault leaves what it may.
+fn is_fault(settings: &Settings, whole: &Outcome, got: &Outcome) -> bool {
+    let report = got.report.as_str();
+    let is_part = settings.part && whole.report.as_str().starts_with(report);
+    let asked = settings.asked.as_str();
+    let is_asked = asked.split(' ').any(|times| times == got.asked.as_str());
+    !got.finished && (report.is_empty() || is_part) && (asked.is_empty() || is_asked)
+}
+
+// The statuses of the runs over each prefix of the first file but itself.
+fn prefixes(alloc: Global, settings: &Settings, read: Read) -> Result<String, Trouble> {
+    let mut statuses = String::new(alloc);
+    for length in 0..read.first.len() {
+        let first = read.first.get(..length).unwrap_or(&[]);
+        let status = whole(alloc, settings, Read { first, ..read })?.status;
+        write!(&mut statuses, "{status}")?;
+    }
+    Ok(statuses)
+}
+
+// The statuses of the runs over the first file, where one byte is one more.
+fn changes(alloc: Global, settings: &Settings, read: Read) -> Result<String, Trouble> {
+    let mut statuses = String::new(alloc);
+    let (before, behind) = settings.around;
+    for place in before..read.first.len().saturating_sub(behind) {
+        let changed = one_more(alloc, read.first, place)?;
+        let first = changed.as_slice();
+        let status = whole(alloc, settings, Read { first, ..read })?.status;
+        write!(&mut statuses, "{status}")?;
+    }
+    Ok(statuses)
+}
