@@ -1,0 +1,16 @@
+mod Stages
+mod OneBuild
+mod SomeBuild
+mod Approved
+mod NewFile
+mod Worked
+mod Walked
+mod Outside
+mod Drafted
+mod Inputs
+mod Written
+mod Drawn
+mod Placed
+mod NewStores
+mod Ended
+mod Seen

@@ -1,0 +1,28 @@
+use Rattle.c2_build.proofs.OneBuild.{OneLaws, one_embedding, one_plan}
+use Rattle.c2_build.proofs.laws.a_build_comes_to_one_thing.Goals as goal
+
+-- each stage comes to one thing: those of a plan
+pub returns-clause-plan : goal.returns-clause-plan
+returns-clause-plan c =
+    let laws : OneLaws = record {
+      opened = c.one_opening.ensures.file;
+      definition = c.each_definition_is_read_one_way.ensures.one;
+      item = c.one_item.ensures;
+      list = c.segments_end_or_fail.ensures.one;
+      number = c.place_and_number_are_one.ensures.number;
+      refused = c.each_message_is_accepted_or_refused_for_one_test.ensures;
+      fills = c.a_message_fills_its_reserve_or_needs_more.ensures;
+    } in one_plan laws
+
+-- and those of a new file
+pub returns-clause-embedding : goal.returns-clause-embedding
+returns-clause-embedding c =
+    let laws : OneLaws = record {
+      opened = c.one_opening.ensures.file;
+      definition = c.each_definition_is_read_one_way.ensures.one;
+      item = c.one_item.ensures;
+      list = c.segments_end_or_fail.ensures.one;
+      number = c.place_and_number_are_one.ensures.number;
+      refused = c.each_message_is_accepted_or_refused_for_one_test.ensures;
+      fills = c.a_message_fills_its_reserve_or_needs_more.ensures;
+    } in one_embedding laws

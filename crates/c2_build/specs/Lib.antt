@@ -1,0 +1,5 @@
+pub mod Refusals
+pub mod Building
+pub mod Answers
+pub mod Meeting
+pub mod Steps

@@ -1,0 +1,94 @@
+-- What a file meets that is built into a JPEG file without a store.
+use Rattle.std.specs.Prelude.{◌≡◌, ℕ, ◌<◌, ◌^◌, ⊤, List, [], ◌∷◌, All}
+use Rattle.std.specs.declared.result.Result.{Result}
+use Rattle.std.specs.declared.result.Result.TheVariants.{Ok, Err}
+use Rattle.std.specs.List.{AllByRecursion}
+use Rattle.c2_base.specs.declared.values.Question.{Question}
+use Rattle.c2_spec.specs.C2pa.Manifest.{Manifest}
+use Rattle.c2_spec.specs.Jumbf.Tree.{Tree}
+use Rattle.c2_spec.specs.PutIn.{taken_out}
+use Rattle.c2_spec.specs.declared.digest.Alg.{Alg}
+use Rattle.c2_spec.specs.declared.panel.Verdict.{Verdict}
+use Rattle.c2_spec.specs.declared.panel.Verdict.TheVariants.{Approved}
+use Rattle.c2_rules.specs.CheckList.{IsValid, StoreReading, questions, unjudged_list}
+use Rattle.c2_rules.specs.Readings.{AreReadings}
+use Rattle.c2_rules.specs.Tests.{AllHold}
+use Rattle.c2_rules.specs.Validated.{IsAnswer}
+use Rattle.c2_rules.specs.declared.answer.Answer.TheVariants as answer
+use Rattle.c2_rules.specs.declared.answer.Summary.{Summary}
+use Rattle.c2_definition.specs.DefinitionFile.{IsDefinition}
+use Rattle.c2_definition.specs.declared.types.Definition.{Definition}
+use Rattle.c2_layout.specs.Fresh.{GivesDigests, Meets}
+use Rattle.c2_layout.specs.Written.{HasTexts}
+use Rattle.c2_build.specs.Building.{Built, IsEmbedded, IsPlanned}
+use Rattle.c2_build.specs.declared.error.BuildError.{BuildError}
+use Rattle.c2_build.specs.declared.types.Embedded.{Embedded}
+
+-- ---- one outcome
+
+-- `plan` comes to one thing over the same inputs
+abbrev pub OnePlan : Type 0
+OnePlan = (hash : Alg → List ℕ → List ℕ) (media definition : List ℕ) (a b : Result (List ℕ) BuildError)
+    → IsPlanned hash media definition a → IsPlanned hash media definition b → a ≡ b
+
+-- and so does `embed`
+abbrev pub OneEmbedding : Type 0
+OneEmbedding = (hash : Alg → List ℕ → List ℕ) (media definition message : List ℕ) (a b : Result Built BuildError)
+    → IsEmbedded hash media definition message a → IsEmbedded hash media definition message b → a ≡ b
+
+-- `plan` comes to something over each media file and each definition file
+abbrev pub SomePlan : Type 0
+SomePlan = (hash : Alg → List ℕ → List ℕ) (media definition : List ℕ) → All (λ b. b < 2 ^ 8) media
+    → (r : Result (List ℕ) BuildError) × IsPlanned hash media definition r
+
+-- and `embed` over each message besides
+abbrev pub SomeEmbedding : Type 0
+SomeEmbedding = (hash : Alg → List ℕ → List ℕ) (media definition message : List ℕ) → All (λ b. b < 2 ^ 8) media
+    → All (λ b. b < 2 ^ 8) message → (r : Result Built BuildError) × IsEmbedded hash media definition message r
+
+-- ---- verdicts
+
+-- each of these questions is approved
+abbrev pub AreApproved : (Question → Verdict) → List Question → Type 0
+AreApproved said qs = AllByRecursion (λ (q : Question). said q ≡ Approved) qs
+
+-- Approval of every question is all that a store lacks whose other rules hold.
+abbrev pub ApprovedIsValid : Type 0
+ApprovedIsValid = (hash : Alg → List ℕ → List ℕ) (said : Question → Verdict) (ms : List Manifest) (s : StoreReading)
+    → AreReadings ms s.readings → AllHold (unjudged_list hash s) → AreApproved said (questions s.readings) → IsValid hash said s
+
+-- ---- the new file
+
+-- the texts of the definition that a file is are texts as a program holds them
+abbrev pub HasTextsIn : List ℕ → Type 0
+HasTextsIn file = (d : Definition) → IsDefinition file (Ok d) → HasTexts d
+
+-- The file has its new store in the new range, and all rules hold of it apart from the verdict. It asks one question: that of the
+-- new manifest, over the bytes that `plan` gives. Without the new range it is the media. A panel that approves the one question
+-- finds it valid.
+pub record BuiltMeets (hash : Alg → List ℕ → List ℕ) (media definition : List ℕ) (b : Built) : Type 0 where
+  pub store : Tree
+  pub question : Question
+  pub meets : Meets hash b.file b.start b.len store (question ∷ [])
+  pub signed : IsPlanned hash media definition (Ok question.tbs)
+  pub base : taken_out b.start b.len b.file ≡ media
+  pub accepted : (said : Question → Verdict) → said question ≡ Approved
+      → (s : Summary) × IsAnswer hash said b.file (answer.Valid s)
+
+-- What `embed` writes meets this.
+abbrev pub BuiltFileMeets : Type 0
+BuiltFileMeets = (hash : Alg → List ℕ → List ℕ) (media definition message : List ℕ) (b : Built)
+    → GivesDigests hash → HasTextsIn definition → IsEmbedded hash media definition message (Ok b)
+    → BuiltMeets hash media definition b
+
+-- the new file that is answered meets this
+abbrev pub IsMet : (Alg → List ℕ → List ℕ) → List ℕ → List ℕ → List ℕ → Result Embedded BuildError → Type 0
+IsMet hash media definition message (Ok e) =
+    (b : Built) → IsEmbedded hash media definition message (Ok b) → BuiltMeets hash media definition b
+IsMet hash media definition message (Err e) = ⊤
+
+-- Some build succeeds, whatever the hash: what is said of new files is said of some.
+abbrev pub SomeBuildSucceeds : Type 0
+SomeBuildSucceeds = (hash : Alg → List ℕ → List ℕ)
+    → (media : List ℕ) × (definition : List ℕ) × (message : List ℕ) × (b : Built)
+    × HasTextsIn definition × IsEmbedded hash media definition message (Ok b)

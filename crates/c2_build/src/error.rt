@@ -1,0 +1,61 @@
+// Why nothing is built.
+
+use c2_base::{NoMemory as OutOfMemory, Text};
+use c2_definition::DefinitionField;
+use c2_message::SignaturePart;
+use c2_rules::Code;
+use c2_spec::Reason;
+
+/// Why nothing is built. A variant further up is tested earlier; the last four have no place in this order, since they say nothing
+/// of the inputs.
+#[derive(Debug, Drop)]
+pub enum BuildError {
+    /// The container, a box or the store of the media file is refused for this reason, with its number. `FileTooLarge` also tells
+    /// the length of a file that would be built too long.
+    MediaRefused(Reason, u64),
+
+    /// What is refused of the definition file first.
+    BadDefinition(DefinitionField),
+
+    /// The test that the signed message fails first.
+    BadSignature(SignaturePart),
+
+    /// The media file has a store already, or is a BMFF file. This version can't write into it yet. A refused one is
+    /// `MediaRefused`.
+    Later,
+
+    /// The first redaction, in the definition's own spelling, and why it can't be made.
+    RedactionRefused(Text, Code),
+
+    /// Packets of the media file have taken each box instance number from `LEAST_NUMBER` on.
+    NoInstance,
+
+    /// So many bytes are too many for a store: `MAX_STORE_LEN` is the most.
+    StoreTooLarge(u64),
+
+    /// The signed message doesn't fit into the bytes that are reserved for it: so many are needed.
+    ReserveTooSmall(u64),
+
+    /// A source failed.
+    ReadFault,
+
+    /// A judge failed. No judge is asked by this version.
+    JudgeFault,
+
+    /// The sink failed.
+    WriteFault,
+
+    /// Memory ran out.
+    NoMemory,
+}
+
+impl From<OutOfMemory> for BuildError {
+    ghost use Rattle.std.specs.Prelude.{◌≡◌};
+    ghost use Rattle.c2_build.specs.declared.error.BuildError.TheVariants.{NoMemory};
+
+    ghost from_gives = { λ _ e. e ≡ NoMemory };
+
+    fn from(_: OutOfMemory) -> BuildError {
+        BuildError::NoMemory
+    }
+}

@@ -1,0 +1,72 @@
+// What holds of each build; nothing is computed.
+ghost use Rattle.c2_build.specs.Meeting.{ApprovedIsValid, BuiltFileMeets, SomeBuildSucceeds};
+ghost use Rattle.c2_build.specs.Meeting.{OneEmbedding, OnePlan, SomeEmbedding, SomePlan};
+
+use c2_cbor::one_item;
+use c2_definition::{definitions_are_well_formed, each_definition_is_read_one_way};
+use c2_jpegseg::{a_located_file_is_segments, place_and_number_are_one, segments_end_or_fail};
+use c2_layout::{a_built_file_has_its_store, a_fresh_file_meets_the_rules};
+use c2_message::{
+    a_message_fills_its_reserve_or_needs_more, each_message_is_accepted_or_refused_for_one_test,
+};
+use c2_rules::a_question_where_the_claim_rules_hold;
+use c2_validate::{each_file_has_a_check, one_opening};
+
+/// The same inputs come to one thing: the bytes that are to be signed, the new file, or what is refused first.
+pub fn a_build_comes_to_one_thing()
+    ensures plan { OnePlan }
+    ensures embedding { OneEmbedding }
+{
+    // Only the prover needs these laws.
+    one_opening();
+    each_definition_is_read_one_way();
+    one_item();
+    segments_end_or_fail();
+    place_and_number_are_one();
+    each_message_is_accepted_or_refused_for_one_test();
+    a_message_fills_its_reserve_or_needs_more();
+}
+
+/// Each list of inputs comes to something.
+pub fn each_build_comes_to_something()
+    ensures plan { SomePlan }
+    ensures embedding { SomeEmbedding }
+{
+    // Only the prover needs these laws.
+    each_file_has_a_check();
+    each_definition_is_read_one_way();
+    definitions_are_well_formed();
+    a_located_file_is_segments();
+    each_message_is_accepted_or_refused_for_one_test();
+    a_message_fills_its_reserve_or_needs_more();
+}
+
+/// A store whose other rules hold lacks nothing but the approval of its questions.
+pub fn approval_of_each_question_is_enough()
+    ensures { ApprovedIsValid }
+{
+    // Only the prover needs this law.
+    a_question_where_the_claim_rules_hold();
+}
+
+/// A new file has its new store in the new range, where every rule holds of it apart from the verdict.
+pub fn a_new_file_meets_the_rules()
+    ensures { BuiltFileMeets }
+{
+    // Only the prover needs these laws.
+    definitions_are_well_formed();
+    segments_end_or_fail();
+    a_fresh_file_meets_the_rules();
+    a_built_file_has_its_store();
+    approval_of_each_question_is_enough();
+}
+
+/// Some inputs come to a new file.
+pub fn some_build_succeeds()
+    ensures { SomeBuildSucceeds }
+{
+    // Only the prover needs these laws.
+    each_definition_is_read_one_way();
+    one_item();
+    a_message_fills_its_reserve_or_needs_more();
+}

@@ -1,0 +1,28 @@
+//! What is built into a JPEG file: a new store, from a definition file and a signed message.
+//!
+//! What each call comes to stands in `specs/Building.antt`, what is refused in `specs/Refusals.antt`, and what a new file meets in
+//! `specs/Meeting.antt`.
+#![tactic(auto)]
+
+mod copying;
+mod digesting;
+mod draft;
+mod embedding;
+mod error;
+mod laws;
+mod media;
+mod place;
+mod planning;
+mod reading;
+mod redacting;
+mod texts;
+mod types;
+
+pub use embedding::embed;
+pub use error::BuildError;
+pub use laws::{
+    a_build_comes_to_one_thing, a_new_file_meets_the_rules, approval_of_each_question_is_enough,
+    each_build_comes_to_something, some_build_succeeds,
+};
+pub use planning::plan;
+pub use types::Embedded;

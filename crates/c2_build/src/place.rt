@@ -1,0 +1,109 @@
+// Where the packets of a new store go in a JPEG file, and their number.
+ghost use Rattle.std.specs.Prelude.{◌≡◌, ℕ, ◌<◌, ◌≤◌, List, IfErr, IfOk, Ok, OnOk};
+ghost use Rattle.std.specs.Option.{ForSome};
+ghost use Rattle.c2_base.specs.Source.{StaysSource};
+ghost use Rattle.c2_base.specs.declared.limits.TheConstants.{FILE_LEN_LIMIT};
+ghost use Rattle.c2_spec.specs.Jpeg.Places.{IsOfSegments};
+ghost use Rattle.c2_spec.specs.Jpeg.Segments.{Segment};
+ghost use Rattle.c2_spec.specs.Located.{HasReason};
+ghost use Rattle.c2_jpegseg.specs.Refusals.{TellsFault};
+ghost use Rattle.c2_spec.specs.Jpeg.Store.{HasNoJpegStore};
+ghost use Rattle.c2_build.specs.Building.{IsMediaStage, IsPlace, IsPlaceStage, Place};
+ghost use Rattle.c2_build.specs.Steps.{ComesAs, IsReadCause, IsSpot, SaysNothing};
+
+use crate::BuildError;
+use c2_base::{Failed, MediaError, Range, Source};
+use c2_jpegseg::{
+    a_located_file_is_segments, free_number, insert_place, place_and_number_are_one,
+    segments_end_or_fail,
+};
+use c2_spec::Refusal;
+use std::alloc::Global;
+
+// No range is passed over.
+const NO_RANGE: Range = Range {
+    start: 0,
+    length: 0,
+};
+
+/// A place for packets, as it was found in a media file.
+#[derive(Clone, Copy, Debug)]
+pub struct Spot {
+    /// The place of their first byte.
+    pub start: u64,
+
+    /// The least free number, where one is free.
+    pub number: Option<u16>,
+
+    /// How many bytes the media file has.
+    pub size: u64,
+}
+
+// Why the segments of a media file can't be walked. A file that is one list of segments isn't refused.
+fn walk_error(error: MediaError) -> BuildError
+    ensures told { (file : List ℕ) (segments : List Segment)
+        → IsOfSegments file segments → TellsFault file error → SaysNothing result }
+    ensures cause { (len before now : ℕ)
+        → HasReason len before now error → IsReadCause before now result }
+{
+    // Only the prover needs this law.
+    segments_end_or_fail();
+    match error {
+        MediaError::ReadFault => BuildError::ReadFault,
+        MediaError::NoMemory => BuildError::NoMemory,
+        other => match Refusal::of_media(other) {
+            Some(refusal) => BuildError::MediaRefused(refusal.reason, refusal.number),
+            None => BuildError::NoMemory,
+        },
+    }
+}
+
+// The place in a JPEG file without a store, which has `size` bytes.
+fn spot_in<A: Source>(alloc: Global, media: &mut A, size: u64) -> Result<Spot, BuildError>
+    ensures spot { IfOk result (λ s. ForSome (A.known media.old) (λ file.
+        HasNoJpegStore file → (p : Place) × IsPlace file p × IsSpot s p)) }
+    ensures told { IfErr result (λ e. ForSome (A.known media.old) (λ file.
+        HasNoJpegStore file → SaysNothing e)) }
+    ensures size { IfOk result (λ s. s.size ≡ size) }
+    ensures inside { IfOk result (λ s. s.start ≤ A.len media.old) }
+    ensures short { OnOk result (A.len media.old < FILE_LEN_LIMIT) }
+    ensures cause { IfErr result (IsReadCause (A.faults media.old) (A.faults media.new)) }
+    ensures count { OnOk result (A.faults media.new ≡ A.faults media.old) }
+    ensures stays { StaysSource A.len A.known A.faults media.old media.new }
+{
+    // Only the prover needs these laws.
+    a_located_file_is_segments();
+    segments_end_or_fail();
+    let start = match insert_place(media, NO_RANGE) {
+        Ok(start) => start,
+        Err(error) => return Err(walk_error(error)),
+    };
+    match free_number(alloc, media, NO_RANGE) {
+        Ok(number) => Ok(Spot {
+            start,
+            number,
+            size,
+        }),
+        Err(error) => Err(walk_error(error)),
+    }
+}
+
+/// Where packets go in a media file, which may have to wait.
+pub fn find_spot<A: Source>(alloc: Global, media: &mut A, waits: bool) -> Result<Spot, BuildError>
+    ensures stage { ForSome (A.known media.old) (λ file. IsMediaStage file (Ok waits)
+        → ComesAs IsSpot (IsPlaceStage file waits) result) }
+    ensures size { IfOk result (λ s. s.size ≡ A.len media.old) }
+    ensures inside { IfOk result (λ s. s.start ≤ s.size) }
+    ensures short { IfOk result (λ s. s.size < FILE_LEN_LIMIT) }
+    ensures cause { IfErr result (IsReadCause (A.faults media.old) (A.faults media.new)) }
+    ensures count { OnOk result (A.faults media.new ≡ A.faults media.old) }
+    ensures stays { StaysSource A.len A.known A.faults media.old media.new }
+{
+    if waits {
+        return Err(BuildError::Later);
+    }
+    match media.size() {
+        Ok(size) => spot_in(alloc, media, size),
+        Err(Failed) => Err(BuildError::ReadFault),
+    }
+}
