@@ -1,4 +1,4 @@
-//! Worked rows of the formats, digests and judges: tests of public calls of the crates below, which are proved once without them.
+//! Tests of public calls of the formats and digests that are no rows of a table: those are data of `c2_part_rows`.
 #![tactic(auto)]
 
 #[cfg(test)]
@@ -9,9 +9,5 @@ mod digests;
 mod films;
 #[cfg(test)]
 mod items;
-#[cfg(test)]
-mod judges;
-#[cfg(test)]
-mod pads;
 #[cfg(test)]
 mod segments;

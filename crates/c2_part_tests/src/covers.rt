@@ -1,14 +1,10 @@
-// Worked covers. What is expected was worked out by hand: the files' bytes say their places.
-ghost use Rattle.std.specs.Prelude.{◌+◌, ◌<◌, ◌≤◌};
+// What is read of a file, and texts that are compared. What is expected was worked out by hand: the files' bytes say their places.
+ghost use Rattle.std.specs.Prelude.{◌+◌, ◌≤◌};
 
 use c2_base::{Blob, Failed, MemSource, Range, VastSource};
-use c2_cover::{
-    CoverError, CoveredReader, check_ranges, cover_without, covered_count, data_cover,
-    digest_cover, outside_count, same_text,
-};
-use c2_hash::{Alg, Digest, Sha, digest_of};
+use c2_cover::{CoveredReader, cover_without, covered_count, data_cover, digest_cover, same_text};
+use c2_hash::{Alg, Sha, digest_of};
 use std::alloc::Global;
-use std::process::Abort;
 use std::test::Fail;
 
 // Bytes that say their places.
@@ -18,106 +14,6 @@ const PLACES: [u8; 20] = [
 
 fn range(start: u64, length: u64) -> Range {
     Range { start, length }
-}
-
-#[test]
-fn ranges_rise_inside_the_file(rt: HostRuntime) {
-    let touching = [range(10, 5), range(15, 0), range(15, 85)];
-    assert_eq!(rt; check_ranges(&touching, 100), Ok(()));
-    assert_eq!(rt; check_ranges(&[range(10, 5), range(14, 1)], 100), Err(1));
-    assert_eq!(rt;
-        check_ranges(&[range(10, 5), range(15, 0), range(15, 86)], 100),
-        Err(2)
-    );
-    assert_eq!(rt; check_ranges(&touching, 99), Err(2));
-    assert_eq!(rt; check_ranges(&[range(101, 0)], 100), Err(0));
-    assert_eq!(rt;
-        check_ranges(&[range(u64::MAX, u64::MAX)], u64::MAX),
-        Err(0)
-    );
-    assert_eq!(rt; check_ranges(&[range(0, 1 << 63)], 100), Err(0));
-    assert_eq!(rt; check_ranges(&[], 0), Ok(()));
-}
-
-#[test]
-fn counts_are_those_of_the_positions(rt: HostRuntime) -> Result<(), Fail> {
-    let alloc = rt.alloc();
-    let touching = [range(10, 5), range(15, 0), range(15, 85)];
-    let Ok(cover) = data_cover(alloc, &touching, 100) else {
-        assert!(rt; false);
-        return Ok(());
-    };
-    assert_eq!(rt; covered_count(&cover), 10);
-    assert_eq!(rt; outside_count(&cover, 12, 8), 82);
-    assert_eq!(rt; outside_count(&cover, 10, u64::MAX), 0);
-    assert_eq!(rt; outside_count(&cover, 0, 0), 90);
-    assert!(rt; data_cover(alloc, &touching, 99).err() == Some(CoverError::BadRange(2)));
-    Ok(())
-}
-
-// The digest of what these ranges leave of `PLACES`, over a source that gives `most` bytes a call, through a buffer of `room` bytes.
-fn digest_at(
-    alloc: Global,
-    ranges: &[Range],
-    most: usize,
-    room: usize,
-) -> Result<Option<Digest>, Fail>
-    requires most { 0 < most }
-    requires room { 0 < room }
-{
-    let mut source = MemSource::new(Blob::copied(alloc, &PLACES)?, most, 0);
-    let mut buf = vec![in alloc; 0; room]?;
-    let Ok(cover) = data_cover(alloc, ranges, 20) else {
-        return Ok(None);
-    };
-    Ok(digest_cover(&Sha, &mut source, &cover, Alg::Sha256, &mut buf).ok())
-}
-
-fn compare(rt: &impl Abort, alloc: Global, ranges: &[Range], want: &[u8]) -> Result<(), Fail> {
-    for most in [1, 7, 65_536] {
-        for room in [1, 7, 65_536] {
-            let found = digest_at(alloc, ranges, usize::max(1, most), usize::max(1, room))?;
-            assert!(rt; found == Some(digest_of(&Sha, Alg::Sha256, want)));
-        }
-    }
-    Ok(())
-}
-
-#[test]
-fn texts_are_read_by_pieces_of_any_length(rt: HostRuntime) -> Result<(), Fail> {
-    let alloc = rt.alloc();
-    compare(&rt, alloc, &[], &PLACES)?;
-    compare(&rt, alloc, &[range(0, 20)], &[])?;
-    compare(&rt, alloc, &[range(0, 3), range(17, 3)], &PLACES[3..17])?;
-    let apart = [0, 1, 2, 3, 4, 5, 6, 17, 18, 19];
-    compare(&rt, alloc, &[range(3, 0), range(7, 10)], &apart)?;
-    compare(
-        &rt,
-        alloc,
-        &[range(1, 9), range(10, 0), range(10, 9)],
-        &[0, 19],
-    )
-}
-
-#[test]
-fn a_thousand_ranges_leave_each_third_byte(rt: HostRuntime) -> Result<(), Fail> {
-    let alloc = rt.alloc();
-    let mut ranges = Vec::new(alloc);
-    let mut bytes = Vec::new(alloc);
-    for i in 0..1_024_u64 {
-        ranges.push(range(3 * i, 2))?;
-        for byte in [0, 1, (i % 251) as u8] {
-            bytes.push(byte)?;
-        }
-    }
-    let blob = Blob::from_vec(bytes);
-    let Ok(cover) = data_cover(alloc, &ranges, blob.as_slice().len() as u64) else {
-        assert!(rt; false);
-        return Ok(());
-    };
-    assert_eq!(rt; covered_count(&cover), 1_024);
-    assert_eq!(rt; outside_count(&cover, 3, 3_066), 4);
-    Ok(())
 }
 
 // Of 2^61 bytes all but the first and the last are excluded: two reads.

@@ -1,15 +1,10 @@
-// Worked covers of BMFF hashes. What is expected was worked out by hand.
+// What is read of a film, and texts that are compared. What is expected was worked out by hand.
 ghost use Rattle.std.specs.Prelude.{◌<◌};
 
-use c2_base::{Blob, Failed, MemSource, Range, Ranges};
+use c2_base::{Blob, Failed, MemSource};
 use c2_bmff::{ByteTests, Exclusion, read_path, roots};
-use c2_cover::{
-    CoverError, CoveredReader, bmff_cover, covered_count, data_cover, digest_cover, outside_count,
-    same_text,
-};
-use c2_hash::{Alg, Digest, Sha, digest_of};
+use c2_cover::{CoverError, CoveredReader, bmff_cover, data_cover, same_text};
 use std::alloc::Global;
-use std::process::Abort;
 use std::test::Fail;
 
 // A box `ftyp` of 16 bytes and a box `mdat` with one byte.
@@ -18,151 +13,24 @@ const TWO: [u8; 25] = [
     0x64, 0x61, 0x74, 0x41,
 ];
 
-// The same `ftyp`, and `mdat` with its size after its type.
-const LONG: [u8; 33] = [
-    0, 0, 0, 0x10, 0x66, 0x74, 0x79, 0x70, 0x69, 0x73, 0x6F, 0x6D, 0, 0, 0, 0, 0, 0, 0, 1, 0x6D,
-    0x64, 0x61, 0x74, 0, 0, 0, 0, 0, 0, 0, 0x11, 0x41,
-];
-
 // The places of the two boxes in 8 bytes each, before their bytes.
 const WHOLE: [u8; 41] = [
     0, 0, 0, 0, 0, 0, 0, 0, 0, 0, 0, 0x10, 0x66, 0x74, 0x79, 0x70, 0x69, 0x73, 0x6F, 0x6D, 0, 0, 0,
     0, 0, 0, 0, 0, 0, 0, 0, 0x10, 0, 0, 0, 9, 0x6D, 0x64, 0x61, 0x74, 0x41,
 ];
 
-// What an exclusion names: a path, and a part of the boxes on it.
-type Case = (&'static str, Option<Range>);
-
-fn part(start: u64, length: u64) -> Option<Range> {
-    Some(Range { start, length })
-}
-
-fn exclusion(alloc: Global, case: &Case) -> Result<Option<Exclusion>, Fail> {
-    let Some(path) = read_path(alloc, case.0)? else {
-        return Ok(None);
-    };
-    let tests = Vec::new(alloc);
-    let mut subset = None;
-    if let Some(part) = case.1 {
-        let mut parts = Vec::new(alloc);
-        parts.push(part)?;
-        subset = Some(Ranges::from_list(parts));
-    }
-    Ok(Some(Exclusion {
-        path,
-        length: None,
-        tests: ByteTests::from_list(tests),
-        subset,
-    }))
-}
-
-fn exclusions(alloc: Global, cases: &[Case]) -> Result<Vec<Exclusion>, Fail> {
+// The exclusion of the whole first box.
+fn first_excluded(alloc: Global) -> Result<Vec<Exclusion>, Fail> {
     let mut entries = Vec::new(alloc);
-    for case in cases {
-        if let Some(entry) = exclusion(alloc, case)? {
-            entries.push(entry)?;
-        }
+    if let Some(path) = read_path(alloc, "/ftyp")? {
+        entries.push(Exclusion {
+            path,
+            length: None,
+            tests: ByteTests::from_list(Vec::new(alloc)),
+            subset: None,
+        })?;
     }
     Ok(entries)
-}
-
-// The digest of what these exclusions leave of a file, over a source that gives `most` bytes a call, through a buffer of `room` bytes.
-fn digest_at(
-    alloc: Global,
-    bytes: &[u8],
-    cases: &[Case],
-    most: usize,
-    room: usize,
-) -> Result<Option<Digest>, Fail>
-    requires most { 0 < most }
-    requires room { 0 < room }
-{
-    let mut source = MemSource::new(Blob::copied(alloc, bytes)?, most, 0);
-    let mut buf = vec![in alloc; 0; room]?;
-    let entries = exclusions(alloc, cases)?;
-    let Ok(boxes) = roots(alloc, &mut source) else {
-        return Ok(None);
-    };
-    let Ok(cover) = bmff_cover(alloc, &mut source, &boxes, &entries) else {
-        return Ok(None);
-    };
-    Ok(digest_cover(&Sha, &mut source, &cover, Alg::Sha256, &mut buf).ok())
-}
-
-fn compare(
-    rt: &impl Abort,
-    alloc: Global,
-    bytes: &[u8],
-    cases: &[Case],
-    want: &[u8],
-) -> Result<(), Fail> {
-    for most in [1, 7, 65_536] {
-        for room in [1, 7, 65_536] {
-            let found = digest_at(
-                alloc,
-                bytes,
-                cases,
-                usize::max(1, most),
-                usize::max(1, room),
-            )?;
-            assert!(rt; found == Some(digest_of(&Sha, Alg::Sha256, want)));
-        }
-    }
-    Ok(())
-}
-
-#[test]
-fn a_box_of_which_a_byte_is_left_tells_its_place(rt: HostRuntime) -> Result<(), Fail> {
-    let alloc = rt.alloc();
-    let ftyp = ("/ftyp", None);
-    compare(&rt, alloc, &TWO, &[], &WHOLE)?;
-    compare(&rt, alloc, &TWO, &[ftyp], &WHOLE[24..])?;
-    compare(
-        &rt,
-        alloc,
-        &TWO,
-        &[ftyp, ("/mdat", part(8, 0))],
-        &WHOLE[24..40],
-    )?;
-    compare(&rt, alloc, &TWO, &[ftyp, ("/mdat", part(0, 0))], &[])?;
-    // The first bytes of both boxes are excluded: each place stands before the first byte that is left.
-    let last = [
-        0, 0, 0, 0, 0, 0, 0, 0, 0, 0, 0, 0, 0, 0, 0, 0, 0, 0, 0, 0x10, 0x41,
-    ];
-    let heads = [("/ftyp", part(0, 12)), ("/mdat", part(0, 8))];
-    compare(&rt, alloc, &TWO, &heads, &last)
-}
-
-#[test]
-fn each_form_of_a_size_is_covered_as_it_stands(rt: HostRuntime) -> Result<(), Fail> {
-    let alloc = rt.alloc();
-    let ftyp = ("/ftyp", None);
-    let long = [
-        0, 0, 0, 0, 0, 0, 0, 0x10, 0, 0, 0, 1, 0x6D, 0x64, 0x61, 0x74, 0, 0, 0, 0, 0, 0, 0, 0x11,
-        0x41,
-    ];
-    compare(&rt, alloc, &LONG, &[ftyp], &long)?;
-    let mut open = TWO;
-    open[19] = 0;
-    let mut text = WHOLE;
-    text[35] = 0;
-    compare(&rt, alloc, &open, &[ftyp], &text[24..])
-}
-
-#[test]
-fn places_are_no_positions_of_the_file(rt: HostRuntime) -> Result<(), Fail> {
-    let alloc = rt.alloc();
-    let mut source = MemSource::new(Blob::copied(alloc, &TWO)?, 65_536, 0);
-    let entries = exclusions(alloc, &[("/ftyp", None)])?;
-    let Ok(boxes) = roots(alloc, &mut source) else {
-        return Ok(assert!(rt; false));
-    };
-    let Ok(cover) = bmff_cover(alloc, &mut source, &boxes, &entries) else {
-        return Ok(assert!(rt; false));
-    };
-    assert_eq!(rt; covered_count(&cover), 9);
-    assert_eq!(rt; outside_count(&cover, 8, 100), 8);
-    Ok(())
 }
 
 // The fifth call of the source, the first after the root boxes, fails.
@@ -170,7 +38,7 @@ fn places_are_no_positions_of_the_file(rt: HostRuntime) -> Result<(), Fail> {
 fn a_failed_source_is_told(rt: HostRuntime) -> Result<(), Fail> {
     let alloc = rt.alloc();
     let mut source = MemSource::new(Blob::copied(alloc, &TWO)?, 65_536, 5);
-    let entries = exclusions(alloc, &[("/ftyp", None)])?;
+    let entries = first_excluded(alloc)?;
     let Ok(boxes) = roots(alloc, &mut source) else {
         return Ok(assert!(rt; false));
     };
@@ -184,7 +52,7 @@ fn a_failed_source_is_told(rt: HostRuntime) -> Result<(), Fail> {
 fn a_failed_read_after_a_place_changes_nothing(rt: HostRuntime) -> Result<(), Fail> {
     let alloc = rt.alloc();
     let mut source = MemSource::new(Blob::copied(alloc, &TWO)?, 65_536, 6);
-    let entries = exclusions(alloc, &[("/ftyp", None)])?;
+    let entries = first_excluded(alloc)?;
     let Ok(boxes) = roots(alloc, &mut source) else {
         return Ok(assert!(rt; false));
     };

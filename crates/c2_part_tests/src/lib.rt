@@ -1,5 +1,4 @@
-//! Worked rows of the parts of a manifest, of stores and of covers: tests of public calls of the crates below, which are proved
-//! once without them.
+//! Tests of public calls of the parts of a manifest and of covers that are no rows of a table: those are data of `c2_part_rows`.
 #![tactic(auto)]
 
 #[cfg(test)]
@@ -7,14 +6,6 @@ mod claims;
 #[cfg(test)]
 mod covers;
 #[cfg(test)]
-mod digits;
-#[cfg(test)]
-mod fields;
-#[cfg(test)]
 mod film_covers;
-#[cfg(test)]
-mod messages;
-#[cfg(test)]
-mod stores;
 #[cfg(test)]
 mod uris;

@@ -1,0 +1,148 @@
+// What a hash covers.
+ghost use Rattle.std.specs.Prelude.{◌<◌};
+
+use crate::films::exclusions_of;
+use crate::read::show_hex;
+use crate::settings::{Settings, ranges_of};
+use crate::trouble::Trouble;
+use c2_base::{Blob, Failed, MemSource, Range};
+use c2_bmff::{Exclusion, roots};
+use c2_cover::{
+    Cover, bmff_cover, check_ranges, covered_count, data_cover, digest_cover, outside_count,
+};
+use c2_hash::{Alg, Digest, Sha};
+use std::alloc::Global;
+
+// How many bytes a read gives, and how many the buffer takes.
+const LENGTHS: [(usize, usize); 9] = [
+    (1, 1),
+    (1, 7),
+    (1, 65_536),
+    (7, 1),
+    (7, 7),
+    (7, 65_536),
+    (65_536, 1),
+    (65_536, 7),
+    (65_536, 65_536),
+];
+
+/// Whether ranges rise inside a file of the size that is set, or the first that doesn't.
+pub fn checked(alloc: Global, settings: &Settings, input: &str) -> Result<String, Trouble> {
+    let ranges = ranges_of(alloc, input)?;
+    let found = check_ranges(ranges.as_slice(), settings.number("size")?);
+    Ok(format!(in alloc; "{found:?}")?)
+}
+
+/// How many positions of a file of the size that is set the ranges leave, and how many of the excluded ones stand outside the range that
+/// is set.
+pub fn counts(alloc: Global, settings: &Settings, input: &str) -> Result<String, Trouble> {
+    let ranges = ranges_of(alloc, input)?;
+    match data_cover(alloc, ranges.as_slice(), settings.number("size")?) {
+        Ok(cover) => counted(alloc, settings.range("embedded")?, &cover),
+        Err(error) => Ok(format!(in alloc; "{error:?}")?),
+    }
+}
+
+// The two counts of a cover.
+fn counted(alloc: Global, embedded: Range, cover: &Cover) -> Result<String, Trouble> {
+    let covered = covered_count(cover);
+    let outside = outside_count(cover, embedded.start, embedded.length);
+    Ok(format!(in alloc; "{covered} covered, {outside} outside")?)
+}
+
+// The counts, and the digest of what is covered.
+fn told(
+    alloc: Global,
+    embedded: Range,
+    cover: &Cover,
+    digest: Result<Digest, Failed>,
+) -> Result<String, Trouble> {
+    let mut out = counted(alloc, embedded, cover)?;
+    match digest {
+        Ok(digest) => {
+            out.push_str(" ")?;
+            show_hex(&mut out, digest.as_slice())?;
+        }
+        Err(_) => out.push_str(" failed")?,
+    }
+    Ok(out)
+}
+
+/// What the ranges that are set leave of a file: the same by reads and buffers of each length.
+pub fn data(alloc: Global, settings: &Settings, bytes: &[u8]) -> Result<String, Trouble> {
+    let ranges = ranges_of(alloc, settings.text("ranges"))?;
+    let embedded = settings.range("embedded")?;
+    let wanted = data_at(alloc, embedded, ranges.as_slice(), bytes, 1, 1)?;
+    for (most, room) in LENGTHS {
+        let (most, room) = (most.max(1), room.max(1));
+        let got = data_at(alloc, embedded, ranges.as_slice(), bytes, most, room)?;
+        if got.as_str() != wanted.as_str() {
+            return Ok(format!(in alloc; "{got} by {most} and {room} bytes")?);
+        }
+    }
+    Ok(wanted)
+}
+
+// The same over a source that gives `most` bytes a call, through a buffer of `room` bytes.
+fn data_at(
+    alloc: Global,
+    embedded: Range,
+    ranges: &[Range],
+    bytes: &[u8],
+    most: usize,
+    room: usize,
+) -> Result<String, Trouble>
+    requires most { 0 < most }
+    requires room { 0 < room }
+{
+    let mut source = MemSource::new(Blob::copied(alloc, bytes)?, most, 0);
+    let mut buf = vec![in alloc; 0; room]?;
+    match data_cover(alloc, ranges, bytes.len() as u64) {
+        Ok(cover) => {
+            let found = digest_cover(&Sha, &mut source, &cover, Alg::Sha256, &mut buf);
+            told(alloc, embedded, &cover, found)
+        }
+        Err(error) => Ok(format!(in alloc; "{error:?}")?),
+    }
+}
+
+/// What the exclusions that are set leave of a film: the same by reads and buffers of each length.
+pub fn film(alloc: Global, settings: &Settings, bytes: &[u8]) -> Result<String, Trouble> {
+    let entries = exclusions_of(alloc, settings)?;
+    let embedded = settings.range("embedded")?;
+    let wanted = film_at(alloc, embedded, entries.as_slice(), bytes, 1, 1)?;
+    for (most, room) in LENGTHS {
+        let (most, room) = (most.max(1), room.max(1));
+        let got = film_at(alloc, embedded, entries.as_slice(), bytes, most, room)?;
+        if got.as_str() != wanted.as_str() {
+            return Ok(format!(in alloc; "{got} by {most} and {room} bytes")?);
+        }
+    }
+    Ok(wanted)
+}
+
+// The same over a source that gives `most` bytes a call, through a buffer of `room` bytes.
+fn film_at(
+    alloc: Global,
+    embedded: Range,
+    entries: &[Exclusion],
+    bytes: &[u8],
+    most: usize,
+    room: usize,
+) -> Result<String, Trouble>
+    requires most { 0 < most }
+    requires room { 0 < room }
+{
+    let mut source = MemSource::new(Blob::copied(alloc, bytes)?, most, 0);
+    let mut buf = vec![in alloc; 0; room]?;
+    let Ok(boxes) = roots(alloc, &mut source) else {
+        return Err(Trouble::BadLine);
+    };
+    match bmff_cover(alloc, &mut source, &boxes, entries) {
+        Ok(cover) => {
+            let found = digest_cover(&Sha, &mut source, &cover, Alg::Sha256, &mut buf);
+            told(alloc, embedded, &cover, found)
+        }
+        Err(error) => Ok(format!(in alloc; "{error:?}")?),
+    }
+}
