@@ -2,8 +2,8 @@
 #![tactic(auto)]
 
 use c2_base::limits::MAX_INPUT_LEN;
-use c2_base::{HostFile, HostOut, NoMemory, ReadAllError, read_all};
-use c2_cmd::types::{RolesError, Status};
+use c2_base::{HostFile, HostOut, HostSink, NoMemory, ReadAllError, read_all};
+use c2_cmd::types::{Roles, RolesError, Status};
 use c2_cmd::{roles, run};
 use c2_hash::Sha;
 use c2_judge::{BrokenJudge, Judge, ListError, ListJudge};
@@ -20,31 +20,42 @@ fn main(rt: HostRuntime) -> ExitCode {
     ExitCode::from(status.code())
 }
 
-// Runs the words of the command line over the files that they name: the media file, the one that it is compared with, and a verdict
-// file for each judge.
+// Runs the words of the command line. Where none of them names a new file, no file can be made.
 fn run_words(rt: &HostRuntime, alloc: Global) -> Result<Status, NoMemory> {
     let words = words_of(rt, alloc)?;
-    let (media, second, first_judge) = match roles(alloc, &words) {
-        Ok(roles) => (roles.media, roles.second, roles.judges),
-        Err(RolesError::Usage) => (None, None, words.len()),
+    let roles = match roles(alloc, &words) {
+        Ok(roles) => Some(roles),
+        Err(RolesError::Usage) => None,
         Err(RolesError::NoMemory) => return Err(NoMemory),
     };
-    let mut judges: Vec<Box<dyn Judge>> = Vec::new(alloc);
-    for name in words.iter().skip(first_judge) {
-        match judge_of(rt, alloc, name.as_str())? {
-            Some(judge) => judges.push(Box::new(alloc, judge)?)?,
-            None => judges.push(Box::new(alloc, BrokenJudge::new())?)?,
-        }
+    match name_at(&words, roles.and_then(|roles| roles.out)) {
+        Some(name) => run_into(rt, alloc, &words, roles, HostSink::named(rt, name)),
+        None => run_into(rt, alloc, &words, roles, HostSink::absent()),
     }
-    let mut media = file_of(rt, &words, media);
-    let mut second = file_of(rt, &words, second);
+}
+
+// Runs words with these roles over the files that they name, with a verdict file for each judge; what they build goes into `out`.
+fn run_into(
+    rt: &HostRuntime,
+    alloc: Global,
+    words: &Vec<String>,
+    roles: Option<Roles>,
+    mut out: HostSink<'_, HostRuntime>,
+) -> Result<Status, NoMemory> {
+    let first_judge = roles.map_or(words.len(), |roles| roles.judges);
+    let mut judges = judges_of(rt, alloc, words, first_judge)?;
+    let mut media = file_at(rt, words, roles.and_then(|roles| roles.media));
+    let mut second = file_at(rt, words, roles.and_then(|roles| roles.second));
+    let mut third = file_at(rt, words, roles.and_then(|roles| roles.third));
     let mut report = HostOut::standard(rt.stdout());
     Ok(run(
         alloc,
         &Sha,
-        &words,
+        words,
         &mut media,
         &mut second,
+        &mut third,
+        &mut out,
         &mut report,
         &mut judges,
     ))
@@ -64,12 +75,37 @@ fn words_of(rt: &HostRuntime, alloc: Global) -> Result<Vec<String>, NoMemory> {
     Ok(words)
 }
 
+// The word at this place, where there is one.
+fn name_at(words: &Vec<String>, place: Option<usize>) -> Option<&str> {
+    match words.get(place?) {
+        Some(name) => Some(name.as_str()),
+        None => None,
+    }
+}
+
 // The file that the word at this place names, and an absent one where no word does.
-fn file_of(rt: &HostRuntime, words: &Vec<String>, place: Option<usize>) -> HostFile {
-    match place.and_then(|index| words.get(index)) {
-        Some(name) => HostFile::named(rt, name.as_str()),
+fn file_at(rt: &HostRuntime, words: &Vec<String>, place: Option<usize>) -> HostFile {
+    match name_at(words, place) {
+        Some(name) => HostFile::named(rt, name),
         None => HostFile::absent(),
     }
+}
+
+// A judge for each name from this place on: by its verdict file, or one that always fails.
+fn judges_of(
+    rt: &HostRuntime,
+    alloc: Global,
+    words: &Vec<String>,
+    first: usize,
+) -> Result<Vec<Box<dyn Judge>>, NoMemory> {
+    let mut judges: Vec<Box<dyn Judge>> = Vec::new(alloc);
+    for name in words.iter().skip(first) {
+        match judge_of(rt, alloc, name.as_str())? {
+            Some(judge) => judges.push(Box::new(alloc, judge)?)?,
+            None => judges.push(Box::new(alloc, BrokenJudge::new())?)?,
+        }
+    }
+    Ok(judges)
 }
 
 // The judge by the verdict file of this name; none where it can't be read or isn't one.

@@ -1,10 +1,9 @@
 -- The manifests that `questions` asks of, their labels and their questions.
-use Rattle.std.proofs.Common.{◌≡◌, ℕ, ◌+◌, ◌-◌, ◌<◌, zero, suc, Bool, true, false, cond, List, [], ◌∷◌, ◌++◌, length, drop, get_or, Option, Some, None, refl, sym, ap, ◌∙◌, subst, unwrap_or, slice_get, arith, append_assoc}
+use Rattle.std.proofs.Common.{◌≡◌, ℕ, ◌-◌, ◌<◌, zero, suc, Bool, true, false, List, [], ◌∷◌, ◌++◌, length, Option, Some, None, refl, sym, ap, ◌∙◌, subst, unwrap_or, slice_get, arith, append_assoc}
 use Rattle.std.specs.Prelude.{IfSome}
 use Rattle.std.specs.List.{AllZip, flat_map}
 use Rattle.std.specs.Option.{option_map, option_and_then, option_to_list}
-use Rattle.std.proofs.lemmas.List.{length-map}
-use Rattle.std.proofs.lemmas.Option.{slice_get-get_or, slice_get-map}
+use Rattle.std.proofs.lemmas.Option.{slice_get-map}
 use Rattle.c2_base.specs.declared.values.Question.{Question}
 use Rattle.c2_spec.specs.Jumbf.Boxes.{box_at, any_label}
 use Rattle.c2_spec.specs.Jumbf.Tree.{Tree}

@@ -24,19 +24,19 @@ pub one_of_file : OneList → (file : List ℕ) (said : Question → Verdict) (p
 one_of_file law file said ps qs h k = law (Some (reading_roles command.Questions)) (record { media = file; second = []; third = []; said = said; hash = λ (alg : Alg) (bytes : List ℕ). bytes }) ps qs h k
 
 -- where the bytes of the media are known, what a call of `questions` asks is what its file asks
-pub known_file : (said : Question → Verdict) (hash : Alg → List ℕ → List ℕ) (known other : Option (List ℕ)) (found : Option Roles) (roles : Roles) (qs : List Question) → found ≡ Some roles → is_some roles.media ≡ reads_media roles.command → roles.command ≡ command.Questions → (uses_media found ≡ true → IsSome known)
-    → Asks found (inputs known other None said hash) qs → (file : List ℕ) × (known ≡ Some file) × AreQuestions file qs
-known_file said hash None other found roles qs is media questions tells asks = absurd (false≢true (tells (ap uses_media is ∙ media ∙ ap reads_media questions)))
-known_file said hash (Some file) other found roles qs is media questions tells asks =
-    let i = inputs (Some file) other None said hash in
+pub known_file : (said : Question → Verdict) (hash : Alg → List ℕ → List ℕ) (known other last : Option (List ℕ)) (found : Option Roles) (roles : Roles) (qs : List Question) → found ≡ Some roles → is_some roles.media ≡ reads_media roles.command → roles.command ≡ command.Questions → (uses_media found ≡ true → IsSome known)
+    → Asks found (inputs known other last said hash) qs → (file : List ℕ) × (known ≡ Some file) × AreQuestions file qs
+known_file said hash None other last found roles qs is media questions tells asks = absurd (false≢true (tells (ap uses_media is ∙ media ∙ ap reads_media questions)))
+known_file said hash (Some file) other last found roles qs is media questions tells asks =
+    let i = inputs (Some file) other last said hash in
     (file, refl, subst (λ (c : Command). CommandAsks c i qs) questions (subst (λ (x : Option Roles). Asks x i qs) is asks))
 
 -- and what a call of `validate` asks is what the check of its file asks
-pub checked_file : (said : Question → Verdict) (hash : Alg → List ℕ → List ℕ) (known other : Option (List ℕ)) (found : Option Roles) (roles : Roles) (qs : List Question) → found ≡ Some roles → is_some roles.media ≡ reads_media roles.command → roles.command ≡ command.Validate → (uses_media found ≡ true → IsSome known)
-    → Asks found (inputs known other None said hash) qs → (file : List ℕ) × (known ≡ Some file) × CheckAsks hash said file qs
-checked_file said hash None other found roles qs is media validates tells asks = absurd (false≢true (tells (ap uses_media is ∙ media ∙ ap reads_media validates)))
-checked_file said hash (Some file) other found roles qs is media validates tells asks =
-    let i = inputs (Some file) other None said hash in
+pub checked_file : (said : Question → Verdict) (hash : Alg → List ℕ → List ℕ) (known other last : Option (List ℕ)) (found : Option Roles) (roles : Roles) (qs : List Question) → found ≡ Some roles → is_some roles.media ≡ reads_media roles.command → roles.command ≡ command.Validate → (uses_media found ≡ true → IsSome known)
+    → Asks found (inputs known other last said hash) qs → (file : List ℕ) × (known ≡ Some file) × CheckAsks hash said file qs
+checked_file said hash None other last found roles qs is media validates tells asks = absurd (false≢true (tells (ap uses_media is ∙ media ∙ ap reads_media validates)))
+checked_file said hash (Some file) other last found roles qs is media validates tells asks =
+    let i = inputs (Some file) other last said hash in
     (file, refl, subst (λ (c : Command). CommandAsks c i qs) validates (subst (λ (x : Option Roles). Asks x i qs) is asks))
 
 -- the panel was asked the one question, and failed at none

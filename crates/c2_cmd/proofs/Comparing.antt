@@ -1,5 +1,5 @@
 -- What `compare` reports and asks, by what two files come to.
-use Rattle.std.proofs.Common.{◌≡◌, refl, sym, ◌∙◌, ap, subst, inl, inr, ℕ, true, List, [], ◌++◌, append-nil, Option, Some, None}
+use Rattle.std.proofs.Common.{◌≡◌, refl, sym, ◌∙◌, ap, subst, inl, inr, ◌⊎◌, ℕ, Bool, true, List, [], ◌++◌, append-nil, Option, Some, None}
 use Rattle.std.specs.Prelude.{is_some, IsSome, IfErr, IfOk}
 use Rattle.std.proofs.lemmas.Bool.{false≢true}
 use Rattle.std.specs.declared.result.Result.{Result}
@@ -18,9 +18,9 @@ use Rattle.c2_compare.specs.Comparing.{HasAsked, IsCompareCause, IsCompared}
 use Rattle.c2_compare.specs.declared.error.CompareError.{CompareError}
 use Rattle.c2_compare.specs.declared.error.CompareError.TheVariants.{ReadFault, WriteFault, JudgeFault, NoMemory}
 use Rattle.c2_texts.specs.Texts.{different_line, not_accepted_line, same_line}
-use Rattle.c2_cmd.specs.CommandLine.{comparing_roles, reads_media, reads_second}
-use Rattle.c2_cmd.specs.Outcome.{Outcome, Asks, CommandAsks, IsCommandOutcome, IsCompareOutcome, IsOutcome, compare_outcome, inputs, reports, uses_media, uses_second}
-use Rattle.c2_cmd.specs.Reply.{AskedFor, Begins, CausedBy, IsCause, IsMediaCause, compare_fault, outcome_behind, outcome_of}
+use Rattle.c2_cmd.specs.CommandLine.{comparing_roles, reads_media, reads_second, reads_third, writes_file}
+use Rattle.c2_cmd.specs.Outcome.{Outcome, Asks, CommandAsks, IsCommandOutcome, IsCompareOutcome, IsOutcome, compare_outcome, inputs, reports, uses_media, uses_out, uses_second, uses_third}
+use Rattle.c2_cmd.specs.Reply.{AskedFor, Begins, CausedBy, IsCause, IsFileCause, IsMediaCause, StandsFor, compare_fault, outcome_of}
 use Rattle.c2_cmd.specs.Run.{HasFailed}
 use Rattle.c2_cmd.specs.declared.reply.Fault.{Fault}
 use Rattle.c2_cmd.specs.declared.reply.Fault.TheVariants.{Input, Output, Judge, Memory}
@@ -37,6 +37,10 @@ use Rattle.c2_cmd.proofs.Written.{prefix_before, prefix_whole}
 -- an outcome behind a text that was written before
 abbrev behind : List ℕ → Outcome → Outcome
 behind text o = reports o.answer (text ++ o.report)
+
+-- a reply that is an outcome behind a text stands for it
+stands_behind : (e : Outcome) (text : List ℕ) (reply : Reply) → e ≡ behind text (outcome_of reply) → StandsFor e text reply
+stands_behind e text reply is = record { answer = ap (λ (o : Outcome). o.answer) is; report = ap (λ (o : Outcome). o.report) is }
 
 -- the text of evidence, and what is said behind it, are what is reported
 joins : (hash : Alg → List ℕ → List ℕ) (said : Question → Verdict) (first second : List ℕ) (what : Compared) (text : List ℕ) → IsComparison hash said first second what text → behind text (compare_outcome what []) ≡ compare_outcome what text
@@ -62,13 +66,12 @@ pub reply_begins : OneOutcome → (hash : Alg → List ℕ → List ℕ) (said :
     → Begins (IsCompareOutcome hash said first second) old new r
 reply_begins one hash said first second old new what (Ok reply) h out =
     let text = h.is.0 in
-    let same : outcome_behind text reply ≡ compare_outcome what text = ap (behind text) out ∙ joins hash said first second what text h.is.1 in
-    let holds : IsCompareOutcome hash said first second (outcome_behind text reply) = (what, text, h.is.1, same) in
+    let same : behind text (outcome_of reply) ≡ compare_outcome what text = ap (behind text) out ∙ joins hash said first second what text h.is.1 in
     record {
       before = text;
       written = (h.gives what text h.is.1).1;
-      holds = holds;
-      only = λ expected k. one (Some (comparing_roles command.Compare)) (record { media = first; second = second; third = []; said = said; hash = hash }) expected (outcome_behind text reply) k holds;
+      stands = λ expected k. stands_behind expected text reply
+          (one (Some (comparing_roles command.Compare)) (record { media = first; second = second; third = []; said = said; hash = hash }) expected (behind text (outcome_of reply)) k (what, text, h.is.1, same));
     }
 reply_begins one hash said first second old new what (Err e) h out = λ expected k.
     begun hash said first second what h.is.0 old new expected h.is.1
@@ -78,10 +81,10 @@ reply_begins one hash said first second old new what (Err e) h out = λ expected
 -- ---- faults and questions
 
 -- the cause of a fault of the comparison is that of the run
-pub compare_cause : (a b c d r s : ℕ) (old new : Judges) (e : CompareError) (f : Fault) → f ≡ compare_fault e → IsCompareCause a b c d r s old new e → CausedBy (Rose a b) (Rose c d) (Rose r s) old new f
-compare_cause a b c d r s old new e f is h = subst (λ (x : Fault). CausedBy (Rose a b) (Rose c d) (Rose r s) old new x) (sym is) (by e h)
+pub compare_cause : (a b c d r s : ℕ) (old new : Judges) (e : CompareError) (f : Fault) → f ≡ compare_fault e → IsCompareCause a b c d r s old new e → CausedBy (Rose a b ⊎ Rose c d) (Rose r s) old new f
+compare_cause a b c d r s old new e f is h = subst (λ (x : Fault). CausedBy (Rose a b ⊎ Rose c d) (Rose r s) old new x) (sym is) (by e h)
   where
-    by : (e : CompareError) → IsCompareCause a b c d r s old new e → CausedBy (Rose a b) (Rose c d) (Rose r s) old new (compare_fault e)
+    by : (e : CompareError) → IsCompareCause a b c d r s old new e → CausedBy (Rose a b ⊎ Rose c d) (Rose r s) old new (compare_fault e)
     by ReadFault h = h
     by WriteFault h = h
     by JudgeFault h = h
@@ -98,37 +101,72 @@ compare_asked qs old new e f is h = subst (λ (x : Fault). AskedFor {T = Reply} 
     by NoMemory h = h
 
 -- out of memory needs no cause
-pub memory_caused : (first second output : Type 0) (old new : Judges) (r : Result Reply Fault) → IfErr r (λ e. e ≡ Memory) → IfErr r (CausedBy first second output old new)
-memory_caused first second output old new (Ok reply) h = tt
-memory_caused first second output old new (Err e) h = subst (λ (x : Fault). CausedBy first second output old new x) (sym h) tt
+pub memory_caused : (input output : Type 0) (old new : Judges) (r : Result Reply Fault) → IfErr r (λ e. e ≡ Memory) → IfErr r (CausedBy input output old new)
+memory_caused input output old new (Ok reply) h = tt
+memory_caused input output old new (Err e) h = subst (λ (x : Fault). CausedBy input output old new x) (sym h) tt
 
 -- ---- a call whose words have roles
 
 -- the fault of a command that reads one file and asks nobody
-pub media_caused : (found : Option Roles) (before now : ℕ) (second output : Type 0) (old new : Judges) (r : Result Reply Fault) → uses_media found ≡ true → IfErr r (IsMediaCause before now) → IfErr r (CausedBy (HasFailed (uses_media found) before now) second output old new)
-media_caused found before now second output old new (Ok reply) used h = tt
-media_caused found before now second output old new (Err Input) used h = inl (used, h)
-media_caused found before now second output old new (Err Output) used h = absurd h
-media_caused found before now second output old new (Err Judge) used h = absurd h
-media_caused found before now second output old new (Err Memory) used h = tt
+pub media_caused : (found : Option Roles) (before now : ℕ) (others output : Type 0) (old new : Judges) (r : Result Reply Fault) → uses_media found ≡ true → IfErr r (IsMediaCause before now) → IfErr r (CausedBy (HasFailed (uses_media found) before now ⊎ others) output old new)
+media_caused found before now others output old new (Ok reply) used h = tt
+media_caused found before now others output old new (Err Input) used h = inl (used, h)
+media_caused found before now others output old new (Err Output) used h = absurd h
+media_caused found before now others output old new (Err Judge) used h = absurd h
+media_caused found before now others output old new (Err Memory) used h = tt
 
 -- of one that reads one file and asks judges
-pub judged_caused : (found : Option Roles) (before now : ℕ) (second output : Type 0) (old new : Judges) (r : Result Reply Fault) → uses_media found ≡ true → IfErr r (IsCause before now old new) → IfErr r (CausedBy (HasFailed (uses_media found) before now) second output old new)
-judged_caused found before now second output old new (Ok reply) used h = tt
-judged_caused found before now second output old new (Err Input) used h = inl (used, h)
-judged_caused found before now second output old new (Err Output) used h = absurd h
-judged_caused found before now second output old new (Err Judge) used h = h
-judged_caused found before now second output old new (Err Memory) used h = tt
+pub judged_caused : (found : Option Roles) (before now : ℕ) (others output : Type 0) (old new : Judges) (r : Result Reply Fault) → uses_media found ≡ true → IfErr r (IsCause before now old new) → IfErr r (CausedBy (HasFailed (uses_media found) before now ⊎ others) output old new)
+judged_caused found before now others output old new (Ok reply) used h = tt
+judged_caused found before now others output old new (Err Input) used h = inl (used, h)
+judged_caused found before now others output old new (Err Output) used h = absurd h
+judged_caused found before now others output old new (Err Judge) used h = h
+judged_caused found before now others output old new (Err Memory) used h = tt
 
--- and of one that reads two
-pub both_caused : (found : Option Roles) (a b c d : ℕ) (output : Type 0) (old new : Judges) (r : Result Reply Fault) → uses_media found ≡ true → uses_second found ≡ true → IfErr r (CausedBy (Rose a b) (Rose c d) output old new)
-    → IfErr r (CausedBy (HasFailed (uses_media found) a b) (HasFailed (uses_second found) c d) output old new)
-both_caused found a b c d output old new (Ok reply) used other h = tt
-both_caused found a b c d output old new (Err Input) used other (inl h) = inl (used, h)
-both_caused found a b c d output old new (Err Input) used other (inr h) = inr (other, h)
-both_caused found a b c d output old new (Err Output) used other h = h
-both_caused found a b c d output old new (Err Judge) used other h = h
-both_caused found a b c d output old new (Err Memory) used other h = tt
+-- a failure of one of two files, and one of one of three, which the call uses
+two_used : (first second : Bool) (a b c d : ℕ) (third : Type 0) → first ≡ true → second ≡ true → Rose a b ⊎ Rose c d → HasFailed first a b ⊎ (HasFailed second c d ⊎ third)
+two_used first second a b c d third used other (inl h) = inl (used, h)
+two_used first second a b c d third used other (inr h) = inr (inl (other, h))
+
+three_used : (first second third : Bool) (a b c d e f : ℕ) → first ≡ true → second ≡ true → third ≡ true → Rose a b ⊎ (Rose c d ⊎ Rose e f) → HasFailed first a b ⊎ (HasFailed second c d ⊎ HasFailed third e f)
+three_used first second third a b c d e f used other more (inl h) = inl (used, h)
+three_used first second third a b c d e f used other more (inr (inl h)) = inr (inl (other, h))
+three_used first second third a b c d e f used other more (inr (inr h)) = inr (inr (more, h))
+
+-- the fault of a call by other words for its files and sinks
+pub caused_as : (input output input' output' : Type 0) (old new : Judges) (r : Result Reply Fault) → (input → input') → (output → output') → IfErr r (CausedBy input output old new) → IfErr r (CausedBy input' output' old new)
+caused_as input output input' output' old new (Ok reply) files sinks h = tt
+caused_as input output input' output' old new (Err Input) files sinks h = files h
+caused_as input output input' output' old new (Err Output) files sinks h = sinks h
+caused_as input output input' output' old new (Err Judge) files sinks h = h
+caused_as input output input' output' old new (Err Memory) files sinks h = tt
+
+-- the fault of a command that reads two files and writes to the report
+pub both_caused : (found : Option Roles) (a b c d r s : ℕ) (third file : Type 0) (old new : Judges) (result : Result Reply Fault) → uses_media found ≡ true → uses_second found ≡ true → IfErr result (CausedBy (Rose a b ⊎ Rose c d) (Rose r s) old new)
+    → IfErr result (CausedBy (HasFailed (uses_media found) a b ⊎ (HasFailed (uses_second found) c d ⊎ third)) (HasFailed true r s ⊎ file) old new)
+both_caused found a b c d r s third file old new result used other h =
+    caused_as _ _ _ _ old new result (two_used (uses_media found) (uses_second found) a b c d third used other) (λ rose. inl (refl, rose)) h
+
+-- the fault of a call that asks no judge, by other words for its files and sinks
+filed_as : (input output input' output' : Type 0) (old new : Judges) (r : Result Reply Fault) → (input → input') → (output → output') → IfErr r (IsFileCause input output) → IfErr r (CausedBy input' output' old new)
+filed_as input output input' output' old new (Ok reply) files sinks h = tt
+filed_as input output input' output' old new (Err Input) files sinks h = files h
+filed_as input output input' output' old new (Err Output) files sinks h = sinks h
+filed_as input output input' output' old new (Err Judge) files sinks h = absurd h
+filed_as input output input' output' old new (Err Memory) files sinks h = tt
+
+-- of one that reads two and writes nothing itself
+pub planned_caused : (found : Option Roles) (a b c d : ℕ) (third output : Type 0) (old new : Judges) (result : Result Reply Fault) → uses_media found ≡ true → uses_second found ≡ true → IfErr result (IsFileCause (Rose a b ⊎ Rose c d) ⊥)
+    → IfErr result (CausedBy (HasFailed (uses_media found) a b ⊎ (HasFailed (uses_second found) c d ⊎ third)) output old new)
+planned_caused found a b c d third output old new result used other h =
+    filed_as _ _ _ _ old new result (two_used (uses_media found) (uses_second found) a b c d third used other) (λ none. absurd none) h
+
+-- and of one that reads three and writes a file
+pub embedded_caused : (found : Option Roles) (a b c d e f k l : ℕ) (told : Type 0) (old new : Judges) (result : Result Reply Fault) → uses_media found ≡ true → uses_second found ≡ true → uses_third found ≡ true → uses_out found ≡ true
+    → IfErr result (IsFileCause (Rose a b ⊎ (Rose c d ⊎ Rose e f)) (Rose k l))
+    → IfErr result (CausedBy (HasFailed (uses_media found) a b ⊎ (HasFailed (uses_second found) c d ⊎ HasFailed (uses_third found) e f)) (told ⊎ HasFailed (uses_out found) k l) old new)
+embedded_caused found a b c d e f k l told old new result used other more file h =
+    filed_as _ _ _ _ old new result (three_used (uses_media found) (uses_second found) (uses_third found) a b c d e f used other more) (λ rose. inr (file, rose)) h
 
 -- a command that reads media uses them
 pub media_used : (found : Option Roles) (roles : Roles) (c : Command) → found ≡ Some roles → is_some roles.media ≡ reads_media roles.command → roles.command ≡ c → reads_media c ≡ true → uses_media found ≡ true
@@ -138,47 +176,44 @@ media_used found roles c is media named reads = ap uses_media is ∙ media ∙ a
 pub second_used : (found : Option Roles) (roles : Roles) (c : Command) → found ≡ Some roles → is_some roles.second ≡ reads_second roles.command → roles.command ≡ c → reads_second c ≡ true → uses_second found ≡ true
 second_used found roles c is second named reads = ap uses_second is ∙ second ∙ ap reads_second named ∙ reads
 
+-- one that reads a third file uses it
+pub third_used : (found : Option Roles) (roles : Roles) (c : Command) → found ≡ Some roles → is_some roles.third ≡ reads_third roles.command → roles.command ≡ c → reads_third c ≡ true → uses_third found ≡ true
+third_used found roles c is third named reads = ap uses_third is ∙ third ∙ ap reads_third named ∙ reads
+
+-- and one that writes a file uses it
+pub out_used : (found : Option Roles) (roles : Roles) (c : Command) → found ≡ Some roles → is_some roles.out ≡ writes_file roles.command → roles.command ≡ c → writes_file c ≡ true → uses_out found ≡ true
+out_used found roles c is out named writes = ap uses_out is ∙ out ∙ ap writes_file named ∙ writes
+
 -- bytes that are known where they are used, and are
 pub there : (used : Option (List ℕ)) → IsSome used → (file : List ℕ) × (used ≡ Some file)
 there None h = absurd (false≢true h)
 there (Some file) h = (file, refl)
 
 -- what a call of `compare` comes to is what its two files come to
-pub as_compare : (said : Question → Verdict) (hash : Alg → List ℕ → List ℕ) (known other : Option (List ℕ)) (found : Option Roles) (roles : Roles) (a b : List ℕ) (e : Outcome) → found ≡ Some roles → roles.command ≡ command.Compare → known ≡ Some a → other ≡ Some b
-    → IsOutcome found (inputs known other None said hash) e → IsCompareOutcome hash said a b e
-as_compare said hash known other found roles a b e is named ka kb h =
-    let i = inputs (Some a) (Some b) None said hash in
-    let p = subst (λ (x : Option Roles). IsOutcome x (inputs known other None said hash) e) is h in
-    let q = subst (λ (x : Option (List ℕ)). IsCommandOutcome roles.command roles (inputs x other None said hash) e) ka p in
-    let r = subst (λ (x : Option (List ℕ)). IsCommandOutcome roles.command roles (inputs (Some a) x None said hash) e) kb q in
+pub as_compare : (said : Question → Verdict) (hash : Alg → List ℕ → List ℕ) (known other last : Option (List ℕ)) (found : Option Roles) (roles : Roles) (a b : List ℕ) (e : Outcome) → found ≡ Some roles → roles.command ≡ command.Compare → known ≡ Some a → other ≡ Some b
+    → IsOutcome found (inputs known other last said hash) e → IsCompareOutcome hash said a b e
+as_compare said hash known other last found roles a b e is named ka kb h =
+    let i = inputs (Some a) (Some b) last said hash in
+    let p = subst (λ (x : Option Roles). IsOutcome x (inputs known other last said hash) e) is h in
+    let q = subst (λ (x : Option (List ℕ)). IsCommandOutcome roles.command roles (inputs x other last said hash) e) ka p in
+    let r = subst (λ (x : Option (List ℕ)). IsCommandOutcome roles.command roles (inputs (Some a) x last said hash) e) kb q in
     subst (λ (c : Command). IsCommandOutcome c roles i e) named r
 
--- and the other way round
-pub of_compare : (said : Question → Verdict) (hash : Alg → List ℕ → List ℕ) (known other : Option (List ℕ)) (found : Option Roles) (roles : Roles) (a b : List ℕ) (e : Outcome) → found ≡ Some roles → roles.command ≡ command.Compare → known ≡ Some a → other ≡ Some b
-    → IsCompareOutcome hash said a b e → IsOutcome found (inputs known other None said hash) e
-of_compare said hash known other found roles a b e is named ka kb h =
-    let i = inputs (Some a) (Some b) None said hash in
-    let r = subst (λ (c : Command). IsCommandOutcome c roles i e) (sym named) h in
-    let q = subst (λ (x : Option (List ℕ)). IsCommandOutcome roles.command roles (inputs (Some a) x None said hash) e) (sym kb) r in
-    let p = subst (λ (x : Option (List ℕ)). IsCommandOutcome roles.command roles (inputs x other None said hash) e) (sym ka) q in
-    subst (λ (x : Option Roles). IsOutcome x (inputs known other None said hash) e) (sym is) p
-
 -- so the reply of the one is that of the other
-pub compare_begins : (said : Question → Verdict) (hash : Alg → List ℕ → List ℕ) (known other : Option (List ℕ)) (found : Option Roles) (roles : Roles) (a b : List ℕ) (old new : Option (List ℕ)) (r : Result Reply Fault) → found ≡ Some roles → roles.command ≡ command.Compare → known ≡ Some a → other ≡ Some b
-    → Begins (IsCompareOutcome hash said a b) old new r → Begins (IsOutcome found (inputs known other None said hash)) old new r
-compare_begins said hash known other found roles a b old new (Ok reply) is named ka kb h = record {
+pub compare_begins : (said : Question → Verdict) (hash : Alg → List ℕ → List ℕ) (known other last : Option (List ℕ)) (found : Option Roles) (roles : Roles) (a b : List ℕ) (old new : Option (List ℕ)) (r : Result Reply Fault) → found ≡ Some roles → roles.command ≡ command.Compare → known ≡ Some a → other ≡ Some b
+    → Begins (IsCompareOutcome hash said a b) old new r → Begins (IsOutcome found (inputs known other last said hash)) old new r
+compare_begins said hash known other last found roles a b old new (Ok reply) is named ka kb h = record {
   before = h.before;
   written = h.written;
-  holds = of_compare said hash known other found roles a b (outcome_behind h.before reply) is named ka kb h.holds;
-  only = λ expected k. h.only expected (as_compare said hash known other found roles a b expected is named ka kb k);
+  stands = λ expected k. h.stands expected (as_compare said hash known other last found roles a b expected is named ka kb k);
 }
-compare_begins said hash known other found roles a b old new (Err e) is named ka kb h = λ expected k. h expected (as_compare said hash known other found roles a b expected is named ka kb k)
+compare_begins said hash known other last found roles a b old new (Err e) is named ka kb h = λ expected k. h expected (as_compare said hash known other last found roles a b expected is named ka kb k)
 
 -- and what the call asks is what the comparison asks
-pub asks_compare : (said : Question → Verdict) (hash : Alg → List ℕ → List ℕ) (known other : Option (List ℕ)) (found : Option Roles) (roles : Roles) (a b : List ℕ) (qs : List Question) → found ≡ Some roles → roles.command ≡ command.Compare → known ≡ Some a → other ≡ Some b
-    → Asks found (inputs known other None said hash) qs → CompareAsks hash said a b qs
-asks_compare said hash known other found roles a b qs is named ka kb h =
-    let p = subst (λ (x : Option Roles). Asks x (inputs known other None said hash) qs) is h in
-    let q = subst (λ (x : Option (List ℕ)). CommandAsks roles.command (inputs x other None said hash) qs) ka p in
-    let r = subst (λ (x : Option (List ℕ)). CommandAsks roles.command (inputs (Some a) x None said hash) qs) kb q in
-    subst (λ (c : Command). CommandAsks c (inputs (Some a) (Some b) None said hash) qs) named r
+pub asks_compare : (said : Question → Verdict) (hash : Alg → List ℕ → List ℕ) (known other last : Option (List ℕ)) (found : Option Roles) (roles : Roles) (a b : List ℕ) (qs : List Question) → found ≡ Some roles → roles.command ≡ command.Compare → known ≡ Some a → other ≡ Some b
+    → Asks found (inputs known other last said hash) qs → CompareAsks hash said a b qs
+asks_compare said hash known other last found roles a b qs is named ka kb h =
+    let p = subst (λ (x : Option Roles). Asks x (inputs known other last said hash) qs) is h in
+    let q = subst (λ (x : Option (List ℕ)). CommandAsks roles.command (inputs x other last said hash) qs) ka p in
+    let r = subst (λ (x : Option (List ℕ)). CommandAsks roles.command (inputs (Some a) x last said hash) qs) kb q in
+    subst (λ (c : Command). CommandAsks c (inputs (Some a) (Some b) last said hash) qs) named r

@@ -1,6 +1,7 @@
 -- What `run` promises, by the reply that it has.
-use Rattle.std.proofs.Common.{◌≡◌, refl, sym, subst, ℕ, ◌<◌, ◌^◌, List, [], Option, Some, None, string_bytes}
-use Rattle.std.specs.Prelude.{All, unwrap_or}
+use Rattle.std.proofs.Common.{◌≡◌, refl, sym, ◌∙◌, ap, subst, inl, inr, ℕ, ◌<◌, ◌^◌, true, List, [], ◌++◌, Option, Some, None, string_bytes}
+use Rattle.std.specs.Prelude.{All, IsSome, is_some, unwrap_or, Ok, Err}
+use Rattle.std.proofs.lemmas.Bool.{false≢true}
 use Rattle.std.specs.Option.{ForSome}
 use Rattle.std.proofs.lemmas.List.Elements.{All-nil}
 use Rattle.c2_base.specs.Sink.{Appends, HasWrittenPrefix}
@@ -9,15 +10,21 @@ use Rattle.c2_spec.specs.declared.digest.Alg.{Alg}
 use Rattle.c2_spec.specs.declared.panel.Verdict.{Verdict}
 use Rattle.c2_spec.specs.Judges.Panel.{Judges}
 use Rattle.c2_rules.specs.Asking.{HaveAsked}
-use Rattle.c2_cmd.specs.Outcome.{Inputs, Outcome, IsOutcome, inputs, reports}
-use Rattle.c2_cmd.specs.Reply.{outcome_behind}
-use Rattle.c2_cmd.specs.Run.{SinkState, AskedPanel, Delivers, HasNoReply, HasReport, Leaves, WithoutFault, status_of}
+use Rattle.c2_binding.specs.declared.compared.Compared.{Compared}
+use Rattle.c2_binding.specs.declared.compared.Compared.TheVariants as compared
+use Rattle.c2_cmd.specs.CommandLine.{reports_whole}
+use Rattle.c2_cmd.specs.Outcome.{Inputs, Outcome, IsCommandOutcome, IsOutcome, compare_outcome, has_whole_report, inputs}
+use Rattle.c2_cmd.specs.Reply.{StandsFor, TakesFile}
+use Rattle.c2_cmd.specs.Run.{SinkState, AskedPanel, Delivers, HasFile, HasNoFile, HasNoReply, HasReport, IsFileFirst, Leaves, WithoutFault, status_of}
+use Rattle.c2_cmd.specs.declared.reply.Fault.TheVariants.{Input, Output, Judge, Memory}
 use Rattle.c2_cmd.specs.declared.reply.Reply.{Reply}
 use Rattle.c2_cmd.specs.declared.types.Answer.{Answer}
 use Rattle.c2_cmd.specs.declared.types.Answer.TheVariants as answer
+use Rattle.c2_cmd.specs.declared.types.Command.{Command}
+use Rattle.c2_cmd.specs.declared.types.Command.TheVariants as command
 use Rattle.c2_cmd.specs.declared.types.Roles.{Roles}
 use Rattle.c2_cmd.specs.declared.types.Status.{Status}
-use Rattle.c2_cmd.specs.declared.types.Status.TheVariants.{Done, Failing, Refused, NoStore, Usage, InputFault, OutputFault, JudgeFault, NoMemory, DifferentClaims, Evidence, NotAccepted}
+use Rattle.c2_cmd.specs.declared.types.Status.TheVariants.{Done, Failing, Refused, NoStore, Usage, InputFault, OutputFault, JudgeFault, NoMemory, DifferentClaims, Evidence, BuildRefused, NotAccepted}
 use Rattle.c2_cmd.proofs.Written.{prefix_behind, written_behind}
 
 -- ---- statuses of answers
@@ -31,6 +38,7 @@ no_input answer.NoStore e = cc (e)
 no_input answer.Usage e = cc (e)
 no_input answer.DifferentClaims e = cc (e)
 no_input answer.Evidence e = cc (e)
+no_input answer.BuildRefused e = cc (e)
 no_input answer.NotAccepted e = cc (e)
 
 -- nor that of a fault of the report
@@ -42,6 +50,7 @@ no_output answer.NoStore e = cc (e)
 no_output answer.Usage e = cc (e)
 no_output answer.DifferentClaims e = cc (e)
 no_output answer.Evidence e = cc (e)
+no_output answer.BuildRefused e = cc (e)
 no_output answer.NotAccepted e = cc (e)
 
 -- nor that of a fault of a judge
@@ -53,6 +62,7 @@ no_judge answer.NoStore e = cc (e)
 no_judge answer.Usage e = cc (e)
 no_judge answer.DifferentClaims e = cc (e)
 no_judge answer.Evidence e = cc (e)
+no_judge answer.BuildRefused e = cc (e)
 no_judge answer.NotAccepted e = cc (e)
 
 -- nor one of a run whose report wasn't whole
@@ -64,6 +74,7 @@ no_end answer.NoStore h = h
 no_end answer.Usage h = h
 no_end answer.DifferentClaims h = h
 no_end answer.Evidence h = h
+no_end answer.BuildRefused h = h
 no_end answer.NotAccepted h = h
 
 -- words that fit no command have the status of no other answer
@@ -75,7 +86,36 @@ usage_alone answer.NoStore e = absurd (cc (e))
 usage_alone answer.Usage e = refl
 usage_alone answer.DifferentClaims e = absurd (cc (e))
 usage_alone answer.Evidence e = absurd (cc (e))
+usage_alone answer.BuildRefused e = absurd (cc (e))
 usage_alone answer.NotAccepted e = absurd (cc (e))
+
+-- a run that is done answers that
+pub done_alone : (a : Answer) → status_of a ≡ Done → a ≡ answer.Done
+done_alone answer.Done e = refl
+done_alone answer.Failing e = absurd (cc (e))
+done_alone answer.Refused e = absurd (cc (e))
+done_alone answer.NoStore e = absurd (cc (e))
+done_alone answer.Usage e = absurd (cc (e))
+done_alone answer.DifferentClaims e = absurd (cc (e))
+done_alone answer.Evidence e = absurd (cc (e))
+done_alone answer.BuildRefused e = absurd (cc (e))
+done_alone answer.NotAccepted e = absurd (cc (e))
+
+-- one that wrote nothing to its new file, and answers, refused the build
+unfiled_alone : (a : Answer) → HasNoFile (status_of a) → a ≡ answer.BuildRefused
+unfiled_alone answer.Done h = absurd h
+unfiled_alone answer.Failing h = absurd h
+unfiled_alone answer.Refused h = absurd h
+unfiled_alone answer.NoStore h = absurd h
+unfiled_alone answer.Usage h = absurd h
+unfiled_alone answer.DifferentClaims h = absurd h
+unfiled_alone answer.Evidence h = absurd h
+unfiled_alone answer.BuildRefused h = refl
+unfiled_alone answer.NotAccepted h = absurd h
+
+-- by its status
+pub refused_alone : (a : Answer) (s : Status) → s ≡ status_of a → HasNoFile s → a ≡ answer.BuildRefused
+refused_alone a s is h = unfiled_alone a (subst HasNoFile is h)
 
 -- what holds anyway holds after every answer but a fault
 pub without : (claim : Type 0) (s : Status) → claim → WithoutFault claim s
@@ -90,31 +130,107 @@ without claim JudgeFault h = tt
 without claim NoMemory h = tt
 without claim DifferentClaims h = h
 without claim Evidence h = h
+without claim BuildRefused h = h
 without claim NotAccepted h = h
 
 -- ---- the report
 
 -- a text that was delivered is the report of an outcome with this answer
-told : (a : Answer) (text : List ℕ) (old new : SinkState) → Delivers text old new → HasReport (reports a text) old new (status_of a)
-told answer.Done text old new d = (refl, d)
-told answer.Failing text old new d = (refl, d)
-told answer.Refused text old new d = (refl, d)
-told answer.NoStore text old new d = (refl, d)
-told answer.Usage text old new d = (refl, d)
-told answer.DifferentClaims text old new d = (refl, d)
-told answer.Evidence text old new d = (refl, d)
-told answer.NotAccepted text old new d = (refl, d)
+told : (expected : Outcome) (a : Answer) (old new : SinkState) → expected.answer ≡ a → Delivers expected.report old new → HasReport expected old new (status_of a)
+told expected answer.Done old new is d = (ap status_of (sym is), d)
+told expected answer.Failing old new is d = (ap status_of (sym is), d)
+told expected answer.Refused old new is d = (ap status_of (sym is), d)
+told expected answer.NoStore old new is d = (ap status_of (sym is), d)
+told expected answer.Usage old new is d = (ap status_of (sym is), d)
+told expected answer.DifferentClaims old new is d = (ap status_of (sym is), d)
+told expected answer.Evidence old new is d = (ap status_of (sym is), d)
+told expected answer.BuildRefused old new is d = (ap status_of (sym is), d)
+told expected answer.NotAccepted old new is d = (ap status_of (sym is), d)
 
 -- the report has all of the outcome's text: what was written before the reply, and the reply
-pub wrote_all : (expected : Outcome) (before : List ℕ) (reply : Reply) (old mid new : SinkState) (s : Status) → expected ≡ outcome_behind before reply → s ≡ status_of reply.answer → Appends old.written mid.written before → Delivers (string_bytes reply.text) mid new → HasReport expected old new s
-wrote_all expected before reply old mid new s same is first d =
-    let all = told reply.answer (outcome_behind before reply).report old new (record { written = written_behind old.written mid.written new.written before (string_bytes reply.text) first d.written; is_finished = d.is_finished }) in
-    subst (λ (x : Status). HasReport expected old new x) (sym is) (subst (λ (e : Outcome). HasReport e old new (status_of reply.answer)) (sym same) all)
+pub wrote_all : (expected : Outcome) (before : List ℕ) (reply : Reply) (old mid new : SinkState) (s : Status) → StandsFor expected before reply → s ≡ status_of reply.answer → Appends old.written mid.written before → Delivers (string_bytes reply.text) mid new → HasReport expected old new s
+wrote_all expected before reply old mid new s stands is first d =
+    let all : Delivers (before ++ string_bytes reply.text) old new = record { written = written_behind old.written mid.written new.written before (string_bytes reply.text) first d.written; is_finished = d.is_finished } in
+    subst (λ (x : Status). HasReport expected old new x) (sym is) (told expected reply.answer old new stands.answer (subst (λ (t : List ℕ). Delivers t old new) (sym stands.report) all))
 
 -- the report has a prefix of it
-pub wrote_prefix : (expected : Outcome) (before : List ℕ) (reply : Reply) (old mid new : SinkState) → expected ≡ outcome_behind before reply → Appends old.written mid.written before → HasWrittenPrefix mid.written new.written (string_bytes reply.text) → new.finished ≡ old.finished → Leaves expected.report old new
-wrote_prefix expected before reply old mid new same first prefix unfinished =
-    subst (λ (e : Outcome). Leaves e.report old new) (sym same) (record { prefix = prefix_behind old.written mid.written new.written before (string_bytes reply.text) first prefix; same = unfinished })
+pub wrote_prefix : (expected : Outcome) (before : List ℕ) (reply : Reply) (old mid new : SinkState) → StandsFor expected before reply → Appends old.written mid.written before → HasWrittenPrefix mid.written new.written (string_bytes reply.text) → new.finished ≡ old.finished → Leaves expected.report old new
+wrote_prefix expected before reply old mid new stands first prefix unfinished =
+    subst (λ (t : List ℕ). Leaves t old new) (sym stands.report) (record { prefix = prefix_behind old.written mid.written new.written before (string_bytes reply.text) first prefix; same = unfinished })
+
+-- ---- the new file
+
+-- the file of an outcome that was answered
+filed : (file : Option (List ℕ)) (a : Answer) (reply : Reply) (old new : SinkState) → TakesFile file old new (Ok reply) → HasFile file old new (status_of a)
+filed None a reply old new h = h
+filed (Some file) answer.Done reply old new h = h
+filed (Some file) answer.Failing reply old new h = h
+filed (Some file) answer.Refused reply old new h = h
+filed (Some file) answer.NoStore reply old new h = h
+filed (Some file) answer.Usage reply old new h = h
+filed (Some file) answer.DifferentClaims reply old new h = h
+filed (Some file) answer.Evidence reply old new h = h
+filed (Some file) answer.BuildRefused reply old new h = h
+filed (Some file) answer.NotAccepted reply old new h = h
+
+-- by its status
+pub file_delivered : (file : Option (List ℕ)) (reply : Reply) (old new : SinkState) (s : Status) → s ≡ status_of reply.answer → TakesFile file old new (Ok reply) → HasFile file old new s
+file_delivered file reply old new s is h = subst (λ (x : Status). HasFile file old new x) (sym is) (filed file reply.answer reply old new h)
+
+-- where the report failed under the reply, the file had been written
+pub file_before : (file : Option (List ℕ)) (reply : Reply) (old new : SinkState) → TakesFile file old new (Ok reply) → HasFile file old new OutputFault
+file_before None reply old new h = h
+file_before (Some file) reply old new h = inr h
+
+-- where a source failed, where a sink did, where a judge did, and out of memory
+pub file_input : (file : Option (List ℕ)) (old new : SinkState) → TakesFile file old new (Err Input) → HasFile file old new InputFault
+file_input None old new h = h
+file_input (Some file) old new h = h
+
+pub file_output : (file : Option (List ℕ)) (old new : SinkState) → TakesFile file old new (Err Output) → HasFile file old new OutputFault
+file_output None old new h = h
+file_output (Some file) old new h = inl h
+
+pub file_judge : (file : Option (List ℕ)) (old new : SinkState) → TakesFile file old new (Err Judge) → HasFile file old new JudgeFault
+file_judge None old new h = h
+file_judge (Some file) old new h = h
+
+pub file_memory : (file : Option (List ℕ)) (old new : SinkState) → TakesFile file old new (Err Memory) → HasFile file old new NoMemory
+file_memory None old new h = h
+file_memory (Some file) old new h = h
+
+-- with a reply the file is whole, whatever the report has
+pub first_filed : (file : Option (List ℕ)) (reply : Reply) (told_old told_new old new : SinkState) → TakesFile file old new (Ok reply) → IsFileFirst file told_old told_new old new
+first_filed None reply told_old told_new old new h = tt
+first_filed (Some file) reply told_old told_new old new h = inr h
+
+-- without one the report has nothing, where the outcome has a file
+pub first_unwritten : (file : Option (List ℕ)) (told_old told_new old new : SinkState) → (IsSome file → told_new ≡ told_old) → IsFileFirst file told_old told_new old new
+first_unwritten None told_old told_new old new h = tt
+first_unwritten (Some file) told_old told_new old new h = inl (h refl)
+
+-- a comparison writes no file
+compare_unfiled : (what : Compared) (text : List ℕ) → (compare_outcome what text).file ≡ None
+compare_unfiled (compared.NotAccepted side a) text = refl
+compare_unfiled compared.DifferentClaims text = refl
+compare_unfiled (compared.Evidence kind) text = refl
+compare_unfiled (compared.Same summary) text = refl
+
+-- a command whose outcome has a file has its whole report before it writes any of it
+whole_file : (c : Command) (roles : Roles) (i : Inputs) (e : Outcome) → IsCommandOutcome c roles i e → IsSome e.file → reports_whole c ≡ true
+whole_file command.Digest roles i e h some = refl
+whole_file command.List roles i e h some = refl
+whole_file command.Show roles i e h some = refl
+whole_file command.Questions roles i e h some = refl
+whole_file command.Validate roles i e h some = refl
+whole_file command.Compare roles i e h some = absurd (false≢true (ap is_some (sym (compare_unfiled h.0 h.1)) ∙ subst (λ (o : Outcome). IsSome o.file) h.3 some))
+whole_file command.Plan roles i e h some = refl
+whole_file command.Embed roles i e h some = refl
+
+-- so has a call
+pub whole_where_filed : (found : Option Roles) (i : Inputs) (e : Outcome) → IsOutcome found i e → IsSome e.file → has_whole_report found ≡ true
+whole_where_filed None i e h some = refl
+whole_where_filed (Some roles) i e h some = whole_file roles.command roles i e h some
 
 -- ---- questions
 
@@ -127,6 +243,7 @@ asked_all qs old new answer.NoStore h = h
 asked_all qs old new answer.Usage h = h
 asked_all qs old new answer.DifferentClaims h = h
 asked_all qs old new answer.Evidence h = h
+asked_all qs old new answer.BuildRefused h = h
 asked_all qs old new answer.NotAccepted h = h
 
 -- by its status
@@ -142,8 +259,9 @@ bytes_of (Some file) h = h file refl
 
 -- words and inputs whose files are bytes come to an outcome
 abbrev pub EachOutcome : Type 0
-EachOutcome = (roles : Option Roles) (i : Inputs) → All (λ b. b < 2 ^ 8) i.media → All (λ b. b < 2 ^ 8) i.second → (expected : Outcome) × IsOutcome roles i expected
+EachOutcome = (roles : Option Roles) (i : Inputs) → All (λ b. b < 2 ^ 8) i.media → All (λ b. b < 2 ^ 8) i.second → All (λ b. b < 2 ^ 8) i.third → (expected : Outcome) × IsOutcome roles i expected
 
 -- so does each call
-pub comes_to : EachOutcome → (roles : Option Roles) (known other : Option (List ℕ)) (said : Question → Verdict) (hash : Alg → List ℕ → List ℕ) → ForSome known (All (λ b. b < 2 ^ 8)) → ForSome other (All (λ b. b < 2 ^ 8)) → (expected : Outcome) × IsOutcome roles (inputs known other None said hash) expected
-comes_to law roles known other said hash h k = law roles (inputs known other None said hash) (bytes_of known h) (bytes_of other k)
+pub comes_to : EachOutcome → (roles : Option Roles) (known other last : Option (List ℕ)) (said : Question → Verdict) (hash : Alg → List ℕ → List ℕ) → ForSome known (All (λ b. b < 2 ^ 8)) → ForSome other (All (λ b. b < 2 ^ 8)) → ForSome last (All (λ b. b < 2 ^ 8))
+    → (expected : Outcome) × IsOutcome roles (inputs known other last said hash) expected
+comes_to law roles known other last said hash h k l = law roles (inputs known other last said hash) (bytes_of known h) (bytes_of other k) (bytes_of last l)

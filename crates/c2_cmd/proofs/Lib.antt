@@ -1,8 +1,10 @@
 mod Asked
 mod Asking
+mod Calling
 mod Comparing
 mod Delivering
 mod EachOutcome
+mod Embedding
 mod Lines
 mod Listing
 mod Naming

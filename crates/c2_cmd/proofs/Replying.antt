@@ -21,7 +21,7 @@ use Rattle.c2_validate.specs.declared.types.StoreRead.{StoreRead}
 use Rattle.c2_validate.specs.declared.types.StoreRead.TheVariants as read
 use Rattle.c2_cmd.specs.Outcome.{Outcome, Inputs, reports, Reports, IsListing, IsMediaOutcome, IsCommandOutcome, IsOutcome, inputs, uses_media}
 use Rattle.c2_cmd.specs.CommandLine.{reads_media}
-use Rattle.c2_cmd.specs.Reply.{outcome_of, Begins, Completes, IsShort, IsStored, IsFoundOutcome, IsMediaCause}
+use Rattle.c2_cmd.specs.Reply.{outcome_of, Begins, Completes, StandsFor, IsShort, IsStored, IsFoundOutcome, IsMediaCause}
 use Rattle.c2_cmd.specs.declared.open.Stored.{Stored}
 use Rattle.c2_cmd.specs.declared.open.Stored.TheVariants as stored
 use Rattle.c2_cmd.specs.declared.reply.Fault.{Fault}
@@ -76,14 +76,18 @@ media_short P file (here start len store) e is h = absurd h
 -- ---- the sources that a call uses are known
 
 -- a reply over the known bytes is the call's
-pub known_outcome : (said : Question → Verdict) (hash : Alg → List ℕ → List ℕ) (known other : Option (List ℕ)) (found : Option Roles) (roles : Roles) (reply : Reply) → found ≡ Some roles → is_some roles.media ≡ reads_media roles.command → reads_media roles.command ≡ true → (uses_media found ≡ true → IsSome known)
-    → ((file : List ℕ) → known ≡ Some file → IsCommandOutcome roles.command roles (inputs (Some file) other None said hash) (outcome_of reply)) → IsOutcome found (inputs known other None said hash) (outcome_of reply)
-known_outcome said hash None other found roles reply is media reads tells r = absurd (false≢true (tells (ap uses_media is ∙ media ∙ reads)))
-known_outcome said hash (Some file) other found roles reply is media reads tells r = rw is (r file refl)
+pub known_outcome : (said : Question → Verdict) (hash : Alg → List ℕ → List ℕ) (known other last : Option (List ℕ)) (found : Option Roles) (roles : Roles) (reply : Reply) → found ≡ Some roles → is_some roles.media ≡ reads_media roles.command → reads_media roles.command ≡ true → (uses_media found ≡ true → IsSome known)
+    → ((file : List ℕ) → known ≡ Some file → IsCommandOutcome roles.command roles (inputs (Some file) other last said hash) (outcome_of reply)) → IsOutcome found (inputs known other last said hash) (outcome_of reply)
+known_outcome said hash None other last found roles reply is media reads tells r = absurd (false≢true (tells (ap uses_media is ∙ media ∙ reads)))
+known_outcome said hash (Some file) other last found roles reply is media reads tells r = rw is (r file refl)
+
+-- a reply that is an outcome stands for it
+pub stands_same : (e : Outcome) (reply : Reply) → e ≡ outcome_of reply → StandsFor e [] reply
+stands_same e reply is = record { answer = ap (λ (o : Outcome). o.answer) is; report = ap (λ (o : Outcome). o.report) is }
 
 -- the only outcome, where nothing was written before the reply
 pub one_reply : (P : Outcome → Type 0) (w : Option (List ℕ)) (reply : Reply) → ((a b : Outcome) → P a → P b → a ≡ b) → P (outcome_of reply) → Completes P w w reply
-one_reply P w reply once h = record { before = []; written = then_nothing w; holds = h; only = λ e k. once e (outcome_of reply) k h }
+one_reply P w reply once h = record { before = []; written = then_nothing w; stands = λ e k. stands_same e reply (once e (outcome_of reply) k h) }
 
 -- a call without a reply that wrote nothing
 pub no_reply : (P : Outcome → Type 0) (w : Option (List ℕ)) (e : Fault) → Begins P w w (Err e)
@@ -94,19 +98,19 @@ abbrev pub OneOutcome : Type 0
 OneOutcome = (roles : Option Roles) (i : Inputs) (a b : Outcome) → IsOutcome roles i a → IsOutcome roles i b → a ≡ b
 
 -- a reply to the command over the known bytes is the call's one reply
-pub replied : OneOutcome → (said : Question → Verdict) (hash : Alg → List ℕ → List ℕ) (known other : Option (List ℕ)) (found : Option Roles) (roles : Roles) (c : Command) (w : Option (List ℕ)) (r : Result Reply Fault) → found ≡ Some roles → is_some roles.media ≡ reads_media roles.command
-    → roles.command ≡ c → reads_media c ≡ true → (uses_media found ≡ true → IsSome known) → IfOk r (λ reply. (file : List ℕ) → known ≡ Some file → IsCommandOutcome c roles (inputs (Some file) other None said hash) (outcome_of reply)) → Begins (IsOutcome found (inputs known other None said hash)) w w r
-replied one said hash known other found roles c w (Err e) is media named reads tells h = no_reply (IsOutcome found (inputs known other None said hash)) w e
-replied one said hash known other found roles c w (Ok reply) is media named reads tells h =
-    one_reply (IsOutcome found (inputs known other None said hash)) w reply (one found (inputs known other None said hash))
-    (known_outcome said hash known other found roles reply is media (ap reads_media named ∙ reads) tells (λ file k. subst (λ (x : Command). IsCommandOutcome x roles (inputs (Some file) other None said hash) (outcome_of reply)) (sym named) (h file k)))
+pub replied : OneOutcome → (said : Question → Verdict) (hash : Alg → List ℕ → List ℕ) (known other last : Option (List ℕ)) (found : Option Roles) (roles : Roles) (c : Command) (w : Option (List ℕ)) (r : Result Reply Fault) → found ≡ Some roles → is_some roles.media ≡ reads_media roles.command
+    → roles.command ≡ c → reads_media c ≡ true → (uses_media found ≡ true → IsSome known) → IfOk r (λ reply. (file : List ℕ) → known ≡ Some file → IsCommandOutcome c roles (inputs (Some file) other last said hash) (outcome_of reply)) → Begins (IsOutcome found (inputs known other last said hash)) w w r
+replied one said hash known other last found roles c w (Err e) is media named reads tells h = no_reply (IsOutcome found (inputs known other last said hash)) w e
+replied one said hash known other last found roles c w (Ok reply) is media named reads tells h =
+    one_reply (IsOutcome found (inputs known other last said hash)) w reply (one found (inputs known other last said hash))
+    (known_outcome said hash known other last found roles reply is media (ap reads_media named ∙ reads) tells (λ file k. subst (λ (x : Command). IsCommandOutcome x roles (inputs (Some file) other last said hash) (outcome_of reply)) (sym named) (h file k)))
 
 -- the reply to words that fit no command is the usage line
-pub replied_usage : OneOutcome → (said : Question → Verdict) (hash : Alg → List ℕ → List ℕ) (known other : Option (List ℕ)) (found : Option Roles) (w : Option (List ℕ)) (r : Result Reply Fault) → found ≡ None → IfOk r (λ reply. outcome_of reply ≡ reports answer.Usage usage_line)
-    → Begins (IsOutcome found (inputs known other None said hash)) w w r
-replied_usage one said hash known other found w (Err e) is h = no_reply (IsOutcome found (inputs known other None said hash)) w e
-replied_usage one said hash known other found w (Ok reply) is h =
-    one_reply (IsOutcome found (inputs known other None said hash)) w reply (one found (inputs known other None said hash)) (subst (λ (x : Option Roles). IsOutcome x (inputs known other None said hash) (outcome_of reply)) (sym is) h)
+pub replied_usage : OneOutcome → (said : Question → Verdict) (hash : Alg → List ℕ → List ℕ) (known other last : Option (List ℕ)) (found : Option Roles) (w : Option (List ℕ)) (r : Result Reply Fault) → found ≡ None → IfOk r (λ reply. outcome_of reply ≡ reports answer.Usage usage_line)
+    → Begins (IsOutcome found (inputs known other last said hash)) w w r
+replied_usage one said hash known other last found w (Err e) is h = no_reply (IsOutcome found (inputs known other last said hash)) w e
+replied_usage one said hash known other last found w (Ok reply) is h =
+    one_reply (IsOutcome found (inputs known other last said hash)) w reply (one found (inputs known other last said hash)) (subst (λ (x : Option Roles). IsOutcome x (inputs known other last said hash) (outcome_of reply)) (sym is) h)
 
 -- what follows of each value follows of a result's
 pub each_ok : {A E : Type 0} (P Q : A → Type 0) (r : Result A E) → ((x : A) → P x → Q x) → IfOk r P → IfOk r Q

@@ -27,6 +27,8 @@ reads_media command.Show = true
 reads_media command.Questions = true
 reads_media command.Validate = true
 reads_media command.Compare = true
+reads_media command.Plan = true
+reads_media command.Embed = true
 
 -- whether a command reads a second file
 abbrev pub reads_second : Command → Bool
@@ -36,8 +38,32 @@ reads_second command.Show = false
 reads_second command.Questions = false
 reads_second command.Validate = false
 reads_second command.Compare = true
+reads_second command.Plan = true
+reads_second command.Embed = true
 
--- whether a command asks judges
+-- whether a command reads a third file
+abbrev pub reads_third : Command → Bool
+reads_third command.Digest = false
+reads_third command.List = false
+reads_third command.Show = false
+reads_third command.Questions = false
+reads_third command.Validate = false
+reads_third command.Compare = false
+reads_third command.Plan = false
+reads_third command.Embed = true
+
+-- whether a command writes a new file
+abbrev pub writes_file : Command → Bool
+writes_file command.Digest = false
+writes_file command.List = false
+writes_file command.Show = false
+writes_file command.Questions = false
+writes_file command.Validate = false
+writes_file command.Compare = false
+writes_file command.Plan = false
+writes_file command.Embed = true
+
+-- whether a command may ask judges
 abbrev pub asks_judges : Command → Bool
 asks_judges command.Digest = false
 asks_judges command.List = false
@@ -45,6 +71,8 @@ asks_judges command.Show = false
 asks_judges command.Questions = true
 asks_judges command.Validate = true
 asks_judges command.Compare = true
+asks_judges command.Plan = true
+asks_judges command.Embed = true
 
 -- whether a command has its whole report before it writes any of it: `compare` writes evidence while it reads it
 abbrev pub reports_whole : Command → Bool
@@ -54,6 +82,19 @@ reports_whole command.Show = true
 reports_whole command.Questions = true
 reports_whole command.Validate = true
 reports_whole command.Compare = false
+reports_whole command.Plan = true
+reports_whole command.Embed = true
+
+-- whether a command reads its second file only where the first is accepted
+abbrev pub checks_first : Command → Bool
+checks_first command.Digest = false
+checks_first command.List = false
+checks_first command.Show = false
+checks_first command.Questions = false
+checks_first command.Validate = false
+checks_first command.Compare = true
+checks_first command.Plan = false
+checks_first command.Embed = false
 
 -- how many names of judges may follow
 abbrev pub most_judges : Command → ℕ
@@ -63,6 +104,8 @@ most_judges command.Show = 0
 most_judges command.Questions = MAX_JUDGE_NAMES
 most_judges command.Validate = MAX_JUDGE_NAMES
 most_judges command.Compare = MAX_JUDGE_NAMES
+most_judges command.Plan = MAX_JUDGE_NAMES
+most_judges command.Embed = MAX_JUDGE_NAMES
 
 -- the command of a word
 abbrev pub command_of : List ℕ → Option Command
@@ -73,15 +116,21 @@ command_of word =
     else if bytes_eq word (codes "questions") then Some command.Questions
     else if bytes_eq word (codes "validate") then Some command.Validate
     else if bytes_eq word (codes "compare") then Some command.Compare
+    else if bytes_eq word (codes "plan") then Some command.Plan
+    else if bytes_eq word (codes "embed") then Some command.Embed
     else None
 
 -- the roles of `COMMAND MEDIA` and `COMMAND MEDIA JUDGE..`
 abbrev pub reading_roles : Command → Roles
 reading_roles c = record { command = c; media = Some 1; second = None; third = None; out = None; judges = 2; count = None }
 
--- the roles of `compare MEDIA OTHER` and `compare MEDIA OTHER JUDGE..`
+-- the roles of `COMMAND MEDIA SECOND` and `COMMAND MEDIA SECOND JUDGE..`
 abbrev pub comparing_roles : Command → Roles
 comparing_roles c = record { command = c; media = Some 1; second = Some 2; third = None; out = None; judges = 3; count = None }
+
+-- the roles of `COMMAND MEDIA SECOND THIRD OUT` and `COMMAND MEDIA SECOND THIRD OUT JUDGE..`
+abbrev pub writing_roles : Command → Roles
+writing_roles c = record { command = c; media = Some 1; second = Some 2; third = Some 3; out = Some 4; judges = 5; count = None }
 
 -- the roles of a command that reads one file, with these names after it, if they fit
 abbrev pub roles_of_one : Command → List (List ℕ) → Option Roles
@@ -94,9 +143,20 @@ roles_of_two c [] = None
 roles_of_two c (media ∷ []) = None
 roles_of_two c (media ∷ (second ∷ judges)) = if nat_le (length judges) (most_judges c) then Some (comparing_roles c) else None
 
+-- the roles of a command that reads three files and writes one, with these names after it, if they fit
+abbrev pub roles_of_four : Command → List (List ℕ) → Option Roles
+roles_of_four c [] = None
+roles_of_four c (media ∷ []) = None
+roles_of_four c (media ∷ (second ∷ [])) = None
+roles_of_four c (media ∷ (second ∷ (third ∷ []))) = None
+roles_of_four c (media ∷ (second ∷ (third ∷ (out ∷ judges)))) = if nat_le (length judges) (most_judges c) then Some (writing_roles c) else None
+
 -- the roles of a command with these names after it, if they fit
 abbrev pub roles_with : Command → List (List ℕ) → Option Roles
-roles_with c names = if reads_second c then roles_of_two c names else roles_of_one c names
+roles_with c names =
+    if writes_file c then roles_of_four c names
+    else if reads_second c then roles_of_two c names
+    else roles_of_one c names
 
 -- the roles of words that may all be names: the first of them names the command, if they fit
 abbrev pub roles_of_names : List (List ℕ) → Option Roles

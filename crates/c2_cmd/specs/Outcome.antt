@@ -1,7 +1,9 @@
 -- The outcome of a run: a relation between the roles of its words, what it is handed, and its outcome.
-use Rattle.std.specs.Prelude.{◌≡◌, ℕ, Bool, true, false, List, [], ◌++◌, is_some, unwrap_or, Some, None, if◌then◌else◌}
+use Rattle.std.specs.Prelude.{◌≡◌, ⊤, ℕ, Bool, true, false, List, [], is_some, unwrap_or, Some, None, if◌then◌else◌}
 use Rattle.std.specs.List.{flat_map}
 use Rattle.std.specs.declared.option.Option.{Option}
+use Rattle.std.specs.declared.result.Result.{Result}
+use Rattle.std.specs.declared.result.Result.TheVariants.{Ok, Err}
 use Rattle.c2_base.specs.declared.values.Question.{Question}
 use Rattle.c2_spec.specs.declared.digest.Alg.{Alg}
 use Rattle.c2_spec.specs.declared.digest.Alg.TheVariants.{Sha256}
@@ -25,6 +27,11 @@ use Rattle.c2_rules.specs.declared.code.Code.{Code}
 use Rattle.c2_binding.specs.Comparison.{IsComparison, CompareAsks}
 use Rattle.c2_binding.specs.declared.compared.Compared.{Compared}
 use Rattle.c2_binding.specs.declared.compared.Compared.TheVariants as compared
+use Rattle.c2_build.specs.Building.{Built, IsEmbedded, IsPlanned}
+use Rattle.c2_build.specs.Meeting.{BuiltMeets}
+use Rattle.c2_build.specs.declared.error.BuildError.{BuildError}
+use Rattle.c2_build.specs.declared.error.BuildError.TheVariants as build
+use Rattle.c2_texts.specs.Builds.{bad_definition_line, bad_signature_line, embedded_line, later_line, media_refused_line, no_instance_line, redaction_refused_line, reserve_too_small_line, store_too_large_line, tbs_line}
 use Rattle.c2_texts.specs.Show.{show_line}
 use Rattle.c2_texts.specs.Texts.{usage_line, refused_line, none_line, digest_line, listing, question_line, no_question_line, valid_line, failing_line, same_line, different_line, not_accepted_line}
 use Rattle.c2_cmd.specs.declared.types.Answer.{Answer}
@@ -32,7 +39,7 @@ use Rattle.c2_cmd.specs.declared.types.Answer.TheVariants as answer
 use Rattle.c2_cmd.specs.declared.types.Command.{Command}
 use Rattle.c2_cmd.specs.declared.types.Command.TheVariants as command
 use Rattle.c2_cmd.specs.declared.types.Roles.{Roles}
-use Rattle.c2_cmd.specs.CommandLine.{asks_judges, reports_whole}
+use Rattle.c2_cmd.specs.CommandLine.{asks_judges, checks_first, reports_whole}
 
 -- what an outcome depends on beside the words: the bytes of the sources, what the panel of judges says of a question,
 -- and the hash
@@ -137,6 +144,45 @@ abbrev pub IsCompareOutcome : (Alg → List ℕ → List ℕ) → (Question → 
 IsCompareOutcome hash said first second expected =
     (what : Compared) × (text : List ℕ) × IsComparison hash said first second what text × (expected ≡ compare_outcome what text)
 
+-- the line of a build that is refused: a failure of the outside has none, since no report is written then
+abbrev pub refusal_line : BuildError → List ℕ
+refusal_line (build.MediaRefused reason number) = media_refused_line reason number
+refusal_line (build.BadDefinition field) = bad_definition_line field
+refusal_line (build.BadSignature part) = bad_signature_line part
+refusal_line build.Later = later_line
+refusal_line (build.RedactionRefused text code) = redaction_refused_line text code
+refusal_line build.NoInstance = no_instance_line
+refusal_line (build.StoreTooLarge len) = store_too_large_line len
+refusal_line (build.ReserveTooSmall needed) = reserve_too_small_line needed
+refusal_line build.ReadFault = []
+refusal_line build.JudgeFault = []
+refusal_line build.WriteFault = []
+refusal_line build.NoMemory = []
+
+-- what is reported of a build that is refused
+abbrev pub refused_build : BuildError → Outcome
+refused_build e = reports answer.BuildRefused (refusal_line e)
+
+-- what is reported where `plan` comes to this: the bytes that are to be signed, or what is refused
+abbrev pub plan_outcome : Result (List ℕ) BuildError → Outcome
+plan_outcome (Ok bytes) = reports answer.Done (tbs_line bytes)
+plan_outcome (Err e) = refused_build e
+
+-- the outcome of `plan` over a media file and a definition file
+abbrev pub IsPlanOutcome : (Alg → List ℕ → List ℕ) → List ℕ → List ℕ → Outcome → Type 0
+IsPlanOutcome hash media definition expected =
+    (r : Result (List ℕ) BuildError) × IsPlanned hash media definition r × (expected ≡ plan_outcome r)
+
+-- what is reported where `embed` comes to this, and the new file: there is none where the build is refused
+abbrev pub embed_outcome : Result Built BuildError → Outcome
+embed_outcome (Ok b) = record { answer = answer.Done; report = embedded_line b.start b.len; file = Some b.file }
+embed_outcome (Err e) = refused_build e
+
+-- the outcome of `embed` over a media file, a definition file and a signed message
+abbrev pub IsEmbedOutcome : (Alg → List ℕ → List ℕ) → List ℕ → List ℕ → List ℕ → Outcome → Type 0
+IsEmbedOutcome hash media definition message expected =
+    (r : Result Built BuildError) × IsEmbedded hash media definition message r × (expected ≡ embed_outcome r)
+
 -- the outcome of a command with these roles
 abbrev pub IsCommandOutcome : Command → Roles → Inputs → Outcome → Type 0
 IsCommandOutcome command.Digest roles i expected = IsDigestOutcome (i.hash Sha256) i.media expected
@@ -145,6 +191,8 @@ IsCommandOutcome command.Show roles i expected = IsMediaOutcome IsShown i.media 
 IsCommandOutcome command.Questions roles i expected = IsMediaOutcome (IsQuestioned i.said) i.media expected
 IsCommandOutcome command.Validate roles i expected = IsValidated i.hash i.said i.media expected
 IsCommandOutcome command.Compare roles i expected = IsCompareOutcome i.hash i.said i.media i.second expected
+IsCommandOutcome command.Plan roles i expected = IsPlanOutcome i.hash i.media i.second expected
+IsCommandOutcome command.Embed roles i expected = IsEmbedOutcome i.hash i.media i.second i.third expected
 
 -- the outcome of words with these roles, or with none
 abbrev pub IsOutcome : Option Roles → Inputs → Outcome → Type 0
@@ -161,6 +209,16 @@ abbrev pub uses_second : Option Roles → Bool
 uses_second None = false
 uses_second (Some roles) = is_some roles.second
 
+-- whether the command reads a third file
+abbrev pub uses_third : Option Roles → Bool
+uses_third None = false
+uses_third (Some roles) = is_some roles.third
+
+-- whether the command writes a new file
+abbrev pub uses_out : Option Roles → Bool
+uses_out None = false
+uses_out (Some roles) = is_some roles.out
+
 -- whether words with these roles, or with none, may ask judges
 abbrev pub uses_judges : Option Roles → Bool
 uses_judges None = false
@@ -171,7 +229,13 @@ abbrev pub has_whole_report : Option Roles → Bool
 has_whole_report None = true
 has_whole_report (Some roles) = reports_whole roles.command
 
--- the judges are asked these questions, in this order, by a command, and by words with these roles
+-- whether the second file is read only where the first is accepted, by words with these roles
+abbrev pub has_first_checked : Option Roles → Bool
+has_first_checked None = false
+has_first_checked (Some roles) = checks_first roles.command
+
+-- the judges are asked these questions, in this order, by a command: none by a build, since only media without a store are built
+-- into
 abbrev pub CommandAsks : Command → Inputs → List Question → Type 0
 CommandAsks command.Digest i qs = qs ≡ []
 CommandAsks command.List i qs = qs ≡ []
@@ -179,8 +243,22 @@ CommandAsks command.Show i qs = qs ≡ []
 CommandAsks command.Questions i qs = AreQuestions i.media qs
 CommandAsks command.Validate i qs = CheckAsks i.hash i.said i.media qs
 CommandAsks command.Compare i qs = CompareAsks i.hash i.said i.media i.second qs
+CommandAsks command.Plan i qs = qs ≡ []
+CommandAsks command.Embed i qs = qs ≡ []
 
 -- the judges are asked these questions, in order, by words with these roles; words without roles ask none
 abbrev pub Asks : Option Roles → Inputs → List Question → Type 0
 Asks None i qs = qs ≡ []
 Asks (Some roles) i qs = CommandAsks roles.command i qs
+
+-- The new file of a command, where it builds one, meets what is promised of it: all rules hold but for the verdict on it, what it asks
+-- is what `plan` gives to be signed, and without the new range it is the media.
+abbrev pub CommandMeets : Command → Inputs → Type 0
+CommandMeets command.Embed i =
+    (b : Built) → IsEmbedded i.hash i.media i.second i.third (Ok b) → BuiltMeets i.hash i.media i.second b
+CommandMeets c i = ⊤
+
+-- so does the new file of words with these roles
+abbrev pub Meets : Option Roles → Inputs → Type 0
+Meets None i = ⊤
+Meets (Some roles) i = CommandMeets roles.command i

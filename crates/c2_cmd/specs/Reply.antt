@@ -1,5 +1,5 @@
 -- For private clauses: replies in memory.
-use Rattle.std.specs.Prelude.{◌≡◌, ◌≢◌, ◌⊎◌, ℕ, ◌+◌, ◌≤◌, List, [], ◌++◌, string_bytes, Result, Ok, Err, ⊤}
+use Rattle.std.specs.Prelude.{◌≡◌, ◌≢◌, ◌⊎◌, ℕ, ◌+◌, ◌≤◌, List, [], ◌++◌, string_bytes, Result, Ok, Err, Some, None, ⊤}
 use Rattle.std.specs.declared.option.Option.{Option}
 use Rattle.std.specs.List.{flat_map}
 use Rattle.std.specs.Option.{ForSome, option_to_list}
@@ -21,11 +21,14 @@ use Rattle.c2_rules.specs.Opened.{IsBoxTree, IsManifestStore}
 use Rattle.c2_rules.specs.Readings.{Reading, AreReadings}
 use Rattle.c2_rules.specs.Validated.{AreQuestions, OpenedAsks}
 use Rattle.c2_texts.specs.Texts.{refused_line, none_line}
+use Rattle.c2_build.specs.declared.error.BuildError.{BuildError}
+use Rattle.c2_build.specs.declared.error.BuildError.TheVariants as build_error
 use Rattle.c2_compare.specs.declared.error.CompareError.{CompareError}
 use Rattle.c2_compare.specs.declared.error.CompareError.TheVariants as compare_error
 use Rattle.c2_validate.specs.declared.error.ValidateError.{ValidateError}
 use Rattle.c2_validate.specs.declared.error.ValidateError.TheVariants as error
-use Rattle.c2_cmd.specs.Outcome.{Outcome, reports, Reports, IsListing, IsMediaOutcome, IsQuestioned, verdict_lines}
+use Rattle.c2_cmd.specs.Outcome.{Outcome, reports, Reports, IsListing, IsMediaOutcome, IsQuestioned, refused_build, verdict_lines}
+use Rattle.c2_cmd.specs.Run.{SinkState, Delivers, Leaves}
 use Rattle.c2_cmd.specs.declared.open.Stored.{Stored}
 use Rattle.c2_cmd.specs.declared.open.Stored.TheVariants as stored
 use Rattle.c2_cmd.specs.declared.prepare.Prepared.{Prepared}
@@ -39,16 +42,16 @@ use Rattle.c2_cmd.specs.declared.reply.Fault.TheVariants.{Input, Output, Judge, 
 abbrev pub outcome_of : Reply → Outcome
 outcome_of reply = reports reply.answer (string_bytes reply.text)
 
--- the outcome that a reply stands for behind a text that was written before it
-abbrev pub outcome_behind : List ℕ → Reply → Outcome
-outcome_behind before reply = reports reply.answer (before ++ string_bytes reply.text)
+-- a reply has an outcome's answer, and what its report has behind a text that was written before
+pub record StandsFor (expected : Outcome) (before : List ℕ) (reply : Reply) : Type 0 where
+  pub answer : expected.answer ≡ reply.answer
+  pub report : expected.report ≡ before ++ string_bytes reply.text
 
--- a text was written, and behind it the reply stands for the one outcome of which this holds
+-- a text was written, and behind it the reply stands for each outcome of which this holds
 pub record Completes (IsExpected : Outcome → Type 0) (old new : Option (List ℕ)) (reply : Reply) : Type 0 where
   pub before : List ℕ
   pub written : Appends old new before
-  pub holds : IsExpected (outcome_behind before reply)
-  pub only : (expected : Outcome) → IsExpected expected → expected ≡ outcome_behind before reply
+  pub stands : (expected : Outcome) → IsExpected expected → StandsFor expected before reply
 
 -- by the result of a call: a reply that completes the report; or a prefix of the report was written
 abbrev pub Begins : (Outcome → Type 0) → Option (List ℕ) → Option (List ℕ) → Result Reply Fault → Type 0
@@ -58,6 +61,17 @@ Begins IsExpected old new (Err e) = (expected : Outcome) → IsExpected expected
 -- where the bytes of the media are known, the reply stands for this outcome of theirs
 abbrev pub Replies : (List ℕ → Outcome → Type 0) → Option (List ℕ) → Reply → Type 0
 Replies IsExpected known reply = ForSome known (λ file. IsExpected file (outcome_of reply))
+
+-- What became of the new file by the result of a call, where the outcome has this file or none: all of it was written and it is
+-- finished; after a fault of a source or of a sink a prefix was; out of memory nothing, or all of it. Where there is none, nothing
+-- was done.
+abbrev pub TakesFile : Option (List ℕ) → SinkState → SinkState → Result Reply Fault → Type 0
+TakesFile None old new result = new ≡ old
+TakesFile (Some file) old new (Ok reply) = Delivers file old new
+TakesFile (Some file) old new (Err Input) = Leaves file old new
+TakesFile (Some file) old new (Err Output) = Leaves file old new
+TakesFile (Some file) old new (Err Judge) = new ≡ old
+TakesFile (Some file) old new (Err Memory) = (new ≡ old) ⊎ Delivers file old new
 
 -- ---- causes of faults
 
@@ -95,13 +109,36 @@ IsCause before now old new Output = ⊥
 IsCause before now old new Judge = SomeRose old.faults new.faults
 IsCause before now old new Memory = ⊤
 
--- the cause of a fault of a call over two files, a report and judges: that one of the files failed, or that the report did, or by the
--- counts of the judges before and after
-abbrev pub CausedBy : Type 0 → Type 0 → Type 0 → Judges → Judges → Fault → Type 0
-CausedBy first second output old new Input = first ⊎ second
-CausedBy first second output old new Output = output
-CausedBy first second output old new Judge = SomeRose old.faults new.faults
-CausedBy first second output old new Memory = ⊤
+-- the cause of a fault of a call over files, sinks and judges: that a file failed, or that a sink did, or by the counts of the judges
+-- before and after
+abbrev pub CausedBy : Type 0 → Type 0 → Judges → Judges → Fault → Type 0
+CausedBy input output old new Input = input
+CausedBy input output old new Output = output
+CausedBy input output old new Judge = SomeRose old.faults new.faults
+CausedBy input output old new Memory = ⊤
+
+-- the cause of a fault of a call that asks no judge: that a file failed, or that a sink did
+abbrev pub IsFileCause : Type 0 → Type 0 → Fault → Type 0
+IsFileCause input output Input = input
+IsFileCause input output Output = output
+IsFileCause input output Judge = ⊥
+IsFileCause input output Memory = ⊤
+
+-- the fault that an error of a build stands for: none for what is refused
+abbrev pub build_fault : BuildError → Option Fault
+build_fault build_error.ReadFault = Some Input
+build_fault build_error.JudgeFault = Some Judge
+build_fault build_error.WriteFault = Some Output
+build_fault build_error.NoMemory = Some Memory
+build_fault e = None
+
+-- the reply to an error of a build: what is reported of a refusal
+abbrev pub RepliesTo : BuildError → Reply → Type 0
+RepliesTo e reply = (build_fault e ≡ None) × (outcome_of reply ≡ refused_build e)
+
+-- an error of a build is this fault of the run, or memory ran out under the reply to a refusal
+abbrev pub IsFaultOf : BuildError → Fault → Type 0
+IsFaultOf e fault = (build_fault e ≡ Some fault) ⊎ ((build_fault e ≡ None) × (fault ≡ Memory))
 
 -- ---- the media
 

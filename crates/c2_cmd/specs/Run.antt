@@ -1,5 +1,5 @@
 -- What `run` promises by its status: what its report holds, what its faults come from, and what it leaves as it was.
-use Rattle.std.specs.Prelude.{◌≡◌, ℕ, Bool, true, List, IsSome, ⊤, map, string_bytes, String}
+use Rattle.std.specs.Prelude.{◌≡◌, ◌⊎◌, ℕ, Bool, true, List, IsSome, Some, None, ⊤, map, string_bytes, String}
 use Rattle.std.specs.declared.option.Option.{Option}
 use Rattle.c2_base.specs.Causes.{Rose}
 use Rattle.c2_base.specs.Sink.{then_written, HasWrittenPrefix}
@@ -9,12 +9,12 @@ use Rattle.c2_spec.specs.declared.panel.Verdict.{Verdict}
 use Rattle.c2_spec.specs.Judges.Panel.{SomeRose, NoneFell, Judges, panel_says}
 use Rattle.c2_rules.specs.Asking.{HaveAsked, HaveAskedPrefix, HaveFailed}
 use Rattle.c2_cmd.specs.CommandLine.{roles_of}
-use Rattle.c2_cmd.specs.Outcome.{Outcome, Inputs, inputs, uses_media, uses_second, uses_judges, IsOutcome, Asks}
+use Rattle.c2_cmd.specs.Outcome.{Outcome, Inputs, inputs, uses_media, uses_second, uses_third, uses_judges, IsOutcome, Asks, Meets}
 use Rattle.c2_cmd.specs.declared.types.Answer.{Answer}
 use Rattle.c2_cmd.specs.declared.types.Answer.TheVariants as answer
 use Rattle.c2_cmd.specs.declared.types.Roles.{Roles}
 use Rattle.c2_cmd.specs.declared.types.Status.{Status}
-use Rattle.c2_cmd.specs.declared.types.Status.TheVariants.{Done, Failing, Refused, NoStore, Usage, InputFault, OutputFault, JudgeFault, NoMemory, DifferentClaims, Evidence, NotAccepted}
+use Rattle.c2_cmd.specs.declared.types.Status.TheVariants.{Done, Failing, Refused, NoStore, Usage, InputFault, OutputFault, JudgeFault, NoMemory, DifferentClaims, Evidence, BuildRefused, NotAccepted}
 
 -- the status of an answer
 abbrev pub status_of : Answer → Status
@@ -25,6 +25,7 @@ status_of answer.NoStore = NoStore
 status_of answer.Usage = Usage
 status_of answer.DifferentClaims = DifferentClaims
 status_of answer.Evidence = Evidence
+status_of answer.BuildRefused = BuildRefused
 status_of answer.NotAccepted = NotAccepted
 
 -- the roles of the words of a call
@@ -53,6 +54,7 @@ handed c = inputs c.media c.second c.third (panel_says c.said) c.hash
 pub record IsKnown (c : Call) : Type 0 where
   pub media_known : uses_media c.roles ≡ true → IsSome c.media
   pub second_known : uses_second c.roles ≡ true → IsSome c.second
+  pub third_known : uses_third c.roles ≡ true → IsSome c.third
 
 -- the call comes to this outcome
 abbrev pub ComesTo : Call → Outcome → Type 0
@@ -61,6 +63,10 @@ ComesTo c expected = IsOutcome c.roles (handed c) expected
 -- the call puts these questions to its judges, in this order
 abbrev pub Puts : Call → List Question → Type 0
 Puts c qs = Asks c.roles (handed c) qs
+
+-- the new file of the call meets what is promised of it
+abbrev pub HasMet : Call → Type 0
+HasMet c = Meets c.roles (handed c)
 
 -- a sink: what was written to it, where that is known, and whether it is finished
 pub record SinkState : Type 0 where
@@ -89,6 +95,28 @@ HasReport expected old new OutputFault = Leaves expected.report old new
 HasReport expected old new JudgeFault = Leaves expected.report old new
 HasReport expected old new NoMemory = Leaves expected.report old new
 HasReport expected old new status = (status ≡ status_of expected.answer) × Delivers expected.report old new
+
+-- The new file after a run with this outcome and this status. Where the outcome has a file: all of it, and it is finished; after a fault
+-- of a source a prefix of it; after one of a sink a prefix of it or, where the report failed, all of it; out of memory nothing or all
+-- of it. Where the outcome has none: nothing was done.
+abbrev pub HasFile : Option (List ℕ) → SinkState → SinkState → Status → Type 0
+HasFile None old new status = new ≡ old
+HasFile (Some file) old new InputFault = Leaves file old new
+HasFile (Some file) old new OutputFault = Leaves file old new ⊎ Delivers file old new
+HasFile (Some file) old new JudgeFault = new ≡ old
+HasFile (Some file) old new NoMemory = (new ≡ old) ⊎ Delivers file old new
+HasFile (Some file) old new status = Delivers file old new
+
+-- nothing was written to the report before the file was whole and finished
+abbrev pub IsFileFirst : Option (List ℕ) → SinkState → SinkState → SinkState → SinkState → Type 0
+IsFileFirst None report_old report_new old new = ⊤
+IsFileFirst (Some file) report_old report_new old new = (report_new ≡ report_old) ⊎ Delivers file old new
+
+-- the run wrote nothing to its file, whatever its sources hold: the build was refused, or a judge failed
+abbrev pub HasNoFile : Status → Type 0
+HasNoFile BuildRefused = ⊤
+HasNoFile JudgeFault = ⊤
+HasNoFile status = ⊥
 
 -- an object that the command uses failed in this call
 abbrev pub HasFailed : Bool → ℕ → ℕ → Type 0

@@ -1,7 +1,7 @@
 // Which word is which.
 ghost use Rattle.std.specs.Prelude.{◌≡◌, true, false, map, string_bytes, is_some, IfOk, IfSome};
 ghost use Rattle.std.specs.List.{list_all};
-ghost use Rattle.c2_cmd.specs.CommandLine.{GivesRoles, roles_of_names, roles_of_one, roles_of_two, is_name, reads_media, reads_second, most_judges, command_of};
+ghost use Rattle.c2_cmd.specs.CommandLine.{GivesRoles, roles_of_names, roles_of_one, roles_of_two, roles_of_four, is_name, reads_media, reads_second, reads_third, writes_file, most_judges, command_of};
 
 use crate::types::{Command, Roles, RolesError};
 use c2_base::limits::MAX_JUDGE_NAMES;
@@ -13,6 +13,8 @@ pub fn roles(_alloc: Global, words: &Vec<String>) -> Result<Roles, RolesError>
     ensures roles { GivesRoles (map string_bytes words.now.items) result }
     ensures media { IfOk result (λ roles. is_some roles.media ≡ reads_media roles.command) }
     ensures second { IfOk result (λ roles. is_some roles.second ≡ reads_second roles.command) }
+    ensures third { IfOk result (λ roles. is_some roles.third ≡ reads_third roles.command) }
+    ensures out { IfOk result (λ roles. is_some roles.out ≡ writes_file roles.command) }
 {
     if !are_names(words) {
         return Err(RolesError::Usage);
@@ -35,6 +37,8 @@ fn roles_of_names(words: &Vec<String>) -> Option<Roles>
     ensures roles { result ≡ roles_of_names (map string_bytes words.now.items) }
     ensures media { IfSome result (λ roles. is_some roles.media ≡ reads_media roles.command) }
     ensures second { IfSome result (λ roles. is_some roles.second ≡ reads_second roles.command) }
+    ensures third { IfSome result (λ roles. is_some roles.third ≡ reads_third roles.command) }
+    ensures out { IfSome result (λ roles. is_some roles.out ≡ writes_file roles.command) }
 {
     let [first, names @ ..] = words.as_slice() else {
         return None;
@@ -42,10 +46,29 @@ fn roles_of_names(words: &Vec<String>) -> Option<Roles>
     let Some(command) = command_of(first.as_str()) else {
         return None;
     };
+    if writes_file(command) {
+        return roles_of_four(command, names);
+    }
     if reads_second(command) {
         return roles_of_two(command, names);
     }
     roles_of_one(command, names)
+}
+
+// Whether a command writes a new file.
+fn writes_file(command: Command) -> bool
+    ensures { result ≡ writes_file command }
+{
+    match command {
+        Command::Embed => true,
+        Command::Digest
+        | Command::List
+        | Command::Show
+        | Command::Questions
+        | Command::Validate
+        | Command::Compare
+        | Command::Plan => false,
+    }
 }
 
 // Whether a command reads a second file.
@@ -53,7 +76,7 @@ fn reads_second(command: Command) -> bool
     ensures { result ≡ reads_second command }
 {
     match command {
-        Command::Compare => true,
+        Command::Compare | Command::Plan | Command::Embed => true,
         Command::Digest | Command::List | Command::Show | Command::Questions | Command::Validate =>
             false,
     }
@@ -65,6 +88,8 @@ fn roles_of_one(command: Command, names: &[String]) -> Option<Roles>
     ensures roles { result ≡ roles_of_one command (map string_bytes names.now) }
     ensures media { IfSome result (λ roles. is_some roles.media ≡ reads_media roles.command) }
     ensures second { IfSome result (λ roles. is_some roles.second ≡ reads_second roles.command) }
+    ensures third { IfSome result (λ roles. is_some roles.third ≡ reads_third roles.command) }
+    ensures out { IfSome result (λ roles. is_some roles.out ≡ writes_file roles.command) }
 {
     let [_media, judges @ ..] = names else {
         return None;
@@ -85,10 +110,13 @@ fn roles_of_one(command: Command, names: &[String]) -> Option<Roles>
 
 // The roles of a command that reads two files.
 fn roles_of_two(command: Command, names: &[String]) -> Option<Roles>
-    requires { reads_second command ≡ true }
+    requires second { reads_second command ≡ true }
+    requires no_file { writes_file command ≡ false }
     ensures roles { result ≡ roles_of_two command (map string_bytes names.now) }
     ensures media { IfSome result (λ roles. is_some roles.media ≡ reads_media roles.command) }
     ensures second { IfSome result (λ roles. is_some roles.second ≡ reads_second roles.command) }
+    ensures third { IfSome result (λ roles. is_some roles.third ≡ reads_third roles.command) }
+    ensures out { IfSome result (λ roles. is_some roles.out ≡ writes_file roles.command) }
 {
     let [_media, _second, judges @ ..] = names else {
         return None;
@@ -107,6 +135,32 @@ fn roles_of_two(command: Command, names: &[String]) -> Option<Roles>
     })
 }
 
+// The roles of a command that reads three files and writes one.
+fn roles_of_four(command: Command, names: &[String]) -> Option<Roles>
+    requires { writes_file command ≡ true }
+    ensures roles { result ≡ roles_of_four command (map string_bytes names.now) }
+    ensures media { IfSome result (λ roles. is_some roles.media ≡ reads_media roles.command) }
+    ensures second { IfSome result (λ roles. is_some roles.second ≡ reads_second roles.command) }
+    ensures third { IfSome result (λ roles. is_some roles.third ≡ reads_third roles.command) }
+    ensures out { IfSome result (λ roles. is_some roles.out ≡ writes_file roles.command) }
+{
+    let [_media, _second, _third, _out, judges @ ..] = names else {
+        return None;
+    };
+    if judges.len() > most_judges(command) {
+        return None;
+    }
+    Some(Roles {
+        command,
+        media: Some(1),
+        second: Some(2),
+        third: Some(3),
+        out: Some(4),
+        judges: 5,
+        count: None,
+    })
+}
+
 // The command of a word.
 fn command_of(word: &str) -> Option<Command>
     ensures { result ≡ command_of word.now }
@@ -118,6 +172,8 @@ fn command_of(word: &str) -> Option<Command>
         "questions" => Some(Command::Questions),
         "validate" => Some(Command::Validate),
         "compare" => Some(Command::Compare),
+        "plan" => Some(Command::Plan),
+        "embed" => Some(Command::Embed),
         _ => None,
     }
 }
@@ -128,7 +184,11 @@ fn most_judges(command: Command) -> usize
 {
     match command {
         Command::Digest | Command::List | Command::Show => 0,
-        Command::Questions | Command::Validate | Command::Compare => MAX_JUDGE_NAMES,
+        Command::Questions
+        | Command::Validate
+        | Command::Compare
+        | Command::Plan
+        | Command::Embed => MAX_JUDGE_NAMES,
     }
 }
 

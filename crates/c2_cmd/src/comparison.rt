@@ -55,7 +55,7 @@ pub fn reply_to_compare<H: Hashing, A: Source, B: Source, W: Sink>(
         let first = Rose (A.faults media.old) (A.faults media.new) in
         let other = Rose (B.faults second.old) (B.faults second.new) in
         let output = Rose (W.faults report.old) (W.faults report.new) in
-        IfErr result (CausedBy first other output old new) }
+        IfErr result (CausedBy (first ⊎ other) output old new) }
     ensures media_stays { StaysSource A.len A.known A.faults media.old media.new }
     ensures media_count { OnOk result (A.faults media.new ≡ A.faults media.old) }
     ensures second_stays { StaysSource B.len B.known B.faults second.old second.new }

@@ -5,6 +5,7 @@ ghost use Rattle.c2_cmd.specs.Outcome.{Asks, Inputs, IsOutcome, Outcome};
 ghost use Rattle.c2_cmd.specs.declared.types.Roles.{Roles as AnyRoles};
 
 use c2_binding::{each_comparison, one_comparison};
+use c2_build::{a_build_comes_to_one_thing, each_build_comes_to_something};
 use c2_chain::{a_reading_is_the_claim_and_the_question, one_list_of_claims, one_reading};
 use c2_jumbf::each_list_is_a_tree_or_not;
 use c2_validate::{each_file_has_a_check, each_media_file_is_located, one_check, one_opening};
@@ -23,16 +24,20 @@ pub fn one_outcome()
     one_opening();
     one_check();
     one_comparison();
+    a_build_comes_to_one_thing();
 }
 
 /// Words and inputs whose files are bytes come to an outcome, and to a list of questions.
 pub fn each_run_has_an_outcome()
     ensures outcome { (roles : Option AnyRoles) (i : Inputs) → All (λ b. b < 2 ^ 8) i.media
-        → All (λ b. b < 2 ^ 8) i.second → (expected : Outcome) × IsOutcome roles i expected }
+        → All (λ b. b < 2 ^ 8) i.second → All (λ b. b < 2 ^ 8) i.third
+        → (expected : Outcome) × IsOutcome roles i expected }
     ensures questions { (roles : Option AnyRoles) (i : Inputs) → All (λ b. b < 2 ^ 8) i.media
-        → All (λ b. b < 2 ^ 8) i.second → (qs : List Question) × Asks roles i qs }
+        → All (λ b. b < 2 ^ 8) i.second → All (λ b. b < 2 ^ 8) i.third
+        → (qs : List Question) × Asks roles i qs }
 {
     each_file_has_a_check();
     each_comparison();
+    each_build_comes_to_something();
     a_reading_is_the_claim_and_the_question();
 }

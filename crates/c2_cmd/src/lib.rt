@@ -3,6 +3,7 @@
 //! The outcome of a run stands in `specs/Outcome.antt`, and what `run` promises of it in `specs/Run.antt`.
 #![tactic(auto)]
 
+mod building;
 mod command_line;
 mod comparison;
 mod digest;

@@ -1,10 +1,11 @@
 // Replies: the answer and the text of a run without a fault, before it is written.
 ghost use Rattle.std.specs.Prelude.{◌≡◌};
-ghost use Rattle.c2_cmd.specs.Reply.{compare_fault, fault_of};
+ghost use Rattle.c2_cmd.specs.Reply.{build_fault, compare_fault, fault_of};
 ghost use Rattle.c2_cmd.specs.declared.reply.Fault.TheVariants.{Input, Memory};
 
 use crate::types::Answer;
 use c2_base::{Failed, NoMemory};
+use c2_build::BuildError;
 use c2_compare::CompareError;
 use c2_validate::ValidateError;
 use std::alloc::AllocError;
@@ -15,7 +16,7 @@ pub enum Fault {
     /// A source failed.
     Input,
 
-    /// The report failed.
+    /// The report failed, or the new file.
     Output,
 
     /// A judge failed.
@@ -78,5 +79,25 @@ impl From<CompareError> for Fault {
             CompareError::JudgeFault => Fault::Judge,
             CompareError::NoMemory => Fault::Memory,
         }
+    }
+}
+
+/// The fault that an error of a build stands for: none for what is refused.
+pub fn build_fault(error: &BuildError) -> Option<Fault>
+    ensures { result ≡ build_fault error.now }
+{
+    match error {
+        BuildError::ReadFault => Some(Fault::Input),
+        BuildError::JudgeFault => Some(Fault::Judge),
+        BuildError::WriteFault => Some(Fault::Output),
+        BuildError::NoMemory => Some(Fault::Memory),
+        BuildError::MediaRefused(_, _)
+        | BuildError::BadDefinition(_)
+        | BuildError::BadSignature(_)
+        | BuildError::Later
+        | BuildError::RedactionRefused(_, _)
+        | BuildError::NoInstance
+        | BuildError::StoreTooLarge(_)
+        | BuildError::ReserveTooSmall(_) => None,
     }
 }

@@ -8,10 +8,11 @@ ghost use Rattle.c2_base.specs.declared.values.Question.{Question};
 ghost use Rattle.c2_binding.specs.Comparison.{IsRefusedFirst};
 ghost use Rattle.c2_rules.specs.declared.answer.Answer.{Answer as AnyAnswer};
 ghost use Rattle.c2_spec.specs.Judges.Panel.{LeavesJudges, judges_of, panel_says};
-ghost use Rattle.c2_cmd.specs.Outcome.{Outcome, has_whole_report, uses_judges, uses_media, uses_second};
-ghost use Rattle.c2_cmd.specs.Reply.{AskedThose, Begins, CausedBy};
-ghost use Rattle.c2_cmd.specs.Run.{AskedPanel, ComesTo, Delivers, HasFailed, HasNoReply, HasReport, IsKnown, KeepsJudges, Puts, WithoutFault, call_of, roles_in, state_of};
+ghost use Rattle.c2_cmd.specs.Outcome.{Outcome, has_first_checked, has_whole_report, uses_judges, uses_media, uses_out, uses_second, uses_third};
+ghost use Rattle.c2_cmd.specs.Reply.{AskedThose, Begins, CausedBy, TakesFile};
+ghost use Rattle.c2_cmd.specs.Run.{AskedPanel, ComesTo, Delivers, HasFailed, HasFile, HasMet, HasNoFile, HasNoReply, HasReport, IsFileFirst, IsKnown, KeepsJudges, Puts, WithoutFault, call_of, roles_in, state_of};
 
+use crate::building::{reply_to_embed, reply_to_plan};
 use crate::command_line::roles;
 use crate::comparison::reply_to_compare;
 use crate::digest::reply_to_digest;
@@ -28,21 +29,27 @@ use c2_hash::Hashing;
 use c2_judge::Judge;
 use std::alloc::Global;
 
-/// Runs the command that the words spell, over the files, the report and the judges that it is handed.
+/// Runs the command that the words spell, over the files, the sinks and the judges that it is handed: `second` is the other file of
+/// `compare` and the definition of `plan` and `embed`, `third` the signed message of `embed`, and `out` takes the file that `embed` builds.
 ///
 /// Where the bytes of the files that the command reads are known, the report holds the outcome's text and is finished; after a fault or
 /// out of memory it holds a prefix of it. `Usage` comes exactly where the words fit no command, unless the report fails or memory
-/// runs out. `InputFault`, `OutputFault` and `JudgeFault` come only where a file that the command reads, the report, or a judge whom
-/// the command may ask failed in this call; `NoMemory` where memory ran out. `compare` writes evidence while it reads it: each other
-/// command has its whole report before it writes any of it.
+/// runs out. `InputFault`, `OutputFault` and `JudgeFault` come only where a file that the command reads, the report or the new file, or
+/// a judge whom the command may ask failed in this call; `NoMemory` where memory ran out. `compare` writes evidence while it reads it:
+/// each other command has its whole report before it writes any of it.
+///
+/// `embed` has written and finished the whole new file before the first byte of the report; after a fault the file may hold a prefix, and
+/// then isn't finished. A refused build leaves it as it was, and so does every other command.
 // The condition always holds. A public function without one that changes boxed judges can't be called from another crate
 // under a contract.
-pub fn run<H: Hashing, A: Source, B: Source, W: Sink>(
+pub fn run<H: Hashing, A: Source, B: Source, C: Source, K: Sink, W: Sink>(
     alloc: Global,
     hashing: &H,
     words: &Vec<String>,
     media: &mut A,
     second: &mut B,
+    third: &mut C,
+    out: &mut K,
     report: &mut W,
     judges: &mut Vec<Box<dyn Judge>>,
 ) -> Status
@@ -51,20 +58,49 @@ pub fn run<H: Hashing, A: Source, B: Source, W: Sink>(
     ensures report { let said = map (λ j. says j) judges.old.items in
         let known = A.known media.old in
         let other = B.known second.old in
-        let call = call_of words.now.items known other None said H.digest_of in
+        let last = C.known third.old in
+        let call = call_of words.now.items known other last said H.digest_of in
         let old = state_of W.written W.finished report.old in
         let new = state_of W.written W.finished report.new in
         IsKnown call → (expected : Outcome) → ComesTo call expected
         → HasReport expected old new result }
+    ensures file { let said = map (λ j. says j) judges.old.items in
+        let known = A.known media.old in
+        let other = B.known second.old in
+        let last = C.known third.old in
+        let call = call_of words.now.items known other last said H.digest_of in
+        let old = state_of K.written K.finished out.old in
+        let new = state_of K.written K.finished out.new in
+        IsKnown call → (expected : Outcome) → ComesTo call expected
+        → HasFile expected.file old new result }
+    ensures order { let said = map (λ j. says j) judges.old.items in
+        let known = A.known media.old in
+        let other = B.known second.old in
+        let last = C.known third.old in
+        let call = call_of words.now.items known other last said H.digest_of in
+        let report_old = state_of W.written W.finished report.old in
+        let report_new = state_of W.written W.finished report.new in
+        let old = state_of K.written K.finished out.old in
+        let new = state_of K.written K.finished out.new in
+        IsKnown call → (expected : Outcome) → ComesTo call expected
+        → IsFileFirst expected.file report_old report_new old new }
+    ensures met { let said = map (λ j. says j) judges.old.items in
+        let known = A.known media.old in
+        let other = B.known second.old in
+        let last = C.known third.old in
+        let call = call_of words.now.items known other last said H.digest_of in
+        IsKnown call → result ≡ Status.Done → HasMet call }
     ensures outcome { let said = map (λ j. says j) judges.old.items in
         let known = A.known media.old in
         let other = B.known second.old in
-        let call = call_of words.now.items known other None said H.digest_of in
+        let last = C.known third.old in
+        let call = call_of words.now.items known other last said H.digest_of in
         IsKnown call → (expected : Outcome) × ComesTo call expected }
     ensures asked { let said = map (λ j. says j) judges.old.items in
         let known = A.known media.old in
         let other = B.known second.old in
-        let call = call_of words.now.items known other None said H.digest_of in
+        let last = C.known third.old in
+        let call = call_of words.now.items known other last said H.digest_of in
         let old = judges_of (λ j. says j) (λ j. asked_times j) (λ j. judge_faults j)
         judges.old.items in
         let new = judges_of (λ j. says j) (λ j. asked_times j) (λ j. judge_faults j)
@@ -76,7 +112,8 @@ pub fn run<H: Hashing, A: Source, B: Source, W: Sink>(
     ensures input { let roles = roles_in words.now.items in
         let first = HasFailed (uses_media roles) (A.faults media.old) (A.faults media.new) in
         let other = HasFailed (uses_second roles) (B.faults second.old) (B.faults second.new) in
-        result ≡ Status.InputFault → first ⊎ other }
+        let last = HasFailed (uses_third roles) (C.faults third.old) (C.faults third.new) in
+        result ≡ Status.InputFault → first ⊎ (other ⊎ last) }
     ensures media_quiet { WithoutFault (A.faults media.new ≡ A.faults media.old) result }
     ensures media_stays { StaysSource A.len A.known A.faults media.old media.new }
     ensures media_unnamed { uses_media (roles_in words.now.items) ≡ false → media.new ≡ media.old }
@@ -85,12 +122,27 @@ pub fn run<H: Hashing, A: Source, B: Source, W: Sink>(
     ensures second_unnamed { uses_second (roles_in words.now.items) ≡ false
         → second.new ≡ second.old }
     ensures second_unread { let said = panel_says (map (λ j. says j) judges.old.items) in
-        ForSome (A.known media.old) (λ file. (found : AnyAnswer)
+        has_first_checked (roles_in words.now.items) ≡ true
+        → ForSome (A.known media.old) (λ file. (found : AnyAnswer)
         → IsRefusedFirst H.digest_of said file found → second.new ≡ second.old) }
 
-    // The report.
-    ensures output { result ≡ Status.OutputFault
-        → HasFailed true (W.faults report.old) (W.faults report.new) }
+    ensures third_quiet { WithoutFault (C.faults third.new ≡ C.faults third.old) result }
+    ensures third_stays { StaysSource C.len C.known C.faults third.old third.new }
+    ensures third_unnamed { uses_third (roles_in words.now.items) ≡ false → third.new ≡ third.old }
+
+    // The sinks: when a fault of theirs is answered, and what becomes of them whatever the files hold.
+    ensures output { let roles = roles_in words.now.items in
+        let told = HasFailed true (W.faults report.old) (W.faults report.new) in
+        let file = HasFailed (uses_out roles) (K.faults out.old) (K.faults out.new) in
+        result ≡ Status.OutputFault → told ⊎ file }
+    ensures out_quiet { WithoutFault (K.faults out.new ≡ K.faults out.old) result }
+    ensures out_later { K.faults out.old ≤ K.faults out.new }
+    ensures out_unfinished { K.faults out.old < K.faults out.new
+        → K.finished out.new ≡ K.finished out.old }
+    ensures out_finished { uses_out (roles_in words.now.items) ≡ true → result ≡ Status.Done
+        → K.finished out.new ≡ true }
+    ensures out_unnamed { uses_out (roles_in words.now.items) ≡ false → out.new ≡ out.old }
+    ensures refused { HasNoFile result → out.new ≡ out.old }
     ensures report_quiet { WithoutFault (W.faults report.new ≡ W.faults report.old) result }
     ensures report_unwritten { has_whole_report (roles_in words.now.items) ≡ true
         → HasNoReply result → report.new ≡ report.old }
@@ -110,12 +162,15 @@ pub fn run<H: Hashing, A: Source, B: Source, W: Sink>(
     ensures judges_unasked { let said = map (λ j. says j) judges.old.items in
         let known = A.known media.old in
         let other = B.known second.old in
-        let call = call_of words.now.items known other None said H.digest_of in
+        let last = C.known third.old in
+        let call = call_of words.now.items known other last said H.digest_of in
         IsKnown call → Puts call [] → judges.new ≡ judges.old }
 {
     // Only the prover needs this law.
     each_run_has_an_outcome();
-    let reply = match reply_to(alloc, hashing, words, media, second, report, judges) {
+    let reply = match reply_to(
+        alloc, hashing, words, media, second, third, out, report, judges,
+    ) {
         Ok(reply) => reply,
         Err(Fault::Input) => return Status::InputFault,
         Err(Fault::Output) => return Status::OutputFault,
@@ -128,13 +183,15 @@ pub fn run<H: Hashing, A: Source, B: Source, W: Sink>(
     }
 }
 
-// The reply to a command line. `compare` alone writes to the report.
-fn reply_to<H: Hashing, A: Source, B: Source, W: Sink>(
+// The reply to a command line. `compare` alone writes to the report, and `embed` alone to the new file.
+fn reply_to<H: Hashing, A: Source, B: Source, C: Source, K: Sink, W: Sink>(
     alloc: Global,
     hashing: &H,
     words: &Vec<String>,
     media: &mut A,
     second: &mut B,
+    third: &mut C,
+    out: &mut K,
     report: &mut W,
     judges: &mut Vec<Box<dyn Judge>>,
 ) -> Result<Reply, Fault>
@@ -142,13 +199,30 @@ fn reply_to<H: Hashing, A: Source, B: Source, W: Sink>(
     ensures reply { let said = map (λ j. says j) judges.old.items in
         let known = A.known media.old in
         let other = B.known second.old in
-        let call = call_of words.now.items known other None said H.digest_of in
+        let last = C.known third.old in
+        let call = call_of words.now.items known other last said H.digest_of in
         IsKnown call
         → Begins (ComesTo call) (W.written report.old) (W.written report.new) result }
+    ensures file { let said = map (λ j. says j) judges.old.items in
+        let known = A.known media.old in
+        let other = B.known second.old in
+        let last = C.known third.old in
+        let call = call_of words.now.items known other last said H.digest_of in
+        let old = state_of K.written K.finished out.old in
+        let new = state_of K.written K.finished out.new in
+        IsKnown call → (expected : Outcome) → ComesTo call expected
+        → TakesFile expected.file old new result }
+    ensures met { let said = map (λ j. says j) judges.old.items in
+        let known = A.known media.old in
+        let other = B.known second.old in
+        let last = C.known third.old in
+        let call = call_of words.now.items known other last said H.digest_of in
+        IsKnown call → IfOk result (λ reply. reply.answer ≡ Answer.Done → HasMet call) }
     ensures asked { let said = map (λ j. says j) judges.old.items in
         let known = A.known media.old in
         let other = B.known second.old in
-        let call = call_of words.now.items known other None said H.digest_of in
+        let last = C.known third.old in
+        let call = call_of words.now.items known other last said H.digest_of in
         let old = judges_of (λ j. says j) (λ j. asked_times j) (λ j. judge_faults j)
         judges.old.items in
         let new = judges_of (λ j. says j) (λ j. asked_times j) (λ j. judge_faults j)
@@ -163,8 +237,10 @@ fn reply_to<H: Hashing, A: Source, B: Source, W: Sink>(
         judges.new.items in
         let first = HasFailed (uses_media roles) (A.faults media.old) (A.faults media.new) in
         let other = HasFailed (uses_second roles) (B.faults second.old) (B.faults second.new) in
-        let output = Rose (W.faults report.old) (W.faults report.new) in
-        IfErr result (CausedBy first other output old new) }
+        let last = HasFailed (uses_third roles) (C.faults third.old) (C.faults third.new) in
+        let told = HasFailed true (W.faults report.old) (W.faults report.new) in
+        let file = HasFailed (uses_out roles) (K.faults out.old) (K.faults out.new) in
+        IfErr result (CausedBy (first ⊎ (other ⊎ last)) (told ⊎ file) old new) }
     ensures media_stays { StaysSource A.len A.known A.faults media.old media.new }
     ensures media_count { OnOk result (A.faults media.new ≡ A.faults media.old) }
     ensures media_unnamed { uses_media (roles_in words.now.items) ≡ false → media.new ≡ media.old }
@@ -173,8 +249,22 @@ fn reply_to<H: Hashing, A: Source, B: Source, W: Sink>(
     ensures second_unnamed { uses_second (roles_in words.now.items) ≡ false
         → second.new ≡ second.old }
     ensures second_unread { let said = panel_says (map (λ j. says j) judges.old.items) in
-        ForSome (A.known media.old) (λ file. (found : AnyAnswer)
+        has_first_checked (roles_in words.now.items) ≡ true
+        → ForSome (A.known media.old) (λ file. (found : AnyAnswer)
         → IsRefusedFirst H.digest_of said file found → second.new ≡ second.old) }
+    ensures third_stays { StaysSource C.len C.known C.faults third.old third.new }
+    ensures third_count { OnOk result (C.faults third.new ≡ C.faults third.old) }
+    ensures third_unnamed { uses_third (roles_in words.now.items) ≡ false → third.new ≡ third.old }
+    ensures out_count { OnOk result (K.faults out.new ≡ K.faults out.old) }
+    ensures out_later { K.faults out.old ≤ K.faults out.new }
+    ensures out_unfinished { K.faults out.old < K.faults out.new
+        → K.finished out.new ≡ K.finished out.old }
+    ensures out_finished { uses_out (roles_in words.now.items) ≡ true
+        → IfOk result (λ reply. reply.answer ≡ Answer.Done → K.finished out.new ≡ true) }
+    ensures out_unnamed { uses_out (roles_in words.now.items) ≡ false → out.new ≡ out.old }
+    ensures refused { IfOk result
+        (λ reply. reply.answer ≡ Answer.BuildRefused → out.new ≡ out.old) }
+    ensures judged { IfErr result (λ e. e ≡ Fault.Judge → out.new ≡ out.old) }
     ensures report_count { OnOk result (W.faults report.new ≡ W.faults report.old) }
     ensures report_later { W.faults report.old ≤ W.faults report.new }
     ensures report_unfinished { W.finished report.new ≡ W.finished report.old }
@@ -193,7 +283,8 @@ fn reply_to<H: Hashing, A: Source, B: Source, W: Sink>(
     ensures judges_unasked { let said = map (λ j. says j) judges.old.items in
         let known = A.known media.old in
         let other = B.known second.old in
-        let call = call_of words.now.items known other None said H.digest_of in
+        let last = C.known third.old in
+        let call = call_of words.now.items known other last said H.digest_of in
         IsKnown call → Puts call [] → judges.new ≡ judges.old }
 {
     // Only the prover needs this law.
@@ -210,6 +301,8 @@ fn reply_to<H: Hashing, A: Source, B: Source, W: Sink>(
         Command::Questions => reply_to_questions(alloc, media, judges),
         Command::Validate => reply_to_validate(alloc, hashing, media, judges),
         Command::Compare => reply_to_compare(alloc, hashing, media, second, report, judges),
+        Command::Plan => reply_to_plan(alloc, hashing, media, second, judges),
+        Command::Embed => reply_to_embed(alloc, hashing, media, second, third, judges, out),
     }
 }
 

@@ -20,6 +20,12 @@ pub enum Command {
 
     /// Whether one active claim binds two files, and the evidence where it doesn't.
     Compare,
+
+    /// What is to be signed where a store is to be put into the media.
+    Plan,
+
+    /// The media with a new store, as a new file.
+    Embed,
 }
 
 /// Which word is which: the index of each name among the words.
@@ -81,6 +87,9 @@ pub enum Answer {
     /// Evidence that two files differ.
     Evidence,
 
+    /// A refused build of a new store.
+    BuildRefused,
+
     /// One of two files that isn't accepted.
     NotAccepted,
 }
@@ -101,6 +110,7 @@ impl Answer {
             Answer::Usage => Status::Usage,
             Answer::DifferentClaims => Status::DifferentClaims,
             Answer::Evidence => Status::Evidence,
+            Answer::BuildRefused => Status::BuildRefused,
             Answer::NotAccepted => Status::NotAccepted,
         }
     }
@@ -127,7 +137,7 @@ pub enum Status {
     /// A source that the command uses failed.
     InputFault = 5,
 
-    /// The report failed.
+    /// The report failed, or the file that the command writes.
     OutputFault = 6,
 
     /// A judge failed.
@@ -141,6 +151,9 @@ pub enum Status {
 
     /// There is evidence that two files differ.
     Evidence = 10,
+
+    /// Nothing is built: an input is refused, or what would be written.
+    BuildRefused = 11,
 
     /// One of two files isn't accepted.
     NotAccepted = 12,

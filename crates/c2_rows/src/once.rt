@@ -2,7 +2,7 @@
 use crate::judges::{Named, judge_of};
 use crate::settings::{Fault, Hash, Object, Settings};
 use crate::trouble::Trouble;
-use c2_base::{Blob, MemSink, MemSource};
+use c2_base::{Blob, HostFile, MemSink, MemSource};
 use c2_cmd::run;
 use c2_hash::{Sha, WeakSum};
 use c2_judge::Judge;
@@ -77,11 +77,15 @@ pub fn run_once(
     let second = Blob::copied(alloc, files.1.unwrap_or(&[]))?;
     let mut second = MemSource::new(second, pieces.1.max(1), second_fails);
     let mut report = MemSink::with_room(alloc, settings.room, fault.of(Object::Report))?;
+    // No row has a third file or a new one: each would fail at its first call.
+    let mut third = HostFile::absent();
+    let mut file = MemSink::with_room(alloc, 0, 1)?;
     let (words, first, other) = (&settings.words, &mut media, &mut second);
+    let (last, new) = (&mut third, &mut file);
     let (out, panel) = (&mut report, &mut judges);
     let status = match settings.hash {
-        Hash::Sha => run(alloc, &Sha, words, first, other, out, panel),
-        Hash::WeakSum => run(alloc, &WeakSum, words, first, other, out, panel),
+        Hash::Sha => run(alloc, &Sha, words, first, other, last, new, out, panel),
+        Hash::WeakSum => run(alloc, &WeakSum, words, first, other, last, new, out, panel),
     };
     outcome_of(alloc, status.code(), &report, &judges)
 }

@@ -15,7 +15,7 @@ pub fn words(alloc: Global, texts: &[&str]) -> Result<Vec<String>, AllocError> {
     Ok(words)
 }
 
-/// Runs a command over one file. A second would fail at each call.
+/// Runs a command over one file. A second, a third and a new file would fail at each call.
 pub fn run_one<A: Source>(
     alloc: Global,
     given: &Vec<String>,
@@ -24,5 +24,19 @@ pub fn run_one<A: Source>(
     judges: &mut Vec<Box<dyn Judge>>,
 ) -> Status {
     let mut second = HostFile::absent();
-    run(alloc, &Sha, given, media, &mut second, report, judges)
+    let mut third = HostFile::absent();
+    let Ok(mut out) = MemSink::with_room(alloc, 0, 1) else {
+        return Status::NoMemory;
+    };
+    run(
+        alloc,
+        &Sha,
+        given,
+        media,
+        &mut second,
+        &mut third,
+        &mut out,
+        report,
+        judges,
+    )
 }

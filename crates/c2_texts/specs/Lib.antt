@@ -1,3 +1,4 @@
+pub mod Builds
 pub mod Items
 pub mod Show
 pub mod Texts

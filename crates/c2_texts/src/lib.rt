@@ -1,9 +1,10 @@
 //! The lines of reports, as texts in memory.
 //!
-//! What each line is stands in `specs/`: `Texts` for the plain lines, `Show` for the JSON of `show`. An error means
-//! that memory ran out.
+//! What each line is stands in `specs/`: `Texts` for the plain lines, `Builds` for those on what is built, `Show` for the JSON of
+//! `show`. An error means that memory ran out.
 #![tactic(auto)]
 
+mod builds;
 mod claims;
 mod control;
 mod json;
@@ -13,6 +14,11 @@ mod names;
 mod show;
 mod tree;
 
+pub use builds::{
+    bad_definition_line, bad_signature_line, embedded_line, later_line, media_refused_line,
+    no_instance_line, redaction_refused_line, reserve_too_small_line, store_too_large_line,
+    tbs_line,
+};
 pub use lines::{
     different_line, digest_line, failing_line, no_question_line, none_line, not_accepted_line,
     question_line, refused_line, same_line, usage_line, valid_line,

@@ -1,9 +1,12 @@
-// The words that reports print for refusals, verdicts and rules that fail.
+// The words that reports print for refusals, verdicts and rules that fail, and for what is refused of a build.
 ghost use Rattle.std.specs.Prelude.{◌≡◌};
 ghost use Rattle.c2_spec.specs.Judges.Panel as panel_form;
 ghost use Rattle.c2_spec.specs.Reason as reason_form;
 ghost use Rattle.c2_rules.specs.Codes as code_form;
+ghost use Rattle.c2_texts.specs.Builds as build_form;
 
+use c2_definition::DefinitionField;
+use c2_message::SignaturePart;
 use c2_rules::Code;
 use c2_spec::{Reason, Verdict};
 
@@ -101,5 +104,38 @@ pub fn code_name(code: Code) -> &'static str
         Code::AssertionDataHashMismatch => "assertion.dataHash.mismatch",
         Code::AssertionBmffHashMismatch => "assertion.bmffHash.mismatch",
         Code::ProfileRedactionTarget => "profile.redaction.target",
+    }
+}
+
+/// The name of what is refused of a definition file.
+pub fn field_name(field: DefinitionField) -> &'static str
+    ensures { result.now ≡ build_form.field_name field }
+{
+    match field {
+        DefinitionField::Size => "size",
+        DefinitionField::Json => "json",
+        DefinitionField::Other => "other",
+        DefinitionField::Label => "label",
+        DefinitionField::InstanceId => "instance_id",
+        DefinitionField::Generator => "generator",
+        DefinitionField::Title => "title",
+        DefinitionField::Protected => "protected",
+        DefinitionField::Reserve => "reserve",
+        DefinitionField::Assertions => "assertions",
+        DefinitionField::Redact => "redact",
+    }
+}
+
+/// The name of what is refused of a signed message.
+pub fn part_name(part: SignaturePart) -> &'static str
+    ensures { result.now ≡ build_form.part_name part }
+{
+    match part {
+        SignaturePart::Size => "size",
+        SignaturePart::Form => "form",
+        SignaturePart::Plain => "plain",
+        SignaturePart::Protected => "protected",
+        SignaturePart::Entries => "entries",
+        SignaturePart::Pad => "pad",
     }
 }

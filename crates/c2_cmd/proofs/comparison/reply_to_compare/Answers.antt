@@ -43,7 +43,7 @@ pub returns-in-Ok-clause-fault : goal.returns-in-Ok-clause-fault
 returns-in-Ok-clause-fault g c =
     let old = judges_of (λ j. (goal.Judge-dyn g (j.vtable, j.value)).says j.value) (λ j. (goal.Judge-dyn g (j.vtable, j.value)).asked_times j.value) (λ j. (goal.Judge-dyn g (j.vtable, j.value)).judge_faults j.value) c.args.judges.now.items in
     let new = judges_of (λ j. (goal.Judge-dyn g (j.vtable, j.value)).says j.value) (λ j. (goal.Judge-dyn g (j.vtable, j.value)).asked_times j.value) (λ j. (goal.Judge-dyn g (j.vtable, j.value)).judge_faults j.value) c.compare.new.judges.items in
-    memory_caused _ _ _ old new c.reply_to_compared.result c.reply_to_compared.ensures.memory
+    memory_caused _ _ old new c.reply_to_compared.result c.reply_to_compared.ensures.memory
 
 -- a fault of the comparison has its cause
 pub returns-in-Err-clause-fault : goal.returns-in-Err-clause-fault

@@ -8,6 +8,8 @@ returns-clause-outcome c = each_outcome (record {
   asks = c.each_file_has_a_check.ensures.asks;
   claim = c.a_reading_is_the_claim_and_the_question.ensures.claim;
   compared = c.each_comparison.ensures.answer;
+  planned = c.each_build_comes_to_something.ensures.plan;
+  embedded = c.each_build_comes_to_something.ensures.embedding;
   compare_asks = c.each_comparison.ensures.asks;
 })
 
@@ -18,5 +20,7 @@ returns-clause-questions c = each_list (record {
   asks = c.each_file_has_a_check.ensures.asks;
   claim = c.a_reading_is_the_claim_and_the_question.ensures.claim;
   compared = c.each_comparison.ensures.answer;
+  planned = c.each_build_comes_to_something.ensures.plan;
+  embedded = c.each_build_comes_to_something.ensures.embedding;
   compare_asks = c.each_comparison.ensures.asks;
 })

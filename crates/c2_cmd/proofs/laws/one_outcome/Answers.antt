@@ -15,6 +15,8 @@ returns-clause-outcome c = one_outcome (record {
   asks = c.one_check.ensures.asks;
   questions = c.one_check.ensures.questions;
   compared = λ hash said first second. c.one_comparison.ensures.answer hash said first second (c.one_opening.ensures.file first) (c.one_opening.ensures.file second);
+  planned = c.a_build_comes_to_one_thing.ensures.plan;
+  embedded = c.a_build_comes_to_one_thing.ensures.embedding;
   compare_asks = λ hash said first second. c.one_comparison.ensures.asks hash said first second (c.one_opening.ensures.file first) (c.one_opening.ensures.file second);
 })
 
@@ -32,5 +34,7 @@ returns-clause-questions c = one_list (record {
   asks = c.one_check.ensures.asks;
   questions = c.one_check.ensures.questions;
   compared = λ hash said first second. c.one_comparison.ensures.answer hash said first second (c.one_opening.ensures.file first) (c.one_opening.ensures.file second);
+  planned = c.a_build_comes_to_one_thing.ensures.plan;
+  embedded = c.a_build_comes_to_one_thing.ensures.embedding;
   compare_asks = λ hash said first second. c.one_comparison.ensures.asks hash said first second (c.one_opening.ensures.file first) (c.one_opening.ensures.file second);
 })

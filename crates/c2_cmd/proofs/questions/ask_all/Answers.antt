@@ -1,4 +1,4 @@
-use Rattle.std.proofs.Common.{◌+◌, ◌∙◌, drop, map, string_bytes}
+use Rattle.std.proofs.Common.{◌+◌, ◌∙◌, drop, string_bytes}
 use Rattle.std.specs.Option.{option_to_list}
 use Rattle.c2_spec.specs.Judges.Panel.{judges_of}
 use Rattle.c2_cmd.specs.Reply.{questions_in}

@@ -1,0 +1,288 @@
+-- What `plan` and `embed` report, write and fail with, by what the build comes to.
+use Rattle.std.proofs.Common.{◌≡◌, ◌≢◌, refl, sym, ◌∙◌, ap, subst, inl, inr, ◌⊎◌, ℕ, zero, suc, Bool, List, [], ◌++◌, take, Option, Some, None, arith, append-nil}
+use Rattle.std.specs.Prelude.{IfErr, IfOk, OnOk}
+use Rattle.std.specs.declared.result.Result.{Result}
+use Rattle.std.specs.declared.result.Result.TheVariants.{Ok, Err}
+use Rattle.c2_base.specs.Causes.{Rose}
+use Rattle.c2_base.specs.Sink.{HasWrittenPrefix}
+use Rattle.c2_base.specs.declared.values.Question.{Question}
+use Rattle.c2_spec.specs.declared.digest.Alg.{Alg}
+use Rattle.c2_spec.specs.declared.panel.Verdict.TheVariants.{Silent}
+use Rattle.c2_build.specs.Answers.{ComesTo, Faults, IsBegun, IsBuildCause, IsDelivered, IsEmbedding, LeavesSink, WithoutFault, file_of}
+use Rattle.c2_build.specs.Answers.{SinkState as BuildSink}
+use Rattle.c2_build.specs.Building.{Built, IsEmbedded, IsPlanned}
+use Rattle.c2_build.specs.declared.error.BuildError.{BuildError}
+use Rattle.c2_build.specs.declared.error.BuildError.TheVariants.{MediaRefused, BadDefinition, BadSignature, Later, RedactionRefused, NoInstance, StoreTooLarge, ReserveTooSmall, ReadFault, JudgeFault, WriteFault, NoMemory}
+use Rattle.c2_build.specs.declared.types.Embedded.{Embedded}
+use Rattle.c2_texts.specs.Builds.{embedded_line, tbs_line}
+use Rattle.c2_cmd.specs.CommandLine.{writing_roles}
+use Rattle.c2_cmd.specs.Outcome.{Outcome, IsEmbedOutcome, IsPlanOutcome, embed_outcome, refused_build, reports}
+use Rattle.c2_cmd.specs.Reply.{IsFaultOf, IsFileCause, RepliesTo, StandsFor, TakesFile, build_fault, outcome_of}
+use Rattle.c2_cmd.specs.Run.{SinkState, Delivers, state_of}
+use Rattle.c2_cmd.specs.declared.reply.Fault.{Fault}
+use Rattle.c2_cmd.specs.declared.reply.Fault.TheVariants.{Input, Output, Judge, Memory}
+use Rattle.c2_cmd.specs.declared.reply.Reply.{Reply}
+use Rattle.c2_cmd.specs.declared.types.Answer.TheVariants as answer
+use Rattle.c2_cmd.specs.declared.types.Command.TheVariants as command
+use Rattle.c2_cmd.proofs.Replying.{OneOutcome}
+
+-- ---- what is refused
+
+-- what is refused is what the inputs come to
+refused_comes : (e : BuildError) (claim : Type 0) → build_fault e ≡ None → WithoutFault e claim → claim
+refused_comes (MediaRefused reason number) claim none h = h
+refused_comes (BadDefinition field) claim none h = h
+refused_comes (BadSignature part) claim none h = h
+refused_comes Later claim none h = h
+refused_comes (RedactionRefused text code) claim none h = h
+refused_comes NoInstance claim none h = h
+refused_comes (StoreTooLarge len) claim none h = h
+refused_comes (ReserveTooSmall needed) claim none h = h
+refused_comes ReadFault claim none h = absurd (cc (none))
+refused_comes JudgeFault claim none h = absurd (cc (none))
+refused_comes WriteFault claim none h = absurd (cc (none))
+refused_comes NoMemory claim none h = absurd (cc (none))
+
+-- a refusal leaves all counts
+refused_counts : (before now : Faults) (e : BuildError) → build_fault e ≡ None → IsBuildCause before now e → now ≡ before
+refused_counts before now (MediaRefused reason number) none h = h
+refused_counts before now (BadDefinition field) none h = h
+refused_counts before now (BadSignature part) none h = h
+refused_counts before now Later none h = h
+refused_counts before now (RedactionRefused text code) none h = h
+refused_counts before now NoInstance none h = h
+refused_counts before now (StoreTooLarge len) none h = h
+refused_counts before now (ReserveTooSmall needed) none h = h
+refused_counts before now ReadFault none h = absurd (cc (none))
+refused_counts before now JudgeFault none h = absurd (cc (none))
+refused_counts before now WriteFault none h = absurd (cc (none))
+refused_counts before now NoMemory none h = absurd (cc (none))
+
+-- and the sink
+refused_sink : (e : BuildError) (claim : Type 0) → build_fault e ≡ None → LeavesSink (Err e) claim → claim
+refused_sink (MediaRefused reason number) claim none h = h
+refused_sink (BadDefinition field) claim none h = h
+refused_sink (BadSignature part) claim none h = h
+refused_sink Later claim none h = h
+refused_sink (RedactionRefused text code) claim none h = h
+refused_sink NoInstance claim none h = h
+refused_sink (StoreTooLarge len) claim none h = h
+refused_sink (ReserveTooSmall needed) claim none h = h
+refused_sink ReadFault claim none h = absurd (cc (none))
+refused_sink JudgeFault claim none h = absurd (cc (none))
+refused_sink WriteFault claim none h = absurd (cc (none))
+refused_sink NoMemory claim none h = absurd (cc (none))
+
+-- what an embedding comes to where it is refused
+pub refused_embedding : (hash : Alg → List ℕ → List ℕ) (a b c : List ℕ) (before now : BuildSink) (e : BuildError) → build_fault e ≡ None → IsEmbedding hash a b c before now (Err e) → IsEmbedded hash a b c (Err e)
+refused_embedding hash a b c before now (MediaRefused reason number) none h = h
+refused_embedding hash a b c before now (BadDefinition field) none h = h
+refused_embedding hash a b c before now (BadSignature part) none h = h
+refused_embedding hash a b c before now Later none h = h
+refused_embedding hash a b c before now (RedactionRefused text code) none h = h
+refused_embedding hash a b c before now NoInstance none h = h
+refused_embedding hash a b c before now (StoreTooLarge len) none h = h
+refused_embedding hash a b c before now (ReserveTooSmall needed) none h = h
+refused_embedding hash a b c before now ReadFault none h = absurd (cc (none))
+refused_embedding hash a b c before now JudgeFault none h = absurd (cc (none))
+refused_embedding hash a b c before now WriteFault none h = absurd (cc (none))
+refused_embedding hash a b c before now NoMemory none h = absurd (cc (none))
+
+-- where there is a reply to an error, the build was refused
+pub on_refused : (claim : Type 0) (e : BuildError) (r : Result Reply Fault) → IfOk r (RepliesTo e) → (build_fault e ≡ None → claim) → OnOk r claim
+on_refused claim e (Ok reply) h to = to h.0
+on_refused claim e (Err f) h to = tt
+
+-- a reply to a refusal says so, and nothing else
+pub says_refused : (e : BuildError) (reply : Reply) → RepliesTo e reply → reply.answer ≡ answer.BuildRefused
+says_refused e reply h = ap (λ (o : Outcome). o.answer) h.1
+
+-- it answers no words that fit no command
+pub refused_words : (e : BuildError) (r : Result Reply Fault) → IfOk r (RepliesTo e) → IfOk r (λ reply. reply.answer ≢ answer.Usage)
+refused_words e (Ok reply) h = λ usage. let both = sym (says_refused e reply h) ∙ usage in cc (both)
+refused_words e (Err f) h = tt
+
+-- and not that it is done
+pub not_done : (e : BuildError) (r : Result Reply Fault) (claim : Type 0) → IfOk r (RepliesTo e) → IfOk r (λ reply. reply.answer ≡ answer.Done → claim)
+not_done e (Ok reply) claim h = λ done. let both = sym (says_refused e reply h) ∙ done in absurd (cc (both))
+not_done e (Err f) claim h = tt
+
+-- ---- `plan`
+
+-- the line of the bytes to be signed is the outcome of `plan`
+pub plan_replied : (hash : Alg → List ℕ → List ℕ) (a b bytes : List ℕ) (r : Result Reply Fault) → IsPlanned hash a b (Ok bytes) → IfOk r (λ reply. outcome_of reply ≡ reports answer.Done (tbs_line bytes)) → IfOk r (λ reply. IsPlanOutcome hash a b (outcome_of reply))
+plan_replied hash a b bytes (Ok reply) is out = (Ok bytes, is, out)
+plan_replied hash a b bytes (Err f) is out = tt
+
+-- the bytes that a line tells are those that were made
+pub tbs_of : (bytes copy : List ℕ) (r : Result Reply Fault) → copy ≡ bytes → IfOk r (λ reply. outcome_of reply ≡ reports answer.Done (tbs_line copy)) → IfOk r (λ reply. outcome_of reply ≡ reports answer.Done (tbs_line bytes))
+tbs_of bytes copy r same h = subst (λ (x : List ℕ). IfOk r (λ reply. outcome_of reply ≡ reports answer.Done (tbs_line x))) same h
+
+-- and so is that of a refusal
+pub plan_refused : (hash : Alg → List ℕ → List ℕ) (a b : List ℕ) (e : BuildError) (r : Result Reply Fault) → ComesTo (IsPlanned hash a b) (Err e) → IfOk r (RepliesTo e) → IfOk r (λ reply. IsPlanOutcome hash a b (outcome_of reply))
+plan_refused hash a b e (Ok reply) comes h = (Err e, refused_comes e (IsPlanned hash a b (Err e)) h.0 comes, h.1)
+plan_refused hash a b e (Err f) comes h = tt
+
+-- ---- faults
+
+-- a count that stands at 0 has not risen
+unrisen : Rose 0 0 → ⊥
+unrisen h = omega (arith, h)
+
+-- the cause of an error of a build that is a fault of the run, over three sources and a sink
+fault_caused : (a b c d e f k l : ℕ) (error : BuildError) (fault : Fault) → build_fault error ≡ Some fault
+    → IsBuildCause (record { media = a; definition = c; message = e; out = k }) (record { media = b; definition = d; message = f; out = l }) error
+    → IsFileCause (Rose a b ⊎ (Rose c d ⊎ Rose e f)) (Rose k l) fault
+fault_caused a b c d e f k l ReadFault fault is h = let same : Input ≡ fault = cc (is) in subst (λ (x : Fault). IsFileCause (Rose a b ⊎ (Rose c d ⊎ Rose e f)) (Rose k l) x) same h
+fault_caused a b c d e f k l JudgeFault fault is h = absurd h
+fault_caused a b c d e f k l WriteFault fault is h = let same : Output ≡ fault = cc (is) in subst (λ (x : Fault). IsFileCause (Rose a b ⊎ (Rose c d ⊎ Rose e f)) (Rose k l) x) same h
+fault_caused a b c d e f k l NoMemory fault is h = let same : Memory ≡ fault = cc (is) in subst (λ (x : Fault). IsFileCause (Rose a b ⊎ (Rose c d ⊎ Rose e f)) (Rose k l) x) same tt
+fault_caused a b c d e f k l (MediaRefused reason number) fault is h = absurd (cc (is))
+fault_caused a b c d e f k l (BadDefinition field) fault is h = absurd (cc (is))
+fault_caused a b c d e f k l (BadSignature part) fault is h = absurd (cc (is))
+fault_caused a b c d e f k l Later fault is h = absurd (cc (is))
+fault_caused a b c d e f k l (RedactionRefused text code) fault is h = absurd (cc (is))
+fault_caused a b c d e f k l NoInstance fault is h = absurd (cc (is))
+fault_caused a b c d e f k l (StoreTooLarge len) fault is h = absurd (cc (is))
+fault_caused a b c d e f k l (ReserveTooSmall needed) fault is h = absurd (cc (is))
+
+-- so each fault of `embed` has its cause
+pub embed_caused : (a b c d e f k l : ℕ) (error : BuildError) (r : Result Reply Fault)
+    → IsBuildCause (record { media = a; definition = c; message = e; out = k }) (record { media = b; definition = d; message = f; out = l }) error
+    → IfErr r (IsFaultOf error) → IfErr r (IsFileCause (Rose a b ⊎ (Rose c d ⊎ Rose e f)) (Rose k l))
+embed_caused a b c d e f k l error (Ok reply) cause h = tt
+embed_caused a b c d e f k l error (Err fault) cause (inl is) = fault_caused a b c d e f k l error fault is cause
+embed_caused a b c d e f k l error (Err fault) cause (inr is) = subst (λ (x : Fault). IsFileCause (Rose a b ⊎ (Rose c d ⊎ Rose e f)) (Rose k l) x) (sym is.1) tt
+
+-- and each of `plan`, which has no message and writes no file
+pub plan_caused : (a b c d : ℕ) (error : BuildError) (r : Result Reply Fault)
+    → IsBuildCause (record { media = a; definition = c; message = 0; out = 0 }) (record { media = b; definition = d; message = 0; out = 0 }) error
+    → IfErr r (IsFaultOf error) → IfErr r (IsFileCause (Rose a b ⊎ Rose c d) ⊥)
+plan_caused a b c d error (Ok reply) cause h = tt
+plan_caused a b c d error (Err fault) cause h = fewer fault (embed_caused a b c d 0 0 0 0 error (Err fault) cause h)
+  where
+    fewer : (fault : Fault) → IsFileCause (Rose a b ⊎ (Rose c d ⊎ Rose 0 0)) (Rose 0 0) fault → IsFileCause (Rose a b ⊎ Rose c d) ⊥ fault
+    fewer Input (inl h) = inl h
+    fewer Input (inr (inl h)) = inr h
+    fewer Input (inr (inr h)) = absurd (unrisen h)
+    fewer Output h = unrisen h
+    fewer Judge h = h
+    fewer Memory h = tt
+
+-- where only memory can be missing, that is the cause
+pub memory_filed : (input output : Type 0) (r : Result Reply Fault) → IfErr r (λ e. e ≡ Memory) → IfErr r (IsFileCause input output)
+memory_filed input output (Ok reply) h = tt
+memory_filed input output (Err e) h = subst (λ (x : Fault). IsFileCause input output x) (sym h) tt
+
+-- ---- `embed`: the report
+
+-- a call of `embed` has one outcome
+one_embedding : OneOutcome → (hash : Alg → List ℕ → List ℕ) (a b c : List ℕ) (x y : Outcome) → IsEmbedOutcome hash a b c x → IsEmbedOutcome hash a b c y → x ≡ y
+one_embedding one hash a b c x y h k = one (Some (writing_roles command.Embed)) (record { media = a; second = b; third = c; said = λ (q : Question). Silent; hash = hash }) x y h k
+
+-- a reply that tells an outcome's range stands for it
+stands_embedded : (e : Outcome) (start len : ℕ) (reply : Reply) → e.answer ≡ answer.Done → e.report ≡ embedded_line start len → outcome_of reply ≡ reports answer.Done (embedded_line start len) → StandsFor e [] reply
+stands_embedded e start len reply done line out = record {
+  answer = done ∙ sym (ap (λ (o : Outcome). o.answer) out);
+  report = line ∙ sym (ap (λ (o : Outcome). o.report) out);
+}
+
+-- the line of the new range stands for the outcome of `embed`
+pub embed_replied : OneOutcome → (hash : Alg → List ℕ → List ℕ) (a b c : List ℕ) (x : Embedded) (new : Built) (r : Result Reply Fault) (expected : Outcome) → IsEmbedded hash a b c (Ok new) → x.start ≡ new.start → x.length ≡ new.len
+    → IfOk r (λ reply. outcome_of reply ≡ reports answer.Done (embedded_line x.start x.length)) → IsEmbedOutcome hash a b c expected → IfOk r (λ reply. StandsFor expected [] reply)
+embed_replied one hash a b c x new (Err f) expected is start len out h = tt
+embed_replied one hash a b c x new (Ok reply) expected is start len out h =
+    let same : expected ≡ embed_outcome (Ok new) = one_embedding one hash a b c expected (embed_outcome (Ok new)) h (Ok new, is, refl) in
+    let line : embedded_line new.start new.len ≡ embedded_line x.start x.length = ap (λ (n : ℕ). embedded_line n new.len) (sym start) ∙ ap (embedded_line x.start) (sym len) in
+    stands_embedded expected x.start x.length reply (ap (λ (o : Outcome). o.answer) same) (ap (λ (o : Outcome). o.report) same ∙ line) out
+
+-- and so does that of a refusal
+pub embed_refused : OneOutcome → (hash : Alg → List ℕ → List ℕ) (a b c : List ℕ) (e : BuildError) (r : Result Reply Fault) (expected : Outcome) → (build_fault e ≡ None → IsEmbedded hash a b c (Err e)) → IfOk r (RepliesTo e) → IsEmbedOutcome hash a b c expected → IfOk r (λ reply. StandsFor expected [] reply)
+embed_refused one hash a b c e (Err f) expected is h k = tt
+embed_refused one hash a b c e (Ok reply) expected is h k =
+    let same : expected ≡ refused_build e = one_embedding one hash a b c expected (refused_build e) k (Err e, is h.0, refl) in
+    record { answer = ap (λ (o : Outcome). o.answer) (same ∙ sym h.1); report = ap (λ (o : Outcome). o.report) (same ∙ sym h.1) }
+
+-- ---- `embed`: the new file
+
+-- a sink that a build has delivered to, as a run says it
+pub delivered : {K : Type 0} (file : List ℕ) (written : K → Option (List ℕ)) (finished : K → Bool) (old new : K) → IsDelivered file (record { written = written old; finished = finished old }) (record { written = written new; finished = finished new }) → Delivers file (state_of written finished old) (state_of written finished new)
+delivered file written finished old new h = record { written = h.whole; is_finished = h.finished }
+
+-- the file is the whole new file, whether or not the reply finds memory
+pub embed_filed : OneOutcome → (hash : Alg → List ℕ → List ℕ) (a b c : List ℕ) (new : Built) (r : Result Reply Fault) (expected : Outcome) (before now : SinkState) → IsEmbedded hash a b c (Ok new) → Delivers new.file before now → IfErr r (λ e. e ≡ Memory) → IsEmbedOutcome hash a b c expected → TakesFile expected.file before now r
+embed_filed one hash a b c new r expected before now is all memory h =
+    let same : expected ≡ embed_outcome (Ok new) = one_embedding one hash a b c expected (embed_outcome (Ok new)) h (Ok new, is, refl) in
+    subst (λ (o : Outcome). TakesFile o.file before now r) (sym same) (by r memory)
+  where
+    by : (r : Result Reply Fault) → IfErr r (λ e. e ≡ Memory) → TakesFile (Some new.file) before now r
+    by (Ok reply) memory = all
+    by (Err f) memory = subst (λ (x : Fault). TakesFile (Some new.file) before now (Err x)) (sym memory) (inr all)
+
+-- a sink that was left as it was has taken nothing of a file, where there is none, where a judge failed and out of memory
+untaken : (file : Option (List ℕ)) (before now : SinkState) → now ≡ before → TakesFile file before now (Err Memory)
+untaken None before now h = h
+untaken (Some file) before now h = inl h
+
+untaken_judge : (file : Option (List ℕ)) (before now : SinkState) → now ≡ before → TakesFile file before now (Err Judge)
+untaken_judge None before now h = h
+untaken_judge (Some file) before now h = h
+
+-- nothing is written of nothing
+nothing : (a b : Option (List ℕ)) → HasWrittenPrefix a b [] → b ≡ a
+nothing None b h = h.1
+nothing (Some w) b h = h.1 ∙ ap (λ (t : List ℕ). Some (w ++ t)) (take-nil h.0) ∙ ap Some (append-nil w)
+  where
+    take-nil : (n : ℕ) → take {A = ℕ} n [] ≡ []
+    take-nil zero = refl
+    take-nil (suc n) = refl
+
+-- the same of two states of a sink
+same_state : (before now : SinkState) → now.written ≡ before.written → now.finished ≡ before.finished → now ≡ before
+same_state before now w f = ap (λ (x : Option (List ℕ)). record { written = x; finished = now.finished }) w ∙ ap (λ (x : Bool). record { written = before.written; finished = x }) f
+
+-- a prefix of the file that the inputs come to, or of nothing
+begun_file : (r : Result Built BuildError) (before now : SinkState) (fault : Fault) → (fault ≡ Input) ⊎ (fault ≡ Output)
+    → IsBegun (file_of r) (record { written = before.written; finished = before.finished }) (record { written = now.written; finished = now.finished }) → TakesFile (embed_outcome r).file before now (Err fault)
+begun_file (Ok b) before now fault (inl is) h = subst (λ (x : Fault). TakesFile (Some b.file) before now (Err x)) (sym is) (record { prefix = h.prefix; same = h.unfinished })
+begun_file (Ok b) before now fault (inr is) h = subst (λ (x : Fault). TakesFile (Some b.file) before now (Err x)) (sym is) (record { prefix = h.prefix; same = h.unfinished })
+begun_file (Err e) before now fault is h = same_state before now (nothing before.written now.written h.prefix) h.unfinished
+
+-- after an error the new file has what its fault leaves, and nothing where the build is refused
+pub embed_unfiled : {K : Type 0} → OneOutcome → (hash : Alg → List ℕ → List ℕ) (a b c : List ℕ) (written : K → Option (List ℕ)) (finished : K → Bool) (old new : K) (e : BuildError) (r : Result Reply Fault) (expected : Outcome)
+    → IsEmbedding hash a b c (record { written = written old; finished = finished old }) (record { written = written new; finished = finished new }) (Err e) → LeavesSink (Err e) (new ≡ old)
+    → IfOk r (RepliesTo e) → IfErr r (IsFaultOf e) → IsEmbedOutcome hash a b c expected → TakesFile expected.file (state_of written finished old) (state_of written finished new) r
+embed_unfiled {K} one hash a b c written finished old new e (Ok reply) expected comes left replies fault k =
+    let is = refused_embedding hash a b c _ _ e replies.0 comes in
+    let same : expected ≡ refused_build e = one_embedding one hash a b c expected (refused_build e) k (Err e, is, refl) in
+    let kept : new ≡ old = refused_sink e (new ≡ old) replies.0 left in
+    subst (λ (o : Outcome). TakesFile o.file (state_of written finished old) (state_of written finished new) (Ok reply)) (sym same) (ap (λ (x : K). state_of written finished x) kept)
+embed_unfiled {K} one hash a b c written finished old new e (Err f) expected comes left replies (inr is) k =
+    let kept : new ≡ old = refused_sink e (new ≡ old) is.0 left in
+    subst (λ (x : Fault). TakesFile expected.file (state_of written finished old) (state_of written finished new) (Err x)) (sym is.1) (untaken expected.file _ _ (ap (λ (x : K). state_of written finished x) kept))
+embed_unfiled {K} one hash a b c written finished old new e (Err f) expected comes left replies (inl is) k = by e is comes left
+  where
+    stopped : BuildError → Type 0
+    stopped e = build_fault e ≡ Some f → IsEmbedding hash a b c (record { written = written old; finished = finished old }) (record { written = written new; finished = finished new }) (Err e) → LeavesSink (Err e) (new ≡ old) → TakesFile expected.file (state_of written finished old) (state_of written finished new) (Err f)
+
+    begun : (fault : Fault) → (fault ≡ Input) ⊎ (fault ≡ Output) → ((r : Result Built BuildError) → IsEmbedded hash a b c r → IsBegun (file_of r) (record { written = written old; finished = finished old }) (record { written = written new; finished = finished new })) → TakesFile expected.file (state_of written finished old) (state_of written finished new) (Err fault)
+    begun fault which h = subst (λ (o : Outcome). TakesFile o.file (state_of written finished old) (state_of written finished new) (Err fault)) (sym k.2) (begun_file k.0 (state_of written finished old) (state_of written finished new) fault which (h k.0 k.1))
+
+    by : (e : BuildError) → stopped e
+    by ReadFault is h left = let same : f ≡ Input = cc (is) in begun f (inl same) h
+    by WriteFault is h left = let same : f ≡ Output = cc (is) in begun f (inr same) h
+    by JudgeFault is h left = let same : Judge ≡ f = cc (is) in subst (λ (x : Fault). TakesFile expected.file (state_of written finished old) (state_of written finished new) (Err x)) same (untaken_judge expected.file _ _ (ap (λ (x : K). state_of written finished x) left))
+    by NoMemory is h left = let same : Memory ≡ f = cc (is) in subst (λ (x : Fault). TakesFile expected.file (state_of written finished old) (state_of written finished new) (Err x)) same (untaken expected.file _ _ (ap (λ (x : K). state_of written finished x) left))
+    by (MediaRefused reason number) is h left = absurd (cc (is))
+    by (BadDefinition field) is h left = absurd (cc (is))
+    by (BadSignature part) is h left = absurd (cc (is))
+    by Later is h left = absurd (cc (is))
+    by (RedactionRefused text code) is h left = absurd (cc (is))
+    by NoInstance is h left = absurd (cc (is))
+    by (StoreTooLarge len) is h left = absurd (cc (is))
+    by (ReserveTooSmall needed) is h left = absurd (cc (is))
+
+-- a refused build leaves the sink as it was
+pub refused_unfiled : (claim : Type 0) (e : BuildError) (r : Result Reply Fault) → IfOk r (RepliesTo e) → LeavesSink (Err e) claim → IfOk r (λ reply. reply.answer ≡ answer.BuildRefused → claim)
+refused_unfiled claim e (Ok reply) h left = λ said. refused_sink e claim h.0 left
+refused_unfiled claim e (Err f) h left = tt

@@ -1,0 +1,144 @@
+// The commands `plan` and `embed`.
+ghost use Rattle.std.specs.Prelude.{◌≡◌, ◌≢◌, ◌⊎◌, ◌<◌, ◌≤◌, [], true, Ok, IfErr, IfOk, OnOk, string_bytes};
+ghost use Rattle.std.specs.Option.{ForSome};
+ghost use Rattle.c2_base.specs.Causes.{Rose};
+ghost use Rattle.c2_base.specs.Source.{StaysSource};
+ghost use Rattle.c2_build.specs.Building.{Built as AnyBuilt, IsEmbedded};
+ghost use Rattle.c2_build.specs.Meeting.{BuiltMeets};
+ghost use Rattle.c2_cmd.specs.Outcome.{IsEmbedOutcome, IsPlanOutcome, Outcome, refusal_line};
+ghost use Rattle.c2_cmd.specs.Reply.{IsFaultOf, IsFileCause, RepliesTo, StandsFor, TakesFile, outcome_of};
+ghost use Rattle.c2_cmd.specs.Run.{state_of};
+
+use crate::laws::one_outcome;
+use crate::replies::{embedded_reply, tbs_reply};
+use crate::reply::{Fault, Reply, build_fault};
+use crate::types::Answer;
+use c2_base::{Sink, Source};
+use c2_build::{BuildError, embed, plan};
+use c2_hash::Hashing;
+use c2_judge::Judge;
+use c2_texts::{
+    bad_definition_line, bad_signature_line, later_line, media_refused_line, no_instance_line,
+    redaction_refused_line, reserve_too_small_line, store_too_large_line,
+};
+use std::alloc::{AllocError, Global};
+
+/// The reply to `plan`: the bytes that are to be signed.
+pub fn reply_to_plan<H: Hashing, A: Source, B: Source>(
+    alloc: Global,
+    hashing: &H,
+    media: &mut A,
+    definition: &mut B,
+    judges: &mut Vec<Box<dyn Judge>>,
+) -> Result<Reply, Fault>
+    requires { Unit {0} }
+    ensures reply { ForSome (A.known media.old) (λ a. ForSome (B.known definition.old) (λ b.
+        IfOk result (λ reply. IsPlanOutcome H.digest_of a b (outcome_of reply)))) }
+    ensures words { IfOk result (λ reply. reply.answer ≢ Answer.Usage) }
+    ensures fault { let first = Rose (A.faults media.old) (A.faults media.new) in
+        let other = Rose (B.faults definition.old) (B.faults definition.new) in
+        IfErr result (IsFileCause (first ⊎ other) ⊥) }
+    ensures media_stays { StaysSource A.len A.known A.faults media.old media.new }
+    ensures media_count { OnOk result (A.faults media.new ≡ A.faults media.old) }
+    ensures definition_stays { StaysSource B.len B.known B.faults definition.old definition.new }
+    ensures definition_count { OnOk result (B.faults definition.new ≡ B.faults definition.old) }
+    ensures judges { judges.new ≡ judges.old }
+{
+    match plan(alloc, hashing, media, definition, judges) {
+        Ok(bytes) => tbs_reply(alloc, bytes.as_slice()),
+        Err(error) => refusal_reply(alloc, &error),
+    }
+}
+
+/// The reply to `embed`: the range of the new store in the new file, once this is whole and finished.
+pub fn reply_to_embed<H: Hashing, A: Source, B: Source, C: Source, K: Sink>(
+    alloc: Global,
+    hashing: &H,
+    media: &mut A,
+    definition: &mut B,
+    message: &mut C,
+    judges: &mut Vec<Box<dyn Judge>>,
+    out: &mut K,
+) -> Result<Reply, Fault>
+    requires { Unit {0} }
+    // Where the bytes are known: what is replied, what is written, and what that meets.
+    ensures reply { ForSome (A.known media.old) (λ a. ForSome (B.known definition.old) (λ b.
+        ForSome (C.known message.old) (λ c. (expected : Outcome)
+        → IsEmbedOutcome H.digest_of a b c expected
+        → IfOk result (λ reply. StandsFor expected [] reply)))) }
+    ensures file { let old = state_of K.written K.finished out.old in
+        let new = state_of K.written K.finished out.new in
+        ForSome (A.known media.old) (λ a. ForSome (B.known definition.old) (λ b.
+        ForSome (C.known message.old) (λ c. (expected : Outcome)
+        → IsEmbedOutcome H.digest_of a b c expected → TakesFile expected.file old new result))) }
+    ensures met { ForSome (A.known media.old) (λ a. ForSome (B.known definition.old) (λ b.
+        ForSome (C.known message.old) (λ c. IfOk result (λ reply. reply.answer ≡ Answer.Done
+        → (new : AnyBuilt) → IsEmbedded H.digest_of a b c (Ok new)
+        → BuiltMeets H.digest_of a b new)))) }
+
+    // Whatever the files hold.
+    ensures words { IfOk result (λ reply. reply.answer ≢ Answer.Usage) }
+    ensures fault { let first = Rose (A.faults media.old) (A.faults media.new) in
+        let second = Rose (B.faults definition.old) (B.faults definition.new) in
+        let third = Rose (C.faults message.old) (C.faults message.new) in
+        let output = Rose (K.faults out.old) (K.faults out.new) in
+        IfErr result (IsFileCause (first ⊎ (second ⊎ third)) output) }
+    ensures media_stays { StaysSource A.len A.known A.faults media.old media.new }
+    ensures media_count { OnOk result (A.faults media.new ≡ A.faults media.old) }
+    ensures definition_stays { StaysSource B.len B.known B.faults definition.old definition.new }
+    ensures definition_count { OnOk result (B.faults definition.new ≡ B.faults definition.old) }
+    ensures message_stays { StaysSource C.len C.known C.faults message.old message.new }
+    ensures message_count { OnOk result (C.faults message.new ≡ C.faults message.old) }
+    ensures finished { IfOk result
+        (λ reply. reply.answer ≡ Answer.Done → K.finished out.new ≡ true) }
+    ensures refused { IfOk result
+        (λ reply. reply.answer ≡ Answer.BuildRefused → out.new ≡ out.old) }
+    ensures out_count { OnOk result (K.faults out.new ≡ K.faults out.old) }
+    ensures out_later { K.faults out.old ≤ K.faults out.new }
+    ensures out_unfinished { K.faults out.old < K.faults out.new
+        → K.finished out.new ≡ K.finished out.old }
+    ensures judges { judges.new ≡ judges.old }
+{
+    // Only the prover needs this law.
+    one_outcome();
+    match embed(alloc, hashing, media, definition, message, judges, out) {
+        Ok(range) => embedded_reply(alloc, range.start, range.length),
+        Err(error) => refusal_reply(alloc, &error),
+    }
+}
+
+// The reply to an error of a build: what is refused is reported, and everything else is a fault of the run.
+fn refusal_reply(alloc: Global, error: &BuildError) -> Result<Reply, Fault>
+    ensures reply { IfOk result (RepliesTo error.now) }
+    ensures fault { IfErr result (IsFaultOf error.now) }
+{
+    match build_fault(error) {
+        Some(fault) => Err(fault),
+        None => Ok(Reply {
+            answer: Answer::BuildRefused,
+            text: refusal_line(alloc, error)?,
+        }),
+    }
+}
+
+// The line of a build that is refused.
+fn refusal_line(alloc: Global, error: &BuildError) -> Result<String, AllocError>
+    ensures { IfOk result (λ text. string_bytes text ≡ refusal_line error.now) }
+{
+    match error {
+        BuildError::MediaRefused(reason, number) => media_refused_line(alloc, *reason, *number),
+        BuildError::BadDefinition(field) => bad_definition_line(alloc, *field),
+        BuildError::BadSignature(part) => bad_signature_line(alloc, *part),
+        BuildError::Later => later_line(alloc),
+        BuildError::RedactionRefused(text, code) => {
+            redaction_refused_line(alloc, text.as_str(), *code)
+        }
+        BuildError::NoInstance => no_instance_line(alloc),
+        BuildError::StoreTooLarge(length) => store_too_large_line(alloc, *length),
+        BuildError::ReserveTooSmall(needed) => reserve_too_small_line(alloc, *needed),
+        BuildError::ReadFault
+        | BuildError::JudgeFault
+        | BuildError::WriteFault
+        | BuildError::NoMemory => Ok(String::new(alloc)),
+    }
+}

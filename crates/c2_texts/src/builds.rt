@@ -1,0 +1,100 @@
+// The lines of reports on what is built into a media file.
+ghost use Rattle.std.specs.Prelude.{◌≡◌, IfOk, string_bytes};
+ghost use Rattle.c2_texts.specs.Builds as form;
+
+use crate::control::printable;
+use crate::names::{code_name, field_name, part_name, reason_name};
+use c2_definition::DefinitionField;
+use c2_message::SignaturePart;
+use c2_rules::Code;
+use c2_spec::Reason;
+use std::alloc::{AllocError, Global};
+
+/// The line of the bytes that are to be signed.
+pub fn tbs_line(alloc: Global, bytes: &[u8]) -> Result<String, AllocError>
+    ensures { IfOk result (λ text. string_bytes text ≡ form.tbs_line bytes.now) }
+{
+    let hex = hex::encode(alloc, bytes)?;
+    let text = format!(in alloc; "tbs {hex}\n")?;
+    Ok(text)
+}
+
+/// The line of the range that a new store takes in a new file: its start, and its length in bytes.
+pub fn embedded_line(alloc: Global, start: u64, length: u64) -> Result<String, AllocError>
+    ensures { IfOk result (λ text. string_bytes text ≡ form.embedded_line start length) }
+{
+    let text = format!(in alloc; "embedded {start} {length}\n")?;
+    Ok(text)
+}
+
+/// The line of media that are refused, with the number that belongs to the reason.
+pub fn media_refused_line(alloc: Global, reason: Reason, number: u64) -> Result<String, AllocError>
+    ensures { IfOk result (λ text. string_bytes text ≡ form.media_refused_line reason number) }
+{
+    let name = reason_name(reason);
+    let text = format!(in alloc; "build MediaRefused {name} {number}\n")?;
+    Ok(text)
+}
+
+/// The line of a definition file that is refused.
+pub fn bad_definition_line(alloc: Global, field: DefinitionField) -> Result<String, AllocError>
+    ensures { IfOk result (λ text. string_bytes text ≡ form.bad_definition_line field) }
+{
+    let name = field_name(field);
+    let text = format!(in alloc; "build BadDefinition {name}\n")?;
+    Ok(text)
+}
+
+/// The line of a signed message that is refused.
+pub fn bad_signature_line(alloc: Global, part: SignaturePart) -> Result<String, AllocError>
+    ensures { IfOk result (λ text. string_bytes text ≡ form.bad_signature_line part) }
+{
+    let name = part_name(part);
+    let text = format!(in alloc; "build BadSignature {name}\n")?;
+    Ok(text)
+}
+
+/// The line of media that can't be written into yet.
+pub fn later_line(alloc: Global) -> Result<String, AllocError>
+    ensures { IfOk result (λ text. string_bytes text ≡ form.later_line) }
+{
+    String::from_str(alloc, "build Later\n")
+}
+
+/// The line of a redaction that is refused: its text, with `?` for control bytes, and the code of the rule that forbids it.
+pub fn redaction_refused_line(
+    alloc: Global,
+    redaction: &str,
+    code: Code,
+) -> Result<String, AllocError>
+    ensures { let line = form.redaction_refused_line redaction.now code in
+        IfOk result (λ text. string_bytes text ≡ line) }
+{
+    let uri = printable(alloc, redaction)?;
+    let name = code_name(code);
+    let text = format!(in alloc; "build RedactionRefused {uri} {name}\n")?;
+    Ok(text)
+}
+
+/// The line of media among whose packets no box instance number is free.
+pub fn no_instance_line(alloc: Global) -> Result<String, AllocError>
+    ensures { IfOk result (λ text. string_bytes text ≡ form.no_instance_line) }
+{
+    String::from_str(alloc, "build NoInstance\n")
+}
+
+/// The line of a new store that would have too many bytes: how many.
+pub fn store_too_large_line(alloc: Global, length: u64) -> Result<String, AllocError>
+    ensures { IfOk result (λ text. string_bytes text ≡ form.store_too_large_line length) }
+{
+    let text = format!(in alloc; "build StoreTooLarge {length}\n")?;
+    Ok(text)
+}
+
+/// The line of a reserve that is too small for the signed message: how many bytes are needed.
+pub fn reserve_too_small_line(alloc: Global, needed: u64) -> Result<String, AllocError>
+    ensures { IfOk result (λ text. string_bytes text ≡ form.reserve_too_small_line needed) }
+{
+    let text = format!(in alloc; "build ReserveTooSmall {needed}\n")?;
+    Ok(text)
+}
