@@ -43,7 +43,13 @@ fn run_into(
     mut out: HostSink<'_, HostRuntime>,
 ) -> Result<Status, NoMemory> {
     let first_judge = roles.map_or(words.len(), |roles| roles.judges);
-    let mut judges = judges_of(rt, alloc, words, first_judge)?;
+    let mut judges: Vec<Box<dyn Judge>> = Vec::new(alloc);
+    for name in words.iter().skip(first_judge) {
+        match judge_of(rt, alloc, name.as_str())? {
+            Some(judge) => judges.push(Box::new(alloc, judge)?)?,
+            None => judges.push(Box::new(alloc, BrokenJudge::new())?)?,
+        }
+    }
     let mut media = file_at(rt, words, roles.and_then(|roles| roles.media));
     let mut second = file_at(rt, words, roles.and_then(|roles| roles.second));
     let mut third = file_at(rt, words, roles.and_then(|roles| roles.third));
@@ -89,23 +95,6 @@ fn file_at(rt: &HostRuntime, words: &Vec<String>, place: Option<usize>) -> HostF
         Some(name) => HostFile::named(rt, name),
         None => HostFile::absent(),
     }
-}
-
-// A judge for each name from this place on: by its verdict file, or one that always fails.
-fn judges_of(
-    rt: &HostRuntime,
-    alloc: Global,
-    words: &Vec<String>,
-    first: usize,
-) -> Result<Vec<Box<dyn Judge>>, NoMemory> {
-    let mut judges: Vec<Box<dyn Judge>> = Vec::new(alloc);
-    for name in words.iter().skip(first) {
-        match judge_of(rt, alloc, name.as_str())? {
-            Some(judge) => judges.push(Box::new(alloc, judge)?)?,
-            None => judges.push(Box::new(alloc, BrokenJudge::new())?)?,
-        }
-    }
-    Ok(judges)
 }
 
 // The judge by the verdict file of this name; none where it can't be read or isn't one.
