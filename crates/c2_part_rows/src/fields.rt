@@ -101,17 +101,25 @@ fn show_option(out: &mut String, found: &Option<Ref>) -> Result<(), AllocError> 
     }
 }
 
+/// What an item is of.
+#[derive(Clone, Copy)]
+pub enum Field {
+    BmffHash,
+    DataHash,
+    Ingredient,
+}
+
 // What is written of the value that is read.
-fn written(alloc: Global, what: &str, item: &Cbor) -> Option<Cbor> {
+fn written(alloc: Global, what: Field, item: &Cbor) -> Option<Cbor> {
     match what {
-        "bmff hash" => write_bmff_hash(alloc, &read_bmff_hash(alloc, item).ok()?).ok(),
-        "data hash" => write_data_hash(alloc, &read_data_hash(alloc, item).ok()?).ok(),
-        _ => write_ingredient(alloc, &read_ingredient(alloc, item).ok()?).ok(),
+        Field::BmffHash => write_bmff_hash(alloc, &read_bmff_hash(alloc, item).ok()?).ok(),
+        Field::DataHash => write_data_hash(alloc, &read_data_hash(alloc, item).ok()?).ok(),
+        Field::Ingredient => write_ingredient(alloc, &read_ingredient(alloc, item).ok()?).ok(),
     }
 }
 
 /// The bytes of the item that is written of the value of these.
-pub fn rewritten(alloc: Global, what: &str, bytes: &[u8]) -> Result<String, Trouble> {
+pub fn rewritten(alloc: Global, what: Field, bytes: &[u8]) -> Result<String, Trouble> {
     let mut out = String::new(alloc);
     if let Some(again) = written(alloc, what, &item_of(alloc, bytes)?) {
         if let Ok(bytes) = encode(alloc, &again) {

@@ -10,11 +10,22 @@ use std::alloc::Global;
 // The lengths of pieces in which a file is read.
 const PIECES: [usize; 3] = [1, 7, 65_536];
 
+/// What is said of a file.
+#[derive(Clone, Copy)]
+pub enum FileView {
+    Packets,
+    Place,
+    FreeNumber,
+    RootBoxes,
+    Film,
+    Exclusions,
+}
+
 /// What is said of a file that is read in pieces: the same for pieces of each length. Where a call fails, the file is read in the longest.
 pub fn in_pieces(
     alloc: Global,
     settings: &Settings,
-    what: &str,
+    what: FileView,
     bytes: &[u8],
 ) -> Result<String, Trouble> {
     let fail_at = settings.number("fault")?;
@@ -37,23 +48,22 @@ pub fn in_pieces(
 fn said(
     alloc: Global,
     settings: &Settings,
-    what: &str,
+    what: FileView,
     source: &mut MemSource,
 ) -> Result<String, Trouble> {
     match what {
-        "packets" => located(alloc, locate(alloc, source)),
-        "place" => {
+        FileView::Packets => located(alloc, locate(alloc, source)),
+        FileView::Place => {
             let place = insert_place(source, settings.range("skip")?);
             Ok(format!(in alloc; "{place:?}")?)
         }
-        "free number" => {
+        FileView::FreeNumber => {
             let number = free_number(alloc, source, settings.range("skip")?);
             Ok(format!(in alloc; "{number:?}")?)
         }
-        "root boxes" => films::root_boxes(alloc, source),
-        "film" => films::store(alloc, source),
-        "exclusions" => films::excluded(alloc, settings, source),
-        _ => Err(Trouble::BadLine),
+        FileView::RootBoxes => films::root_boxes(alloc, source),
+        FileView::Film => films::store(alloc, source),
+        FileView::Exclusions => films::excluded(alloc, settings, source),
     }
 }
 
