@@ -32,6 +32,7 @@ from manifests import Manifest as Read
 from media import media_of
 from rows import Approving
 from store import JUDGE_FAULT, JudgeFault, report, verdicts_in
+from told import tell
 from vary import varied
 from worked_builds import LABEL
 
@@ -303,10 +304,7 @@ def main():
             definition = drawn_definition(chance, manifests_in(media), said)
             built = builds.compare(media, definition, message, verdict_files(chance, questions_in(media)))
             chain = built[0] if isinstance(built[0], bytes) and len(built[0]) < 20_000 else None
-    for answer, times in sorted(builds.answers.items()):
-        print(f"{times:6} {answer}")
-    print(f"{count} builds, {builds.differences} differences")
-    sys.exit(builds.differences > 0)
+    tell(builds.answers, f"{count} builds, {builds.differences} differences", builds.differences)
 
 
 if __name__ == "__main__":

@@ -23,6 +23,7 @@ from chance_stores import Drawn
 from locate import Refused
 from media import media_of
 from rows import Approving
+from told import tell, write
 
 
 def boxes_in(box):
@@ -110,11 +111,6 @@ def kind_of_answer(text):
     return " ".join(words[: {"not": 5, "different": 2}.get(words[0], 1)])
 
 
-def write(name, contents):
-    with open(name, "wb") as file:
-        file.write(contents)
-
-
 def main():
     program, count, *more = sys.argv[1:]
     chance = random.Random(int(more[0]) if more else 1)
@@ -123,10 +119,7 @@ def main():
         comparison = Comparison(None if program == "-" else os.path.abspath(program), folder)
         for _ in range(int(count)):
             comparison.compare(drawn_pair(chance))
-    for answer, times in sorted(comparison.answers.items()):
-        print(f"{times:6} {answer}")
-    print(f"{count} pairs, {comparison.differences} differences")
-    sys.exit(comparison.differences > 0)
+    tell(comparison.answers, f"{count} pairs, {comparison.differences} differences", comparison.differences)
 
 
 if __name__ == "__main__":

@@ -15,6 +15,7 @@ import store
 from chance_stores import questions_in
 from drafts import ACTIONS, ALL_EXCLUDED, APP0, Assertion, Bmff, BmffHash, DataHash, Ingredient, Jpeg, Manifest
 from make_store import box
+from told import tell
 from validate import Comparison
 
 
@@ -52,10 +53,7 @@ def main():
             comparison.compare(contents, [verdicts], True)
             for other, is_prefix in changed(contents):
                 comparison.compare(other, [verdicts], is_prefix)
-    for answer, times in sorted(comparison.answers.items()):
-        print(f"{times:6} {answer}")
-    print(f"{sum(comparison.runs.values())} runs, {comparison.differences} differences")
-    sys.exit(comparison.differences > 0)
+    tell(comparison.answers, f"{sum(comparison.runs.values())} runs, {comparison.differences} differences", comparison.differences)
 
 
 if __name__ == "__main__":

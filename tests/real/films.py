@@ -32,6 +32,7 @@ from make_store import box
 from plain_cover import drawn_exclusion
 from sign import certificate_of, verdict_row
 from sign_photo import Signed, Signer
+from told import tell
 from validate import kind_of_answer
 from vary import varied
 
@@ -200,10 +201,7 @@ def main():
     while valid and run.runs - before < runs:
         for contents in valid:
             run.compare_changed(changed_boxes(chance, contents))
-    for answer, times in sorted(run.answers.items()):
-        print(f"{times:6} {answer}")
-    print(f"{run.runs - before} runs on changed files, {run.failures} failures in all")
-    sys.exit(run.failures > 0)
+    tell(run.answers, f"{run.runs - before} runs on changed files, {run.failures} failures in all", run.failures)
 
 
 if __name__ == "__main__":

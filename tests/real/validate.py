@@ -19,6 +19,7 @@ from collections import Counter
 
 import store
 from chance_stores import changed_file, drawn_file, questions_in, verdict_files
+from told import tell, write
 
 JUDGED = "validate", "questions"
 
@@ -77,11 +78,6 @@ def kind_of_answer(printed, status):
     return " ".join(words[:1] if words[0] == "valid" else words[:2])
 
 
-def write(name, contents):
-    with open(name, "wb") as file:
-        file.write(contents)
-
-
 def main():
     program, count, *more = sys.argv[1:]
     chance = random.Random(int(more[0]) if more else 1)
@@ -93,11 +89,8 @@ def main():
             if is_changed:
                 contents = changed_file(chance, contents)
             comparison.compare(contents, verdict_files(chance, questions_in(contents)), is_changed)
-    for answer, times in sorted(comparison.answers.items()):
-        print(f"{times:6} {answer}")
     runs = ", ".join(f"{times} runs of {command}" for command, times in comparison.runs.items()) or "no runs"
-    print(f"{count} files, {runs}, {comparison.differences} differences")
-    sys.exit(comparison.differences > 0)
+    tell(comparison.answers, f"{count} files, {runs}, {comparison.differences} differences", comparison.differences)
 
 
 if __name__ == "__main__":

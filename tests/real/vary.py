@@ -19,6 +19,7 @@ from locate import Refused
 from make_store import jpeg
 from rows import ROWS
 from store import report
+from told import write
 
 # Bytes that mean much in heads of CBOR, in lengths of boxes, in toggles and in labels.
 TELLING = bytes.fromhex("00 01 02 07 08 0F 10 17 18 1F 20 40 5F 60 61 7F 80 9F A0 A1 BF C2 D2 F6 F7 F8 FF")
@@ -88,11 +89,6 @@ def main():
                 shutil.copy(name, f"differs-{comparison.failures}.jpg")
     print(f"{count} files, commands: {' '.join(comparison.commands)}, {comparison.failures} failures")
     sys.exit(comparison.failures > 0)
-
-
-def write(name, contents):
-    with open(name, "wb") as file:
-        file.write(contents)
 
 
 if __name__ == "__main__":

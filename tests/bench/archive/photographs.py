@@ -65,6 +65,23 @@ def write_file(path, *pieces):
             file.write(piece)
 
 
+def write_random(path, made, ahead, count):
+    """A file that ends with `count` million random bytes, and the rows of its verdict file. `made` knows what stands before them;
+    `ahead` is covered before them."""
+    digest = hashlib.sha256(ahead)
+    with open(path, "wb") as out:
+        out.write(made.before(bytes(32))[0])
+        for _ in range(count):
+            piece = os.urandom(1_000_000)
+            digest.update(piece)
+            out.write(piece)
+        # the store is as long with every digest
+        before, verdicts = made.before(digest.digest())
+        out.seek(0)
+        out.write(before)
+    return verdicts
+
+
 def make_archive(directory, count, size):
     os.makedirs(directory, exist_ok=True)
     photographs, chance = Photographs(TABLES + SCAN), random.Random(1)

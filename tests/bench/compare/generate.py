@@ -1,6 +1,5 @@
 """Makes two equal photographs of 500 MB with a store that is valid, and their verdict file; and two photographs of 1 MB whose store is
 valid under the sum of hashing.py, of which the second has two neighbouring bytes of the picture swapped: generate.py FOLDER PERCENT."""
-import hashlib
 import os
 import shutil
 import sys
@@ -10,23 +9,12 @@ sys.path[:0] = [os.path.join(here, "..", "archive"), os.path.join(here, "..", ".
 import hashing
 from compare_rows import file_of, weak
 from drafts import ACTIONS, Assertion, DataHash, Manifest
-from photographs import FRONT, SCAN, TABLES, Photographs
+from photographs import FRONT, SCAN, TABLES, Photographs, write_file, write_random
 
 folder, percent = sys.argv[1], int(sys.argv[2])
 
-made = Photographs(TABLES + SCAN)
-digest = hashlib.sha256(FRONT + TABLES + SCAN)
-with open(f"{folder}/first", "wb") as out:
-    out.write(made.before(bytes(32))[0])
-    for _ in range(500 * percent // 100):
-        piece = os.urandom(1_000_000)
-        digest.update(piece)
-        out.write(piece)
-    before, verdicts = made.before(digest.digest())
-    out.seek(0)
-    out.write(before)
-with open(f"{folder}/verdicts", "wb") as out:
-    out.write(verdicts)
+verdicts = write_random(f"{folder}/first", Photographs(TABLES + SCAN), FRONT + TABLES + SCAN, 500 * percent // 100)
+write_file(f"{folder}/verdicts", verdicts)
 shutil.copy(f"{folder}/first", f"{folder}/second")
 
 hashing.choose("weak")
