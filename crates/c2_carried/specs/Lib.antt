@@ -1,0 +1,4 @@
+pub mod Redacting
+pub mod Refusing
+pub mod Parents
+pub mod Base

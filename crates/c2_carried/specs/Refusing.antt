@@ -1,0 +1,91 @@
+-- Which label a new manifest can't have, and which redactions of an older store are refused (C2PA Technical Specification 2.x,
+-- "Redaction of assertions"), over what the manifests of that store are read as; without an older store there are none. The order
+-- of the tests, and that an ingredient must name the signature of what loses a box, are this project's own choice.
+use Rattle.std.specs.Prelude.{ℕ, Bool, false, not, ◌&&◌, List, [], ◌∷◌, ◌++◌, length, filter, find, slice_get, is_some, codes, bytes_eq, option_map}
+use Rattle.std.specs.declared.option.Option.{Option}
+use Rattle.std.specs.declared.option.Option.TheVariants.{Some, None}
+use Rattle.std.specs.List.{list_any}
+use Rattle.std.specs.Option.{option_or}
+use Rattle.c2_spec.specs.C2pa.Manifest.{is_given}
+use Rattle.c2_spec.specs.C2pa.Uri.{PlainUri, other, uri_of}
+use Rattle.c2_rules.specs.Chains.{any_below, assertion_label, is_reached, label_in, named_in, passes_some}
+use Rattle.c2_rules.specs.Readings.{ReadBox, Reading, entries_in}
+use Rattle.c2_rules.specs.Rules.{box_uri, is_labelled, lists_label, redaction_tests}
+use Rattle.c2_rules.specs.Tests.{Test, first_failing, test}
+use Rattle.c2_rules.specs.declared.answer.Failing.{Failing}
+use Rattle.c2_rules.specs.declared.code.Code.TheVariants.{ProfileRedactionTarget, ProfileIngredientSignature}
+use Rattle.c2_older.specs.Older.{has_signature, is_kept}
+use Rattle.c2_carried.specs.Redacting.{takes_out}
+use Rattle.c2_carried.specs.declared.refused.RefusedRedaction.{RefusedRedaction}
+
+-- ---- labels
+
+-- one of these manifests has this label
+abbrev pub has_manifest : List Reading → List ℕ → Bool
+has_manifest rs label = list_any (λ (r : Reading). bytes_eq (label_in r) label) rs
+
+-- the URI of the claim of a new manifest with this label
+abbrev pub new_claim_uri : List ℕ → List ℕ
+new_claim_uri own = box_uri own (other (codes "c2pa.claim.v2"))
+
+-- ---- what a redaction names
+
+-- a reached manifest of these passes a test
+abbrev pub any_reached : (Reading → Bool) → List Reading → Bool
+any_reached passes rs = any_below (λ i. is_reached rs i && passes_some passes (slice_get rs i)) (length rs)
+
+-- the assertion boxes of a manifest that are there once these redactions took theirs out
+abbrev pub kept_boxes : List (List ℕ) → Reading → List ReadBox
+kept_boxes redacts r = filter (is_kept (takes_out redacts (label_in r))) r.boxes
+
+-- the claim of a manifest lists this label, and the box is there once these redactions took theirs out
+abbrev pub has_assertion : List (List ℕ) → Reading → List ℕ → Bool
+has_assertion before r label =
+    lists_label r.manifest (entries_in r) label
+    && is_some (find (is_labelled label) (kept_boxes before r))
+
+-- a URI names such an assertion in this manifest
+abbrev pub is_target : List (List ℕ) → Option PlainUri → Reading → Bool
+is_target before None r = false
+is_target before (Some u) r =
+    is_given u.manifest (label_in r) && passes_some (has_assertion before r) (assertion_label u.target)
+
+-- a URI names one in a reached manifest
+abbrev pub has_target : List Reading → List (List ℕ) → List ℕ → Bool
+has_target rs before text = any_reached (is_target before (uri_of text)) rs
+
+-- an assertion box is read as an ingredient that names the manifest of a URI, without the manifest's signature
+abbrev pub names_unsigned : Option PlainUri → ReadBox → Bool
+names_unsigned None b = false
+names_unsigned (Some u) b = passes_some (is_given u.manifest) (named_in b) && not (has_signature b)
+
+-- a box of a reached manifest is
+abbrev pub has_unsigned : List Reading → List ℕ → Bool
+has_unsigned rs text =
+    any_reached (λ (r : Reading). list_any (names_unsigned (uri_of text)) r.boxes) rs
+
+-- ---- what is refused
+
+-- The tests of a redaction in a new manifest with this label, after these redactions: the rules on redactions; what it names is
+-- there; and each ingredient that names the manifest names its signature.
+abbrev pub entry_tests : List ℕ → List Reading → List (List ℕ) → List ℕ → List Test
+entry_tests own rs before text =
+    redaction_tests own (new_claim_uri own) text
+    ++ (test (not (has_target rs before text)) ProfileRedactionTarget text
+    ∷ test (has_unsigned rs text) ProfileIngredientSignature text
+    ∷ [])
+
+-- a redaction that is refused by a test
+abbrev pub refused_by : List ℕ → Failing → RefusedRedaction
+refused_by text failing = record { text = text; code = failing.code }
+
+-- the first redaction that is refused, and why, where others stand before: these count as made
+abbrev pub refusal_after : List ℕ → List Reading → List (List ℕ) → List (List ℕ) → Option RefusedRedaction
+refusal_after own rs before [] = None
+refusal_after own rs before (text ∷ others) =
+    option_or (option_map (refused_by text) (first_failing (entry_tests own rs before text)))
+    (refusal_after own rs (before ++ text ∷ []) others)
+
+-- the first of these redactions that is refused, and why
+abbrev pub redaction_refusal : List ℕ → List Reading → List (List ℕ) → Option RefusedRedaction
+redaction_refusal own rs redacts = refusal_after own rs [] redacts
