@@ -74,9 +74,18 @@ const VIEWS: [(&str, View); 31] = [
     ("data hash", View::Bytes(BytesView::DataHash)),
     ("bmff hash", View::Bytes(BytesView::BmffHash)),
     ("ingredient", View::Bytes(BytesView::Ingredient)),
-    ("data hash written", View::Bytes(BytesView::Written(fields::Field::DataHash))),
-    ("bmff hash written", View::Bytes(BytesView::Written(fields::Field::BmffHash))),
-    ("ingredient written", View::Bytes(BytesView::Written(fields::Field::Ingredient))),
+    (
+        "data hash written",
+        View::Bytes(BytesView::Written(fields::Field::DataHash)),
+    ),
+    (
+        "bmff hash written",
+        View::Bytes(BytesView::Written(fields::Field::BmffHash)),
+    ),
+    (
+        "ingredient written",
+        View::Bytes(BytesView::Written(fields::Field::Ingredient)),
+    ),
     ("message", View::Bytes(BytesView::Message)),
     ("data cover", View::Bytes(BytesView::DataCover)),
     ("film cover", View::Bytes(BytesView::FilmCover)),
