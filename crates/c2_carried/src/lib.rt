@@ -4,6 +4,11 @@
 //! parent of a new manifest is (`Parents`), and what a new file is built over (`Base`). Their laws stand here.
 #![tactic(auto)]
 
+mod laws;
 mod refused;
 
+pub use laws::{
+    a_base_has_no_store, a_redacted_store_is_read, a_valid_store_is_carried,
+    redactions_that_pass_may_be_made, what_is_taken_over_is_one,
+};
 pub use refused::RefusedRedaction;

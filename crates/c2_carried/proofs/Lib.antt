@@ -1,0 +1,7 @@
+pub mod Taken
+pub mod Accepted
+pub mod Ones
+pub mod Stores
+pub mod Places
+pub mod Valid
+mod Rows
