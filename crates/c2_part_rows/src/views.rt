@@ -9,7 +9,7 @@ use std::alloc::Global;
 
 /// What is said of an input.
 #[derive(Clone, Copy)]
-enum View {
+enum Shown {
     /// Of a text.
     Text(TextView),
 
@@ -54,51 +54,51 @@ enum BytesView {
 }
 
 // The views by their names.
-const VIEWS: [(&str, View); 31] = [
-    ("label kind", View::Text(TextView::LabelKind)),
-    ("uri", View::Text(TextView::Uri)),
-    ("base label", View::Text(TextView::BaseLabel)),
-    ("path", View::Text(TextView::Path)),
-    ("fill", View::Text(TextView::Fill)),
-    ("ranges", View::Text(TextView::Ranges)),
-    ("counts", View::Text(TextView::Counts)),
-    ("digest", View::Bytes(BytesView::Digest)),
-    ("verdict file", View::Bytes(BytesView::VerdictFile)),
-    ("item", View::Bytes(BytesView::Item)),
-    ("prefix", View::Bytes(BytesView::Prefix)),
-    ("boxes", View::Bytes(BytesView::Boxes)),
-    ("box", View::Bytes(BytesView::OneBox)),
-    ("find", View::Bytes(BytesView::Find)),
-    ("store", View::Bytes(BytesView::Store)),
-    ("claim", View::Bytes(BytesView::Claim)),
-    ("data hash", View::Bytes(BytesView::DataHash)),
-    ("bmff hash", View::Bytes(BytesView::BmffHash)),
-    ("ingredient", View::Bytes(BytesView::Ingredient)),
+const VIEWS: [(&str, Shown); 31] = [
+    ("label kind", Shown::Text(TextView::LabelKind)),
+    ("uri", Shown::Text(TextView::Uri)),
+    ("base label", Shown::Text(TextView::BaseLabel)),
+    ("path", Shown::Text(TextView::Path)),
+    ("fill", Shown::Text(TextView::Fill)),
+    ("ranges", Shown::Text(TextView::Ranges)),
+    ("counts", Shown::Text(TextView::Counts)),
+    ("digest", Shown::Bytes(BytesView::Digest)),
+    ("verdict file", Shown::Bytes(BytesView::VerdictFile)),
+    ("item", Shown::Bytes(BytesView::Item)),
+    ("prefix", Shown::Bytes(BytesView::Prefix)),
+    ("boxes", Shown::Bytes(BytesView::Boxes)),
+    ("box", Shown::Bytes(BytesView::OneBox)),
+    ("find", Shown::Bytes(BytesView::Find)),
+    ("store", Shown::Bytes(BytesView::Store)),
+    ("claim", Shown::Bytes(BytesView::Claim)),
+    ("data hash", Shown::Bytes(BytesView::DataHash)),
+    ("bmff hash", Shown::Bytes(BytesView::BmffHash)),
+    ("ingredient", Shown::Bytes(BytesView::Ingredient)),
     (
         "data hash written",
-        View::Bytes(BytesView::Written(fields::Field::DataHash)),
+        Shown::Bytes(BytesView::Written(fields::Field::DataHash)),
     ),
     (
         "bmff hash written",
-        View::Bytes(BytesView::Written(fields::Field::BmffHash)),
+        Shown::Bytes(BytesView::Written(fields::Field::BmffHash)),
     ),
     (
         "ingredient written",
-        View::Bytes(BytesView::Written(fields::Field::Ingredient)),
+        Shown::Bytes(BytesView::Written(fields::Field::Ingredient)),
     ),
-    ("message", View::Bytes(BytesView::Message)),
-    ("data cover", View::Bytes(BytesView::DataCover)),
-    ("film cover", View::Bytes(BytesView::FilmCover)),
-    ("packets", View::File(media::FileView::Packets)),
-    ("place", View::File(media::FileView::Place)),
-    ("free number", View::File(media::FileView::FreeNumber)),
-    ("root boxes", View::File(media::FileView::RootBoxes)),
-    ("film", View::File(media::FileView::Film)),
-    ("exclusions", View::File(media::FileView::Exclusions)),
+    ("message", Shown::Bytes(BytesView::Message)),
+    ("data cover", Shown::Bytes(BytesView::DataCover)),
+    ("film cover", Shown::Bytes(BytesView::FilmCover)),
+    ("packets", Shown::File(media::FileView::Packets)),
+    ("place", Shown::File(media::FileView::Place)),
+    ("free number", Shown::File(media::FileView::FreeNumber)),
+    ("root boxes", Shown::File(media::FileView::RootBoxes)),
+    ("film", Shown::File(media::FileView::Film)),
+    ("exclusions", Shown::File(media::FileView::Exclusions)),
 ];
 
 // The view with this name.
-fn view_named(name: &str) -> Option<View> {
+fn view_named(name: &str) -> Option<Shown> {
     for row in VIEWS.iter() {
         if row.0 == name {
             return Some(row.1);
@@ -113,9 +113,9 @@ pub fn view(alloc: Global, settings: &Settings, input: &str) -> Result<String, T
         return Err(Trouble::BadLine);
     };
     match what {
-        View::Text(what) => of_text(alloc, settings, what, input),
-        View::Bytes(what) => of_bytes(alloc, settings, what, bytes_of(alloc, input)?.as_slice()),
-        View::File(what) => {
+        Shown::Text(what) => of_text(alloc, settings, what, input),
+        Shown::Bytes(what) => of_bytes(alloc, settings, what, bytes_of(alloc, input)?.as_slice()),
+        Shown::File(what) => {
             media::in_pieces(alloc, settings, what, bytes_of(alloc, input)?.as_slice())
         }
     }
