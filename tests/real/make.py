@@ -1,7 +1,8 @@
 #!/usr/bin/env python3
 """Puts segments into JPEGs that encoders made, and stores into packets; what c2 must say of each is left to locate.py.
 
-    make.py DIRECTORY      reads the JPEGs of DIRECTORY, and writes further files beside them
+    make.py DIRECTORY            reads the JPEGs of DIRECTORY, and writes further files beside them
+    make.py DIRECTORY plain      writes those alone that have no store
 """
 
 import os
@@ -55,18 +56,44 @@ def scan_place(data):
     return at
 
 
-def variants(data):
-    at = after_app0(data)
-    put = lambda *pieces: data[:at] + b"".join(pieces) + data[at:]
-    small, large = packets(store(10)), packets(store(200_000))
-    # HDR pictures (JPEG XT) have boxes of other types in APP11, and other tools write APP11 of their own.
-    other = [
+def other_segments(number=7):
+    """APP11 segments without a store: HDR pictures (JPEG XT) have boxes of other types there, and other tools write their own."""
+    contents = box(b"jumb", box(b"jumd", b"json" + DESCRIPTION[4:] + b"\x03other\0") + box(b"json", b"{}" * 40_000))
+    return [
         segment(0xEB, b"HDR_RI ver=11\0"),
         segment(0xEB, b"JP\x00\x01" + struct.pack(">I", 1) + struct.pack(">I", 12) + b"tnmp" + b"\0\0\0\1"),
         segment(0xEB, b"JP"),
         segment(0xEB, b""),
-        *packets(box(b"jumb", box(b"jumd", b"json" + DESCRIPTION[4:] + b"\x03other\0") + box(b"json", b"{}" * 40_000)), en=7),
+        *packets(contents, en=number),
     ]
+
+
+def segments(data):
+    """The segments between SOI and the first scan, in a JPEG without fill bytes."""
+    at, end = 2, scan_place(data)
+    while at < end:
+        length = 2 + int.from_bytes(data[at + 2 : at + 4], "big")
+        yield data[at : at + length]
+        at += length
+
+
+def plain_variants(data):
+    """JPEGs without a store, which decoders read as they read this one."""
+    at, scan = after_app0(data), scan_place(data)
+    filled = b"".join(b"\xff" * (1 + number % 3) + each for number, each in enumerate(segments(data)))
+    yield "app11", data[:at] + b"".join(other_segments()) + data[at:]
+    # the first numbers that a writer of stores would take are taken
+    taken = b"".join(b"".join(other_segments(number)[4:]) for number in (0x0211, 0x0212))
+    yield "numbers_taken", data[:at] + taken + data[at:]
+    yield "filled", data[:2] + filled + data[scan:]
+    yield "app11_in_front", data[:2] + b"".join(other_segments()) + data[2:]
+
+
+def variants(data):
+    at = after_app0(data)
+    put = lambda *pieces: data[:at] + b"".join(pieces) + data[at:]
+    small, large = packets(store(10)), packets(store(200_000))
+    other = other_segments()
     yield "one_packet", put(*small)
     yield "four_packets", put(*large)
     yield "four_packets_wide", put(*packets(store(200_000), wide=True))
@@ -88,12 +115,13 @@ def variants(data):
 
 
 def main():
-    directory = sys.argv[1]
+    directory, *more = sys.argv[1:]
+    made_of = plain_variants if more else variants
     for name in sorted(os.listdir(directory)):
         base, kind = os.path.splitext(name)
         with open(os.path.join(directory, name), "rb") as file:
             data = file.read()
-        for variant, made in variants(data):
+        for variant, made in made_of(data):
             with open(os.path.join(directory, f"{base}+{variant}{kind}"), "wb") as file:
                 file.write(made)
 
