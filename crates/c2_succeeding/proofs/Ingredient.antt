@@ -1,0 +1,122 @@
+-- The ingredient that the parent is written as, and that it is read so.
+use Rattle.std.proofs.Common.{◌≡◌, ◌↔◌, ℕ, ◌^◌, ◌<◌, ◌≤◌, true, false, not, List, [], ◌∷◌, ◌++◌, length, Some, None, Ok, refl, ap, ◌∙◌, subst, arith, codes, lit≤, length-append}
+use Rattle.std.specs.Prelude.{◌==◌, option_and_then}
+use Rattle.std.specs.List.{AllByRecursion, list_all, list_any}
+use Rattle.std.specs.Str.{IsUtf8}
+use Rattle.std.proofs.lemmas.Bool.{and_parts, eqb-false, not-true, or_parts}
+use Rattle.std.proofs.lemmas.Str.{IsUtf8-append}
+use Rattle.c2_spec.specs.C2pa.Assertion.{ingredient_of, is_same, manifest_named, manifest_signed, references_agree, signer_of, whole_of}
+use Rattle.c2_spec.specs.C2pa.Manifest.{is_manifest_label}
+use Rattle.c2_spec.specs.C2pa.Uri.{PlainUri, scheme, signature, store_path, uri_of, uri_text, whole}
+use Rattle.c2_spec.specs.Cbor.Deterministic.{deterministic, shortest_head, sorted}
+use Rattle.c2_spec.specs.Cbor.Fields.{HasItem}
+use Rattle.c2_spec.specs.Cbor.Item.{Item, bytes, text}
+use Rattle.c2_spec.specs.Cbor.Writing.{field, ref_item}
+use Rattle.c2_spec.specs.Jumbf.Tree.{IsLabel, IsLabelByte, tree_bytes, trees_bytes}
+use Rattle.c2_spec.specs.declared.assertion.Ingredient.{Ingredient}
+use Rattle.c2_uri.specs.Writing.{IsLabel as IsUriLabel}
+use Rattle.c2_rules.specs.Chains.{named_by}
+use Rattle.c2_assertion.specs.Written.{ingredient_item}
+use Rattle.c2_definition.specs.declared.types.NewAssertion.{NewAssertion}
+use Rattle.c2_layout.specs.Store.{Parent, assertion_box, assertion_boxes, parent_ingredient, parent_ref}
+use Rattle.c2_layout.proofs.BoxLemmas.{is_plain_byte}
+use Rattle.c2_layout.proofs.GoodItems.{Good, IsGoodField, RoundTrip, good_bytes, good_field, good_map, good_read, good_text}
+use Rattle.c2_layout.proofs.Labels.{IsLabelText, IsNamed}
+use Rattle.c2_layout.proofs.NewRules.{same_bytes}
+use Rattle.c2_layout.proofs.StoreSize.{KeepsLength}
+use Rattle.c2_layout.proofs.Uris.{UrisAreRead, named_label, plain_text, signature_read, signature_utf8}
+
+-- ---- the parent's label
+
+-- a label of a box that can be named is a text for URIs
+pub label_text : (l : List ℕ) → IsLabel l → is_manifest_label (Some l) ≡ true → IsLabelText l
+label_text l h k =
+    let both = and_parts (not (length l == 0)) (not (list_any (λ b. b == 0x2F) l)) k in
+    record { some = positive (length l) (eqb-false (length l) 0 (not-true (length l == 0) both.0)); named = named l h.1 (not-true (list_any (λ b. b == 0x2F) l) both.1) }
+  where
+    positive : (n : ℕ) → (n ≡ 0 → ⊥) → 0 < n
+    positive n e = omega (arith, e)
+
+    named : (t : List ℕ) → AllByRecursion IsLabelByte t → list_any (λ b. b == 0x2F) t ≡ false → IsNamed t
+    named [] h e = tt
+    named (b ∷ bs) h e = let parts = or_parts (b == 0x2F) (list_any (λ b. b == 0x2F) bs) e in (record { low = h.0.0; no_delete = h.0.1; no_slash = eqb-false b 0x2F parts.0 }, named bs h.1 parts.1)
+
+-- ---- its references
+
+whole_read : UrisAreRead → (label : List ℕ) → IsLabelText label → uri_of (uri_text (record { manifest = Some label; target = whole })) ≡ Some (record { manifest = Some label; target = whole })
+whole_read read label h = read (record { manifest = Some label; target = whole }) (record { manifest = λ x e. (let same : label ≡ x = cc (e) in subst IsUriLabel same (named_label label h)); target = refl })
+
+named : UrisAreRead → (label : List ℕ) → IsLabelText label → manifest_named (uri_text (record { manifest = Some label; target = whole })) ≡ Some label
+named uris label u = ap (option_and_then (λ (x : PlainUri). whole_of x.manifest x.target)) (whole_read uris label u)
+
+signed : UrisAreRead → (label : List ℕ) → IsLabelText label → manifest_signed (uri_text (record { manifest = Some label; target = signature })) ≡ Some label
+signed uris label u = ap (option_and_then (λ (x : PlainUri). signer_of x.manifest x.target)) (signature_read uris label u)
+
+-- the ingredient names the parent
+pub parent_named : UrisAreRead → (hash : List ℕ → List ℕ) (p : Parent) → IsLabelText p.label → named_by (Some (parent_ingredient hash p)) ≡ Some p.label
+parent_named uris hash p u = named uris p.label u
+
+agree : UrisAreRead → (hash : List ℕ → List ℕ) (p : Parent) → IsLabelText p.label → references_agree (parent_ingredient hash p).manifest (parent_ingredient hash p).signature ≡ true
+agree uris hash p u = ap (λ o. is_same o (manifest_signed (uri_text (record { manifest = Some p.label; target = signature })))) (named uris p.label u) ∙ ap (is_same (Some p.label)) (signed uris p.label u) ∙ same_bytes p.label
+
+-- ---- the item
+
+named_field : (d : ℕ) (key : List ℕ) (v : Item) → list_all is_plain_byte key ≡ true → 1 ≤ d → Good d v → IsGoodField d (field key v)
+named_field d key v h l g = good_field d key v l (plain_text key h) g
+
+bare_good : (url hash : List ℕ) → IsUtf8 url → Good 2 (ref_item (record { url = url; hash = hash; alg = None }))
+unfolding shortest_head
+bare_good url hash u =
+    good_map 1 (field (codes "url") (text url) ∷ field (codes "hash") (bytes hash) ∷ [])
+    (named_field 1 (codes "url") (text url) refl (lit≤ tt) (good_text 1 url (lit≤ tt) u), (named_field 1 (codes "hash") (bytes hash) refl (lit≤ tt) (good_bytes 1 hash (lit≤ tt)), tt)) refl
+
+whole_utf8 : (label : List ℕ) → IsUtf8 label → IsUtf8 (uri_text (record { manifest = Some label; target = whole }))
+whole_utf8 label h =
+    IsUtf8-append scheme ((store_path ++ label) ++ []) (plain_text scheme refl)
+    (IsUtf8-append (store_path ++ label) [] (IsUtf8-append store_path label (plain_text store_path refl) h) (plain_text [] refl))
+
+good : (hash : List ℕ → List ℕ) (p : Parent) → IsUtf8 p.label → Good 3 (ingredient_item (parent_ingredient hash p))
+unfolding shortest_head
+good hash p u =
+    good_map 2
+    (field (codes "relationship") (text (codes "parentOf")) ∷ field (codes "activeManifest") (ref_item (parent_ref hash p.label whole p.contents)) ∷ field (codes "claimSignature") (ref_item (parent_ref hash p.label signature p.signed)) ∷ []) (
+      named_field 2 (codes "relationship") _ refl (lit≤ tt) (good_text 2 (codes "parentOf") (lit≤ tt) (plain_text (codes "parentOf") refl)),
+      (
+        named_field 2 (codes "activeManifest") _ refl (lit≤ tt) (bare_good _ (hash p.contents) (whole_utf8 p.label u)),
+        (named_field 2 (codes "claimSignature") _ refl (lit≤ tt) (bare_good _ (hash p.signed) (signature_utf8 p.label u)), tt),
+      ),
+    ) refl
+
+more_deep : (d e : ℕ) (v : Item) → Good d v → d ≤ e → Good e v
+more_deep d e v g l = record { fits = g.fits; plain = g.plain; shallow = omega (arith, g.shallow, l) }
+
+-- what is read of an ingredient that was written
+abbrev pub IngredientsAreRead : Type 0
+IngredientsAreRead = (i : Ingredient) → (ingredient_of (ingredient_item i) ≡ Ok i) ↔ (references_agree i.manifest i.signature ≡ true)
+
+-- its fields stand in deterministic order
+abbrev pub IngredientsAreSorted : Type 0
+IngredientsAreSorted = (i : Ingredient) → sorted (ingredient_item i) ≡ ingredient_item i
+
+-- an item that is read as this ingredient
+pub record IsIngredient (payload : List ℕ) (g : Ingredient) : Type 0 where
+  pub item : Item
+  pub has : HasItem payload item
+  pub is : ingredient_of item ≡ Ok g
+
+pub parent_read : KeepsLength → RoundTrip → UrisAreRead → IngredientsAreRead → IngredientsAreSorted → (hash : List ℕ → List ℕ) (p : Parent) → IsLabelText p.label → IsUtf8 p.label
+    → length (deterministic (ingredient_item (parent_ingredient hash p))) < 2 ^ 64 → IsIngredient (deterministic (ingredient_item (parent_ingredient hash p))) (parent_ingredient hash p)
+parent_read keeps trip uris back in_order hash p label u short =
+    let i : Ingredient = parent_ingredient hash p in
+    record {
+      item = ingredient_item i;
+      has = subst (HasItem (deterministic (ingredient_item i))) (in_order i) (good_read keeps trip (ingredient_item i) (more_deep 3 64 (ingredient_item i) (good hash p u) (lit≤ tt)) short);
+      is = (back i).1 (agree uris hash p label);
+    }
+
+-- ---- sizes
+
+-- a box among others is no longer than all of them
+pub box_within : (xs : List NewAssertion) (a : NewAssertion) (ys : List NewAssertion) → length (tree_bytes (assertion_box a)) ≤ length (trees_bytes (assertion_boxes (xs ++ a ∷ ys)))
+box_within [] a ys = omega (arith, length-append (tree_bytes (assertion_box a)) (trees_bytes (assertion_boxes ys)))
+box_within (x ∷ xs) a ys = omega (arith, box_within xs a ys, length-append (tree_bytes (assertion_box x)) (trees_bytes (assertion_boxes (xs ++ a ∷ ys))))

@@ -1,0 +1,93 @@
+-- Assertions of a definition, of which no rule asks anything.
+use Rattle.std.specs.Prelude.{IfSome, is_none}
+use Rattle.std.proofs.Common.{◌≡◌, ℕ, ◌+◌, ◌≤◌, true, false, List, [], ◌∷◌, Option, Some, None, refl, arith}
+use Rattle.std.specs.List.{AllByRecursion}
+use Rattle.std.specs.Str.{IsUtf8}
+use Rattle.std.proofs.lemmas.Bool.{false≢true, le-ltb}
+use Rattle.c2_spec.specs.C2pa.Assertion.{kind_of}
+use Rattle.c2_spec.specs.Cover.{bad_range}
+use Rattle.c2_spec.specs.declared.assertion.Ingredient.{Ingredient}
+use Rattle.c2_spec.specs.declared.assertion.Kind.{Kind}
+use Rattle.c2_spec.specs.declared.assertion.Kind.TheVariants as kinds
+use Rattle.c2_spec.specs.declared.digest.Alg.{Alg}
+use Rattle.c2_rules.specs.Chains.{label_in}
+use Rattle.c2_rules.specs.Ingredients.{assertion_uri, is_ingredient_kind}
+use Rattle.c2_rules.specs.Rules.{form_tests, ingredient_tests, is_binding, is_cloud, is_other_hash, kind_tests}
+use Rattle.c2_rules.specs.Rules as rule
+use Rattle.c2_rules.specs.Seen.{Seen}
+use Rattle.c2_rules.specs.Tests.{each}
+use Rattle.c2_rules.specs.declared.parsed.Parsed.{Parsed}
+use Rattle.c2_rules.specs.declared.parsed.Parsed.TheVariants.{NoItem}
+use Rattle.c2_definition.specs.DefinitionFile as file
+use Rattle.c2_definition.specs.declared.types.NewAssertion.{NewAssertion}
+use Rattle.c2_layout.specs.Store.{range_at}
+use Rattle.c2_layout.specs.Written.{IsText}
+use Rattle.c2_layout.proofs.Labels.{new_label}
+use Rattle.c2_layout.proofs.Lists.{each-append}
+use Rattle.c2_layout.proofs.NewRules.{Holds, IsListed, entries_of, new_box, new_boxes}
+use Rattle.c2_layout.proofs.Uris.{assertion_utf8}
+use Rattle.c2_layout.proofs.WrittenItems.{IsGoodRef}
+
+-- what holds of Actions and Ordinary
+by_kind : (P : Kind → Type 0) → P kinds.Actions → P kinds.Ordinary → (k : Kind) → file.is_new_kind k ≡ true → P k
+by_kind P a o kinds.Actions e = a
+by_kind P a o kinds.Ordinary e = o
+by_kind P a o kinds.DataHash e = absurd (false≢true e)
+by_kind P a o kinds.BmffHash e = absurd (false≢true e)
+by_kind P a o kinds.OtherHash e = absurd (false≢true e)
+by_kind P a o kinds.Ingredient e = absurd (false≢true e)
+by_kind P a o kinds.IngredientOther e = absurd (false≢true e)
+by_kind P a o kinds.Cloud e = absurd (false≢true e)
+
+-- none is a binding, an ingredient, cloud data or another hash
+pub no_binding : (k : Kind) → file.is_new_kind k ≡ true → is_binding k ≡ false
+no_binding = by_kind (λ k. is_binding k ≡ false) refl refl
+
+pub no_ingredient : (k : Kind) → file.is_new_kind k ≡ true → is_ingredient_kind k ≡ false
+no_ingredient = by_kind (λ k. is_ingredient_kind k ≡ false) refl refl
+
+-- a label that a definition may have
+abbrev pub IsNew : NewAssertion → Type 0
+IsNew a = file.is_new_label a.label ≡ true
+
+pub listed_each : (as_ : List NewAssertion) → AllByRecursion IsNew as_ → AllByRecursion IsListed as_
+listed_each [] h = tt
+listed_each (a ∷ others) h =
+    let new = new_label a.label h.0 in
+    (record { text = new.text; no_cloud = by_kind (λ k. is_cloud k ≡ false) refl refl (kind_of a.label) new.kind; no_other = by_kind (λ k. is_other_hash k ≡ false) refl refl (kind_of a.label) new.kind }, listed_each others h.1)
+
+-- none is read
+abbrev pub none_read : NewAssertion → Parsed Ingredient
+none_read a = NoItem
+
+pub no_children : (hash : Alg → List ℕ → List ℕ) (s : Seen) (k : ℕ) (as_ : List NewAssertion) → AllByRecursion Holds (each (λ k b. ingredient_tests hash s b) k (new_boxes none_read as_))
+no_children hash s k [] = tt
+no_children hash s k (a ∷ others) = no_children hash s (k + 1) others
+
+pub no_forms : (s : Seen) (k : ℕ) (as_ : List NewAssertion) → AllByRecursion IsNew as_ → AllByRecursion Holds (each (λ k b. form_tests s b) k (new_boxes none_read as_))
+unfolding rule.label_kind
+no_forms s k [] h = tt
+no_forms s k (a ∷ others) h =
+    each-append Holds (form_tests s (new_box none_read a)) (each (λ k b. form_tests s b) (k + 1) (new_boxes none_read others))
+    (by_kind (λ x. AllByRecursion Holds (kind_tests s.standing (assertion_uri (label_in s.own) a.label) NoItem x)) tt tt (kind_of a.label) (new_label a.label h.0).kind) (no_forms s (k + 1) others h.1)
+
+-- ---- texts and ranges
+
+pub title_utf8 : (o : Option (List ℕ)) → IfSome o IsText → IfSome o IsUtf8
+title_utf8 None h = tt
+title_utf8 (Some t) h = h.utf8
+
+pub texts_utf8 : (ts : List (List ℕ)) → AllByRecursion IsText ts → AllByRecursion IsUtf8 ts
+texts_utf8 [] h = tt
+texts_utf8 (t ∷ ts) h = (h.0.utf8, texts_utf8 ts h.1)
+
+-- a range that ends in the file is in order
+pub one_in_order : (size start len : ℕ) → start + len ≤ size → is_none (bad_range size (range_at start len ∷ [])) ≡ true
+one_in_order size start len fits = rw (le-ltb start 0 (omega arith), le-ltb size (start + len) fits)
+
+-- ---- references
+
+-- the references to assertions can be written
+pub refs_good : (hash : List ℕ → List ℕ) (as_ : List NewAssertion) → AllByRecursion (λ (a : NewAssertion). IsText a.label) as_ → AllByRecursion IsGoodRef (entries_of hash as_)
+refs_good hash [] h = tt
+refs_good hash (a ∷ others) h = (record { url = assertion_utf8 a.label h.0.utf8; alg = refl }, refs_good hash others h.1)
