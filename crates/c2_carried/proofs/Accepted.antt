@@ -48,14 +48,17 @@ record IsFine (own : List ℕ) (rs : List Reading) (text : List ℕ) : Type 0 wh
   target : has_target rs before text ≡ true
   signed : has_unsigned rs text ≡ false
 
+-- neither of two is there where the first of both isn't
 none_first : {A : Type 0} (o p : Option A) → option_or o p ≡ None → (o ≡ None) × (p ≡ None)
 none_first None p e = (refl, e)
 none_first (Some x) p e = absurd (cc (e))
 
+-- nothing is made of nothing alone
 map_none : {A B : Type 0} (f : A → B) (o : Option A) → option_map f o ≡ None → o ≡ None
 map_none f None e = refl
 map_none f (Some x) e = absurd (cc (e))
 
+-- where none is refused, each entry passes
 fine_each : (own : List ℕ) (rs : List Reading) (before texts : List (List ℕ)) → refusal_after own rs before texts ≡ None → AllByRecursion (IsFine own rs) texts
 fine_each own rs before [] e = tt
 fine_each own rs before (text ∷ texts) e =
@@ -64,22 +67,26 @@ fine_each own rs before (text ∷ texts) e =
     let back = each-back Holds (redaction_tests own (new_claim_uri own) text) _ all in
     (record { rules = each-front Holds (redaction_tests own (new_claim_uri own) text) _ all; before = before; target = not-false (has_target rs before text) back.0; signed = back.1.0 }, fine_each own rs (before ++ text ∷ []) texts parts.1)
 
+-- so the rules on redactions hold of each
 rules_each : (own : List ℕ) (rs : List Reading) (k : ℕ) (texts : List (List ℕ)) → AllByRecursion (IsFine own rs) texts → AllByRecursion Holds (each (λ k text. redaction_tests own (new_claim_uri own) text) k texts)
 rules_each own rs k [] h = tt
 rules_each own rs k (text ∷ texts) h = each-append Holds (redaction_tests own (new_claim_uri own) text) (each (λ k text. redaction_tests own (new_claim_uri own) text) (k + 1) texts) h.0.rules (rules_each own rs (k + 1) texts h.1)
 
 -- ---- the entry that takes a label out
 
+-- what is given is this label
 given_is : (o : Option (List ℕ)) (l : List ℕ) → is_given o l ≡ true → o ≡ Some l
 given_is None l e = absurd (false≢true e)
 given_is (Some g) l e = ap Some ((bytes_eq-Decides g l).0 e)
 
+-- the target of that label
 target_is : (t : PlainTarget) (l : List ℕ) → assertion_label t ≡ Some l → t ≡ assertion l
 target_is whole l e = absurd (cc (e))
 target_is (assertion o) l e = ap assertion (same_Some o l e)
 target_is signature l e = absurd (cc (e))
 target_is (other p) l e = absurd (cc (e))
 
+-- the one URI that names an assertion
 named_uri : (m l : List ℕ) (u : Option PlainUri) → names_assertion m l u ≡ true → u ≡ Some (record { manifest = Some m; target = assertion l })
 named_uri m l None e = absurd (false≢true e)
 named_uri m l (Some u) e =
@@ -87,11 +94,13 @@ named_uri m l (Some u) e =
     ap (λ (o : Option (List ℕ)). Some (record { manifest = o; target = u.target })) (given_is u.manifest m both.0)
     ∙ ap (λ (t : PlainTarget). Some (record { manifest = Some m; target = t })) (target_is u.target l (given_is (assertion_label u.target) l both.1))
 
+-- an entry that takes this label out of this manifest
 record Takes (own : List ℕ) (rs : List Reading) (m l : List ℕ) : Type 0 where
   text : List ℕ
   fine : IsFine own rs text
   uri : uri_of text ≡ Some (record { manifest = Some m; target = assertion l })
 
+-- there is one, where the label is taken out
 takes : (own : List ℕ) (rs : List Reading) (m l : List ℕ) (texts : List (List ℕ)) → AllByRecursion (IsFine own rs) texts → takes_out texts m l ≡ true → Takes own rs m l
 takes own rs m l [] h e = absurd (false≢true e)
 takes own rs m l (text ∷ texts) h e =
@@ -99,6 +108,7 @@ takes own rs m l (text ∷ texts) h e =
 
 -- ---- kinds
 
+-- a kind that is none of ingredients
 no_kind : (k : Kind) → is_any_ingredient k ≡ false → is_ingredient_kind k ≡ false
 no_kind kinds.DataHash e = refl
 no_kind kinds.BmffHash e = refl
@@ -109,12 +119,14 @@ no_kind kinds.Actions e = refl
 no_kind kinds.Cloud e = refl
 no_kind kinds.Ordinary e = refl
 
+-- what is taken out is no ingredient
 taken_kind : (own : List ℕ) (rs : List Reading) (m l : List ℕ) → Takes own rs m l → is_ingredient_kind (kind_of l) ≡ false
 unfolding rule.label_kind
 taken_kind own rs m l t =
     let tests : AllByRecursion Holds (target_tests own (new_claim_uri own) (Some m) (assertion l)) = subst (λ u. AllByRecursion Holds (uri_tests own (new_claim_uri own) u)) t.uri t.fine.rules in
     no_kind (kind_of l) tests.1.1.1.0
 
+-- nor is a box that isn't kept
 no_ingredient : (own : List ℕ) (rs : List Reading) (texts : List (List ℕ)) (m : List ℕ) (b : ReadBox) → AllByRecursion (IsFine own rs) texts → is_kept (takes_out texts m) b ≡ false → is_ingredient b.boxed ≡ false
 no_ingredient own rs texts m b h e = go b.boxed.label (not-false (passes_some (takes_out texts m) b.boxed.label) e)
   where
@@ -122,12 +134,14 @@ no_ingredient own rs texts m b h e = go b.boxed.label (not-false (passes_some (t
     go None g = absurd (false≢true g)
     go (Some l) g = taken_kind own rs m l (takes own rs m l texts h g)
 
+-- what holds of any box holds of each
 each_box : (P : ReadBox → Type 0) (bs : List ReadBox) → ((b : ReadBox) → P b) → AllByRecursion P bs
 each_box P [] h = tt
 each_box P (b ∷ bs) h = (h b, each_box P bs h)
 
 -- ---- the manifest that loses a box
 
+-- the reached manifest of which a label is taken out
 record IsTargetAt (rs : List Reading) (m l : List ℕ) : Type 0 where
   place : ℕ
   reading : Reading
@@ -136,6 +150,7 @@ record IsTargetAt (rs : List Reading) (m l : List ℕ) : Type 0 where
   label : label_in reading ≡ m
   listed : lists_label reading.manifest (entries_in reading) l ≡ true
 
+-- it is there
 target_at : (own : List ℕ) (rs : List Reading) (m l : List ℕ) → Takes own rs m l → IsTargetAt rs m l
 target_at own rs m l t =
     let before : List (List ℕ) = t.fine.before in
@@ -155,6 +170,7 @@ target_at own rs m l t =
 
 -- ---- signatures
 
+-- what passes nowhere doesn't pass here
 below_false : (f : ℕ → Bool) (n i : ℕ) → any_below f n ≡ false → i < n → f i ≡ false
 below_false f n i e lt = false_from_ne_true (f i) (λ t. both_ways (any_below f n) e (in_below f n i lt t))
 
@@ -180,6 +196,7 @@ child_label rs i m b c e f = go (named_in b) refl e
 abbrev BoxFine : List (List ℕ) → ReadBox → Type 0
 BoxFine texts b = AllByRecursion (λ (text : List ℕ). names_unsigned (uri_of text) b ≡ false) texts
 
+-- none of these boxes lacks a signature
 none_unsigned : (u : Option PlainUri) (bs : List ReadBox) → list_any (names_unsigned u) bs ≡ false → AllByRecursion (λ (b : ReadBox). names_unsigned u b ≡ false) bs
 none_unsigned u [] e = tt
 none_unsigned u (b ∷ bs) e = let parts = or_parts (names_unsigned u b) (list_any (names_unsigned u) bs) e in (parts.0, none_unsigned u bs parts.1)
@@ -191,10 +208,12 @@ signed_boxes rs i r text reached is h =
     let at : (is_reached rs i && passes_some f (slice_get rs i)) ≡ false = below_false (λ k. is_reached rs k && passes_some f (slice_get rs k)) (length rs) i h (slice_get_within rs i r is) in
     none_unsigned (uri_of text) r.boxes (sym (ap (λ x. x && passes_some f (slice_get rs i)) reached ∙ ap (passes_some f) is) ∙ at)
 
+-- box by box, of one more text
 add_text : (text : List ℕ) (texts : List (List ℕ)) (bs : List ReadBox) → AllByRecursion (λ (b : ReadBox). names_unsigned (uri_of text) b ≡ false) bs → AllByRecursion (BoxFine texts) bs → AllByRecursion (BoxFine (text ∷ texts)) bs
 add_text text texts [] h k = tt
 add_text text texts (b ∷ bs) h k = ((h.0, k.0), add_text text texts bs h.1 k.1)
 
+-- of all texts
 boxes_fine : (own : List ℕ) (rs : List Reading) (i : ℕ) (r : Reading) (texts : List (List ℕ)) → AllByRecursion (IsFine own rs) texts → is_reached rs i ≡ true → slice_get rs i ≡ Some r → AllByRecursion (BoxFine texts) r.boxes
 boxes_fine own rs i r [] h reached is = each_box (BoxFine []) r.boxes (λ b. tt)
 boxes_fine own rs i r (text ∷ texts) h reached is = add_text text texts r.boxes (signed_boxes rs i r text reached is h.0.signed) (boxes_fine own rs i r texts h.1 reached is)
@@ -208,12 +227,14 @@ box_signed m l b (text ∷ texts) n h t = ⊎_elim (λ here.
     let lacks : (passes_some (is_given (Some m)) (named_in b) && not (has_signature b)) ≡ false = sym (ap (λ u. names_unsigned u b) uri) ∙ h.0 in
     not-false (has_signature b) (sym (ap (λ x. x && not (has_signature b)) names) ∙ lacks)) (λ later. box_signed m l b texts n h.1 later) (or_cases (names_assertion m l (uri_of text)) (takes_out texts m l) t)
 
+-- so each box names a signature where something is taken out of its child
 all_signed : (rs : List Reading) (i : ℕ) (texts : List (List ℕ)) (bs : List ReadBox) → AllByRecursion (BoxFine texts) bs → AllByRecursion (SignsTaken texts rs i) bs
 all_signed rs i texts [] h = tt
 all_signed rs i texts (b ∷ bs) h = ((λ m c label child is taken. box_signed (label_in c) label b texts (child_label rs i m b c child is) h.0 taken), all_signed rs i texts bs h.1)
 
 -- ---- all of them
 
+-- redactions of which none is refused may be made
 pub accepted : RedactionsAreAccepted
 accepted own rs texts differ e =
     let fine = fine_each own rs [] texts e in
@@ -232,6 +253,7 @@ accepted own rs texts differ e =
 
 -- ---- without an older store
 
+-- the first is refused by a rule, or since nothing is there
 pub first_refused : FirstIsRefused
 first_refused own text others =
     ap (λ (o : Option Failing). option_or (option_map (refused_by text) o) (refusal_after own [] (text ∷ []) others)) (first_failing_append (redaction_tests own (new_claim_uri own) text) _)

@@ -17,6 +17,7 @@ use Rattle.c2_layout.proofs.Lists.{each-append, each-back, each-front}
 use Rattle.c2_carried.specs.Carrying.{BaseHasNoStore, ContentIsOne, ParentIsOne}
 use Rattle.c2_carried.specs.Parents.{IsParentOf}
 
+-- the parent is one
 pub parent_one : ParentIsOne
 parent_one ms p q a b =
     let active : a.active ≡ b.active = same_Some a.active b.active (sym a.is_active ∙ b.is_active) in
@@ -28,6 +29,7 @@ parent_one ms p q a b =
     ∙ ap (λ (c : List ℕ). record { label = q.label; contents = c; signed = p.signed }) contents
     ∙ ap (λ (s : List ℕ). record { label = q.label; contents = q.contents; signed = s }) signed
 
+-- and so is what goes into a new store
 pub content_one : ContentIsOne
 content_one d old b c h k =
     let carried : b.carried ≡ c.carried = h.carried ∙ sym k.carried in
@@ -36,6 +38,7 @@ content_one d old b c h k =
     ∙ ap (λ (x : Trees). record { definition = c.definition; carried = x; parent = b.parent }) carried
     ∙ ap (λ (x : Option Parent). record { definition = c.definition; carried = c.carried; parent = x }) (h.has_parent ∙ ap Some parent ∙ sym k.has_parent)
 
+-- what is left of a file without its store
 pub base_is : BaseHasNoStore
 base_is media start len store h =
     let o = h.holds in

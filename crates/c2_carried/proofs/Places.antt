@@ -19,6 +19,7 @@ pub record LessAt (redacts : List (List ℕ)) (rs ss : List Reading) (i : ℕ) :
   pub is_new : slice_get ss i ≡ Some new
   pub less : IsLess redacts old new
 
+-- what stands at each place
 pub less_at : (redacts : List (List ℕ)) (rs ss : List Reading) (i : ℕ) → AreLess redacts rs ss → i < length rs → LessAt redacts rs ss i
 less_at redacts [] [] i h lt = absurd (omega arith)
 less_at redacts [] (s ∷ ss) i h lt = absurd h

@@ -87,18 +87,22 @@ not_uri : refused (store None) (codes "D" ∷ []) ≡ with_code (codes "D") Prof
 unfolding label_kind
 not_uri = refl
 
+-- an assertion of the new manifest itself
 own : refused (store None) (uri (codes "N") (codes "one") ∷ []) ≡ with_code (uri (codes "N") (codes "one")) AssertionSelfRedacted
 unfolding label_kind
 own = refl
 
+-- actions
 actions : refused (store None) (uri (codes "D") (codes "c2pa.actions.v2") ∷ []) ≡ with_code (uri (codes "D") (codes "c2pa.actions.v2")) AssertionActionRedacted
 unfolding label_kind
 actions = refl
 
+-- a binding
 binding : refused (store None) (uri (codes "D") (codes "c2pa.hash.data") ∷ []) ≡ with_code (uri (codes "D") (codes "c2pa.hash.data")) ProfileRedactionBinding
 unfolding label_kind
 binding = refl
 
+-- an ingredient
 ingredient : refused (store None) (uri (codes "A") (codes "c2pa.ingredient.v3") ∷ []) ≡ with_code (uri (codes "A") (codes "c2pa.ingredient.v3")) UnsupportedRedactIngredient
 unfolding label_kind
 ingredient = refl
@@ -112,5 +116,6 @@ no_store = refl
 taken : has_manifest (store None) (codes "D") ≡ true
 taken = refl
 
+-- a label that none has
 free : has_manifest (store None) (codes "N") ≡ false
 free = refl

@@ -21,9 +21,11 @@ use Rattle.c2_carried.specs.Refusing.{has_manifest}
 
 -- ---- tests
 
+-- a test that doesn't fail
 abbrev Passes : StoreTest → Type 0
 Passes t = t.fails ≡ false
 
+-- where nothing is refused, all tests pass
 none_fails : (ts : List StoreTest) → option_map (λ (t : StoreTest). t.refusal) (find (λ (t : StoreTest). t.fails) ts) ≡ None → AllByRecursion Passes ts
 none_fails [] h = tt
 none_fails (t ∷ ts) h = go t.fails refl (none_fails ts) h
@@ -33,6 +35,7 @@ none_fails (t ∷ ts) h = go t.fails refl (none_fails ts) h
     go true e k g = absurd (cc (g))
     go false e k g = (e, k g)
 
+-- so each box is that of a manifest
 boxes_pass : (t : Tree) (is : List ℕ) (ss : List Tree) → Both t is ss → AllByRecursion Passes (flat_map (manifest_tests t) is) → AllByRecursion IsStoreBox ss
 unfolding Both
 boxes_pass t [] [] h p = tt
@@ -47,6 +50,7 @@ boxes_pass t (i ∷ is) (s ∷ ss) h p =
       boxes_pass t is ss h.1 p.1.1,
     )
 
+-- as many indices as boxes
 both_len : (t : Tree) (is : List ℕ) (ss : List Tree) → Both t is ss → length is ≡ length ss
 unfolding Both
 both_len t [] [] h = refl
@@ -70,6 +74,7 @@ some_boxes t h =
     positive : (n : ℕ) → (n ≡ 0 → ⊥) → 0 < n
     positive n h = omega (arith, h)
 
+-- the superboxes of a store, among its boxes
 pub supers_are : (t : Tree) → supers_of t ≡ supers_in (boxes_in t)
 supers_are (leaf b) = refl
 supers_are (super wide d us) = refl
@@ -79,6 +84,7 @@ pub record IsLegalInside (t : Tree) : Type 0 where
   pub legal : AreLegalTrees 2 (boxes_in t)
   pub distinct : AreDistinctLabels (tree_labels (boxes_in t))
 
+-- a legal tree is so inside
 pub legal_inside : (t : Tree) → IsLegalTree 1 t → IsLegalInside t
 legal_inside (leaf b) h = record { legal = tt; distinct = tt }
 legal_inside (super wide d us) h = record { legal = h.3; distinct = h.4 }
@@ -92,12 +98,14 @@ legal_at (more (super wide d us) ts) depth (suc i) t h e = legal_at ts depth i t
 
 -- ---- lengths
 
+-- lists that correspond are of one length
 pub zip_len : {A B : Type 0} (R : A → B → Type 0) (xs : List A) (ys : List B) → AllZip R xs ys → length xs ≡ length ys
 zip_len R [] [] h = refl
 zip_len R [] (y ∷ ys) h = absurd h
 zip_len R (x ∷ xs) [] h = absurd h
 zip_len R (x ∷ xs) (y ∷ ys) h = ap suc (zip_len R xs ys h.1)
 
+-- a map keeps the length
 pub map_len : {A B : Type 0} (f : A → B) (xs : List A) → length (map f xs) ≡ length xs
 map_len f [] = refl
 map_len f (x ∷ xs) = ap suc (map_len f xs)
@@ -106,6 +114,7 @@ map_len f (x ∷ xs) = ap suc (map_len f xs)
 pub read_len : (ts : List Tree) (rs : List Reading) → AreReadings (map manifest_of ts) rs → length ts ≡ length rs
 read_len ts rs h = sym (map_len manifest_of ts) ∙ zip_len IsReading (map manifest_of ts) rs h
 
+-- something stands at each place
 pub get_some : {A : Type 0} (xs : List A) (i : ℕ) → i < length xs → (x : A) × (slice_get xs i ≡ Some x)
 get_some [] i h = absurd (omega arith)
 get_some (x ∷ xs) zero h = (x, refl)
@@ -127,10 +136,12 @@ read_label (super wide d us) r h k = label_some d.label k.label ∙ ap (λ (m : 
 abbrev DiffersFrom : List ℕ → List Reading → Type 0
 DiffersFrom label rs = AllByRecursion (λ (r : Reading). label_in r ≢ label) rs
 
+-- labels that all differ, manifest by manifest
 unfoldable RsDiffer : List Reading → Type 0
 RsDiffer [] = ⊤
 RsDiffer (r ∷ rs) = DiffersFrom (label_in r) rs × RsDiffer rs
 
+-- a label that no box has, no reading has
 later_differ : (label : List ℕ) (ts : Trees) (rs : List Reading) → AreReadings (map manifest_of (supers_in ts)) rs → AllByRecursion IsStoreBox (supers_in ts) → AllByRecursion (λ o. o ≢ Some label) (tree_labels ts) → DiffersFrom label rs
 later_differ label none [] h k n = tt
 later_differ label none (r ∷ rs) h k n = absurd h
@@ -138,10 +149,12 @@ later_differ label (more (leaf b) ts) rs h k n = later_differ label ts rs h k n.
 later_differ label (more (super wide d us) ts) [] h k n = absurd h
 later_differ label (more (super wide d us) ts) (r ∷ rs) h k n = ((λ e. n.0 (read_label (super wide d us) r h.0 k.0 ∙ ap Some e)), later_differ label ts rs h.1 k.1 n.1)
 
+-- a label that is new among others differs from each
 new_from : (o : Option (List ℕ)) (l : List ℕ) (os : List (Option (List ℕ))) → o ≡ Some l → IsNewLabel o os → AllByRecursion (λ p. p ≢ Some l) os
 new_from None l os e h = absurd (cc (e))
 new_from (Some t) l os e h = let same : t ≡ l = same_Some t l e in subst (λ (x : List ℕ). AllByRecursion (λ p. p ≢ Some x) os) same h
 
+-- where the labels of boxes differ, those of their readings do
 rs_differ : (ts : Trees) (rs : List Reading) → AreReadings (map manifest_of (supers_in ts)) rs → AllByRecursion IsStoreBox (supers_in ts) → AreDistinctLabels (tree_labels ts) → RsDiffer rs
 unfolding RsDiffer
 rs_differ none [] h k d = tt
@@ -150,11 +163,13 @@ rs_differ (more (leaf b) ts) rs h k d = rs_differ ts rs h k d.1
 rs_differ (more (super wide e us) ts) [] h k d = absurd h
 rs_differ (more (super wide e us) ts) (r ∷ rs) h k d = (later_differ (label_in r) ts rs h.1 k.1 (new_from e.label (label_in r) (tree_labels ts) (read_label (super wide e us) r h.0 k.0) d.0), rs_differ ts rs h.1 k.1 d.1)
 
+-- at each place
 differs_at : (label : List ℕ) (rs : List Reading) (j : ℕ) (s : Reading) → DiffersFrom label rs → slice_get rs j ≡ Some s → label_in s ≢ label
 differs_at label [] j s h e = absurd (cc (e))
 differs_at label (r ∷ rs) zero s h e = subst (λ (x : Reading). label_in x ≢ label) (same_Some r s e) h.0
 differs_at label (r ∷ rs) (suc j) s h e = differs_at label rs j s h.1 e
 
+-- so two places with one label are one
 labels_differ : (rs : List Reading) → RsDiffer rs → LabelsDiffer rs
 unfolding RsDiffer
 labels_differ [] h i j r s e f g = absurd (cc (e))

@@ -14,7 +14,7 @@ use Rattle.c2_rules.specs.Ingredients.{label_text}
 use Rattle.c2_rules.specs.Readings.{ReadBox, Reading, IsReadBox, IsReading, IsParsed, IsMessageOf}
 use Rattle.c2_older.specs.Older.{is_kept, thinned}
 use Rattle.c2_layout.specs.Manifests.{is_super, supers_in, supers_of, superbox_of, supers_inside, is_claim_box, is_signature_box, is_assertion_store, manifest_of}
-use Rattle.c2_carried.specs.Less.{IsLess, RedactedStoreIsRead, AllAreCarried}
+use Rattle.c2_carried.specs.Less.{WholeStays, IsLess, RedactedStoreIsRead, AllAreCarried}
 use Rattle.c2_carried.specs.Redacting.{without, thin_store, thin_boxes, takes_out, redacted_box, redacted_boxes}
 use Rattle.c2_carried.specs.Refusing.{kept_boxes}
 
@@ -28,6 +28,7 @@ as_no_cl (super wide d us) e = by_uuid d.uuid (and_parts _ _ e).0
     by_uuid : (u : List ℕ) → is_given (Some u) (type_uuid (codes "c2as")) ≡ true → is_given (Some u) (type_uuid (codes "c2cl")) ≡ false
     by_uuid u f = let same : u ≡ type_uuid (codes "c2as") = (bytes_eq-Decides u (type_uuid (codes "c2as"))).0 f in ap (λ (x : List ℕ). is_given (Some x) (type_uuid (codes "c2cl"))) same
 
+-- nor is it a signature box
 as_no_cs : (t : Tree) → is_assertion_store t ≡ true → is_signature_box t ≡ false
 as_no_cs (leaf b) e = refl
 as_no_cs (super wide d us) e = ap (λ b. b && has_label (codes "c2pa.signature") (node (super wide d us))) (by_uuid d.uuid (and_parts _ _ e).0)
@@ -35,6 +36,7 @@ as_no_cs (super wide d us) e = ap (λ b. b && has_label (codes "c2pa.signature")
     by_uuid : (u : List ℕ) → is_given (Some u) (type_uuid (codes "c2as")) ≡ true → is_given (Some u) (type_uuid (codes "c2cs")) ≡ false
     by_uuid u f = let same : u ≡ type_uuid (codes "c2as") = (bytes_eq-Decides u (type_uuid (codes "c2as"))).0 f in ap (λ (x : List ℕ). is_given (Some x) (type_uuid (codes "c2cs"))) same
 
+-- an assertion store is a superbox
 as_super : (t : Tree) → is_assertion_store t ≡ true → is_super t ≡ true
 as_super (leaf b) e = absurd (false≢true e)
 as_super (super wide d us) e = refl
@@ -44,10 +46,12 @@ same_as : (out : List ℕ → Bool) (t : Tree) → is_assertion_store (thin_stor
 same_as out (leaf b) = refl
 same_as out (super wide d us) = refl
 
+-- a superbox stays one
 same_super : (out : List ℕ → Bool) (t : Tree) → is_super (thin_store out t) ≡ is_super t
 same_super out (leaf b) = refl
 same_super out (super wide d us) = refl
 
+-- and keeps its label
 same_label : (out : List ℕ → Bool) (t : Tree) → tree_label (thin_store out t) ≡ tree_label t
 same_label out (leaf b) = refl
 same_label out (super wide d us) = refl
@@ -77,6 +81,7 @@ first_step : (p : Tree → Bool) (y : Tree) (ys : List Tree) (b : Bool) → find
 first_step p y ys true e = refl
 first_step p y ys false e = e
 
+-- what is found first is the first that passes
 find_first : (p : Tree → Bool) (xs : List Tree) → find p xs ≡ slice_get (filter p xs) 0
 find_first p [] = refl
 find_first p (x ∷ xs) = first_step p x xs (p x) (find_first p xs)
@@ -86,6 +91,7 @@ store_step : (out : List ℕ → Bool) (t : Tree) (b : Bool) (xs ys : List Tree)
 store_step out t true xs ys e k = ap (λ x. cond x (Some t) (find is_assertion_store xs)) e ∙ k ∙ ap (option_map (thin_store out)) (sym (ap (λ x. cond x (Some t) (find is_assertion_store ys)) e))
 store_step out t false xs ys e k = k
 
+-- the assertion store is found, less what is taken out
 found_store : (out : List ℕ → Bool) (us : Trees) → find is_assertion_store (supers_in (thin_boxes out us)) ≡ option_map (thin_store out) (find is_assertion_store (supers_in us))
 found_store out none = refl
 found_store out (more t ts) = go (is_assertion_store t) refl (found_store out ts)
@@ -101,9 +107,11 @@ found_store out (more t ts) = go (is_assertion_store t) refl (found_store out ts
 
 -- ---- the boxes of the assertion store
 
+-- a label that isn't taken out
 abbrev keeps : (List ℕ → Bool) → Option (List ℕ) → Bool
 keeps out o = not (passes_some out o)
 
+-- the superboxes that are left
 without_supers : (out : List ℕ → Bool) (us : Trees) → supers_in (without out us) ≡ filter (λ (t : Tree). keeps out (any_label (node t))) (supers_in us)
 without_supers out none = refl
 without_supers out (more (leaf b) ts) = without_supers out ts
@@ -119,6 +127,7 @@ without_supers out (more (super wide d us) ts) = go d.label (without_supers out 
         by_test true k = k
         by_test false k = ap (λ (x : List Tree). super wide d us ∷ x) k
 
+-- as the rules see them
 boxed_filter : (out : List ℕ → Bool) (ss : List Tree) → map superbox_of (filter (λ (t : Tree). keeps out (any_label (node t))) ss) ≡ filter (λ (b : Superbox). keeps out b.label) (map superbox_of ss)
 boxed_filter out [] = refl
 boxed_filter out (s ∷ ss) = go (keeps out (any_label (node s))) (boxed_filter out ss)
@@ -128,11 +137,13 @@ boxed_filter out (s ∷ ss) = go (keeps out (any_label (node s))) (boxed_filter 
     go true k = ap (λ (x : List Superbox). superbox_of s ∷ x) k
     go false k = k
 
+-- the assertions of a manifest that are left
 assertions_kept : (out : List ℕ → Bool) (o : Option Tree) → map superbox_of (supers_inside (option_map (thin_store out) o)) ≡ filter (λ (b : Superbox). keeps out b.label) (map superbox_of (supers_inside o))
 assertions_kept out None = refl
 assertions_kept out (Some (leaf b)) = refl
 assertions_kept out (Some (super wide d us)) = ap (map superbox_of) (without_supers out us) ∙ boxed_filter out (supers_in us)
 
+-- what they are read as
 zip_kept : (out : List ℕ → Bool) (bs : List Superbox) (rs : List ReadBox) → AllZip IsReadBox bs rs → AllZip IsReadBox (filter (λ (b : Superbox). keeps out b.label) bs) (filter (λ (r : ReadBox). keeps out r.boxed.label) rs)
 zip_kept out [] [] h = tt
 zip_kept out [] (r ∷ rs) h = absurd h
@@ -152,6 +163,7 @@ zip_kept out (b ∷ bs) (r ∷ rs) h = go (keeps out b.label) (keeps out r.boxed
 abbrev KeepsEach : (List ℕ → Bool) → List Tree → Type 0
 KeepsEach out ss = AllByRecursion (λ (t : Tree). keeps out (any_label (node t)) ≡ true) ss
 
+-- boxes of which each is kept stay
 without_none : (out : List ℕ → Bool) (us : Trees) → KeepsEach out (supers_in us) → without out us ≡ us
 without_none out none h = refl
 without_none out (more (leaf b) ts) h = ap (more (leaf b)) (without_none out ts h)
@@ -161,10 +173,12 @@ without_none out (more (super wide d us) ts) h =
     false_of : (b : Bool) → not b ≡ true → b ≡ false
     false_of b e = not-true b e
 
+-- and so does the assertion store
 with_none : (out : List ℕ → Bool) (t : Tree) → KeepsEach out (supers_of t) → thin_store out t ≡ t
 with_none out (leaf b) h = refl
 with_none out (super wide d us) h = ap (super wide d) (without_none out us h)
 
+-- and the manifest
 change_none : (out : List ℕ → Bool) (us : Trees) → ((t : Tree) → find is_assertion_store (supers_in us) ≡ Some t → thin_store out t ≡ t) → thin_boxes out us ≡ us
 change_none out none h = refl
 change_none out (more t ts) h = go (is_assertion_store t) refl (change_none out ts)
@@ -180,6 +194,7 @@ change_none out (more t ts) h = go (is_assertion_store t) refl (change_none out 
     go true e k = ap (λ x. more x ts) (h t (here e))
     go false e k = ap (more t) (k (λ u g. h u (later (is_super t) e ∙ g)))
 
+-- where each box that was read is kept, each box is
 boxed_keeps : (out : List ℕ → Bool) (ss : List Tree) (rs : List ReadBox) → AllZip IsReadBox (map superbox_of ss) rs → AllByRecursion (λ (r : ReadBox). keeps out r.boxed.label ≡ true) rs → KeepsEach out ss
 boxed_keeps out [] rs h k = tt
 boxed_keeps out (s ∷ ss) [] h k = absurd h
@@ -193,6 +208,7 @@ record LosesBoxes (redacts : List (List ℕ)) (s : Tree) (r : Reading) : Type 0 
   less : IsLess redacts r new
   reads : IsReading (manifest_of (redacted_box redacts s)) new
 
+-- a manifest that loses boxes is read less those
 loses : (redacts : List (List ℕ)) (wide : Bool) (d : Description) (us : Trees) (r : Reading) → IsReading (manifest_of (super wide d us)) r → LosesBoxes redacts (super wide d us) r
 loses redacts wide d us r h =
     let label : label_in r ≡ unwrap_or d.label [] = ap (λ (m : Manifest). label_text m) h.same in
@@ -230,6 +246,7 @@ loses redacts wide d us r h =
 
 -- ---- legal
 
+-- fewer bytes fit where more did
 fits_less : (wide : Bool) (n m : ℕ) → m ≤ n → FitsHead JUMB wide n → FitsHead JUMB wide m
 fits_less true n m le h = record { type = h.type; total = omega (arith, h.total, le) }
 fits_less false n m le h = record { type = h.type; total = omega (arith, h.total, le) }
@@ -239,6 +256,7 @@ boxed_less : (wide : Bool) (xs ys : List ℕ) → length ys ≤ length xs → le
 boxed_less true xs ys le = omega arith
 boxed_less false xs ys le = omega arith
 
+-- fewer bytes behind the same
 append_less : (d xs ys : List ℕ) → length ys ≤ length xs → length (d ++ ys) ≤ length (d ++ xs)
 append_less d xs ys le = omega (arith, length-append d xs, length-append d ys)
 
@@ -249,14 +267,17 @@ record Less (depth : ℕ) (us vs : Trees) : Type 0 where
   labels : (o : Option (List ℕ)) → IsNewLabel o (tree_labels us) → IsNewLabel o (tree_labels vs)
   distinct : AreDistinctLabels (tree_labels us) → AreDistinctLabels (tree_labels vs)
 
+-- a label that is new among more is new among fewer
 new_tail : (o p : Option (List ℕ)) (os : List (Option (List ℕ))) → IsNewLabel o (p ∷ os) → IsNewLabel o os
 new_tail None p os h = tt
 new_tail (Some l) p os h = h.1
 
+-- and stays so behind one more
 new_cons : (o p : Option (List ℕ)) (os ps : List (Option (List ℕ))) → (IsNewLabel o os → IsNewLabel o ps) → IsNewLabel o (p ∷ os) → IsNewLabel o (p ∷ ps)
 new_cons None p os ps k h = tt
 new_cons (Some l) p os ps k h = (h.0, k h.1)
 
+-- boxes less some are legal, and shorter
 without_less : (out : List ℕ → Bool) (depth : ℕ) (us : Trees) → AreLegalTrees depth us → Less depth us (without out us)
 without_less out depth none h = record { legal = tt; short = omega arith; labels = λ o k. k; distinct = λ k. k }
 without_less out depth (more t ts) h = go (passes_some out (any_label (node t))) (without_less out depth ts h.1)
@@ -275,6 +296,7 @@ without_less out depth (more t ts) h = go (passes_some out (any_label (node t)))
       distinct = λ g. (k.labels (tree_label t) g.0, k.distinct g.1);
     }
 
+-- and so is the assertion store
 with_legal : (out : List ℕ → Bool) (depth : ℕ) (t : Tree) → IsLegalTree depth t → IsLegalTree depth (thin_store out t) × (length (tree_bytes (thin_store out t)) ≤ length (tree_bytes t))
 with_legal out depth (leaf b) h = (h, omega arith)
 with_legal out depth (super wide d us) h =
@@ -282,6 +304,7 @@ with_legal out depth (super wide d us) h =
     let inner : length (description_bytes d ++ trees_bytes (without out us)) ≤ length (description_bytes d ++ trees_bytes us) = append_less (description_bytes d) (trees_bytes us) (trees_bytes (without out us)) less.short in
     ((h.0, h.1, fits_less wide (length (description_bytes d ++ trees_bytes us)) (length (description_bytes d ++ trees_bytes (without out us))) inner h.2, less.legal, less.distinct h.4), boxed_less wide (description_bytes d ++ trees_bytes us) (description_bytes d ++ trees_bytes (without out us)) inner)
 
+-- and the boxes of a manifest, under the same labels
 change_legal : (out : List ℕ → Bool) (depth : ℕ) (us : Trees) → AreLegalTrees depth us → AreLegalTrees depth (thin_boxes out us) × (length (trees_bytes (thin_boxes out us)) ≤ length (trees_bytes us)) × (tree_labels (thin_boxes out us) ≡ tree_labels us)
 change_legal out depth none h = (tt, omega arith, refl)
 change_legal out depth (more t ts) h = go (is_assertion_store t) (change_legal out depth ts h.1)
@@ -296,6 +319,7 @@ change_legal out depth (more t ts) h = go (is_assertion_store t) (change_legal o
         ((own.0, h.1), omega (arith, own.1, length-append (tree_bytes t) (trees_bytes ts), length-append (tree_bytes (thin_store out t)) (trees_bytes ts)), ap (λ o. o ∷ tree_labels ts) (same_label out t))
     go false k = ((h.0, k.0), omega (arith, k.1, length-append (tree_bytes t) (trees_bytes ts), length-append (tree_bytes t) (trees_bytes rest)), ap (λ (x : List (Option (List ℕ))). tree_label t ∷ x) k.2)
 
+-- and the manifest
 redacted_legal : (redacts : List (List ℕ)) (t : Tree) → IsLegalTree 2 t → IsLegalTree 2 (redacted_box redacts t) × (tree_label (redacted_box redacts t) ≡ tree_label t)
 redacted_legal redacts (leaf b) h = (h, refl)
 redacted_legal redacts (super wide d us) h =
@@ -306,6 +330,7 @@ redacted_legal redacts (super wide d us) h =
 
 -- ---- the store
 
+-- so the store is read less those boxes
 pub read_less : RedactedStoreIsRead
 read_less redacts none [] legal stores reads = record { ss = []; less = tt; reads = tt; legal = tt; labels = refl; stores = tt }
 read_less redacts none (r ∷ rs) legal stores reads = absurd reads
@@ -325,6 +350,20 @@ read_less redacts (more (super wide d us) ts) (r ∷ rs) legal stores reads =
       stores = (record { manifest = stores.0.manifest; label = stores.0.label }, k.stores);
     }
 
+-- ---- manifests that lose nothing
+
+-- labels of which none is taken out are kept
+kept_each : (out : List ℕ → Bool) (ss : List Tree) → AllByRecursion (λ (s : Tree). passes_some out (any_label (node s)) ≡ false) ss → KeepsEach out ss
+kept_each out [] h = tt
+kept_each out (s ∷ ss) h = (ap not h.0, kept_each out ss h.1)
+
+-- a manifest that loses none stays
+pub whole_stays : WholeStays
+whole_stays redacts (leaf b) h = refl
+whole_stays redacts (super wide d us) h =
+    let out : List ℕ → Bool = takes_out redacts (unwrap_or d.label []) in
+    ap (super wide d) (change_none out us (λ t g. with_none out t (kept_each out (supers_of t) (subst (λ o. AllByRecursion (λ (s : Tree). passes_some out (any_label (node s)) ≡ false) (supers_inside o)) g h))))
+
 -- ---- without redactions
 
 -- each label is kept
@@ -336,10 +375,12 @@ each_kept m (s ∷ ss) = (go (any_label (node s)), each_kept m ss)
     go None = refl
     go (Some l) = refl
 
+-- without redactions a box stays
 box_stays : (t : Tree) → redacted_box [] t ≡ t
 box_stays (leaf b) = refl
 box_stays (super wide d us) = ap (super wide d) (change_none (takes_out [] (unwrap_or d.label [])) us (λ t g. with_none (takes_out [] (unwrap_or d.label [])) t (each_kept (unwrap_or d.label []) (supers_of t))))
 
+-- and so do all boxes
 pub all_carried : AllAreCarried
 all_carried none = refl
 all_carried (more t ts) = ap (λ (x : Tree). more x (redacted_boxes [] ts)) (box_stays t) ∙ ap (more t) (all_carried ts)

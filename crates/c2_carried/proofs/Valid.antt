@@ -41,6 +41,7 @@ use Rattle.c2_carried.proofs.Taken.{read_less}
 
 -- ---- kinds
 
+-- a box of no ingredient is read as none
 box_kind : (b : Superbox) (r : ReadBox) → IsReadBox b r → is_ingredient r.boxed ≡ false → value_in r.ingredient ≡ None
 box_kind b r h e = ap value_in (go (is_ingredient b) (sym (ap is_ingredient h.same) ∙ e) h.reads)
   where
@@ -48,12 +49,14 @@ box_kind b r h e = ap value_in (go (is_ingredient b) (sym (ap is_ingredient h.sa
     go true f m = absurd (true≢false f)
     go false f m = m
 
+-- each of a manifest
 boxes_kinds : (bs : List Superbox) (rs : List ReadBox) → AllZip IsReadBox bs rs → AllByRecursion (λ (b : ReadBox). is_ingredient b.boxed ≡ false → value_in b.ingredient ≡ None) rs
 boxes_kinds [] [] h = tt
 boxes_kinds [] (r ∷ rs) h = absurd h
 boxes_kinds (b ∷ bs) [] h = absurd h
 boxes_kinds (b ∷ bs) (r ∷ rs) h = (box_kind b r h.0, boxes_kinds bs rs h.1)
 
+-- each of a store
 all_kinds : (ms : List Manifest) (rs : List Reading) → AreReadings ms rs → AllByRecursion ReadsKinds rs
 all_kinds [] [] h = tt
 all_kinds [] (r ∷ rs) h = absurd h
@@ -62,10 +65,12 @@ all_kinds (m ∷ ms) (r ∷ rs) h = (boxes_kinds m.assertions r.boxes h.0.boxes,
 
 -- ---- the rules apart from verdicts
 
+-- what holds at each place holds of each
 pub all_each : (ts : List Test) → AllHold ts → AllByRecursion Holds ts
 all_each [] h = tt
 all_each (t ∷ ts) h = (h 0 t refl, all_each ts (λ i u e. h (suc i) u e))
 
+-- the rules of a place hold apart from the verdict
 unjudged_place : (hash : Alg → List ℕ → List ℕ) (said : Question → Verdict) (rs : List Reading) (i : ℕ) → AllByRecursion Holds (place_tests (judged_tests hash said) rs i) → AllByRecursion Holds (place_tests (unjudged_tests hash) rs i)
 unjudged_place hash said rs i h = go (is_reached rs i) (slice_get rs i) h
   where
@@ -78,6 +83,7 @@ unjudged_place hash said rs i h = go (is_reached rs i) (slice_get rs i) h
         each-append Holds (claim_tests r) (rest_tests hash s) (each-front Holds (claim_tests r) (verdict_tests r v ++ rest_tests hash s) k)
         (each-back Holds (verdict_tests r v) (rest_tests hash s) (each-back Holds (claim_tests r) (verdict_tests r v ++ rest_tests hash s) k))
 
+-- those of all places
 unjudged_all : (hash : Alg → List ℕ → List ℕ) (said : Question → Verdict) (rs : List Reading) (n : ℕ) → AllByRecursion Holds (downward (place_tests (judged_tests hash said) rs) n) → AllByRecursion Holds (downward (place_tests (unjudged_tests hash) rs) n)
 unjudged_all hash said rs zero h = tt
 unjudged_all hash said rs (suc n) h =
@@ -93,6 +99,7 @@ record ReadAt (qs : List Reading) (i : ℕ) (t : Tree) : Type 0 where
   reads : IsReading (manifest_of t) new
   store : IsStoreBox t
 
+-- the box at a place and its reading
 read_at : (ts : List Tree) (qs : List Reading) (i : ℕ) (t : Tree) → AreReadings (map manifest_of ts) qs → AllByRecursion IsStoreBox ts → slice_get ts i ≡ Some t → ReadAt qs i t
 read_at [] qs i t h k e = absurd (cc (e))
 read_at (u ∷ ts) [] i t h k e = absurd h
@@ -103,10 +110,12 @@ read_at (u ∷ ts) (q ∷ qs) (suc i) t h k e =
     let r = read_at ts qs i t h.1 k.1 e in
     record { new = r.new; is = r.is; reads = r.reads; store = r.store }
 
+-- both ways of telling a label are one
 same_label : (t : Tree) → tree_label t ≡ any_label (node t)
 same_label (leaf b) = refl
 same_label (super wide d us) = refl
 
+-- the label of a legal box
 legal_label : (depth : ℕ) (t : Tree) (l : List ℕ) → IsLegalTree depth t → any_label (node t) ≡ Some l → IsLabel l
 legal_label depth (leaf b) l h e = absurd (cc (e))
 legal_label depth (super wide d us) l h e = subst (λ o. IfSome o IsLabel) e h.1.fields.label
@@ -155,6 +164,7 @@ record IsKnown (d : Definition) (old : Tree) (rs : List Reading) : Type 0 where
   distinct : AreDistinctLabels (tree_labels (boxes_in old))
   new : IsNewLabel (Some d.label) (tree_labels (boxes_in old))
 
+-- what is known of a valid older store
 known : (hash : Alg → List ℕ → List ℕ) (said : Question → Verdict) (d : Definition) (old : Tree) (s : StoreReading) → CanStandOver hash said d old s → IsKnown d old s.readings
 known hash said d old s h =
     let rs : List Reading = s.readings in
@@ -182,6 +192,7 @@ judged_chain hash said s h =
     let rs : List Reading = s.readings in
     each-front Holds (chain_tests (judged_tests hash said) rs) (last_tests hash s.binding (active_in rs)) (each-back Holds (active_tests (active_in rs)) _ (all_each (check_list hash said s) h))
 
+-- it is carried less what is redacted
 pub carried_less : ValidStoreIsCarried
 carried_less hash said d old s c h is =
     let rs : List Reading = s.readings in
@@ -211,9 +222,11 @@ carried_less hash said d old s c h is =
 
 -- ---- there is a parent
 
+-- the last manifest is reached
 last_reached : (rs : List Reading) → 0 < length rs → is_reached rs (length rs - 1) ≡ true
 last_reached rs some = or_left (is_active rs (length rs - 1)) (reaches rs (length rs - 1) (length rs - 1)) (eq-eqb (length rs - 1 + 1) (length rs) (omega (arith, some)))
 
+-- what holds of all places holds of each
 downward_each : (f : ℕ → List Test) (n i : ℕ) → AllByRecursion Holds (downward f n) → i < n → AllByRecursion Holds (f i)
 downward_each f zero i h lt = absurd (omega arith)
 downward_each f (suc n) i h lt =
@@ -229,6 +242,7 @@ last_signed hash said rs a h some is =
     let front : AllByRecursion Holds (claim_tests a) = each-front Holds (claim_tests a) _ at in
     (both_true (is_some a.manifest.signature) (claim_names a.manifest.label (claim_in a)) (not-false _ front.1.1.1.1.1.0)).0
 
+-- a box that is seen was found
 some_found : (o : Option Tree) → is_some (option_map superbox_of o) ≡ true → (s : Tree) × (o ≡ Some s)
 some_found None e = absurd (false≢true e)
 some_found (Some s) e = (s, refl)
@@ -247,6 +261,7 @@ content_over d old t box last named found = (
   },
 )
 
+-- something goes into the new store
 pub some_content : SomeContentOver
 some_content hash said d old s h =
     let rs : List Reading = s.readings in

@@ -1,18 +1,19 @@
 -- What the manifests of an older store are read as once redactions took boxes out of them: the same, less those boxes. And what is
 -- asked of redactions that may be made.
-use Rattle.std.specs.Prelude.{◌≡◌, ℕ, true, false, List, [], map, slice_get}
+use Rattle.std.specs.Prelude.{◌≡◌, ℕ, true, false, List, [], map, find, slice_get, unwrap_or}
 use Rattle.std.specs.declared.option.Option.TheVariants.{Some}
 use Rattle.std.specs.List.{AllByRecursion, AllZip}
 use Rattle.c2_spec.specs.C2pa.Manifest.{Superbox}
-use Rattle.c2_spec.specs.Jumbf.Tree.{Trees, tree_labels, AreLegalTrees}
-use Rattle.c2_rules.specs.Chains.{child_of, is_reached, label_in}
+use Rattle.c2_spec.specs.Jumbf.Boxes.{any_label, node}
+use Rattle.c2_spec.specs.Jumbf.Tree.{Tree, Trees, tree_label, tree_labels, AreLegalTrees}
+use Rattle.c2_rules.specs.Chains.{child_of, is_reached, label_in, passes_some}
 use Rattle.c2_rules.specs.Ingredients.{is_ingredient}
 use Rattle.c2_rules.specs.Readings.{AreReadings, ReadBox, Reading, entries_in}
 use Rattle.c2_rules.specs.Rules.{lists_label}
 use Rattle.c2_older.specs.Older.{has_signature, is_kept, thinned}
-use Rattle.c2_layout.specs.Manifests.{manifest_of, supers_in}
+use Rattle.c2_layout.specs.Manifests.{is_assertion_store, manifest_of, supers_in, supers_inside, supers_of}
 use Rattle.c2_layout.specs.Written.{IsStoreBox}
-use Rattle.c2_carried.specs.Redacting.{redacted_boxes, takes_out}
+use Rattle.c2_carried.specs.Redacting.{redacted_box, redacted_boxes, takes_out}
 
 -- ---- what is read
 
@@ -46,6 +47,16 @@ abbrev pub RedactedStoreIsRead : Type 0
 RedactedStoreIsRead = (redacts : List (List ℕ)) (boxes : Trees) (rs : List Reading)
     → AreLegalTrees 2 boxes → AllByRecursion IsStoreBox (supers_in boxes)
     → AreReadings (map manifest_of (supers_in boxes)) rs → IsReadLess redacts boxes rs
+
+-- these redactions take no assertion box out of this manifest
+abbrev pub LosesNone : List (List ℕ) → Tree → Type 0
+LosesNone redacts t =
+    AllByRecursion (λ (s : Tree). passes_some (takes_out redacts (unwrap_or (tree_label t) [])) (any_label (node s)) ≡ false)
+    (supers_inside (find is_assertion_store (supers_of t)))
+
+-- A manifest that loses none stays, byte for byte.
+abbrev pub WholeStays : Type 0
+WholeStays = (redacts : List (List ℕ)) (t : Tree) → LosesNone redacts t → redacted_box redacts t ≡ t
 
 -- Without redactions all boxes are carried as they stand.
 abbrev pub AllAreCarried : Type 0

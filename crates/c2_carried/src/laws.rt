@@ -1,13 +1,14 @@
 //! Laws of what is taken over.
 
 ghost use Rattle.c2_carried.specs.Carrying.{BaseHasNoStore, ContentIsOne, FirstIsRefused, ParentIsOne, RedactionsAreAccepted, SomeContentOver, ValidStoreIsCarried};
-ghost use Rattle.c2_carried.specs.Less.{AllAreCarried, RedactedStoreIsRead};
+ghost use Rattle.c2_carried.specs.Less.{AllAreCarried, RedactedStoreIsRead, WholeStays};
 
 /// The boxes of a store are legal and have the same labels without the assertions that redactions name, and are read as before, less
-/// those boxes. A manifest that loses none keeps its contents; and without redactions all boxes stay as they are.
+/// those boxes. A manifest that loses none stays byte for byte, and so do all without redactions.
 pub fn a_redacted_store_is_read()
     ensures less { RedactedStoreIsRead }
-    ensures whole { AllAreCarried }
+    ensures stays { WholeStays }
+    ensures all { AllAreCarried }
 {}
 
 /// Redactions of which none is refused may be made, and the rules on redactions hold of them. Without an older store the first of

@@ -42,14 +42,17 @@ record IsOld (media : List ℕ) (start len : ℕ) (old : Tree) : Type 0 where
   spells : SpellsTree store old
   accepted : store_refusal old ≡ None
 
+-- one store in one range
 record SameHere (a n b m : ℕ) (t u : Tree) : Type 0 where
   place : a ≡ b
   count : n ≡ m
   tree : t ≡ u
 
+-- two stores that are found are one in each part
 here_parts : (a n b m : ℕ) (t u : Tree) → ◌≡◌ {A = Opening Tree} (located.here a n t) (located.here b m u) → SameHere a n b m t u
 here_parts a n b m t u e = record { place = cc (e); count = cc (e); tree = cc (e) }
 
+-- the store that a file is opened as
 old_is : (media : List ℕ) (start len : ℕ) (old : Tree) → is_bmff media ≡ false → IsOpened media (located.here start len old) → IsOld media start len old
 old_is media start len old jpeg h = by_place h.0 h.1 h.2
   where
@@ -71,6 +74,7 @@ old_is media start len old jpeg h = by_place h.0 h.1 h.2
     by_place located.absent g e = absurd (cc (e))
     by_place (located.here at n store) g e = by_tree at n store e.0 (of_jpeg media (located.here at n store) jpeg g) e.1 e.2
 
+-- the file that is built over it meets the rules
 pub file_over : AllLaws → ValidStoreIsCarried → BaseHasNoStore → OneList → FileOverStoreMeets
 file_over laws carries frees lists hash said media start len old s d c message segments en p digests can w is build fits spells =
     let base : List ℕ = taken_out start len media in
@@ -84,6 +88,7 @@ file_over laws carries frees lists hash said media start len old s d c message s
 
 -- ---- approval
 
+-- a verdict that no rule refuses is an approval
 said_of : (said : Question → Verdict) (r : Reading) (o : Option Question) → AllByRecursion Holds (verdict_tests r (option_map said o)) → AllByRecursion (λ (q : Question). said q ≡ Approved) (option_to_list o)
 said_of said r None h = tt
 said_of said r (Some q) h = (by_verdict (said q) h, tt)
@@ -95,6 +100,7 @@ said_of said r (Some q) h = (by_verdict (said q) h, tt)
     by_verdict verdict.Invalid h = absurd (true≢false h.0)
     by_verdict verdict.Silent h = absurd (true≢false h.0)
 
+-- of the manifest at a place
 place_said : (hash : Alg → List ℕ → List ℕ) (said : Question → Verdict) (rs : List Reading) (i : ℕ) → AllByRecursion Holds (place_tests (judged_tests hash said) rs i) → AllByRecursion (λ (q : Question). said q ≡ Approved) (question_at rs i)
 place_said hash said rs i h = go (is_reached rs i) (slice_get rs i) h
   where
@@ -106,12 +112,14 @@ place_said hash said rs i h = go (is_reached rs i) (slice_get rs i) h
         let v = option_map said (question_in r) in
         said_of said r (question_in r) (each-front Holds (verdict_tests r v) (rest_tests hash s) (each-back Holds (claim_tests r) (verdict_tests r v ++ rest_tests hash s) k))
 
+-- of all places
 all_said : (hash : Alg → List ℕ → List ℕ) (said : Question → Verdict) (rs : List Reading) (n : ℕ) → AllByRecursion Holds (downward (place_tests (judged_tests hash said) rs) n) → AllByRecursion (λ (q : Question). said q ≡ Approved) (downward (question_at rs) n)
 all_said hash said rs zero h = tt
 all_said hash said rs (suc n) h =
     each-append (λ (q : Question). said q ≡ Approved) (question_at rs n) (downward (question_at rs) n) (place_said hash said rs n (each-front Holds (place_tests (judged_tests hash said) rs n) (downward (place_tests (judged_tests hash said) rs) n) h))
     (all_said hash said rs n (each-back Holds (place_tests (judged_tests hash said) rs n) (downward (place_tests (judged_tests hash said) rs) n) h))
 
+-- so the questions of a valid store are approved
 pub valid_approved : ValidIsApproved
 valid_approved hash said s h =
     let rs : List Reading = s.readings in

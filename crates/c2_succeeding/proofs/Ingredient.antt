@@ -43,12 +43,15 @@ label_text l h k =
 
 -- ---- its references
 
+-- the URI of a manifest is read as that
 whole_read : UrisAreRead → (label : List ℕ) → IsLabelText label → uri_of (uri_text (record { manifest = Some label; target = whole })) ≡ Some (record { manifest = Some label; target = whole })
 whole_read read label h = read (record { manifest = Some label; target = whole }) (record { manifest = λ x e. (let same : label ≡ x = cc (e) in subst IsUriLabel same (named_label label h)); target = refl })
 
+-- so it names the manifest
 named : UrisAreRead → (label : List ℕ) → IsLabelText label → manifest_named (uri_text (record { manifest = Some label; target = whole })) ≡ Some label
 named uris label u = ap (option_and_then (λ (x : PlainUri). whole_of x.manifest x.target)) (whole_read uris label u)
 
+-- and that of its signature names it
 signed : UrisAreRead → (label : List ℕ) → IsLabelText label → manifest_signed (uri_text (record { manifest = Some label; target = signature })) ≡ Some label
 signed uris label u = ap (option_and_then (λ (x : PlainUri). signer_of x.manifest x.target)) (signature_read uris label u)
 
@@ -56,25 +59,30 @@ signed uris label u = ap (option_and_then (λ (x : PlainUri). signer_of x.manife
 pub parent_named : UrisAreRead → (hash : List ℕ → List ℕ) (p : Parent) → IsLabelText p.label → named_by (Some (parent_ingredient hash p)) ≡ Some p.label
 parent_named uris hash p u = named uris p.label u
 
+-- both references agree
 agree : UrisAreRead → (hash : List ℕ → List ℕ) (p : Parent) → IsLabelText p.label → references_agree (parent_ingredient hash p).manifest (parent_ingredient hash p).signature ≡ true
 agree uris hash p u = ap (λ o. is_same o (manifest_signed (uri_text (record { manifest = Some p.label; target = signature })))) (named uris p.label u) ∙ ap (is_same (Some p.label)) (signed uris p.label u) ∙ same_bytes p.label
 
 -- ---- the item
 
+-- a field whose key is of letters
 named_field : (d : ℕ) (key : List ℕ) (v : Item) → list_all is_plain_byte key ≡ true → 1 ≤ d → Good d v → IsGoodField d (field key v)
 named_field d key v h l g = good_field d key v l (plain_text key h) g
 
+-- a reference can be written
 bare_good : (url hash : List ℕ) → IsUtf8 url → Good 2 (ref_item (record { url = url; hash = hash; alg = None }))
 unfolding shortest_head
 bare_good url hash u =
     good_map 1 (field (codes "url") (text url) ∷ field (codes "hash") (bytes hash) ∷ [])
     (named_field 1 (codes "url") (text url) refl (lit≤ tt) (good_text 1 url (lit≤ tt) u), (named_field 1 (codes "hash") (bytes hash) refl (lit≤ tt) (good_bytes 1 hash (lit≤ tt)), tt)) refl
 
+-- the URI of a manifest is UTF-8
 whole_utf8 : (label : List ℕ) → IsUtf8 label → IsUtf8 (uri_text (record { manifest = Some label; target = whole }))
 whole_utf8 label h =
     IsUtf8-append scheme ((store_path ++ label) ++ []) (plain_text scheme refl)
     (IsUtf8-append (store_path ++ label) [] (IsUtf8-append store_path label (plain_text store_path refl) h) (plain_text [] refl))
 
+-- the ingredient can be written
 good : (hash : List ℕ → List ℕ) (p : Parent) → IsUtf8 p.label → Good 3 (ingredient_item (parent_ingredient hash p))
 unfolding shortest_head
 good hash p u =
@@ -87,6 +95,7 @@ good hash p u =
       ),
     ) refl
 
+-- what is shallow is so at more depth
 more_deep : (d e : ℕ) (v : Item) → Good d v → d ≤ e → Good e v
 more_deep d e v g l = record { fits = g.fits; plain = g.plain; shallow = omega (arith, g.shallow, l) }
 
@@ -104,6 +113,7 @@ pub record IsIngredient (payload : List ℕ) (g : Ingredient) : Type 0 where
   pub has : HasItem payload item
   pub is : ingredient_of item ≡ Ok g
 
+-- the ingredient is read as it was written
 pub parent_read : KeepsLength → RoundTrip → UrisAreRead → IngredientsAreRead → IngredientsAreSorted → (hash : List ℕ → List ℕ) (p : Parent) → IsLabelText p.label → IsUtf8 p.label
     → length (deterministic (ingredient_item (parent_ingredient hash p))) < 2 ^ 64 → IsIngredient (deterministic (ingredient_item (parent_ingredient hash p))) (parent_ingredient hash p)
 parent_read keeps trip uris back in_order hash p label u short =

@@ -22,6 +22,7 @@ less_prefix redacts label (r ∷ rs) (s ∷ ss) h =
     ap (λ (l : List ℕ). cond (not (bytes_eq l label)) (1 + prefix_len (λ (x : Reading). not (bytes_eq (label_in x) label)) ss) 0) (less_label redacts r s h.0)
     ∙ ap (λ n. cond (not (bytes_eq (label_in r) label)) (1 + n) 0) (less_prefix redacts label rs ss h.1)
 
+-- a label's place stays
 pub less_place : (redacts : List (List ℕ)) (rs ss : List Reading) (label : List ℕ) → AreLess redacts rs ss → place_of ss label ≡ place_of rs label
 less_place redacts rs ss label h =
     ap (λ n. cond (nat_lt n (length ss)) (Some n) None) (less_prefix redacts label rs ss h) ∙ ap (λ m. cond (nat_lt (prefix_len (λ (x : Reading). not (bytes_eq (label_in x) label)) rs) m) (Some (prefix_len (λ (x : Reading). not (bytes_eq (label_in x) label)) rs)) None) (less_len redacts rs ss h)
@@ -32,12 +33,14 @@ less_place redacts rs ss label h =
 unfoldable pub Silent : List (List ℕ) → List ℕ → ReadBox → Type 0
 Silent redacts label b = is_kept (takes_out redacts label) b ≡ false → value_in b.ingredient ≡ None
 
+-- boxes that are lost name nothing
 pub silent_boxes : (redacts : List (List ℕ)) (label : List ℕ) (bs : List ReadBox) → AllByRecursion (λ (b : ReadBox). is_kept (takes_out redacts label) b ≡ false → is_ingredient b.boxed ≡ false) bs
     → AllByRecursion (λ (b : ReadBox). is_ingredient b.boxed ≡ false → value_in b.ingredient ≡ None) bs → AllByRecursion (Silent redacts label) bs
 unfolding Silent
 silent_boxes redacts label [] h k = tt
 silent_boxes redacts label (b ∷ bs) h k = (λ e. k.0 (h.0 e), silent_boxes redacts label bs h.1 k.1)
 
+-- a box names the same child
 child_same : (redacts : List (List ℕ)) (rs ss : List Reading) (i : ℕ) (b : ReadBox) → AreLess redacts rs ss → child_of ss i b ≡ child_of rs i b
 child_same redacts rs ss i b h = go (named_in b)
   where
@@ -45,15 +48,18 @@ child_same redacts rs ss i b h = go (named_in b)
     go None = refl
     go (Some label) = ap (place_before i) (less_place redacts rs ss label h)
 
+-- one box more
 kept_step : (redacts : List (List ℕ)) (rs ss : List Reading) (i : ℕ) (label : List ℕ) (b : ReadBox) (kept : List ReadBox) (x : Bool) → is_kept (takes_out redacts label) b ≡ x → Silent redacts label b → AreLess redacts rs ss → filter_map (child_of ss i) (cond x (b ∷ kept) kept) ≡ cons_option (child_of rs i b) (filter_map (child_of ss i) kept)
 unfolding Silent
 kept_step redacts rs ss i label b kept true e s h = ap (λ o. cons_option o (filter_map (child_of ss i) kept)) (child_same redacts rs ss i b h)
 kept_step redacts rs ss i label b kept false e s h = sym (ap (λ o. cons_option (place_before i (option_and_then (place_of rs) (named_by o))) (filter_map (child_of ss i) kept)) (s e))
 
+-- the boxes that are kept name the same children
 kept_children : (redacts : List (List ℕ)) (rs ss : List Reading) (i : ℕ) (label : List ℕ) (bs : List ReadBox) → AllByRecursion (Silent redacts label) bs → AreLess redacts rs ss → filter_map (child_of ss i) (filter (is_kept (takes_out redacts label)) bs) ≡ filter_map (child_of rs i) bs
 kept_children redacts rs ss i label [] s h = refl
 kept_children redacts rs ss i label (b ∷ bs) s h = kept_step redacts rs ss i label b (filter (is_kept (takes_out redacts label)) bs) (is_kept (takes_out redacts label) b) refl s.0 h ∙ ap (cons_option (child_of rs i b)) (kept_children redacts rs ss i label bs s.1 h)
 
+-- the boxes of what stands at a place
 boxes_some : (rs : List Reading) (i : ℕ) (r : Reading) → slice_get rs i ≡ Some r → boxes_at rs i ≡ r.boxes
 boxes_some [] i r e = absurd (cc (e))
 boxes_some (x ∷ xs) zero r e = let same : x ≡ r = cc (e) in ap (λ (y : Reading). y.boxes) same
@@ -64,6 +70,7 @@ pub record Quiet (redacts : List (List ℕ)) (rs ss : List Reading) : Type 0 whe
   pub are_less : AreLess redacts rs ss
   pub silent : (i : ℕ) (r : Reading) → slice_get rs i ≡ Some r → AllByRecursion (Silent redacts (label_in r)) r.boxes
 
+-- so the children stay
 pub less_children : (redacts : List (List ℕ)) (rs ss : List Reading) (i : ℕ) → Quiet redacts rs ss → i < length rs → children ss i ≡ children rs i
 less_children redacts rs ss i q lt =
     let t = less_at redacts rs ss i q.are_less lt in
@@ -73,9 +80,11 @@ less_children redacts rs ss i q lt =
 
 -- ---- with the new manifest behind
 
+-- also with the new manifest behind
 pub both_children : (redacts : List (List ℕ)) (rs ss : List Reading) (x : Reading) (i : ℕ) → Quiet redacts rs ss → i < length rs → children (ss ++ x ∷ []) i ≡ children rs i
 both_children redacts rs ss x i q lt = children_front ss x i (omega (arith, less_len redacts rs ss q.are_less, lt)) ∙ less_children redacts rs ss i q lt
 
+-- and what is reached from there
 pub both_reach : (redacts : List (List ℕ)) (rs ss : List Reading) (x : Reading) (k i m : ℕ) → Quiet redacts rs ss → i < length rs → reaches_within (ss ++ x ∷ []) k i m ≡ reaches_within rs k i m
 both_reach redacts rs ss x k i m q lt = reach_same (ss ++ x ∷ []) rs (length rs) k i m (λ j below. both_children redacts rs ss x j q below) lt
 
@@ -83,9 +92,11 @@ both_reach redacts rs ss x k i m q lt = reach_same (ss ++ x ∷ []) rs (length r
 abbrev pub HasParent : List Reading → List Reading → Reading → Type 0
 HasParent rs ss x = filter_map (child_of ss (length ss)) x.boxes ≡ (length rs - 1) ∷ []
 
+-- the new manifest has one child
 pub new_children : (redacts : List (List ℕ)) (rs ss : List Reading) (x : Reading) → Quiet redacts rs ss → HasParent rs ss x → children (ss ++ x ∷ []) (length rs) ≡ (length rs - 1) ∷ []
 new_children redacts rs ss x q p = ap (children (ss ++ x ∷ [])) (sym (less_len redacts rs ss q.are_less)) ∙ children_last ss x ∙ p
 
+-- nothing is added
 or_none : (b : Bool) → (b || false) ≡ b
 or_none true = refl
 or_none false = refl
@@ -104,6 +115,7 @@ new_reaches redacts rs ss x m q p some =
     same_test : (n m len : ℕ) → n + 1 ≡ len → nat_eq n m ≡ (m + 1 == len)
     same_test n m len e = ⊎_elim (λ same. eq-eqb n m same ∙ sym (eq-eqb (m + 1) len (omega (arith, e, same)))) (λ other. ne_eqb n m other ∙ sym (ne_eqb (m + 1) len (λ f. other (omega (arith, e, f))))) (cases_eq n m)
 
+-- so an older manifest is reached as before
 pub both_reached : (redacts : List (List ℕ)) (rs ss : List Reading) (x : Reading) (m : ℕ) → Quiet redacts rs ss → HasParent rs ss x → m < length rs → is_reached (ss ++ x ∷ []) m ≡ is_reached rs m
 both_reached redacts rs ss x m q p lt =
     let len : length (ss ++ x ∷ []) ≡ suc (length rs) = len_more ss x ∙ ap suc (less_len redacts rs ss q.are_less) in
@@ -111,15 +123,18 @@ both_reached redacts rs ss x m q p lt =
     let last : length (ss ++ x ∷ []) - 1 ≡ length rs = omega (arith, len) in
     ap (λ b. b || reaches (ss ++ x ∷ []) (length (ss ++ x ∷ []) - 1) m) not_last ∙ ap (λ n. reaches (ss ++ x ∷ []) n m) last ∙ new_reaches redacts rs ss x m q p (omega (arith, lt))
 
+-- and the new one is
 pub new_reached : (redacts : List (List ℕ)) (rs ss : List Reading) (x : Reading) → Quiet redacts rs ss → is_reached (ss ++ x ∷ []) (length rs) ≡ true
 new_reached redacts rs ss x q = or_left (is_active (ss ++ x ∷ []) (length rs)) _ (eq-eqb (length rs + 1) (length (ss ++ x ∷ [])) (omega (arith, len_more ss x, less_len redacts rs ss q.are_less)))
 
 -- ---- what is redacted
 
+-- one test passes where the other does
 any_below_same : (f g : ℕ → Bool) (n : ℕ) → ((k : ℕ) → k < n → f k ≡ g k) → any_below f n ≡ any_below g n
 any_below_same f g zero h = refl
 any_below_same f g (suc n) h = ap (λ b. b || any_below f n) (h n (omega arith)) ∙ ap (λ b. g n || b) (any_below_same f g n (λ k lt. h k (omega arith)))
 
+-- what passes nowhere
 any_below_false : (f : ℕ → Bool) (n : ℕ) → ((k : ℕ) → k < n → f k ≡ false) → any_below f n ≡ false
 any_below_false f zero h = refl
 any_below_false f (suc n) h = or_from (f n) (any_below f n) (h n (omega arith)) (any_below_false f n (λ k lt. h k (omega arith)))

@@ -6,3 +6,4 @@ pub mod Plain
 pub mod NewParent
 pub mod Whole
 pub mod Composed
+mod SecondRows

@@ -47,22 +47,26 @@ use Rattle.c2_succeeding.proofs.Plain.{IsNew, listed_each, no_binding, no_childr
 
 -- ---- lists
 
+-- what holds at each place holds of all
 pub downward_holds : (f : ℕ → List Test) (n : ℕ) → ((i : ℕ) → i < n → AllByRecursion Holds (f i)) → AllByRecursion Holds (downward f n)
 downward_holds f zero h = tt
 downward_holds f (suc n) h = each-append Holds (f n) (downward f n) (h n (omega arith)) (downward_holds f n (λ i lt. h i (omega arith)))
 
+-- and the other way round
 pub downward_each : (f : ℕ → List Test) (n i : ℕ) → AllByRecursion Holds (downward f n) → i < n → AllByRecursion Holds (f i)
 downward_each f zero i h lt = absurd (omega arith)
 downward_each f (suc n) i h lt =
     ⊎_elim (λ e. subst (λ k. AllByRecursion Holds (f k)) (sym e) (each-front Holds (f n) (downward f n) h))
     (λ other. downward_each f n i (each-back Holds (f n) (downward f n) h) (omega (arith, other))) (cases_eq i n)
 
+-- of some boxes and then others
 each_both : (f : ReadBox → List Test) (k : ℕ) (xs ys : List ReadBox) → AllByRecursion Holds (each (λ k b. f b) k xs) → ((j : ℕ) → AllByRecursion Holds (each (λ k b. f b) j ys)) → AllByRecursion Holds (each (λ k b. f b) k (xs ++ ys))
 each_both f k [] ys h g = g k
 each_both f k (x ∷ xs) ys h g =
     each-append Holds (f x) (each (λ k b. f b) (k + 1) (xs ++ ys)) (each-front Holds (f x) (each (λ k b. f b) (k + 1) xs) h)
     (each_both f (k + 1) xs ys (each-back Holds (f x) (each (λ k b. f b) (k + 1) xs) h) g)
 
+-- two pairs of lists in a row
 pub zip_append : {A B : Type 0} (R : A → B → Type 0) (xs us : List A) (ys vs : List B) → AllZip R xs ys → AllZip R us vs → AllZip R (xs ++ us) (ys ++ vs)
 zip_append R [] us [] vs h k = k
 zip_append R [] us (y ∷ ys) vs h k = absurd h
@@ -79,31 +83,38 @@ parent_box hash p a = cond (is_ingredient_kind (kind_of a.label)) (Value (parent
 abbrev pub parent_item : (List ℕ → List ℕ) → Parent → NewAssertion
 parent_item hash p = record { label = codes "c2pa.ingredient.v3"; kind = payload.Cbor; bytes = deterministic (ingredient_item (parent_ingredient hash p)) }
 
+-- a definition's assertions are read as no ingredient
 plain_boxes : (hash : List ℕ → List ℕ) (p : Parent) (as_ : List NewAssertion) → AllByRecursion IsNew as_ → new_boxes (parent_box hash p) as_ ≡ new_boxes none_read as_
 plain_boxes hash p [] h = refl
 plain_boxes hash p (a ∷ more_of) h =
     ap (λ b. record { boxed = written_assertion a; ingredient = cond b (Value (parent_ingredient hash p)) NoItem } ∷ new_boxes (parent_box hash p) more_of) (no_ingredient (kind_of a.label) (new_label a.label h.0).kind)
     ∙ ap (λ (bs : List ReadBox). new_box none_read a ∷ bs) (plain_boxes hash p more_of h.1)
 
+-- boxes of assertions in a row
 pub boxes_append : (f : NewAssertion → Parsed Ingredient) (xs ys : List NewAssertion) → new_boxes f (xs ++ ys) ≡ new_boxes f xs ++ new_boxes f ys
 boxes_append f [] ys = refl
 boxes_append f (x ∷ xs) ys = ap (λ (bs : List ReadBox). new_box f x ∷ bs) (boxes_append f xs ys)
 
+-- those of the definition, and the others
 pub split_boxes : (hash : List ℕ → List ℕ) (p : Parent) (ds : List NewAssertion) (tail : List NewAssertion) → AllByRecursion IsNew ds → new_boxes (parent_box hash p) (ds ++ tail) ≡ new_boxes none_read ds ++ new_boxes (parent_box hash p) tail
 split_boxes hash p ds tail h = boxes_append (parent_box hash p) ds tail ∙ ap (λ (bs : List ReadBox). bs ++ new_boxes (parent_box hash p) tail) (plain_boxes hash p ds h)
 
+-- a definition's assertions are no bindings
 pub no_bindings : (ds tail : List NewAssertion) → AllByRecursion IsNew ds → bindings_of (ds ++ tail) ≡ bindings_of tail
 no_bindings [] tail h = refl
 no_bindings (a ∷ ds) tail h = ap (λ x. cond x (a.label ∷ bindings_of (ds ++ tail)) (bindings_of (ds ++ tail))) (no_binding (kind_of a.label) (new_label a.label h.0).kind) ∙ no_bindings ds tail h.1
 
+-- they name no child
 none_child : (qs : List Reading) (n : ℕ) (ds : List NewAssertion) (tail : List ReadBox) → filter_map (child_of qs n) (new_boxes none_read ds ++ tail) ≡ filter_map (child_of qs n) tail
 none_child qs n [] tail = refl
 none_child qs n (a ∷ ds) tail = none_child qs n ds tail
 
+-- and are no parents
 none_parent : (ds : List NewAssertion) (tail : List ReadBox) → filter reads_parent (new_boxes none_read ds ++ tail) ≡ filter reads_parent tail
 none_parent [] tail = refl
 none_parent (a ∷ ds) tail = none_parent ds tail
 
+-- and are read so
 pub boxes_zip : (hash : List ℕ → List ℕ) (p : Parent) (ds : List NewAssertion) → AllByRecursion IsNew ds → AllZip IsReadBox (map written_assertion ds) (new_boxes (parent_box hash p) ds)
 boxes_zip hash p [] h = tt
 boxes_zip hash p (a ∷ ds) h =
@@ -123,6 +134,7 @@ parent_place redacts rs ss x p thins h =
     let old : place_of ss p.label ≡ Some (length rs - 1) = less_place redacts rs ss p.label thins ∙ h.place in
     ⊎_elim (λ e. e ∙ old) (λ e. absurd (cc (e.0, old))) (place_more ss x p.label)
 
+-- how the parent stands to the new manifest
 pub parent_standing : (redacts : List (List ℕ)) (rs ss : List Reading) (x : Reading) (p : Parent) → AreLess redacts rs ss → (h : IsLast p rs ss) → standing_of (ss ++ x ∷ []) (length rs) p.label ≡ child_standing (is_touched (ss ++ x ∷ []) (length rs - 1)) h.active
 parent_standing redacts rs ss x p thins h =
     let all : List Reading = ss ++ x ∷ [] in
@@ -149,16 +161,19 @@ named_holds hash p d binding claim message sp uri s active false e signed conten
     subst (λ s. AllByRecursion Holds (standing_tests hash (parent_reading (hash Sha256) p d binding claim message sp) uri (parent_ref (hash Sha256) p.label targets.whole p.contents) (Some (parent_ref (hash Sha256) p.label targets.signature p.signed)) s)) (sym (e ∙ ap (λ o. whole o active.manifest.contents) signed ∙ ap (λ (x : List ℕ). whole (Some p.signed) x) contents))
     (refl, (not_from_true (bytes_eq (hash Sha256 p.signed) (hash Sha256 p.signed)) (same_bytes (hash Sha256 p.signed)), (not_from_true (bytes_eq (hash Sha256 p.contents) (hash Sha256 p.contents)) (same_bytes (hash Sha256 p.contents)), tt)))
 
+-- it stands earlier
 order_holds : (uri : List ℕ) (s : Standing) (active : Reading) (t : Bool) → s ≡ child_standing t active → AllByRecursion Holds (order_tests uri s)
 order_holds uri s active true e = subst (λ s. AllByRecursion Holds (order_tests uri s)) (sym e) tt
 order_holds uri s active false e = subst (λ s. AllByRecursion Holds (order_tests uri s)) (sym e) tt
 
 -- ---- questions
 
+-- the same questions place by place
 pub questions_same : (f g : ℕ → List Question) (n : ℕ) → ((i : ℕ) → i < n → f i ≡ g i) → downward f n ≡ downward g n
 questions_same f g zero h = refl
 questions_same f g (suc n) h = ap (λ (x : List Question). x ++ downward f n) (h n (omega arith)) ∙ ap (λ (x : List Question). g n ++ x) (questions_same f g n (λ i lt. h i (omega arith)))
 
+-- an older manifest's question stays
 pub old_question : (redacts : List (List ℕ)) (rs ss : List Reading) (x : Reading) (i : ℕ) → Quiet redacts rs ss → HasParent rs ss x → i < length rs → question_at (ss ++ x ∷ []) i ≡ question_at rs i
 old_question redacts rs ss x i q p lt =
     let t : LessAt redacts rs ss i = less_at redacts rs ss i q.are_less lt in
@@ -167,6 +182,7 @@ old_question redacts rs ss x i q p lt =
 
 -- ---- the new manifest
 
+-- the new entries can be listed
 pub parent_listed : (hash : List ℕ → List ℕ) (p : Parent) (ds : List NewAssertion) (binding : NewAssertion) → AllByRecursion IsNew ds → IsListed binding → AllByRecursion IsListed (ds ++ (parent_item hash p ∷ binding ∷ []))
 parent_listed hash p ds binding h b = each-append IsListed ds (parent_item hash p ∷ binding ∷ []) (listed_each ds h) (record { text = record { some = lit< tt; named = grind arith }; no_cloud = refl; no_other = refl }, (b, tt))
 
@@ -198,6 +214,7 @@ parent_rest uris hash p d start len digest claim message sp redacted standing ac
       parents = subst (λ (bs : List ReadBox). length bs ≤ 1) (sym (ap (filter reads_parent) split ∙ none_parent d.assertions tail)) (lit≤ tt);
     }
 
+-- the parent is the one child
 pub parent_child : UrisAreRead → (rs ss : List Reading) (hash : List ℕ → List ℕ) (p : Parent) (d : Definition) (start len : ℕ) (digest claim message : List ℕ) (sp : SignParts) → AllByRecursion IsNew d.assertions → IsLabelText p.label → AreLess d.redact rs ss → IsLast p rs ss
     → HasParent rs ss (parent_reading hash p d (data_binding start len digest) claim message sp)
 parent_child uris rs ss hash p d start len digest claim message sp plain u thins h =

@@ -25,6 +25,7 @@ use Rattle.c2_succeeding.proofs.More.{get_front, len_more, place_more}
 
 -- ---- touched
 
+-- what is given is this
 given_some : (o : Option (List ℕ)) (label : List ℕ) → is_given o label ≡ true → o ≡ Some label
 given_some None label e = absurd (cc (e))
 given_some (Some t) label e = ap Some ((bytes_eq-Decides t label).0 e)
@@ -33,6 +34,7 @@ given_some (Some t) label e = ap Some ((bytes_eq-Decides t label).0 e)
 abbrev Touches : Manifest → (List ℕ → Bool) → List Ref → Bool
 Touches m red es = list_any (λ (e : Ref). passes_some red (entry_label m e)) es
 
+-- a redacted label that is listed touches
 touches_listed : (m : Manifest) (red : List ℕ → Bool) (label : List ℕ) (es : List Ref) → red label ≡ true → lists_label m es label ≡ true → Touches m red es ≡ true
 touches_listed m red label [] r h = absurd (cc (h))
 touches_listed m red label (e ∷ es) r h =
@@ -40,10 +42,12 @@ touches_listed m red label (e ∷ es) r h =
     (λ more_of. or_right (passes_some red (entry_label m e)) (Touches m red es) (touches_listed m red label es r more_of))
     (or_cases (is_given (entry_label m e) label) (lists_label m es label) h)
 
+-- what was redacted still is
 passes_more : (red red' : List ℕ → Bool) (o : Option (List ℕ)) → ((l : List ℕ) → red l ≡ true → red' l ≡ true) → passes_some red o ≡ true → passes_some red' o ≡ true
 passes_more red red' None h e = absurd (cc (e))
 passes_more red red' (Some l) h e = h l e
 
+-- so what touched still does
 touches_more : (m : Manifest) (red red' : List ℕ → Bool) (es : List Ref) → ((l : List ℕ) → red l ≡ true → red' l ≡ true) → Touches m red es ≡ true → Touches m red' es ≡ true
 touches_more m red red' [] h e = absurd (cc (e))
 touches_more m red red' (x ∷ es) h e =
@@ -56,6 +60,7 @@ passes_new : (red red' : List ℕ → Bool) (taken : List ℕ → Bool) (o : Opt
 passes_new red red' taken None h a b = absurd (cc (b))
 passes_new red red' taken (Some l) h a b = (l, h l b a)
 
+-- what newly touches is taken out
 touches_new : (m : Manifest) (red red' : List ℕ → Bool) (taken : List ℕ → Bool) (es : List Ref) → ((l : List ℕ) → red' l ≡ true → red l ≡ false → taken l ≡ true) → Touches m red es ≡ false → Touches m red' es ≡ true → (l : List ℕ) × (taken l ≡ true)
 touches_new m red red' taken [] h a b = absurd (cc (b))
 touches_new m red red' taken (x ∷ es) h a b =
@@ -70,6 +75,7 @@ pub record IsSucceeded (rs ss : List Reading) (x : Reading) : Type 0 where
   pub parent : HasParent rs ss x
   pub can : CanRedact (redactions_in x) rs
 
+-- where nothing is taken out each box is kept
 keeps_all : (redacts : List (List ℕ)) (own : List ℕ) (bs : List ReadBox) → ((l : List ℕ) → takes_out redacts own l ≡ true → ⊥) → AllByRecursion (λ (b : ReadBox). is_kept (takes_out redacts own) b ≡ true) bs
 keeps_all redacts own [] h = tt
 keeps_all redacts own (b ∷ bs) h = (go b.boxed.label, keeps_all redacts own bs h)
@@ -78,10 +84,12 @@ keeps_all redacts own (b ∷ bs) h = (go b.boxed.label, keeps_all redacts own bs
     go None = refl
     go (Some l) = not_from_false (takes_out redacts own l) (false_from_ne_true (takes_out redacts own l) (h l))
 
+-- the first of two, where the second fails
 or_true_left : (a b : Bool) → (a || b) ≡ true → b ≡ false → a ≡ true
 or_true_left true b e f = refl
 or_true_left false b e f = absurd (both_ways b f e)
 
+-- a child that stands at a place stands alike
 child_alike_at : (rs ss : List Reading) (x : Reading) (i m : ℕ) (b : ReadBox) (label : List ℕ) → IsSucceeded rs ss x → i < length rs → m < i → place_of rs label ≡ Some m → named_in b ≡ Some label
     → ((c : Reading) (l : List ℕ) → slice_get rs m ≡ Some c → takes_out (redactions_in x) (label_in c) l ≡ true → has_signature b ≡ true)
     → Alike (has_signature b) (earlier_standing (is_touched rs m) (slice_get rs m)) (earlier_standing (is_touched (ss ++ x ∷ []) m) (slice_get (ss ++ x ∷ []) m))
@@ -144,6 +152,7 @@ child_alike_at rs ss x i m b label h li lm place named signed = go (is_touched r
     go false true e f = subst (λ s. Alike (has_signature b) s (earlier_standing (is_touched all m) (slice_get all m))) (sym (before_is false e)) (inr (after_is true f, newly e f))
     go false false e f = subst (λ s. Alike (has_signature b) s (earlier_standing (is_touched all m) (slice_get all m))) (sym (before_is false e)) (inl (after_is false f ∙ ap (λ (c : List ℕ). whole (signature_contents t.old) c) (same_contents f)))
 
+-- and so does what a box names
 standing_alike : (rs ss : List Reading) (x : Reading) (i : ℕ) (b : ReadBox) (label : List ℕ) → IsSucceeded rs ss x → i < length rs → named_in b ≡ Some label
     → ((m : ℕ) (c : Reading) (l : List ℕ) → child_of rs i b ≡ Some m → slice_get rs m ≡ Some c → takes_out (redactions_in x) (label_in c) l ≡ true → has_signature b ≡ true)
     → Alike (has_signature b) (standing_of rs i label) (standing_of (ss ++ x ∷ []) i label)

@@ -43,6 +43,7 @@ by_kind P a o kinds.Cloud e = absurd (false≢true e)
 pub no_binding : (k : Kind) → file.is_new_kind k ≡ true → is_binding k ≡ false
 no_binding = by_kind (λ k. is_binding k ≡ false) refl refl
 
+-- nor an ingredient
 pub no_ingredient : (k : Kind) → file.is_new_kind k ≡ true → is_ingredient_kind k ≡ false
 no_ingredient = by_kind (λ k. is_ingredient_kind k ≡ false) refl refl
 
@@ -50,6 +51,7 @@ no_ingredient = by_kind (λ k. is_ingredient_kind k ≡ false) refl refl
 abbrev pub IsNew : NewAssertion → Type 0
 IsNew a = file.is_new_label a.label ≡ true
 
+-- each can be listed
 pub listed_each : (as_ : List NewAssertion) → AllByRecursion IsNew as_ → AllByRecursion IsListed as_
 listed_each [] h = tt
 listed_each (a ∷ others) h =
@@ -60,10 +62,12 @@ listed_each (a ∷ others) h =
 abbrev pub none_read : NewAssertion → Parsed Ingredient
 none_read a = NoItem
 
+-- none names a child
 pub no_children : (hash : Alg → List ℕ → List ℕ) (s : Seen) (k : ℕ) (as_ : List NewAssertion) → AllByRecursion Holds (each (λ k b. ingredient_tests hash s b) k (new_boxes none_read as_))
 no_children hash s k [] = tt
 no_children hash s k (a ∷ others) = no_children hash s (k + 1) others
 
+-- and none has a form to keep
 pub no_forms : (s : Seen) (k : ℕ) (as_ : List NewAssertion) → AllByRecursion IsNew as_ → AllByRecursion Holds (each (λ k b. form_tests s b) k (new_boxes none_read as_))
 unfolding rule.label_kind
 no_forms s k [] h = tt
@@ -73,10 +77,12 @@ no_forms s k (a ∷ others) h =
 
 -- ---- texts and ranges
 
+-- a title
 pub title_utf8 : (o : Option (List ℕ)) → IfSome o IsText → IfSome o IsUtf8
 title_utf8 None h = tt
 title_utf8 (Some t) h = h.utf8
 
+-- texts that a program holds are UTF-8
 pub texts_utf8 : (ts : List (List ℕ)) → AllByRecursion IsText ts → AllByRecursion IsUtf8 ts
 texts_utf8 [] h = tt
 texts_utf8 (t ∷ ts) h = (h.0.utf8, texts_utf8 ts h.1)

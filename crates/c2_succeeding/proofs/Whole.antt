@@ -71,6 +71,7 @@ pub record AllLaws : Type 0 where
   pub sorted : IngredientsAreSorted
   pub older : KeepsRules
 
+-- a content with a parent
 abbrev with_parent : Definition → Trees → Parent → Content
 with_parent d carried p = record { definition = d; carried = carried; parent = Some p }
 
@@ -95,6 +96,7 @@ all_questions redacts rs ss x q quiet parent last len asks =
     ap (downward (question_at all)) len ∙ ap (λ (qs : List Question). qs ++ downward (question_at all) n) own
     ∙ ap (λ (qs : List Question). q ∷ qs) (questions_same (question_at all) (question_at rs) n (λ i lt. old_question redacts rs ss x i quiet parent lt))
 
+-- the file over a base
 meets : AllLaws → (hash : Alg → List ℕ → List ℕ) (d : Definition) (carried : Trees) (p : Parent) (message base : List ℕ) (segments : List Segment) (en : ℕ) (sp : SignParts) (rs ss : List Reading)
     → GivesDigests hash → CanBeWritten d → CanBuild (with_parent d carried p) (length message) base segments en → IsFreshBase (with_parent d carried p) (length message) base segments → SpellsMessage message sp
     → IsTakenOver hash (with_parent d carried p) rs ss → IsLast p rs ss
@@ -212,6 +214,7 @@ meets all_laws hash d carried p message base segments en sp rs ss digests w can 
       asks = all_questions d.redact rs ss x (question_of sp claim) quiet has_parent last_is total_len (ap (λ b. asked_of b (Some claim) (Some sp)) (own_names laws.uris h d.label said as_ claim message label));
     }
 
+-- whatever the content is made of
 pub succeeding_meets : AllLaws → SucceedingFileMeets
 succeeding_meets laws hash c parent message base segments en sp rs ss digests has w can fb spells over last =
     let is : c ≡ with_parent c.definition c.carried parent = ap (λ o. record { definition = c.definition; carried = c.carried; parent = o }) has in

@@ -1,10 +1,14 @@
-use Rattle.c2_carried.proofs.Taken.{read_less, all_carried}
+use Rattle.c2_carried.proofs.Taken.{all_carried, read_less, whole_stays}
 use Rattle.c2_carried.proofs.laws.a_redacted_store_is_read.Goals as goal
 
 -- what is left is legal and read
 pub returns-clause-less : goal.returns-clause-less
 returns-clause-less c = read_less
 
+-- a manifest that loses none stays
+pub returns-clause-stays : goal.returns-clause-stays
+returns-clause-stays c = whole_stays
+
 -- and nothing is lost without redactions
-pub returns-clause-whole : goal.returns-clause-whole
-returns-clause-whole c = all_carried
+pub returns-clause-all : goal.returns-clause-all
+returns-clause-all c = all_carried

@@ -1,6 +1,7 @@
 use Rattle.c2_succeeding.proofs.Whole.{succeeding_meets}
 use Rattle.c2_succeeding.proofs.laws.a_succeeding_file_meets_the_rules.Goals as goal
 
+-- the file meets the rules
 pub returns : goal.returns
 returns c = succeeding_meets (record {
   laws = record {
