@@ -1,0 +1,5 @@
+mod Building
+mod Decimals
+mod Fitting
+mod Naming
+mod Walking

@@ -1,0 +1,70 @@
+// The commands, and what their words are.
+
+/// The most pieces that a made media file may have.
+pub const MAX_PIECES: u32 = 20000;
+
+/// A command.
+#[derive(Clone, Copy, Debug, PartialEq, Eq)]
+pub enum Command {
+    /// The embedded range, and the digest of all bytes outside it.
+    Digest,
+
+    /// The boxes of the store.
+    List,
+
+    /// The manifests of the store, as JSON.
+    Show,
+
+    /// The questions that judges are asked of the reached manifests, and what they say.
+    Questions,
+
+    /// Whether every rule of the check list holds.
+    Validate,
+
+    /// Whether one active claim binds two files, and the evidence where it doesn't.
+    Compare,
+
+    /// What is to be signed where a store is to be put into the media.
+    Plan,
+
+    /// The media with a new store, as a new file.
+    Embed,
+
+    /// What a made JPEG comes to that is embedded into and validated, without any file.
+    Sample,
+}
+
+/// Which word is which: the index of each name among the words.
+#[derive(Clone, Copy, Debug, PartialEq, Eq)]
+pub struct Roles {
+    /// The command.
+    pub command: Command,
+
+    /// The media file.
+    pub media: Option<usize>,
+
+    /// The second file that is read.
+    pub second: Option<usize>,
+
+    /// The third file that is read.
+    pub third: Option<usize>,
+
+    /// The file that is written.
+    pub out: Option<usize>,
+
+    /// Where names of judges begin: the number of words where there is none.
+    pub judges: usize,
+
+    /// How many pieces the made media has: from 1 to `MAX_PIECES`.
+    pub count: Option<u32>,
+}
+
+/// Why words have no roles.
+#[derive(Clone, Copy, Debug, PartialEq, Eq)]
+pub enum RolesError {
+    /// The words don't fit any command.
+    Usage,
+
+    /// Memory ran out.
+    NoMemory,
+}
