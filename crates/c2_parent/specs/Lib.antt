@@ -1,0 +1,4 @@
+pub mod Boxes
+pub mod Named
+pub mod Parents
+pub mod Refused

@@ -1,0 +1,10 @@
+-- The parent of a new manifest by its digests.
+use Rattle.std.specs.Prelude.{◌≡◌, ℕ, List}
+use Rattle.c2_layout.specs.Store.{Parent}
+use Rattle.c2_parent.specs.declared.parent.ParentDigests.{ParentDigests}
+
+-- These are its label and the digests of its contents and of those of its signature box, where `hash` gives that of a list.
+pub record AreDigests (hash : List ℕ → List ℕ) (p : Parent) (d : ParentDigests) : Type 0 where
+  pub label : d.label.now ≡ p.label
+  pub contents : d.contents ≡ hash p.contents
+  pub signed : d.signed ≡ hash p.signed

@@ -1,0 +1,18 @@
+//! What a new manifest needs of an older store: which of its redactions is refused first, the boxes that are carried, and the
+//! parent.
+//!
+//! What they are stands in `c2_carried`.
+#![tactic(auto)]
+
+mod boxes;
+mod carried;
+mod manifests;
+mod named;
+mod parent;
+mod refused;
+mod targets;
+mod unsigned;
+
+pub use carried::{Redactions, append_carried, carried_boxes, carried_len, redactions_of};
+pub use parent::{ParentDigests, parent_digests};
+pub use refused::{has_manifest, refused_redaction, refused_without_store};
