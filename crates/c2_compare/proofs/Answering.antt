@@ -223,6 +223,11 @@ asked_before qs old new (Err WriteFault) a b c d e f h cause = h
 asked_before qs old new (Err JudgeFault) a b c d e f h cause = absurd cause
 asked_before qs old new (Err NoMemory) a b c d e f h cause = front_all old.said qs old.asked new.asked h
 
+-- such a comparison doesn't fail by a judge
+pub unjudged : (claim : Type 0) (r : Result Compared CompareError) (a b c d e f : ℕ) → IfErr r (covered.IsCause a b c d e f) → IfErr r (λ x. x ≡ JudgeFault → claim)
+unjudged claim (Ok what) a b c d e f cause = tt
+unjudged claim (Err x) a b c d e f cause = λ judge. absurd (subst (covered.IsCause a b c d e f) judge cause)
+
 -- the cause of such an error
 pub cause_media : (a b c m d r s : ℕ) (old new : Judges) (result : Result Compared CompareError) → m ≡ c → IfErr result (covered.IsCause a b m d r s)
     → IfErr result (IsCompareCause a b c d r s old new)

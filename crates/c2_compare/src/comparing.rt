@@ -74,6 +74,7 @@ fn compare_second<A: Source, B: Source, H: Hashing, W: Sink>(
     ensures second_stays { StaysSource B.len B.known B.faults second.old second.new }
     ensures later { W.faults report.old ≤ W.faults report.new }
     ensures unfinished { W.finished report.new ≡ W.finished report.old }
+    ensures judged { IfErr result (λ e. e ≡ CompareError.JudgeFault → report.new ≡ report.old) }
     ensures leaves { let old = judges_of (λ j. says j) (λ j. asked_times j) (λ j. judge_faults j)
         judges.old.items in
         let new = judges_of (λ j. says j) (λ j. asked_times j) (λ j. judge_faults j)
@@ -101,8 +102,9 @@ fn compare_second<A: Source, B: Source, H: Hashing, W: Sink>(
 ///
 /// Where the first file isn't accepted, the second is neither read nor asked about. Evidence is written to the report and nothing
 /// else is; the report isn't finished. `ReadFault` comes only where one of the two sources failed in this call, `WriteFault` only
-/// where the report did, `JudgeFault` only where a judge did that was due; each leaves a prefix of the text of what the files
-/// come to. Covered texts are read in pieces, side by side, and once more where they are printed.
+/// where the report did: each leaves a prefix of the text of what the files come to. `JudgeFault` comes only where a judge failed
+/// that was due, and leaves the report as it was, since evidence is looked for behind the last question. Covered texts are read in
+/// pieces, side by side, and once more where they are printed.
 // The condition always holds: a function that changes boxed judges is called under a contract only where it has one.
 pub fn compare<A: Source, B: Source, H: Hashing, W: Sink>(
     alloc: Global,
@@ -146,6 +148,7 @@ pub fn compare<A: Source, B: Source, H: Hashing, W: Sink>(
     ensures second_stays { StaysSource B.len B.known B.faults second.old second.new }
     ensures later { W.faults report.old ≤ W.faults report.new }
     ensures unfinished { W.finished report.new ≡ W.finished report.old }
+    ensures judged { IfErr result (λ e. e ≡ CompareError.JudgeFault → report.new ≡ report.old) }
     ensures leaves { let old = judges_of (λ j. says j) (λ j. asked_times j) (λ j. judge_faults j)
         judges.old.items in
         let new = judges_of (λ j. says j) (λ j. asked_times j) (λ j. judge_faults j)

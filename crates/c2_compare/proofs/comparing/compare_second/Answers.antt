@@ -4,7 +4,7 @@ use Rattle.c2_rules.proofs.AskingLemmas.{leaves_err, leaves_ok}
 use Rattle.c2_binding.specs.declared.compared.Compared.TheVariants as compared
 use Rattle.c2_binding.specs.declared.compared.Side.TheVariants.{Second}
 use Rattle.c2_compare.specs.Comparing.{HasAsked, IsCheckedAs, IsCompareCause}
-use Rattle.c2_compare.proofs.Answering.{asked_before, asked_fault, cause_media, cause_second_check, compared_as, count_still, refused_second}
+use Rattle.c2_compare.proofs.Answering.{asked_before, asked_fault, cause_media, cause_second_check, compared_as, count_still, refused_second, unjudged}
 use Rattle.c2_compare.proofs.comparing.compare_second.Goals as goal
 
 -- the check failed
@@ -41,6 +41,9 @@ returns-in-Accepted-clause-cause g c =
 
 pub returns-in-Accepted-clause-second_count : goal.returns-in-Accepted-clause-second_count
 returns-in-Accepted-clause-second_count g c = count_still (g.B.Source.faults c.args.second.now) (g.B.Source.faults c.check.new.source) (g.B.Source.faults c.compare_media.new.second) c.compare_media.result c.in-Ok.ensures.count c.compare_media.ensures.second_count
+
+pub returns-in-Accepted-clause-judged : goal.returns-in-Accepted-clause-judged
+returns-in-Accepted-clause-judged g c = unjudged _ c.compare_media.result _ _ _ _ _ _ c.compare_media.ensures.cause
 
 pub returns-in-Accepted-clause-leaves : goal.returns-in-Accepted-clause-leaves
 returns-in-Accepted-clause-leaves g c = leaves_ok (judges_of (λ j. (goal.Judge-dyn g (j.vtable, j.value)).says j.value) (λ j. (goal.Judge-dyn g (j.vtable, j.value)).asked_times j.value) (λ j. (goal.Judge-dyn g (j.vtable, j.value)).judge_faults j.value) c.args.judges.now.items) (judges_of (λ j. (goal.Judge-dyn g (j.vtable, j.value)).says j.value) (λ j. (goal.Judge-dyn g (j.vtable, j.value)).asked_times j.value) (λ j. (goal.Judge-dyn g (j.vtable, j.value)).judge_faults j.value) c.check.new.judges.items) c.in-Ok.checked c.compare_media.result c.in-Ok.ensures.leaves
