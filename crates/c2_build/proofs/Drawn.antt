@@ -1,17 +1,18 @@
 -- How stages follow each other, by their answers.
-use Rattle.std.proofs.Common.{◌≡◌, inl, inr, ℕ, Bool, List, length, Option, refl, sym, ap, subst}
+use Rattle.std.proofs.Common.{◌≡◌, inl, inr, ℕ, Bool, List, length, Option, Some, None, refl, sym, subst}
 use Rattle.std.specs.Prelude.{Result, Ok, Err, OnOk}
 use Rattle.c2_spec.specs.C2pa.Sign1.{SignParts}
 use Rattle.c2_spec.specs.declared.digest.Alg.{Alg}
 use Rattle.c2_definition.specs.declared.types.Definition.{Definition}
-use Rattle.c2_build.specs.Answers.{ComesTo, Faults, IsBuildCause, WithoutFault}
+use Rattle.c2_build.specs.Answers.{ComesTo, WithoutFault}
 use Rattle.c2_build.specs.Building.{IsBuilt, IsEmbeddedOver, IsPlaceStage, IsPlannedOver, Place, Then, Unless, signed_bytes}
-use Rattle.c2_build.specs.Refusals.{plan_tests, reserve_tests}
-use Rattle.c2_build.specs.Steps.{ComesAs, IsPassed, IsReadCause, IsRefusedPlace}
+use Rattle.c2_build.specs.Refusals.{early_tests, first_refusal, late_tests, number_tests, reserve_tests}
+use Rattle.c2_build.specs.Steps.{ComesAs, IsPassed, IsRefusedPlace}
 use Rattle.c2_build.specs.declared.error.BuildError.{BuildError}
 use Rattle.c2_build.specs.declared.error.BuildError.TheVariants as build
 use Rattle.c2_build.proofs.Drafted.{first_fails}
 use Rattle.c2_build.proofs.Outside.{outside_map}
+use Rattle.c2_build.specs.declared.types.MediaKind.{MediaKind}
 
 -- ---- answers
 
@@ -32,6 +33,14 @@ pub comes_next : {A B : Type 0} (First : Result A BuildError → Type 0) (Next :
 comes_next First Next a (Ok b) h k = then_next First Next a (Ok b) h k
 comes_next First Next a (Err e) h k = outside_map e (then_next First Next a (Err e) h) k
 
+-- what a test refuses
+pub unless_fails : {A : Type 0} (o : Option BuildError) (Next : Result A BuildError → Type 0) (e : BuildError) → o ≡ Some e → Unless o Next (Err e)
+unless_fails {A} o Next e h = subst (λ (p : Option BuildError). Unless {A = A} p Next (Err e)) (sym h) refl
+
+-- and what comes behind tests that pass
+pub unless_passes : {A : Type 0} (o : Option BuildError) (Next : Result A BuildError → Type 0) (r : Result A BuildError) → o ≡ None → Next r → Unless o Next r
+unless_passes {A} o Next r h n = subst (λ (p : Option BuildError). Unless {A = A} p Next r) (sym h) n
+
 -- the same where it is seen so
 pub as_next : {A B C : Type 0} (Fits : C → B → Type 0) (First : Result A BuildError → Type 0) (Next : A → Result B BuildError → Type 0) (a : A) (r : Result C BuildError) → First (Ok a) → ComesAs Fits (Next a) r → ComesAs Fits (Then First Next) r
 as_next Fits First Next a (Ok c) h k = (k.0, then_next First Next a (Ok k.0) h k.1, k.2)
@@ -45,69 +54,22 @@ on_any (Err e) h = tt
 -- ---- the place
 
 -- a place that is refused refuses a plan
-pub refused_plan : (hash : Alg → List ℕ → List ℕ) (media : List ℕ) (later : Bool) (d : Definition) (e : BuildError) → IsRefusedPlace media d later e → IsPlannedOver hash media later d (Err e)
-refused_plan hash media later d e (inl h) = then_first (IsPlaceStage media later) _ e h
-refused_plan hash media later d e (inr h) =
-    then_next (IsPlaceStage media later) _ h.0 (Err e) h.1 (subst (λ (o : Option BuildError). Unless o (λ (r : Result (List ℕ) BuildError). r ≡ Ok (signed_bytes hash media d h.0)) (Err e)) (sym h.2) refl)
+pub refused_plan : (hash : Alg → List ℕ → List ℕ) (media : List ℕ) (kind : MediaKind) (d : Definition) (e : BuildError) → IsRefusedPlace media d kind e → IsPlannedOver hash media kind d (Err e)
+refused_plan hash media kind d e (inl h) = unless_fails (first_refusal (early_tests kind d)) _ e h
+refused_plan hash media kind d e (inr h) =
+    unless_passes (first_refusal (early_tests kind d)) _ (Err e) h.0
+    (then_next (IsPlaceStage media) _ h.1.0 (Err e) h.1.1 (unless_fails (first_refusal (number_tests (length media) d h.1.0.number)) _ e h.1.2))
 
 -- and a new file
-pub refused_embedding : (hash : Alg → List ℕ → List ℕ) (media : List ℕ) (later : Bool) (d : Definition) (parts : SignParts) (e : BuildError) → IsRefusedPlace media d later e → IsEmbeddedOver hash media later d parts (Err e)
-refused_embedding hash media later d parts e (inl h) = then_first (IsPlaceStage media later) _ e h
-refused_embedding hash media later d parts e (inr h) =
-    then_next (IsPlaceStage media later) _ h.0 (Err e) h.1 (subst (λ (o : Option BuildError). Unless o (IsBuilt hash media d h.0 parts) (Err e)) (sym (first_fails (plan_tests (length media) d h.0.number) (reserve_tests d parts) e h.2)) refl)
+pub refused_embedding : (hash : Alg → List ℕ → List ℕ) (media : List ℕ) (kind : MediaKind) (d : Definition) (parts : SignParts) (e : BuildError) → IsRefusedPlace media d kind e → IsEmbeddedOver hash media kind d parts (Err e)
+refused_embedding hash media kind d parts e (inl h) = unless_fails (first_refusal (early_tests kind d)) _ e h
+refused_embedding hash media kind d parts e (inr h) =
+    unless_passes (first_refusal (early_tests kind d)) _ (Err e) h.0
+    (then_next (IsPlaceStage media) _ h.1.0 (Err e) h.1.1
+    (unless_fails (first_refusal (late_tests (length media) d parts h.1.0.number)) _ e (first_fails (number_tests (length media) d h.1.0.number) (reserve_tests d parts) e h.1.2)))
 
 -- a place that passes lets be planned
-pub passed_plan : (hash : Alg → List ℕ → List ℕ) (media : List ℕ) (later : Bool) (d : Definition) (p : Place) → IsPassed media d later p → IsPlannedOver hash media later d (Ok (signed_bytes hash media d p))
-passed_plan hash media later d p h =
-    then_next (IsPlaceStage media later) _ p (Ok (signed_bytes hash media d p)) h.stage (subst (λ (o : Option BuildError). Unless o (λ (r : Result (List ℕ) BuildError). r ≡ Ok (signed_bytes hash media d p)) (Ok (signed_bytes hash media d p))) (sym h.none) refl)
-
--- ---- causes
-
--- counts, written short
-abbrev pub counts : ℕ → ℕ → ℕ → ℕ → Faults
-counts media definition message out = record { media = media; definition = definition; message = message; out = out }
-
--- the media failed, or a refusal left its count
-pub media_cause : (m n d s o : ℕ) (e : BuildError) → IsReadCause m n e → IsBuildCause (counts m d s o) (counts n d s o) e
-media_cause m n d s o (build.MediaRefused reason number) h = ap (λ (x : ℕ). counts x d s o) h
-media_cause m n d s o (build.BadDefinition field) h = ap (λ (x : ℕ). counts x d s o) h
-media_cause m n d s o (build.BadSignature part) h = ap (λ (x : ℕ). counts x d s o) h
-media_cause m n d s o build.Later h = ap (λ (x : ℕ). counts x d s o) h
-media_cause m n d s o (build.RedactionRefused text code) h = ap (λ (x : ℕ). counts x d s o) h
-media_cause m n d s o build.NoInstance h = ap (λ (x : ℕ). counts x d s o) h
-media_cause m n d s o (build.StoreTooLarge k) h = ap (λ (x : ℕ). counts x d s o) h
-media_cause m n d s o (build.ReserveTooSmall k) h = ap (λ (x : ℕ). counts x d s o) h
-media_cause m n d s o build.ReadFault h = inl h
-media_cause m n d s o build.JudgeFault h = h
-media_cause m n d s o build.WriteFault h = absurd h
-media_cause m n d s o build.NoMemory h = tt
-
--- the definition file did
-pub definition_cause : (m d e s o : ℕ) (f : BuildError) → IsReadCause d e f → IsBuildCause (counts m d s o) (counts m e s o) f
-definition_cause m d e s o (build.MediaRefused reason number) h = ap (λ (x : ℕ). counts m x s o) h
-definition_cause m d e s o (build.BadDefinition field) h = ap (λ (x : ℕ). counts m x s o) h
-definition_cause m d e s o (build.BadSignature part) h = ap (λ (x : ℕ). counts m x s o) h
-definition_cause m d e s o build.Later h = ap (λ (x : ℕ). counts m x s o) h
-definition_cause m d e s o (build.RedactionRefused text code) h = ap (λ (x : ℕ). counts m x s o) h
-definition_cause m d e s o build.NoInstance h = ap (λ (x : ℕ). counts m x s o) h
-definition_cause m d e s o (build.StoreTooLarge k) h = ap (λ (x : ℕ). counts m x s o) h
-definition_cause m d e s o (build.ReserveTooSmall k) h = ap (λ (x : ℕ). counts m x s o) h
-definition_cause m d e s o build.ReadFault h = inr (inl h)
-definition_cause m d e s o build.JudgeFault h = h
-definition_cause m d e s o build.WriteFault h = absurd h
-definition_cause m d e s o build.NoMemory h = tt
-
--- the message's file did
-pub message_cause : (m d s t o : ℕ) (f : BuildError) → IsReadCause s t f → IsBuildCause (counts m d s o) (counts m d t o) f
-message_cause m d s t o (build.MediaRefused reason number) h = ap (λ (x : ℕ). counts m d x o) h
-message_cause m d s t o (build.BadDefinition field) h = ap (λ (x : ℕ). counts m d x o) h
-message_cause m d s t o (build.BadSignature part) h = ap (λ (x : ℕ). counts m d x o) h
-message_cause m d s t o build.Later h = ap (λ (x : ℕ). counts m d x o) h
-message_cause m d s t o (build.RedactionRefused text code) h = ap (λ (x : ℕ). counts m d x o) h
-message_cause m d s t o build.NoInstance h = ap (λ (x : ℕ). counts m d x o) h
-message_cause m d s t o (build.StoreTooLarge k) h = ap (λ (x : ℕ). counts m d x o) h
-message_cause m d s t o (build.ReserveTooSmall k) h = ap (λ (x : ℕ). counts m d x o) h
-message_cause m d s t o build.ReadFault h = inr (inr h)
-message_cause m d s t o build.JudgeFault h = h
-message_cause m d s t o build.WriteFault h = absurd h
-message_cause m d s t o build.NoMemory h = tt
+pub passed_plan : (hash : Alg → List ℕ → List ℕ) (media : List ℕ) (kind : MediaKind) (d : Definition) (p : Place) → IsPassed media d kind p → IsPlannedOver hash media kind d (Ok (signed_bytes hash media d p))
+passed_plan hash media kind d p h =
+    unless_passes (first_refusal (early_tests kind d)) _ (Ok (signed_bytes hash media d p)) h.early
+    (then_next (IsPlaceStage media) _ p (Ok (signed_bytes hash media d p)) h.stage (unless_passes (first_refusal (number_tests (length media) d p.number)) _ (Ok (signed_bytes hash media d p)) h.numbers refl))

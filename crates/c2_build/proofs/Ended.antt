@@ -12,7 +12,6 @@ use Rattle.c2_build.specs.declared.embedding.Ready.{Ready}
 use Rattle.c2_build.specs.declared.error.BuildError.{BuildError}
 use Rattle.c2_build.specs.declared.error.BuildError.TheVariants as build
 use Rattle.c2_build.specs.declared.types.Embedded.{Embedded}
-use Rattle.c2_build.proofs.Drawn.{counts}
 use Rattle.c2_build.proofs.Written.{then_none}
 
 -- ---- nothing was written
@@ -114,20 +113,3 @@ pub all_written : (hash : Alg → List ℕ → List ℕ) (media definition messa
     → e.start ≡ ready.draft.start → e.length ≡ ready.draft.length → IsEmbedding hash media definition message old new (Ok e)
 all_written hash media definition message ready b e old new is h k start len =
     (b, is, record { start = start ∙ sym h.start; length = len ∙ sym h.len }, subst (λ (x : List ℕ). IsDelivered x old new) (sym h.file) k)
-
--- ---- causes
-
--- the media failed while it was copied, or the sink did
-pub copy_cause : (m n d s o p : ℕ) (e : BuildError) → IsCopyCause m n o p e → IsBuildCause (counts m d s o) (counts n d s p) e
-copy_cause m n d s o p (build.MediaRefused reason number) h = absurd h
-copy_cause m n d s o p (build.BadDefinition field) h = absurd h
-copy_cause m n d s o p (build.BadSignature part) h = absurd h
-copy_cause m n d s o p build.Later h = absurd h
-copy_cause m n d s o p (build.RedactionRefused text code) h = absurd h
-copy_cause m n d s o p build.NoInstance h = absurd h
-copy_cause m n d s o p (build.StoreTooLarge k) h = absurd h
-copy_cause m n d s o p (build.ReserveTooSmall k) h = absurd h
-copy_cause m n d s o p build.ReadFault h = inl h
-copy_cause m n d s o p build.JudgeFault h = absurd h
-copy_cause m n d s o p build.WriteFault h = h
-copy_cause m n d s o p build.NoMemory h = absurd h

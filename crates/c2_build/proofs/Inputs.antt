@@ -1,5 +1,5 @@
 -- What the inputs of a build come to, by what calls of other crates answered.
-use Rattle.std.proofs.Common.{◌≡◌, ℕ, ◌<◌, Bool, true, cond, List, length, inl, refl, sym, ap, subst, arith}
+use Rattle.std.proofs.Common.{◌≡◌, ℕ, ◌<◌, Bool, cond, List, length, inl, refl, sym, ap, subst, arith}
 use Rattle.std.specs.Prelude.{Result, Ok, Err}
 use Rattle.std.proofs.lemmas.Bool.{lt-ltb}
 use Rattle.c2_base.specs.declared.limits.TheConstants.{MAX_INPUT_LEN}
@@ -28,6 +28,8 @@ use Rattle.c2_message.specs.declared.error.SignaturePart.TheVariants as part
 use Rattle.c2_build.specs.Building.{IsDefinitionStage, IsMediaStage, IsMessageStage}
 use Rattle.c2_build.specs.declared.error.BuildError.{BuildError}
 use Rattle.c2_build.specs.declared.error.BuildError.TheVariants.{MediaRefused, BadDefinition, BadSignature}
+use Rattle.c2_build.specs.declared.types.MediaKind.{MediaKind}
+use Rattle.c2_build.specs.declared.types.MediaKind.TheVariants.{Waits}
 use Rattle.c2_build.proofs.SomeBuild.{EachDefinition}
 use Rattle.c2_definition.specs.Json.{object_of}
 use Rattle.c2_spec.specs.Cbor.Fields.{require}
@@ -39,8 +41,8 @@ pub refused_media : (file : List ℕ) (o : Opened) (reason : Reason) (number : �
 refused_media file o reason number is h = (refused reason number, (refused reason number, (subst (IsFound file) is h).located, refl), refl)
 
 -- what a store is to a build
-abbrev pub store_stage : StoreRead → Result Bool BuildError
-store_stage (read.Here t s) = Ok true
+abbrev pub store_stage : StoreRead → Result MediaKind BuildError
+store_stage (read.Here t s) = Ok Waits
 store_stage (read.Refused reason number) = Err (MediaRefused reason number)
 
 -- a file with a store

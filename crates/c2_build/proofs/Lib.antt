@@ -1,3 +1,4 @@
+mod FirstRefusal
 mod Stages
 mod OneBuild
 mod SomeBuild

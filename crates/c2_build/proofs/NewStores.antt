@@ -1,6 +1,6 @@
 -- What is signed and what is written of the parts of a new store.
 use Rattle.std.proofs.Common.{◌≡◌, ℕ, ◌+◌, ◌≤◌, Bool, true, List, ◌++◌, length, Option, option_map, Some, None, refl, sym, ap, ◌∙◌, subst, arith, codes, length-append}
-use Rattle.std.specs.Prelude.{Ok, Err, unwrap_or}
+use Rattle.std.specs.Prelude.{Ok, Err}
 use Rattle.std.specs.Int.{w32, to_be_bytes}
 use Rattle.std.specs.Option.{option_to_list}
 use Rattle.c2_base.specs.declared.limits.TheConstants.{MAX_STORE_LEN}
@@ -14,7 +14,6 @@ use Rattle.c2_spec.specs.Jumbf.Writing.{fresh_description}
 use Rattle.c2_spec.specs.PutIn.{put_in}
 use Rattle.c2_spec.specs.declared.digest.Alg.{Alg}
 use Rattle.c2_spec.specs.declared.digest.Alg.TheVariants.{Sha256}
-use Rattle.c2_spec.specs.declared.packets.TheConstants.{LEAST_NUMBER}
 use Rattle.c2_definition.specs.declared.types.Definition.{Definition}
 use Rattle.c2_definition.specs.declared.types.NewAssertion.{NewAssertion}
 use Rattle.c2_message.specs.Refusals.{reserve_needed}
@@ -26,15 +25,17 @@ use Rattle.c2_layout.specs.Parts.{AreParts}
 use Rattle.c2_layout.specs.Store.{data_binding, new_claim, new_manifest, new_store}
 use Rattle.c2_layout.specs.declared.parts.NewParts.{NewParts}
 use Rattle.c2_build.specs.Answers.{WithoutFault}
-use Rattle.c2_build.specs.Building.{IsBuilt, IsEmbeddedOver, IsPlaceStage, Place, Unless, built_of, signed_bytes}
-use Rattle.c2_build.specs.Refusals.{first_refusal, new_range_len, new_store_len, plan_tests, refuse_if, reserve_tests}
+use Rattle.c2_build.specs.Building.{IsBuilt, IsEmbeddedOver, IsPlaceStage, Place, built_of, signed_bytes}
+use Rattle.c2_build.specs.Refusals.{early_tests, first_refusal, late_tests, new_range_len, new_store_len, number_tests, refuse_if, reserve_tests}
 use Rattle.c2_build.specs.Steps.{AreNewParts, IsDraft, IsPassed, IsReady, IsReserveRefusal}
 use Rattle.c2_build.specs.declared.draft.Draft.{Draft}
 use Rattle.c2_build.specs.declared.embedding.Ready.{Ready}
 use Rattle.c2_build.specs.declared.error.BuildError.{BuildError}
 use Rattle.c2_build.specs.declared.error.BuildError.TheVariants as build
 use Rattle.c2_build.proofs.Drafted.{first_passes}
-use Rattle.c2_build.proofs.Drawn.{then_next}
+use Rattle.c2_build.proofs.Drawn.{then_next, unless_fails, unless_passes}
+use Rattle.c2_build.specs.declared.types.MediaKind.{MediaKind}
+use Rattle.c2_build.specs.declared.types.MediaKind.TheVariants.{Fresh}
 
 -- ---- what is signed
 
@@ -61,36 +62,38 @@ fits law d parts message signed = by (reserve_needed d.reserve (length (bare_byt
     by (Some n) e = absurd (law.never_both parts d.reserve message signed (n, e))
 
 -- one that doesn't is refused behind the other tests
-pub reserve_outside : (hash : Alg → List ℕ → List ℕ) (media : List ℕ) (later : Bool) (d : Definition) (parts : SignParts) (p : Place) (e : BuildError) → IsPassed media d later p → IsReserveRefusal d parts e → WithoutFault e (IsEmbeddedOver hash media later d parts (Err e))
-reserve_outside hash media later d parts p (build.MediaRefused reason number) h r = absurd r
-reserve_outside hash media later d parts p (build.BadDefinition field) h r = absurd r
-reserve_outside hash media later d parts p (build.BadSignature part) h r = absurd r
-reserve_outside hash media later d parts p build.Later h r = absurd r
-reserve_outside hash media later d parts p (build.RedactionRefused text code) h r = absurd r
-reserve_outside hash media later d parts p build.NoInstance h r = absurd r
-reserve_outside hash media later d parts p (build.StoreTooLarge n) h r = absurd r
-reserve_outside hash media later d parts p (build.ReserveTooSmall n) h r =
+pub reserve_outside : (hash : Alg → List ℕ → List ℕ) (media : List ℕ) (kind : MediaKind) (d : Definition) (parts : SignParts) (p : Place) (e : BuildError) → IsPassed media d kind p → IsReserveRefusal d parts e → WithoutFault e (IsEmbeddedOver hash media kind d parts (Err e))
+reserve_outside hash media kind d parts p (build.MediaRefused reason number) h r = absurd r
+reserve_outside hash media kind d parts p (build.BadDefinition field) h r = absurd r
+reserve_outside hash media kind d parts p (build.BadSignature part) h r = absurd r
+reserve_outside hash media kind d parts p build.Later h r = absurd r
+reserve_outside hash media kind d parts p (build.RedactionRefused text code) h r = absurd r
+reserve_outside hash media kind d parts p build.NoInstance h r = absurd r
+reserve_outside hash media kind d parts p (build.StoreTooLarge n) h r = absurd r
+reserve_outside hash media kind d parts p (build.ReserveTooSmall n) h r =
     let last : first_refusal (reserve_tests d parts) ≡ Some (build.ReserveTooSmall n) = ap (λ (x : Option ℕ). first_refusal (option_to_list (option_map (λ (m : ℕ). refuse_if true (build.ReserveTooSmall m)) x))) r in
-    let first = first_passes (plan_tests (length media) d p.number) (reserve_tests d parts) (Some (build.ReserveTooSmall n)) h.none last in
-    then_next (IsPlaceStage media later) _ p (Err (build.ReserveTooSmall n)) h.stage (subst (λ (o : Option BuildError). Unless o (IsBuilt hash media d p parts) (Err (build.ReserveTooSmall n))) (sym first) refl)
-reserve_outside hash media later d parts p build.ReadFault h r = tt
-reserve_outside hash media later d parts p build.JudgeFault h r = tt
-reserve_outside hash media later d parts p build.WriteFault h r = tt
-reserve_outside hash media later d parts p build.NoMemory h r = tt
+    let first = first_passes (number_tests (length media) d p.number) (reserve_tests d parts) (Some (build.ReserveTooSmall n)) h.numbers last in
+    unless_passes (first_refusal (early_tests kind d)) _ (Err (build.ReserveTooSmall n)) h.early
+    (then_next (IsPlaceStage media) _ p (Err (build.ReserveTooSmall n)) h.stage (unless_fails (first_refusal (late_tests (length media) d parts p.number)) _ (build.ReserveTooSmall n) first))
+reserve_outside hash media kind d parts p build.ReadFault h r = tt
+reserve_outside hash media kind d parts p build.JudgeFault h r = tt
+reserve_outside hash media kind d parts p build.WriteFault h r = tt
+reserve_outside hash media kind d parts p build.NoMemory h r = tt
 
 -- ---- what is written
 
 -- a file is built where no test fails
-pub built_over : FillsOrNeedsMore → (hash : Alg → List ℕ → List ℕ) (media : List ℕ) (later : Bool) (d : Definition) (parts : SignParts) (p : Place) (message : List ℕ) → IsPassed media d later p → IsSigned parts d.reserve message
-    → IsEmbeddedOver hash media later d parts (Ok (built_of hash media d p message))
-built_over law hash media later d parts p message h signed =
-    let none = first_passes (plan_tests (length media) d p.number) (reserve_tests d parts) None h.none (fits law d parts message signed) in
-    then_next (IsPlaceStage media later) _ p (Ok (built_of hash media d p message)) h.stage
-    (subst (λ (o : Option BuildError). Unless o (IsBuilt hash media d p parts) (Ok (built_of hash media d p message))) (sym none) (message, signed, refl))
+pub built_over : FillsOrNeedsMore → (hash : Alg → List ℕ → List ℕ) (media : List ℕ) (kind : MediaKind) (d : Definition) (parts : SignParts) (p : Place) (en : ℕ) (message : List ℕ) → IsPassed media d kind p → p.number ≡ Some en → IsSigned parts d.reserve message
+    → IsEmbeddedOver hash media kind d parts (Ok (built_of hash media d p.segments en message))
+built_over law hash media kind d parts p en message h free signed =
+    let none = first_passes (number_tests (length media) d p.number) (reserve_tests d parts) None h.numbers (fits law d parts message signed) in
+    unless_passes (first_refusal (early_tests kind d)) _ (Ok (built_of hash media d p.segments en message)) h.early
+    (then_next (IsPlaceStage media) _ p (Ok (built_of hash media d p.segments en message)) h.stage
+    (unless_passes (first_refusal (late_tests (length media) d parts p.number)) (IsBuilt hash media d p parts) (Ok (built_of hash media d p.segments en message)) none (en, free, (message, signed, refl))))
 
 -- it is ready to be written
 pub ready_is : (hash : Alg → List ℕ → List ℕ) (media : List ℕ) (d : Definition) (parts : NewParts) (known : Option (List ℕ)) (p : Place) (message : List ℕ) (r : Ready) → IsDraft d r.draft p → AreNewParts (hash Sha256) known d r.draft parts → known ≡ Some media → length message ≡ d.reserve
-    → ((h : List ℕ → List ℕ) (binding : NewAssertion) → AreParts h (fresh_content d) binding parts → r.store ≡ tree_bytes (new_store h (fresh_content d) binding message)) → IsReady media r (built_of hash media d p message)
+    → ((h : List ℕ → List ℕ) (binding : NewAssertion) → AreParts h (fresh_content d) binding parts → r.store ≡ tree_bytes (new_store h (fresh_content d) binding message)) → IsReady media r (built_of hash media d p.segments r.draft.number message)
 ready_is hash media d parts known p message r draft new is filled store =
     let binding = same_binding (hash Sha256) media d r.draft p new.digest draft (new.is_digest media is) in
     let own : r.store ≡ tree_bytes (new_store (hash Sha256) (fresh_content d) (data_binding (insert_place p.segments) (built_len (fresh_content d) (length message)) (hash Sha256 media)) message) =
@@ -98,9 +101,8 @@ ready_is hash media d parts known p message r draft new is filled store =
     ∙ ap (λ (b : NewAssertion). tree_bytes (new_store (hash Sha256) (fresh_content d) b message)) binding
     ∙ ap (λ (n : ℕ). tree_bytes (new_store (hash Sha256) (fresh_content d) (data_binding (insert_place p.segments) (built_len (fresh_content d) n) (hash Sha256 media)) message)) (sym filled) in
     record {
-      file = ap (λ (x : List ℕ). put_in (insert_place p.segments) (packets_bytes x (unwrap_or p.number LEAST_NUMBER)) media) (sym own)
-          ∙ ap (λ (n : ℕ). put_in n (packets_bytes r.store (unwrap_or p.number LEAST_NUMBER)) media) (sym draft.start)
-          ∙ ap (λ (n : ℕ). put_in r.draft.start (packets_bytes r.store n) media) (sym draft.number);
+      file = ap (λ (x : List ℕ). put_in (insert_place p.segments) (packets_bytes x r.draft.number) media) (sym own)
+          ∙ ap (λ (n : ℕ). put_in n (packets_bytes r.store r.draft.number) media) (sym draft.start);
       start = sym draft.start;
       len = sym draft.length;
     }

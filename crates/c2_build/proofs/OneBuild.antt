@@ -1,6 +1,7 @@
 -- Told inputs come to one plan and to one new file.
 use Rattle.std.proofs.Common.{◌≡◌, ◌⊎◌, inl, inr, ℕ, Bool, true, false, List, length, Option, sym, ap, ◌∙◌, subst}
 use Rattle.std.specs.Prelude.{Result, Ok, Err}
+use Rattle.std.proofs.lemmas.Option.{same_Some}
 use Rattle.c2_spec.specs.C2pa.Sign1.{SignParts, SpellsMessage, message_list}
 use Rattle.c2_spec.specs.Cbor.Item.{Item, tag}
 use Rattle.c2_spec.specs.Cbor.Spelling.{Spells}
@@ -16,10 +17,11 @@ use Rattle.c2_definition.specs.declared.types.DefinitionField.{DefinitionField}
 use Rattle.c2_message.specs.Message.{RefusedForOne}
 use Rattle.c2_message.specs.Signed.{FillsOrNeedsMore}
 use Rattle.c2_message.specs.declared.error.SignaturePart.{SignaturePart}
-use Rattle.c2_build.specs.Building.{IsBuilt, IsDefinitionStage, IsMediaStage, IsMessageRead, IsMessageStage, IsPlace, IsPlaceStage, Place, built_of, definition_stage, media_stage, message_stage, signed_bytes}
+use Rattle.c2_build.specs.Building.{IsBuilt, IsDefinitionRefused, IsDefinitionStage, IsMediaRefused, IsMediaStage, IsMessageRead, IsMessageStage, IsPlace, IsPlaceStage, Place, built_of, definition_stage, media_stage, message_stage, signed_bytes}
 use Rattle.c2_build.specs.Meeting.{OneEmbedding, OnePlan}
-use Rattle.c2_build.specs.Refusals.{embed_tests, first_refusal, plan_tests}
+use Rattle.c2_build.specs.Refusals.{early_tests, first_refusal, late_tests, number_tests}
 use Rattle.c2_build.proofs.Stages.{IsOne, one_then, one_unless}
+use Rattle.c2_build.specs.declared.types.MediaKind.{MediaKind}
 
 -- ---- what laws of other crates say
 
@@ -84,12 +86,20 @@ same_message one s p q a b =
 -- ---- stages
 
 -- a media file is one thing to a build
-one_media : OneOpened → (media : List ℕ) → IsOne (IsMediaStage media)
+pub one_media : OneOpened → (media : List ℕ) → IsOne (IsMediaStage media)
 one_media one media r s h k = h.2 ∙ ap (media_stage media) (one media h.0 k.0 h.1 k.1) ∙ sym k.2
 
 -- so is a definition file
-one_definition : OneDefinition → (file : List ℕ) → IsOne (IsDefinitionStage file)
+pub one_definition : OneDefinition → (file : List ℕ) → IsOne (IsDefinitionStage file)
 one_definition one file r s h k = h.2 ∙ ap definition_stage (one file h.0 k.0 h.1 k.1) ∙ sym k.2
+
+-- a media file that is refused isn't one that isn't
+pub not_both_media : OneOpened → (media : List ℕ) (kind : MediaKind) {P : Type 0} → IsMediaStage media (Ok kind) → IsMediaRefused media → P
+not_both_media one media kind {P} h refused = absurd (let bad = one_media one media (Ok kind) (Err refused.0) h refused.1 in cc (bad))
+
+-- and so is a definition file
+pub not_both_definitions : OneDefinition → (file : List ℕ) (d : Definition) {P : Type 0} → IsDefinitionStage file (Ok d) → IsDefinitionRefused file → P
+not_both_definitions one file d {P} h refused = absurd (let bad = one_definition one file (Ok d) (Err refused.0) h refused.1 in cc (bad))
 
 -- a message is read as one thing
 one_read : OneItem → RefusedForOne → (protected bytes : List ℕ) (m n : Result SignParts SignaturePart) → IsMessageRead protected bytes m → IsMessageRead protected bytes n → m ≡ n
@@ -113,31 +123,32 @@ same_place list number media p q h k =
     let free : p.number ≡ q.number = number media p.number q.number (record { segments = p.segments; is_of = h.is_of; number_is = h.is_number }) (record { segments = q.segments; is_of = k.is_of; number_is = k.is_number }) in
     ap (λ (ss : List Segment). place ss p.number) segments ∙ ap (λ (n : Option ℕ). place q.segments n) free
 
--- a place is one, or the build has to wait
-one_place : OneList → OneNumber → (media : List ℕ) (later : Bool) → IsOne (IsPlaceStage media later)
-one_place list number media true r s h k = h ∙ sym k
-one_place list number media false r s h k = h.2 ∙ ap (λ (p : Place). Ok p) (same_place list number media h.0 k.0 h.1 k.1) ∙ sym k.2
+-- a place is one
+one_place : OneList → OneNumber → (media : List ℕ) → IsOne (IsPlaceStage media)
+one_place list number media r s h k = h.2 ∙ ap (λ (p : Place). Ok p) (same_place list number media h.0 k.0 h.1 k.1) ∙ sym k.2
 
 -- one new file is built
 one_built : FillsOrNeedsMore → (hash : Alg → List ℕ → List ℕ) (media : List ℕ) (d : Definition) (p : Place) (m : SignParts) → IsOne (IsBuilt hash media d p m)
 one_built fills hash media d p m r s h k =
-    h.2 ∙ ap (λ (message : List ℕ). Ok (built_of hash media d p message)) (fills.one m d.reserve h.0 k.0 h.1 k.1) ∙ sym k.2
+    let number : h.0 ≡ k.0 = same_Some h.0 k.0 (sym h.1 ∙ k.1) in
+    h.2.2 ∙ ap (λ (en : ℕ). Ok (built_of hash media d p.segments en h.2.0)) number
+    ∙ ap (λ (message : List ℕ). Ok (built_of hash media d p.segments k.0 message)) (fills.one m d.reserve h.2.0 k.2.0 h.2.1 k.2.1) ∙ sym k.2.2
 
 -- ---- both calls
 
 -- a plan is one
 pub one_plan : OneLaws → OnePlan
 one_plan l hash media definition =
-    one_then (IsMediaStage media) _ (one_media l.opened media) (λ later.
+    one_then (IsMediaStage media) _ (one_media l.opened media) (λ kind.
     one_then (IsDefinitionStage definition) _ (one_definition l.definition definition) (λ d.
-    one_then (IsPlaceStage media later) _ (one_place l.list l.number media later) (λ p.
-    one_unless (first_refusal (plan_tests (length media) d p.number)) (λ r. r ≡ Ok (signed_bytes hash media d p)) (λ r s h k. h ∙ sym k))))
+    one_unless (first_refusal (early_tests kind d)) _ (one_then (IsPlaceStage media) _ (one_place l.list l.number media) (λ p.
+    one_unless (first_refusal (number_tests (length media) d p.number)) (λ r. r ≡ Ok (signed_bytes hash media d p)) (λ r s h k. h ∙ sym k)))))
 
 -- and so is a new file
 pub one_embedding : OneLaws → OneEmbedding
 one_embedding l hash media definition message =
-    one_then (IsMediaStage media) _ (one_media l.opened media) (λ later.
+    one_then (IsMediaStage media) _ (one_media l.opened media) (λ kind.
     one_then (IsDefinitionStage definition) _ (one_definition l.definition definition) (λ d.
     one_then (IsMessageStage d.protected message) _ (one_message l.item l.refused d.protected message) (λ m.
-    one_then (IsPlaceStage media later) _ (one_place l.list l.number media later) (λ p.
-    one_unless (first_refusal (embed_tests (length media) d m p.number)) (IsBuilt hash media d p m) (one_built l.fills hash media d p m)))))
+    one_unless (first_refusal (early_tests kind d)) _ (one_then (IsPlaceStage media) _ (one_place l.list l.number media) (λ p.
+    one_unless (first_refusal (late_tests (length media) d m p.number)) (IsBuilt hash media d p m) (one_built l.fills hash media d p m))))))

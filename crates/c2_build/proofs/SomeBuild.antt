@@ -1,5 +1,5 @@
 -- Told inputs come to some plan and to some new file, or to what refuses them.
-use Rattle.std.proofs.Common.{◌≡◌, ◌⊎◌, inl, inr, ℕ, zero, suc, ◌+◌, ◌-◌, ◌^◌, ◌<◌, ◌≤◌, Bool, true, false, List, length, All, Option, Some, None, refl, subst, arith, below_more, option_map}
+use Rattle.std.proofs.Common.{◌≡◌, ◌⊎◌, inl, inr, ℕ, zero, suc, ◌+◌, ◌-◌, ◌^◌, ◌<◌, ◌≤◌, Bool, true, false, List, length, All, Option, Some, None, refl, subst, arith, below_more, option_map, cond}
 use Rattle.std.specs.Prelude.{Result, Ok, Err, MatchBool}
 use Rattle.c2_base.specs.declared.values.Question.{Question}
 use Rattle.c2_spec.specs.C2pa.Message.{bare_bytes}
@@ -29,10 +29,12 @@ use Rattle.c2_message.specs.Signed.{FillsOrNeedsMore, IsPaddable, IsSigned, Need
 use Rattle.c2_message.specs.declared.error.SignaturePart.{SignaturePart}
 use Rattle.c2_build.specs.Building.{IsBuilt, IsDefinitionStage, IsMediaStage, IsMessageRead, IsMessageStage, IsPlaceStage, Place, built_of, definition_stage, media_stage, message_stage, signed_bytes}
 use Rattle.c2_build.specs.Meeting.{SomeEmbedding, SomePlan}
-use Rattle.c2_build.specs.Refusals.{embed_tests, first_refusal, plan_tests, reserve_tests, refuse_if}
+use Rattle.c2_build.specs.Refusals.{early_tests, first_refusal, late_tests, number_tests, reserve_tests, refuse_if}
 use Rattle.c2_build.proofs.Stages.{Something, none_of_both, some_then, some_unless}
 use Rattle.c2_build.specs.declared.error.BuildError.TheVariants.{ReserveTooSmall}
 use Rattle.std.specs.Option.{option_to_list}
+use Rattle.c2_build.specs.declared.types.MediaKind.{MediaKind}
+use Rattle.c2_build.specs.declared.types.MediaKind.TheVariants.{Fresh, Waits}
 
 -- ---- what laws of other crates say
 
@@ -81,14 +83,14 @@ located_absent (here start len store) h = absurd (by h.0 h.1 h.2)
     by (here at count t) a b = b
 
 -- a media file that needn't wait is a JPEG file without a store
-pub no_store : (media : List ℕ) → IsMediaStage media (Ok false) → HasNoJpegStore media
+pub no_store : (media : List ℕ) → IsMediaStage media (Ok Fresh) → HasNoJpegStore media
 no_store media h = by h.0 h.1 h.2
   where
-    inside : (b : Bool) (l : Located) → b ≡ false → l ≡ absent → MatchBool b (IsBmffLocated media l) (jpeg.IsLocated media l) → HasNoJpegStore media
+    inside : (b : Bool) (l : Located) → Fresh ≡ cond b Waits Fresh → l ≡ absent → MatchBool b (IsBmffLocated media l) (jpeg.IsLocated media l) → HasNoJpegStore media
     inside true l e a k = absurd (cc (e))
     inside false l e a k = subst (jpeg.IsLocated media) a k
 
-    by : (what : Opening Tree) → IsOpened media what → Ok false ≡ media_stage media what → HasNoJpegStore media
+    by : (what : Opening Tree) → IsOpened media what → Ok Fresh ≡ media_stage media what → HasNoJpegStore media
     by (refused reason number) o e = absurd (cc (e))
     by absent o e = inside (is_bmff media) o.0 (cc (e)) (located_absent o.0 o.2) o.1
     by (here start len t) o e = absurd (cc (e))
@@ -111,11 +113,15 @@ free_from segments (suc count) at e least h = by (is_taken segments at) refl (λ
 some_number : (segments : List Segment) → (o : Option ℕ) × IsNumberOf segments o
 some_number segments = free_from segments (2 ^ 16 - LEAST_NUMBER) LEAST_NUMBER (omega arith) (omega arith) (λ n from to. absurd (omega arith))
 
--- packets go somewhere, or the build has to wait
-some_place : HasList → (media : List ℕ) (later : Bool) → IsMediaStage media (Ok later) → Something (IsPlaceStage media later)
-some_place law media true h = (_, refl)
-some_place law media false h =
-    let list = law media (no_store media h) in
+-- a file that needn't wait is one without a store
+pub is_fresh : (kind : MediaKind) (d : Definition) → first_refusal (early_tests kind d) ≡ None → kind ≡ Fresh
+is_fresh Fresh d h = refl
+is_fresh Waits d h = absurd (cc (h))
+
+-- packets go somewhere
+some_place : HasList → (media : List ℕ) → HasNoJpegStore media → Something (IsPlaceStage media)
+some_place law media h =
+    let list = law media h in
     let number = some_number list.0 in
     (Ok (record { segments = list.0; number = number.0 }), (record { segments = list.0; number = number.0 }, record { is_of = list.1; is_number = number.1 }, refl))
 
@@ -181,31 +187,40 @@ no_more d p none needs = by (reserve_needed d.reserve (length (bare_bytes p))) n
     by None e k = cc (e)
     by (Some n) e k = cc (k)
 
+-- a number is free where no test on numbers fails
+pub some_free : (size : ℕ) (d : Definition) (number : Option ℕ) → first_refusal (number_tests size d number) ≡ None → (en : ℕ) × (number ≡ Some en)
+some_free size d None h = absurd (cc (h))
+some_free size d (Some en) h = (en, refl)
+
 -- a file is built where no test fails
-some_built : FillsOrNeedsMore → (hash : Alg → List ℕ → List ℕ) (media bytes : List ℕ) (d : Definition) (p : Place) (m : SignParts) → IsTaken d.protected bytes m → IsWellFormed d → first_refusal (embed_tests (length media) d m p.number) ≡ None
+some_built : FillsOrNeedsMore → (hash : Alg → List ℕ → List ℕ) (media bytes : List ℕ) (d : Definition) (p : Place) (m : SignParts) → IsTaken d.protected bytes m → IsWellFormed d → first_refusal (late_tests (length media) d m p.number) ≡ None
     → Something (IsBuilt hash media d p m)
-some_built fills hash media bytes d p m taken formed none = by (fills.either bytes m d.reserve (paddable d.protected bytes m d taken formed))
+some_built fills hash media bytes d p m taken formed none =
+    let both = none_of_both (number_tests (length media) d p.number) (reserve_tests d m) none in
+    by both (fills.either bytes m d.reserve (paddable d.protected bytes m d taken formed))
   where
-    by : ((message : List ℕ) × IsSigned m d.reserve message) ⊎ NeedsMore m d.reserve → Something (IsBuilt hash media d p m)
-    by (inl s) = (Ok (built_of hash media d p s.0), (s.0, s.1, refl))
-    by (inr n) = absurd (no_more d m (none_of_both (plan_tests (length media) d p.number) (reserve_tests d m) none).1 n)
+    by : (first_refusal (number_tests (length media) d p.number) ≡ None) × (first_refusal (reserve_tests d m) ≡ None) → ((message : List ℕ) × IsSigned m d.reserve message) ⊎ NeedsMore m d.reserve → Something (IsBuilt hash media d p m)
+    by both (inl s) = let en = some_free (length media) d p.number both.0 in (Ok (built_of hash media d p.segments en.0 s.0), (en.0, en.1, (s.0, s.1, refl)))
+    by both (inr n) = absurd (no_more d m both.1 n)
 
 -- ---- both calls
 
 -- something is planned
 pub some_plan : SomeLaws → SomePlan
 some_plan l hash media definition bytes =
-    some_then (IsMediaStage media) _ (some_media l.answer hash media bytes) (λ later is_media.
+    some_then (IsMediaStage media) _ (some_media l.answer hash media bytes) (λ kind is_media.
     some_then (IsDefinitionStage definition) _ (some_definition l.definition definition) (λ d is_d.
-    some_then (IsPlaceStage media later) _ (some_place l.list media later is_media) (λ p is_p.
-    some_unless (first_refusal (plan_tests (length media) d p.number)) (λ r. r ≡ Ok (signed_bytes hash media d p)) (λ none. (_, refl)))))
+    some_unless (first_refusal (early_tests kind d)) _ (λ early.
+    some_then (IsPlaceStage media) _ (some_place l.list media (no_store media (subst (λ (k : MediaKind). IsMediaStage media (Ok k)) (is_fresh kind d early) is_media))) (λ p is_p.
+    some_unless (first_refusal (number_tests (length media) d p.number)) (λ r. r ≡ Ok (signed_bytes hash media d p)) (λ none. (_, refl))))))
 
 -- something is built
 pub some_embedding : SomeLaws → SomeEmbedding
 some_embedding l hash media definition message bytes are =
-    some_then (IsMediaStage media) _ (some_media l.answer hash media bytes) (λ later is_media.
+    some_then (IsMediaStage media) _ (some_media l.answer hash media bytes) (λ kind is_media.
     some_then (IsDefinitionStage definition) _ (some_definition l.definition definition) (λ d is_d.
     some_then (IsMessageStage d.protected message) _ (some_message l.refused d.protected message are) (λ m is_m.
-    some_then (IsPlaceStage media later) _ (some_place l.list media later is_media) (λ p is_p.
-    some_unless (first_refusal (embed_tests (length media) d m p.number)) (IsBuilt hash media d p m) (λ none.
-    some_built l.fills hash media message d p m (read_taken d.protected message m is_m) (read_formed l.formed definition d is_d) none)))))
+    some_unless (first_refusal (early_tests kind d)) _ (λ early.
+    some_then (IsPlaceStage media) _ (some_place l.list media (no_store media (subst (λ (k : MediaKind). IsMediaStage media (Ok k)) (is_fresh kind d early) is_media))) (λ p is_p.
+    some_unless (first_refusal (late_tests (length media) d m p.number)) (IsBuilt hash media d p m) (λ none.
+    some_built l.fills hash media message d p m (read_taken d.protected message m is_m) (read_formed l.formed definition d is_d) none))))))

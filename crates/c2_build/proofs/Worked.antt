@@ -32,9 +32,10 @@ use Rattle.c2_message.specs.Signed.{FillsOrNeedsMore, IsSigned, NeedsMore}
 use Rattle.c2_layout.specs.Written.{HasTexts}
 use Rattle.c2_build.specs.Building.{Built, IsBuilt, IsEmbedded, IsPlace, Place, Unless, built_of}
 use Rattle.c2_build.specs.Meeting.{HasTextsIn, SomeBuildSucceeds}
-use Rattle.c2_build.specs.Refusals.{embed_tests, first_refusal}
+use Rattle.c2_build.specs.Refusals.{first_refusal, late_tests}
 use Rattle.c2_build.specs.declared.error.BuildError.{BuildError}
 use Rattle.c2_build.proofs.OneBuild.{OneDefinition, OneItem, same_message}
+use Rattle.c2_build.specs.declared.types.MediaKind.TheVariants.{Fresh}
 
 -- ---- the definition
 
@@ -219,7 +220,7 @@ texts_in one d is = let same : defined ≡ d = cc (one definition_file (Ok defin
 -- ---- the build
 
 -- no test fails
-none_fails : first_refusal (embed_tests (length media) defined parts (Some 0x0211)) ≡ None
+none_fails : first_refusal (late_tests (length media) defined parts (Some 0x0211)) ≡ None
 unfolding shortest_head
 none_fails = refl
 
@@ -227,11 +228,11 @@ none_fails = refl
 pub worked : OneItem → FillsOrNeedsMore → (hash : Alg → List ℕ → List ℕ) → (b : Built) × IsEmbedded hash media definition_file message (Ok b)
 worked one fills hash =
     let filled = signed fills in
-    let b : Built = built_of hash media defined place filled.0 in
-    let is_built : IsBuilt hash media defined place parts (Ok b) = (filled.0, filled.1, refl) in (
+    let b : Built = built_of hash media defined place.segments 0x0211 filled.0 in
+    let is_built : IsBuilt hash media defined place parts (Ok b) = (0x0211, refl, (filled.0, filled.1, refl)) in (
       b,
       record {
-        first = Ok false;
+        first = Ok Fresh;
         is_first = (located.absent, is_absent, refl);
         next = record {
           first = Ok defined;

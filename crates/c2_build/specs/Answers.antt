@@ -9,7 +9,7 @@ use Rattle.c2_base.specs.Sink.{Appends, HasWrittenPrefix}
 use Rattle.c2_spec.specs.declared.digest.Alg.{Alg}
 use Rattle.c2_build.specs.Building.{Built, IsEmbedded}
 use Rattle.c2_build.specs.declared.error.BuildError.{BuildError}
-use Rattle.c2_build.specs.declared.error.BuildError.TheVariants.{ReadFault, JudgeFault, WriteFault, NoMemory}
+use Rattle.c2_build.specs.declared.error.BuildError.TheVariants.{BadSignature, ReserveTooSmall, ReadFault, JudgeFault, WriteFault, NoMemory}
 use Rattle.c2_build.specs.declared.types.Embedded.{Embedded}
 
 -- ---- answers
@@ -30,14 +30,30 @@ ComesTo Is (Err e) = WithoutFault e (Is (Err e))
 
 -- ---- faults
 
--- The counts of faults of what a build uses; of what a call doesn't use, 0.
+-- The counts of faults of what `plan` uses.
+pub record PlanFaults : Type 0 where
+  pub media : ℕ
+  pub definition : ℕ
+
+-- The cause of an error of `plan`, by the counts before and after: a source failed. It looks at no signed message, asks no judge and
+-- writes nothing; a refusal leaves the counts.
+abbrev pub IsPlanCause : PlanFaults → PlanFaults → BuildError → Type 0
+IsPlanCause before now (BadSignature test) = ⊥
+IsPlanCause before now (ReserveTooSmall n) = ⊥
+IsPlanCause before now ReadFault = Rose before.media now.media ⊎ Rose before.definition now.definition
+IsPlanCause before now JudgeFault = ⊥
+IsPlanCause before now WriteFault = ⊥
+IsPlanCause before now NoMemory = ⊤
+IsPlanCause before now e = now ≡ before
+
+-- The counts of faults of what `embed` uses.
 pub record Faults : Type 0 where
   pub media : ℕ
   pub definition : ℕ
   pub message : ℕ
   pub out : ℕ
 
--- The cause of an error, by the counts before and after: a source failed, or the sink. No judge is asked, and a refusal leaves the
+-- The cause of an error of `embed`, by the counts before and after: a source failed, or the sink. No judge is asked, and a refusal leaves the
 -- counts.
 abbrev pub IsBuildCause : Faults → Faults → BuildError → Type 0
 IsBuildCause before now ReadFault =
@@ -74,7 +90,7 @@ abbrev pub file_of : Result Built BuildError → List ℕ
 file_of (Ok b) = b.file
 file_of (Err e) = []
 
--- Over told inputs: the range and the file that they come to, or what is refused first; after a failure of a source or of the sink,
+-- Over known inputs: the range and the file that they come to, or what is refused first; after a failure of a source or of the sink,
 -- a prefix of the file.
 abbrev pub IsEmbedding : (Alg → List ℕ → List ℕ) → List ℕ → List ℕ → List ℕ → SinkState → SinkState
     → Result Embedded BuildError → Type 0
@@ -94,7 +110,7 @@ LeavesSink (Err ReadFault) claim = ⊤
 LeavesSink (Err WriteFault) claim = ⊤
 LeavesSink (Err e) claim = claim
 
--- whether the sink is finished, whatever the sources tell: success finishes it, and no other answer does
+-- whether the sink is finished, whatever is known of the sources: success finishes it, and no other answer does
 abbrev pub HasFinish : Bool → Bool → Result Embedded BuildError → Type 0
 HasFinish before now (Ok e) = now ≡ true
 HasFinish before now (Err e) = now ≡ before

@@ -1,6 +1,6 @@
 -- What the build of a new store into a JPEG file without an older one comes to: what is to be signed, the new file, or what is
--- refused first. Told inputs come to one thing: the order of the tests is this project's own choice.
-use Rattle.std.specs.Prelude.{◌≡◌, ℕ, Bool, true, false, List, length, unwrap_or}
+-- refused first. Known inputs come to one thing: the order of the tests is this project's own choice.
+use Rattle.std.specs.Prelude.{◌≡◌, ℕ, List, length, if◌then◌else◌}
 use Rattle.std.specs.declared.option.Option.{Option}
 use Rattle.std.specs.declared.option.Option.TheVariants.{Some, None}
 use Rattle.std.specs.declared.result.Result.{Result}
@@ -15,7 +15,6 @@ use Rattle.c2_spec.specs.Jumbf.Tree.{Tree}
 use Rattle.c2_spec.specs.Located.{Opening, refused, absent, here}
 use Rattle.c2_spec.specs.declared.digest.Alg.{Alg}
 use Rattle.c2_spec.specs.declared.digest.Alg.TheVariants.{Sha256}
-use Rattle.c2_spec.specs.declared.packets.TheConstants.{LEAST_NUMBER}
 use Rattle.c2_rules.specs.Opened.{IsOpened}
 use Rattle.c2_definition.specs.DefinitionFile.{IsDefinition}
 use Rattle.c2_definition.specs.declared.types.Definition.{Definition}
@@ -26,9 +25,11 @@ use Rattle.c2_message.specs.declared.error.SignaturePart.{SignaturePart}
 use Rattle.c2_layout.specs.Built.{built_file}
 use Rattle.c2_layout.specs.Store.{data_binding, new_claim}
 use Rattle.c2_layout.specs.Fresh.{fresh_content}
-use Rattle.c2_build.specs.Refusals.{embed_tests, first_refusal, new_range_len, plan_tests}
+use Rattle.c2_build.specs.Refusals.{early_tests, first_refusal, late_tests, new_range_len, number_tests}
 use Rattle.c2_build.specs.declared.error.BuildError.{BuildError}
-use Rattle.c2_build.specs.declared.error.BuildError.TheVariants.{MediaRefused, BadDefinition, BadSignature, Later}
+use Rattle.c2_build.specs.declared.error.BuildError.TheVariants.{MediaRefused, BadDefinition, BadSignature}
+use Rattle.c2_build.specs.declared.types.MediaKind.{MediaKind}
+use Rattle.c2_build.specs.declared.types.MediaKind.TheVariants.{Fresh, Waits}
 
 -- ---- one stage after the other
 
@@ -50,16 +51,19 @@ Unless (Some e) Next r = r ≡ Err e
 
 -- ---- the inputs
 
--- what a media file that is opened so is to a build: whether it has to wait for a later version, as a BMFF file and one with a
--- store do
-abbrev pub media_stage : List ℕ → Opening Tree → Result Bool BuildError
+-- what a media file that is opened so is to a build: a BMFF file and one with a store have to wait
+abbrev pub media_stage : List ℕ → Opening Tree → Result MediaKind BuildError
 media_stage media (refused reason number) = Err (MediaRefused reason number)
-media_stage media absent = Ok (is_bmff media)
-media_stage media (here start len t) = Ok true
+media_stage media absent = Ok (if is_bmff media then Waits else Fresh)
+media_stage media (here start len t) = Ok Waits
 
 -- this is what the media file is: the tests of the container, of the boxes and of the store come first
-abbrev pub IsMediaStage : List ℕ → Result Bool BuildError → Type 0
+abbrev pub IsMediaStage : List ℕ → Result MediaKind BuildError → Type 0
 IsMediaStage media r = (what : Opening Tree) × IsOpened media what × (r ≡ media_stage media what)
+
+-- the media file is refused
+abbrev pub IsMediaRefused : List ℕ → Type 0
+IsMediaRefused media = (e : BuildError) × IsMediaStage media (Err e)
 
 -- what a definition that is read so is to a build
 abbrev pub definition_stage : Result Definition DefinitionField → Result Definition BuildError
@@ -69,6 +73,10 @@ definition_stage (Err field) = Err (BadDefinition field)
 -- this is the definition that a file is, or what of it is refused first
 abbrev pub IsDefinitionStage : List ℕ → Result Definition BuildError → Type 0
 IsDefinitionStage file r = (d : Result Definition DefinitionField) × IsDefinition file d × (r ≡ definition_stage d)
+
+-- the definition file is refused
+abbrev pub IsDefinitionRefused : List ℕ → Type 0
+IsDefinitionRefused file = (e : BuildError) × IsDefinitionStage file (Err e)
 
 -- these are the parts of the signed message that bytes spell, which passes all tests; or the first test that it fails
 abbrev pub IsMessageRead : List ℕ → List ℕ → Result SignParts SignaturePart → Type 0
@@ -94,10 +102,9 @@ pub record IsPlace (media : List ℕ) (p : Place) : Type 0 where
   pub is_of : IsOfSegments media p.segments
   pub is_number : IsNumberOf p.segments p.number
 
--- this is where the new store goes in a file that needn't wait
-abbrev pub IsPlaceStage : List ℕ → Bool → Result Place BuildError → Type 0
-IsPlaceStage media true r = r ≡ Err Later
-IsPlaceStage media false r = (p : Place) × IsPlace media p × (r ≡ Ok p)
+-- this is where the new store goes in a JPEG file
+abbrev pub IsPlaceStage : List ℕ → Result Place BuildError → Type 0
+IsPlaceStage media r = (p : Place) × IsPlace media p × (r ≡ Ok p)
 
 -- ---- what is built
 
@@ -114,43 +121,46 @@ pub record Built : Type 0 where
   pub start : ℕ
   pub len : ℕ
 
--- the file with this message: the media, and the packets of the new store behind its APP0 segments, under the number that is free;
--- where none is, nothing is built
-abbrev pub built_of : (Alg → List ℕ → List ℕ) → List ℕ → Definition → Place → List ℕ → Built
-built_of hash media d p message = record {
-  file = built_file (hash Sha256) (fresh_content d) message media p.segments (unwrap_or p.number LEAST_NUMBER);
-  start = insert_place p.segments;
+-- the file with this message: the media of these segments, and the packets of the new store behind its APP0 segments, under this
+-- number
+abbrev pub built_of : (Alg → List ℕ → List ℕ) → List ℕ → Definition → List Segment → ℕ → List ℕ → Built
+built_of hash media d segments en message = record {
+  file = built_file (hash Sha256) (fresh_content d) message media segments en;
+  start = insert_place segments;
   len = new_range_len d;
 }
 
--- the new file with a message of these parts, padded to the bytes that are reserved
+-- the new file under the number that is free, with a message of these parts, padded to the bytes that are reserved
 abbrev pub IsBuilt : (Alg → List ℕ → List ℕ) → List ℕ → Definition → Place → SignParts → Result Built BuildError → Type 0
 IsBuilt hash media d p parts r =
-    (message : List ℕ) × IsSigned parts d.reserve message × (r ≡ Ok (built_of hash media d p message))
+    (en : ℕ) × (p.number ≡ Some en)
+    × ((message : List ℕ) × IsSigned parts d.reserve message × (r ≡ Ok (built_of hash media d p.segments en message)))
 
 -- ---- the two calls
 
--- what `plan` comes to over a media file that may have to wait, and a definition: the bytes to be signed
-abbrev pub IsPlannedOver : (Alg → List ℕ → List ℕ) → List ℕ → Bool → Definition → Result (List ℕ) BuildError → Type 0
-IsPlannedOver hash media later d =
-    Then (IsPlaceStage media later) (λ p.
-    Unless (first_refusal (plan_tests (length media) d p.number)) (λ r. r ≡ Ok (signed_bytes hash media d p)))
+-- what `plan` comes to over a media file of this kind, and a definition: the bytes to be signed
+abbrev pub IsPlannedOver : (Alg → List ℕ → List ℕ) → List ℕ → MediaKind → Definition → Result (List ℕ) BuildError → Type 0
+IsPlannedOver hash media kind d =
+    Unless (first_refusal (early_tests kind d))
+    (Then (IsPlaceStage media) (λ p.
+    Unless (first_refusal (number_tests (length media) d p.number)) (λ r. r ≡ Ok (signed_bytes hash media d p))))
 
 -- over this media file and this definition file
 abbrev pub IsPlanned : (Alg → List ℕ → List ℕ) → List ℕ → List ℕ → Result (List ℕ) BuildError → Type 0
 IsPlanned hash media definition =
-    Then (IsMediaStage media) (λ later.
-    Then (IsDefinitionStage definition) (λ d. IsPlannedOver hash media later d))
+    Then (IsMediaStage media) (λ kind.
+    Then (IsDefinitionStage definition) (λ d. IsPlannedOver hash media kind d))
 
--- what `embed` comes to over a media file that may have to wait, a definition, and a message with these parts: the new file
-abbrev pub IsEmbeddedOver : (Alg → List ℕ → List ℕ) → List ℕ → Bool → Definition → SignParts → Result Built BuildError → Type 0
-IsEmbeddedOver hash media later d parts =
-    Then (IsPlaceStage media later) (λ p.
-    Unless (first_refusal (embed_tests (length media) d parts p.number)) (IsBuilt hash media d p parts))
+-- what `embed` comes to over a media file of this kind, a definition, and a message with these parts: the new file
+abbrev pub IsEmbeddedOver : (Alg → List ℕ → List ℕ) → List ℕ → MediaKind → Definition → SignParts → Result Built BuildError → Type 0
+IsEmbeddedOver hash media kind d parts =
+    Unless (first_refusal (early_tests kind d))
+    (Then (IsPlaceStage media) (λ p.
+    Unless (first_refusal (late_tests (length media) d parts p.number)) (IsBuilt hash media d p parts)))
 
 -- over this media file, this definition file and this file of a signed message
 abbrev pub IsEmbedded : (Alg → List ℕ → List ℕ) → List ℕ → List ℕ → List ℕ → Result Built BuildError → Type 0
 IsEmbedded hash media definition message =
-    Then (IsMediaStage media) (λ later.
+    Then (IsMediaStage media) (λ kind.
     Then (IsDefinitionStage definition) (λ d.
-    Then (IsMessageStage d.protected message) (λ parts. IsEmbeddedOver hash media later d parts)))
+    Then (IsMessageStage d.protected message) (λ parts. IsEmbeddedOver hash media kind d parts)))

@@ -5,9 +5,11 @@ use Rattle.std.specs.declared.result.Result.TheVariants.{Ok, Err}
 use Rattle.std.specs.List.{AllByRecursion}
 use Rattle.c2_base.specs.declared.values.Question.{Question}
 use Rattle.c2_spec.specs.C2pa.Manifest.{Manifest}
+use Rattle.c2_spec.specs.C2pa.Sign1.{SignParts, SpellsMessage}
 use Rattle.c2_spec.specs.Jumbf.Tree.{Tree}
 use Rattle.c2_spec.specs.PutIn.{taken_out}
 use Rattle.c2_spec.specs.declared.digest.Alg.{Alg}
+use Rattle.c2_spec.specs.declared.digest.Alg.TheVariants.{Sha256}
 use Rattle.c2_spec.specs.declared.panel.Verdict.{Verdict}
 use Rattle.c2_spec.specs.declared.panel.Verdict.TheVariants.{Approved}
 use Rattle.c2_rules.specs.CheckList.{IsValid, StoreReading, questions, unjudged_list}
@@ -18,7 +20,9 @@ use Rattle.c2_rules.specs.declared.answer.Answer.TheVariants as answer
 use Rattle.c2_rules.specs.declared.answer.Summary.{Summary}
 use Rattle.c2_definition.specs.DefinitionFile.{IsDefinition}
 use Rattle.c2_definition.specs.declared.types.Definition.{Definition}
-use Rattle.c2_layout.specs.Fresh.{GivesDigests, Meets}
+use Rattle.c2_message.specs.Signed.{IsSigned}
+use Rattle.c2_layout.specs.Built.{built_store}
+use Rattle.c2_layout.specs.Fresh.{GivesDigests, Meets, fresh_content}
 use Rattle.c2_layout.specs.Written.{HasTexts}
 use Rattle.c2_build.specs.Building.{Built, IsEmbedded, IsPlanned}
 use Rattle.c2_build.specs.declared.error.BuildError.{BuildError}
@@ -59,16 +63,29 @@ ApprovedIsValid = (hash : Alg → List ℕ → List ℕ) (said : Question → Ve
 
 -- ---- the new file
 
--- the texts of the definition that a file is are texts as a program holds them
+-- If a file is a definition, its texts are UTF-8 and shorter than 2^64 bytes. No definition says so of a JSON file: a program sees it
+-- of the texts that it holds.
 abbrev pub HasTextsIn : List ℕ → Type 0
 HasTextsIn file = (d : Definition) → IsDefinition file (Ok d) → HasTexts d
+
+-- The store is that of the definition alone that a file is, at this place in this media file. Its message is the signed one, padded
+-- to the bytes that the definition reserves.
+pub record IsNewStore (hash : Alg → List ℕ → List ℕ) (media definition message : List ℕ) (start : ℕ) (store : Tree) : Type 0 where
+  pub new : Definition
+  pub defined : IsDefinition definition (Ok new)
+  pub parts : SignParts
+  pub spelled : SpellsMessage message parts
+  pub padded : List ℕ
+  pub filled : IsSigned parts new.reserve padded
+  pub is : store ≡ built_store (hash Sha256) (fresh_content new) padded media start
 
 -- The file has its new store in the new range, and all rules hold of it apart from the verdict. It asks one question: that of the
 -- new manifest, over the bytes that `plan` gives. Without the new range it is the media. A panel that approves the one question
 -- finds it valid.
-pub record BuiltMeets (hash : Alg → List ℕ → List ℕ) (media definition : List ℕ) (b : Built) : Type 0 where
+pub record BuiltMeets (hash : Alg → List ℕ → List ℕ) (media definition message : List ℕ) (b : Built) : Type 0 where
   pub store : Tree
   pub question : Question
+  pub written : IsNewStore hash media definition message b.start store
   pub meets : Meets hash b.file b.start b.len store (question ∷ [])
   pub signed : IsPlanned hash media definition (Ok question.tbs)
   pub base : taken_out b.start b.len b.file ≡ media
@@ -79,12 +96,12 @@ pub record BuiltMeets (hash : Alg → List ℕ → List ℕ) (media definition :
 abbrev pub BuiltFileMeets : Type 0
 BuiltFileMeets = (hash : Alg → List ℕ → List ℕ) (media definition message : List ℕ) (b : Built)
     → GivesDigests hash → HasTextsIn definition → IsEmbedded hash media definition message (Ok b)
-    → BuiltMeets hash media definition b
+    → BuiltMeets hash media definition message b
 
 -- the new file that is answered meets this
 abbrev pub IsMet : (Alg → List ℕ → List ℕ) → List ℕ → List ℕ → List ℕ → Result Embedded BuildError → Type 0
 IsMet hash media definition message (Ok e) =
-    (b : Built) → IsEmbedded hash media definition message (Ok b) → BuiltMeets hash media definition b
+    (b : Built) → IsEmbedded hash media definition message (Ok b) → BuiltMeets hash media definition message b
 IsMet hash media definition message (Err e) = ⊤
 
 -- Some build succeeds, whatever the hash: what is said of new files is said of some.

@@ -1,5 +1,5 @@
 -- For private clauses: what the steps of a build come to.
-use Rattle.std.specs.Prelude.{◌≡◌, ◌⊎◌, ℕ, ◌-◌, ◌<◌, ◌≤◌, ⊤, Bool, List, length, take, drop, unwrap_or, vec_len}
+use Rattle.std.specs.Prelude.{◌≡◌, ◌⊎◌, ℕ, ◌-◌, ◌<◌, ◌≤◌, ⊤, Bool, List, length, take, drop, vec_len}
 use Rattle.std.specs.declared.option.Option.{Option}
 use Rattle.std.specs.declared.option.Option.TheVariants.{Some, None}
 use Rattle.std.specs.declared.result.Result.{Result}
@@ -12,7 +12,6 @@ use Rattle.c2_spec.specs.C2pa.Message.{bare_bytes}
 use Rattle.c2_spec.specs.C2pa.Sign1.{SignParts}
 use Rattle.c2_spec.specs.Jpeg.Writing.{IsPacketStore, insert_place, packets_bytes}
 use Rattle.c2_spec.specs.PutIn.{put_in}
-use Rattle.c2_spec.specs.declared.packets.TheConstants.{LEAST_NUMBER}
 use Rattle.c2_spec.specs.declared.digest.Alg.{Alg}
 use Rattle.c2_spec.specs.declared.digest.Alg.TheVariants.{Sha256}
 use Rattle.c2_definition.specs.declared.types.Definition.{Definition}
@@ -23,23 +22,36 @@ use Rattle.c2_layout.specs.Parts.{AreParts}
 use Rattle.c2_layout.specs.Store.{data_binding}
 use Rattle.c2_layout.specs.declared.parts.NewParts.{NewParts}
 use Rattle.c2_build.specs.Building.{Built, IsPlaceStage, Place}
-use Rattle.c2_build.specs.Refusals.{first_refusal, new_range_len, new_store_len, plan_tests}
+use Rattle.c2_build.specs.Refusals.{early_tests, first_refusal, new_range_len, new_store_len, number_tests}
 use Rattle.c2_build.specs.declared.error.BuildError.{BuildError}
-use Rattle.c2_build.specs.declared.error.BuildError.TheVariants.{ReadFault, JudgeFault, WriteFault, NoMemory, StoreTooLarge, ReserveTooSmall}
+use Rattle.c2_build.specs.declared.error.BuildError.TheVariants.{BadSignature, ReadFault, JudgeFault, WriteFault, NoMemory, StoreTooLarge, ReserveTooSmall}
+use Rattle.c2_build.specs.declared.types.MediaKind.{MediaKind}
 use Rattle.c2_build.specs.declared.place.Spot.{Spot}
 use Rattle.c2_build.specs.declared.draft.Draft.{Draft}
 use Rattle.c2_build.specs.declared.embedding.Ready.{Ready}
 
--- the cause of an error of a step that reads one source
+-- the cause of an error of a step of `embed` alone, that reads one source
+abbrev pub IsMessageCause : ℕ → ℕ → BuildError → Type 0
+IsMessageCause before now ReadFault = Rose before now
+IsMessageCause before now JudgeFault = ⊥
+IsMessageCause before now WriteFault = ⊥
+IsMessageCause before now NoMemory = ⊤
+IsMessageCause before now e = now ≡ before
+
+-- and of one of both calls: it looks at no signed message
 abbrev pub IsReadCause : ℕ → ℕ → BuildError → Type 0
+IsReadCause before now (BadSignature test) = ⊥
+IsReadCause before now (ReserveTooSmall n) = ⊥
 IsReadCause before now ReadFault = Rose before now
 IsReadCause before now JudgeFault = ⊥
 IsReadCause before now WriteFault = ⊥
 IsReadCause before now NoMemory = ⊤
 IsReadCause before now e = now ≡ before
 
--- the error of a step that reads nothing and writes nothing is no fault
+-- the error of a step that reads nothing and writes nothing, and looks at no signed message
 abbrev pub IsQuiet : BuildError → Type 0
+IsQuiet (BadSignature test) = ⊥
+IsQuiet (ReserveTooSmall n) = ⊥
 IsQuiet ReadFault = ⊥
 IsQuiet JudgeFault = ⊥
 IsQuiet WriteFault = ⊥
@@ -62,20 +74,22 @@ pub record IsSpot (s : Spot) (p : Place) : Type 0 where
   pub number : s.number ≡ p.number
 
 -- a place where no test fails that a message isn't needed for
-pub record IsPassed (media : List ℕ) (d : Definition) (later : Bool) (p : Place) : Type 0 where
-  pub stage : IsPlaceStage media later (Ok p)
-  pub none : first_refusal (plan_tests (length media) d p.number) ≡ None
+pub record IsPassed (media : List ℕ) (d : Definition) (kind : MediaKind) (p : Place) : Type 0 where
+  pub early : first_refusal (early_tests kind d) ≡ None
+  pub stage : IsPlaceStage media (Ok p)
+  pub numbers : first_refusal (number_tests (length media) d p.number) ≡ None
 
--- the first of these tests that fails, or the build has to wait
-abbrev pub IsRefusedPlace : List ℕ → Definition → Bool → BuildError → Type 0
-IsRefusedPlace media d later e =
-    IsPlaceStage media later (Err e)
-    ⊎ ((p : Place) × IsPlaceStage media later (Ok p) × (first_refusal (plan_tests (length media) d p.number) ≡ Some e))
+-- this is the first of these tests that fails: of those before the place, or of those at it
+abbrev pub IsRefusedPlace : List ℕ → Definition → MediaKind → BuildError → Type 0
+IsRefusedPlace media d kind e =
+    (first_refusal (early_tests kind d) ≡ Some e)
+    ⊎ ((first_refusal (early_tests kind d) ≡ None)
+    × ((p : Place) × IsPlaceStage media (Ok p) × (first_refusal (number_tests (length media) d p.number) ≡ Some e)))
 
 -- what is to be built there, by numbers
 pub record IsDraft (d : Definition) (f : Draft) (p : Place) : Type 0 where
   pub start : f.start ≡ insert_place p.segments
-  pub number : f.number ≡ unwrap_or p.number LEAST_NUMBER
+  pub number : p.number ≡ Some f.number
   pub length : f.length ≡ new_range_len d
 
 -- the numbers of a draft over a media file of so many bytes, whatever these are
@@ -87,7 +101,7 @@ pub record IsSmall (len : ℕ) (d : Definition) (f : Draft) : Type 0 where
 -- what is to be built at a place that was found, by numbers
 pub record IsDraftOf (d : Definition) (s : Spot) (f : Draft) : Type 0 where
   pub start : f.start ≡ s.start
-  pub number : f.number ≡ unwrap_or s.number LEAST_NUMBER
+  pub number : s.number ≡ Some f.number
   pub length : f.length ≡ new_range_len d
   pub size : f.size ≡ s.size
   pub small : new_store_len d ≤ MAX_STORE_LEN
@@ -113,7 +127,7 @@ pub record IsReady (media : List ℕ) (r : Ready) (b : Built) : Type 0 where
   pub start : b.start ≡ r.draft.start
   pub len : b.len ≡ r.draft.length
 
--- it can be written, whatever the media tells
+-- it can be written, whatever is known of the media
 pub record CanWrite (len : ℕ) (r : Ready) : Type 0 where
   pub store : IsPacketStore r.store
   pub size : r.draft.size ≡ len

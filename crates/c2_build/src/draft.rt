@@ -4,15 +4,15 @@ ghost use Rattle.c2_base.specs.declared.limits.TheConstants as limits;
 ghost use Rattle.c2_spec.specs.Jpeg.Writing as jpeg;
 ghost use Rattle.c2_definition.specs.DefinitionFile.{IsWellFormed};
 ghost use Rattle.c2_build.specs.Answers.{WithoutFault};
-ghost use Rattle.c2_build.specs.Refusals.{first_refusal, new_store_len, plan_tests};
+ghost use Rattle.c2_build.specs.Refusals.{early_tests, first_refusal, new_store_len, number_tests};
 ghost use Rattle.std.specs.Option.{ForSome};
 ghost use Rattle.c2_base.specs.Source.{StaysSource};
 ghost use Rattle.c2_build.specs.Building.{IsMediaStage, Place};
 ghost use Rattle.c2_build.specs.Steps.{IsDraft, IsDraftOf, IsPassed, IsQuiet, IsReadCause, IsRefusedPlace, IsSmall, IsStoreRefusal};
 
-use crate::BuildError;
 use crate::place::{Spot, find_spot};
 use crate::redacting::refuse_redactions;
+use crate::{BuildError, MediaKind};
 use c2_base::Source;
 use c2_base::limits::{FILE_LEN_LIMIT, MAX_STORE_LEN};
 use c2_definition::Definition;
@@ -58,20 +58,31 @@ fn small_store_len(alloc: Global, definition: &Definition) -> Result<u64, BuildE
     Ok(len)
 }
 
-/// The draft of a new file, where no test refuses it that a message isn't needed for.
+// Refuses what needs no byte of the media to be refused.
+fn refuse_early(alloc: Global, kind: MediaKind, definition: &Definition) -> Result<(), BuildError>
+    ensures passed { OnOk result (first_refusal (early_tests kind definition.now) ≡ None) }
+    ensures refused { IfErr result (λ e. WithoutFault e
+        (first_refusal (early_tests kind definition.now) ≡ Some e)) }
+    ensures fresh { OnOk result (kind ≡ MediaKind.Fresh) }
+    ensures quiet { IfErr result IsQuiet }
+{
+    match kind {
+        MediaKind::Fresh => refuse_redactions(alloc, definition),
+        MediaKind::Waits => Err(BuildError::Later),
+    }
+}
+
+/// The draft of a new file at a place that was found, where no test on numbers refuses it.
 pub fn draft_at(alloc: Global, definition: &Definition, spot: Spot) -> Result<Draft, BuildError>
     requires formed { IsWellFormed definition.now }
     requires short { spot.size < limits.FILE_LEN_LIMIT }
     ensures passed { OnOk result
-        (first_refusal (plan_tests spot.size definition.now spot.number) ≡ None) }
+        (first_refusal (number_tests spot.size definition.now spot.number) ≡ None) }
     ensures refused { IfErr result (λ e. WithoutFault e
-        (first_refusal (plan_tests spot.size definition.now spot.number) ≡ Some e)) }
+        (first_refusal (number_tests spot.size definition.now spot.number) ≡ Some e)) }
     ensures draft { IfOk result (IsDraftOf definition.now spot) }
     ensures quiet { IfErr result IsQuiet }
 {
-    if let Err(error) = refuse_redactions(alloc, definition) {
-        return Err(error);
-    }
     let Some(number) = spot.number else {
         return Err(BuildError::NoInstance);
     };
@@ -92,26 +103,29 @@ pub fn draft_at(alloc: Global, definition: &Definition, spot: Spot) -> Result<Dr
     })
 }
 
-/// The draft of a new file over a media file, which may have to wait.
+/// The draft of a new file over a media file of this kind. The media isn't read where it has to wait, or a redaction is refused.
 pub fn drafted<A: Source>(
     alloc: Global,
     media: &mut A,
-    waits: bool,
+    kind: MediaKind,
     definition: &Definition,
 ) -> Result<Draft, BuildError>
     requires { IsWellFormed definition.now }
     ensures passed { IfOk result (λ f. ForSome (A.known media.old) (λ file.
-        IsMediaStage file (Ok waits) → (p : Place) × IsPassed file definition.now waits p
+        IsMediaStage file (Ok kind) → (p : Place) × IsPassed file definition.now kind p
         × IsDraft definition.now f p)) }
     ensures refused { IfErr result (λ e. ForSome (A.known media.old) (λ file.
-        IsMediaStage file (Ok waits)
-        → WithoutFault e (IsRefusedPlace file definition.now waits e))) }
+        IsMediaStage file (Ok kind)
+        → WithoutFault e (IsRefusedPlace file definition.now kind e))) }
     ensures small { IfOk result (IsSmall (A.len media.old) definition.now) }
     ensures cause { IfErr result (IsReadCause (A.faults media.old) (A.faults media.new)) }
     ensures count { OnOk result (A.faults media.new ≡ A.faults media.old) }
     ensures stays { StaysSource A.len A.known A.faults media.old media.new }
 {
-    let spot = match find_spot(alloc, media, waits) {
+    if let Err(error) = refuse_early(alloc, kind, definition) {
+        return Err(error);
+    }
+    let spot = match find_spot(alloc, media) {
         Ok(spot) => spot,
         Err(error) => return Err(error),
     };

@@ -12,27 +12,28 @@ ghost use Rattle.c2_definition.specs.DefinitionFile.{IsWellFormed};
 ghost use Rattle.c2_message.specs.Refusals.{reserve_needed};
 ghost use Rattle.c2_message.specs.Signed.{IsSigned};
 ghost use Rattle.c2_build.specs.Answers.{Faults, HasFinish, HasSpare, IsBuildCause, IsEmbedding, LeavesSink, SinkState};
-ghost use Rattle.c2_build.specs.Building.{IsEmbedded, IsEmbeddedOver, IsMediaStage};
+ghost use Rattle.c2_build.specs.Building.{IsDefinitionRefused, IsEmbedded, IsEmbeddedOver, IsMediaRefused, IsMediaStage};
 ghost use Rattle.c2_build.specs.Meeting.{HasTextsIn, IsMet};
 ghost use Rattle.c2_build.specs.declared.error.BuildError.TheVariants as build;
-ghost use Rattle.c2_build.specs.Steps.{CanWrite, ComesAs, IsCopyCause, IsReadCause, IsReady, IsReserveRefusal, IsStep, IsWhole};
+ghost use Rattle.c2_build.specs.Steps.{CanWrite, ComesAs, IsCopyCause, IsMessageCause, IsReady, IsReserveRefusal, IsStep, IsWhole};
 
 use crate::copying::copy;
 use crate::draft::{Draft, drafted};
 use crate::laws::{a_build_comes_to_one_thing, a_new_file_meets_the_rules};
-use crate::media::media_waits;
+use crate::media::media_kind;
 use crate::planning::parts_for;
 use crate::reading::{read_definition_file, read_message_file};
-use crate::{BuildError, Embedded};
+use crate::{BuildError, Embedded, MediaKind};
 use c2_base::limits::PIECE_LEN;
 use c2_base::{Blob, Failed, NoMemory, Sink, Source};
-use c2_definition::Definition;
+use c2_definition::{Definition, each_definition_is_read_one_way};
 use c2_hash::Hashing;
 use c2_jpegseg::{packets_hold_the_store, write_segments};
 use c2_judge::Judge;
 use c2_layout::{a_new_store_has_one_length, new_store};
 use c2_message::{MessageError, a_message_fills_its_reserve_or_needs_more, padded_message};
 use c2_sigstruct::Sign1;
+use c2_validate::one_opening;
 use std::alloc::Global;
 
 /// All that is needed to write a new file; no memory is taken from here on.
@@ -62,29 +63,29 @@ fn padded(alloc: Global, sign: &Sign1, definition: &Definition) -> Result<Blob, 
     }
 }
 
-// What is to be written over a media file, which may have to wait, with a definition and a message.
+// What is to be written over a media file of this kind, with a definition and a message.
 fn ready_over<A: Source, H: Hashing>(
     alloc: Global,
     hashing: &H,
     media: &mut A,
-    waits: bool,
+    kind: MediaKind,
     definition: &Definition,
     sign: &Sign1,
 ) -> Result<Ready, BuildError>
     requires formed { IsWellFormed definition.now }
     requires can { (entries : Pairs) × CanBePadded (parts_of sign.now) entries }
-    ensures ready { ForSome (A.known media.old) (λ file. IsMediaStage file (Ok waits)
+    ensures ready { ForSome (A.known media.old) (λ file. IsMediaStage file (Ok kind)
         → ComesAs (IsReady file)
-        (IsEmbeddedOver H.digest_of file waits definition.now (parts_of sign.now)) result) }
+        (IsEmbeddedOver H.digest_of file kind definition.now (parts_of sign.now)) result) }
     ensures can_write { IfOk result (CanWrite (A.len media.old)) }
-    ensures cause { IfErr result (IsReadCause (A.faults media.old) (A.faults media.new)) }
+    ensures cause { IfErr result (IsMessageCause (A.faults media.old) (A.faults media.new)) }
     ensures count { OnOk result (A.faults media.new ≡ A.faults media.old) }
     ensures stays { StaysSource A.len A.known A.faults media.old media.new }
 {
     // Only the prover needs these laws.
     a_message_fills_its_reserve_or_needs_more();
     a_new_store_has_one_length();
-    let draft = match drafted(alloc, media, waits, definition) {
+    let draft = match drafted(alloc, media, kind, definition) {
         Ok(draft) => draft,
         Err(error) => return Err(error),
     };
@@ -121,6 +122,12 @@ fn prepare<A: Source, B: Source, C: Source, H: Hashing>(
         (λ bytes. ForSome (C.known signature.old) (λ message.
         ComesAs (IsReady file) (IsEmbedded H.digest_of file bytes message) result))) }
     ensures texts { ForSome (B.known definition.old) (λ bytes. OnOk result (HasTextsIn bytes)) }
+    ensures definition_unread { ForSome (A.known media.old) (λ file.
+        IsMediaRefused file → definition.new ≡ definition.old) }
+    ensures message_unread_first { ForSome (A.known media.old) (λ file.
+        IsMediaRefused file → signature.new ≡ signature.old) }
+    ensures message_unread { ForSome (B.known definition.old) (λ bytes.
+        IsDefinitionRefused bytes → signature.new ≡ signature.old) }
     ensures can_write { IfOk result (CanWrite (A.len media.old)) }
     ensures cause { (out : ℕ) → let before : Faults = record {
       media = A.faults media.old;
@@ -140,8 +147,11 @@ fn prepare<A: Source, B: Source, C: Source, H: Hashing>(
     ensures definition_stays { StaysSource B.len B.known B.faults definition.old definition.new }
     ensures message_stays { StaysSource C.len C.known C.faults signature.old signature.new }
 {
-    let waits = match media_waits(alloc, media) {
-        Ok(waits) => waits,
+    // Only the prover needs these laws.
+    one_opening();
+    each_definition_is_read_one_way();
+    let kind = match media_kind(alloc, media) {
+        Ok(kind) => kind,
         Err(error) => return Err(error),
     };
     let definition = match read_definition_file(alloc, definition) {
@@ -152,7 +162,7 @@ fn prepare<A: Source, B: Source, C: Source, H: Hashing>(
         Ok(sign) => sign,
         Err(error) => return Err(error),
     };
-    ready_over(alloc, hashing, media, waits, &definition, &sign)
+    ready_over(alloc, hashing, media, kind, &definition, &sign)
 }
 
 // Appends the packets of a store under this number.
@@ -235,9 +245,10 @@ fn write_file<A: Source, K: Sink>(
 
 /// Writes the new file: the media with a new store, of a definition and of a signed message, in packets behind its APP0 segments.
 ///
-/// The error is the first of `BuildError` whose condition holds. `ReadFault` and `WriteFault` come only where a source or the sink
-/// failed in this call, and leave a prefix of the new file that isn't finished; every other error leaves the sink as it was, since
-/// all memory is taken before anything is written. No judge is asked. The media is read in pieces.
+/// Over known bytes the error is the first of `BuildError` whose condition holds. `ReadFault` and `WriteFault` come only where a
+/// source or the sink failed in this call, and leave a prefix of the new file that isn't finished; every other error leaves the sink
+/// as it was, since all memory is taken before anything is written. No judge is asked. The definition isn't read where the media is
+/// refused, and the message isn't where the media or the definition is. The media is read in pieces.
 // The condition always holds: a function that is lent boxed judges is called under a contract only where it has one.
 pub fn embed<A: Source, B: Source, C: Source, K: Sink, H: Hashing>(
     alloc: Global,
@@ -262,6 +273,13 @@ pub fn embed<A: Source, B: Source, C: Source, K: Sink, H: Hashing>(
     ensures spare { ForSome (A.known media.old) (λ file. ForSome (B.known definition.old)
         (λ bytes. ForSome (C.known signature.old) (λ message.
         HasSpare H.digest_of file bytes message (K.spare out.old) result))) }
+    // What isn't due isn't read.
+    ensures definition_unread { ForSome (A.known media.old) (λ file.
+        IsMediaRefused file → definition.new ≡ definition.old) }
+    ensures message_unread_first { ForSome (A.known media.old) (λ file.
+        IsMediaRefused file → signature.new ≡ signature.old) }
+    ensures message_unread { ForSome (B.known definition.old) (λ bytes.
+        IsDefinitionRefused bytes → signature.new ≡ signature.old) }
     // What is written meets every rule but that on the verdict.
     ensures meets { ForSome (A.known media.old) (λ file. ForSome (B.known definition.old)
         (λ bytes. ForSome (C.known signature.old) (λ message.

@@ -6,8 +6,8 @@ use c2_message::SignaturePart;
 use c2_rules::Code;
 use c2_spec::Reason;
 
-/// Why nothing is built. A variant further up is tested earlier; the last four have no place in this order, since they say nothing
-/// of the inputs.
+/// Why nothing is built. A variant further up is tested earlier, but for the length of the new file, which is tested after
+/// `StoreTooLarge`. The last four have no place in this order, since they say nothing of the inputs.
 #[derive(Debug, Drop)]
 pub enum BuildError {
     /// The container, a box or the store of the media file is refused for this reason, with its number. `FileTooLarge` also tells

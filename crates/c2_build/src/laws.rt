@@ -1,6 +1,7 @@
 // What holds of each build; nothing is computed.
 ghost use Rattle.c2_build.specs.Meeting.{ApprovedIsValid, BuiltFileMeets, SomeBuildSucceeds};
 ghost use Rattle.c2_build.specs.Meeting.{OneEmbedding, OnePlan, SomeEmbedding, SomePlan};
+ghost use Rattle.c2_build.specs.Refusals.{FirstRefusalIsLeast};
 
 use c2_cbor::one_item;
 use c2_definition::{definitions_are_well_formed, each_definition_is_read_one_way};
@@ -11,6 +12,11 @@ use c2_message::{
 };
 use c2_rules::a_question_where_the_claim_rules_hold;
 use c2_validate::{each_file_has_a_check, one_opening};
+
+/// What a list of tests answers is the refusal of the first test that fails, and there is none where every test passes.
+pub fn the_first_refusal_is_the_least()
+    ensures { FirstRefusalIsLeast }
+{}
 
 /// The same inputs come to one thing: the bytes that are to be signed, the new file, or what is refused first.
 pub fn a_build_comes_to_one_thing()

@@ -22,7 +22,7 @@ pub use embedding::embed;
 pub use error::BuildError;
 pub use laws::{
     a_build_comes_to_one_thing, a_new_file_meets_the_rules, approval_of_each_question_is_enough,
-    each_build_comes_to_something, some_build_succeeds,
+    each_build_comes_to_something, some_build_succeeds, the_first_refusal_is_the_least,
 };
 pub use planning::plan;
-pub use types::Embedded;
+pub use types::{Embedded, MediaKind};

@@ -9,28 +9,28 @@ ghost use Rattle.c2_build.specs.Answers.{ComesTo};
 ghost use Rattle.c2_build.specs.Building.{IsMediaStage};
 ghost use Rattle.c2_build.specs.Steps.{IsQuiet, IsReadCause};
 
-use crate::BuildError;
+use crate::{BuildError, MediaKind};
 use c2_base::{Found, NoMemory, Source};
 use c2_validate::types::StoreRead;
 use c2_validate::{Container, Opened, ValidateError, find_store, read_store};
 use std::alloc::Global;
 
-// A file that has this store has to wait, unless the store is refused.
-fn store_waits(alloc: Global, found: &Found) -> Result<bool, BuildError>
+// What a file that has this store is to a build: it has to wait, unless the store is refused.
+fn store_kind(alloc: Global, found: &Found) -> Result<MediaKind, BuildError>
     ensures stage { (file : List ℕ)
         → IsLocated file (here found.now.start found.now.length found.now.store)
         → ComesTo (IsMediaStage file) result }
     ensures quiet { IfErr result IsQuiet }
 {
     match read_store(alloc, found) {
-        Ok(StoreRead::Here(_, _)) => Ok(true),
+        Ok(StoreRead::Here(_, _)) => Ok(MediaKind::Waits),
         Ok(StoreRead::Refused(reason, number)) => Err(BuildError::MediaRefused(reason, number)),
         Err(NoMemory) => Err(BuildError::NoMemory),
     }
 }
 
-/// Whether building into a media file has to wait for a later version: it has a store already, or is a BMFF file.
-pub fn media_waits<A: Source>(alloc: Global, media: &mut A) -> Result<bool, BuildError>
+/// What a media file is to a build.
+pub fn media_kind<A: Source>(alloc: Global, media: &mut A) -> Result<MediaKind, BuildError>
     ensures stage { ForSome (A.known media.old) (λ file. ComesTo (IsMediaStage file) result) }
     ensures cause { IfErr result (IsReadCause (A.faults media.old) (A.faults media.new)) }
     ensures count { OnOk result (A.faults media.new ≡ A.faults media.old) }
@@ -42,9 +42,9 @@ pub fn media_waits<A: Source>(alloc: Global, media: &mut A) -> Result<bool, Buil
         Err(_) => return Err(BuildError::NoMemory),
     };
     match opened {
-        Opened::Here(media) => store_waits(alloc, &media.found),
-        Opened::NoStore(Container::Jpeg) => Ok(false),
-        Opened::NoStore(Container::Bmff(_)) => Ok(true),
+        Opened::Here(media) => store_kind(alloc, &media.found),
+        Opened::NoStore(Container::Jpeg) => Ok(MediaKind::Fresh),
+        Opened::NoStore(Container::Bmff(_)) => Ok(MediaKind::Waits),
         Opened::Refused(reason, number) => Err(BuildError::MediaRefused(reason, number)),
     }
 }

@@ -1,5 +1,5 @@
 // Where the packets of a new store go in a JPEG file, and their number.
-ghost use Rattle.std.specs.Prelude.{◌≡◌, ℕ, ◌<◌, ◌≤◌, List, IfErr, IfOk, Ok, OnOk};
+ghost use Rattle.std.specs.Prelude.{◌≡◌, ℕ, ◌<◌, ◌≤◌, List, IfErr, IfOk, OnOk};
 ghost use Rattle.std.specs.Option.{ForSome};
 ghost use Rattle.c2_base.specs.Source.{StaysSource};
 ghost use Rattle.c2_base.specs.declared.limits.TheConstants.{FILE_LEN_LIMIT};
@@ -8,8 +8,8 @@ ghost use Rattle.c2_spec.specs.Jpeg.Segments.{Segment};
 ghost use Rattle.c2_spec.specs.Located.{HasReason};
 ghost use Rattle.c2_jpegseg.specs.Refusals.{TellsFault};
 ghost use Rattle.c2_spec.specs.Jpeg.Store.{HasNoJpegStore};
-ghost use Rattle.c2_build.specs.Building.{IsMediaStage, IsPlace, IsPlaceStage, Place};
-ghost use Rattle.c2_build.specs.Steps.{ComesAs, IsReadCause, IsSpot, SaysNothing};
+ghost use Rattle.c2_build.specs.Building.{IsPlace, Place};
+ghost use Rattle.c2_build.specs.Steps.{IsReadCause, IsSpot, SaysNothing};
 
 use crate::BuildError;
 use c2_base::{Failed, MediaError, Range, Source};
@@ -88,10 +88,12 @@ fn spot_in<A: Source>(alloc: Global, media: &mut A, size: u64) -> Result<Spot, B
     }
 }
 
-/// Where packets go in a media file, which may have to wait.
-pub fn find_spot<A: Source>(alloc: Global, media: &mut A, waits: bool) -> Result<Spot, BuildError>
-    ensures stage { ForSome (A.known media.old) (λ file. IsMediaStage file (Ok waits)
-        → ComesAs IsSpot (IsPlaceStage file waits) result) }
+/// Where packets go in a JPEG file without a store.
+pub fn find_spot<A: Source>(alloc: Global, media: &mut A) -> Result<Spot, BuildError>
+    ensures spot { IfOk result (λ s. ForSome (A.known media.old) (λ file.
+        HasNoJpegStore file → (p : Place) × IsPlace file p × IsSpot s p)) }
+    ensures told { IfErr result (λ e. ForSome (A.known media.old) (λ file.
+        HasNoJpegStore file → SaysNothing e)) }
     ensures size { IfOk result (λ s. s.size ≡ A.len media.old) }
     ensures inside { IfOk result (λ s. s.start ≤ s.size) }
     ensures short { IfOk result (λ s. s.size < FILE_LEN_LIMIT) }
@@ -99,9 +101,6 @@ pub fn find_spot<A: Source>(alloc: Global, media: &mut A, waits: bool) -> Result
     ensures count { OnOk result (A.faults media.new ≡ A.faults media.old) }
     ensures stays { StaysSource A.len A.known A.faults media.old media.new }
 {
-    if waits {
-        return Err(BuildError::Later);
-    }
     match media.size() {
         Ok(size) => spot_in(alloc, media, size),
         Err(Failed) => Err(BuildError::ReadFault),

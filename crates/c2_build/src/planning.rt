@@ -10,16 +10,16 @@ ghost use Rattle.c2_spec.specs.Cbor.View.{view};
 ghost use Rattle.c2_spec.specs.declared.digest.Alg.TheVariants.{Sha256};
 ghost use Rattle.c2_definition.specs.DefinitionFile.{IsWellFormed};
 ghost use Rattle.c2_layout.specs.Parts.{parts_size};
-ghost use Rattle.c2_build.specs.Answers.{ComesTo, Faults, IsBuildCause};
-ghost use Rattle.c2_build.specs.Building.{IsMediaStage, IsPlanned, IsPlannedOver};
+ghost use Rattle.c2_build.specs.Answers.{ComesTo, IsPlanCause, PlanFaults};
+ghost use Rattle.c2_build.specs.Building.{IsMediaRefused, IsMediaStage, IsPlanned, IsPlannedOver};
 ghost use Rattle.c2_build.specs.Refusals.{new_store_len};
 ghost use Rattle.c2_build.specs.Steps.{AreNewParts, IsReadCause, SaysNothing};
 
-use crate::BuildError;
 use crate::digesting::digest_media;
 use crate::draft::{Draft, drafted};
-use crate::media::media_waits;
+use crate::media::media_kind;
 use crate::reading::read_definition_file;
+use crate::{BuildError, MediaKind};
 use c2_base::limits::PIECE_LEN;
 use c2_base::{Blob, Failed, NoMemory, Range, Source};
 use c2_cbor::Cbor;
@@ -28,6 +28,7 @@ use c2_hash::Hashing;
 use c2_judge::Judge;
 use c2_layout::{NewParts, new_parts};
 use c2_sigstruct::{Sign1, question};
+use c2_validate::one_opening;
 use std::alloc::Global;
 
 /// The parts of a new manifest for a media file, which is digested through a buffer that isn't empty.
@@ -87,22 +88,22 @@ fn signed_over(alloc: Global, definition: &Definition, claim: &[u8]) -> Result<B
     Ok(asked.tbs)
 }
 
-// What is to be signed over a media file, which may have to wait, and a definition.
+// What is to be signed over a media file of this kind, and a definition.
 fn plan_over<A: Source, H: Hashing>(
     alloc: Global,
     hashing: &H,
     media: &mut A,
-    waits: bool,
+    kind: MediaKind,
     definition: &Definition,
 ) -> Result<Blob, BuildError>
     requires { IsWellFormed definition.now }
-    ensures planned { ForSome (A.known media.old) (λ file. IsMediaStage file (Ok waits)
-        → ComesTo (IsPlannedOver H.digest_of file waits definition.now) result) }
+    ensures planned { ForSome (A.known media.old) (λ file. IsMediaStage file (Ok kind)
+        → ComesTo (IsPlannedOver H.digest_of file kind definition.now) result) }
     ensures cause { IfErr result (IsReadCause (A.faults media.old) (A.faults media.new)) }
     ensures count { OnOk result (A.faults media.new ≡ A.faults media.old) }
     ensures stays { StaysSource A.len A.known A.faults media.old media.new }
 {
-    let draft = match drafted(alloc, media, waits, definition) {
+    let draft = match drafted(alloc, media, kind, definition) {
         Ok(draft) => draft,
         Err(error) => return Err(error),
     };
@@ -122,8 +123,9 @@ fn plan_over<A: Source, H: Hashing>(
 /// The bytes that are to be signed for the manifest that `embed` writes: the Sig_structure of its claim, with the protected header
 /// of the definition (RFC 9052, section 4.4).
 ///
-/// The error is the first of `BuildError` whose condition holds; `BadSignature` and `ReserveTooSmall` don't come. `ReadFault` comes
-/// only where one of the two sources failed in this call; no judge is asked. The media is read in pieces.
+/// Over known bytes the error is the first of `BuildError` whose condition holds; `BadSignature` and `ReserveTooSmall` don't come.
+/// `ReadFault` comes only where one of the two sources failed in this call; no judge is asked. The definition isn't read where the
+/// media is refused. The media is read in pieces.
 // The condition always holds: a function that is lent boxed judges is called under a contract only where it has one.
 pub fn plan<A: Source, B: Source, H: Hashing>(
     alloc: Global,
@@ -137,31 +139,32 @@ pub fn plan<A: Source, B: Source, H: Hashing>(
     ensures planned { ForSome (A.known media.old) (λ file. ForSome (B.known definition.old)
         (λ bytes. ComesTo (IsPlanned H.digest_of file bytes) result)) }
 
+    ensures definition_unread { ForSome (A.known media.old) (λ file.
+        IsMediaRefused file → definition.new ≡ definition.old) }
+
     // These hold of every source.
-    ensures cause { let before : Faults = record {
+    ensures cause { let before : PlanFaults = record {
       media = A.faults media.old;
       definition = B.faults definition.old;
-      message = 0;
-      out = 0;
-    } in let now : Faults = record {
+    } in let now : PlanFaults = record {
       media = A.faults media.new;
       definition = B.faults definition.new;
-      message = 0;
-      out = 0;
-    } in IfErr result (IsBuildCause before now) }
+    } in IfErr result (IsPlanCause before now) }
     ensures media_count { OnOk result (A.faults media.new ≡ A.faults media.old) }
     ensures definition_count { OnOk result (B.faults definition.new ≡ B.faults definition.old) }
     ensures media_stays { StaysSource A.len A.known A.faults media.old media.new }
     ensures definition_stays { StaysSource B.len B.known B.faults definition.old definition.new }
     ensures judges { judges.new ≡ judges.old }
 {
-    let waits = match media_waits(alloc, media) {
-        Ok(waits) => waits,
+    // Only the prover needs this law.
+    one_opening();
+    let kind = match media_kind(alloc, media) {
+        Ok(kind) => kind,
         Err(error) => return Err(error),
     };
     let definition = match read_definition_file(alloc, definition) {
         Ok(definition) => definition,
         Err(error) => return Err(error),
     };
-    plan_over(alloc, hashing, media, waits, &definition)
+    plan_over(alloc, hashing, media, kind, &definition)
 }

@@ -9,7 +9,7 @@ ghost use Rattle.c2_definition.specs.DefinitionFile.{IsWellFormed};
 ghost use Rattle.c2_build.specs.Answers.{ComesTo};
 ghost use Rattle.c2_build.specs.Building.{IsDefinitionStage, IsMessageStage};
 ghost use Rattle.c2_build.specs.Meeting.{HasTextsIn};
-ghost use Rattle.c2_build.specs.Steps.{ComesAs, IsReadCause};
+ghost use Rattle.c2_build.specs.Steps.{ComesAs, IsMessageCause, IsReadCause};
 
 use crate::BuildError;
 use crate::texts::see_texts;
@@ -66,7 +66,7 @@ pub fn read_message_file<C: Source>(
         ComesAs (λ sign p. parts_of sign ≡ p) (IsMessageStage protected.now bytes) result) }
     ensures padded { IfOk result (λ sign. (entries : Pairs) × CanBePadded (parts_of sign) entries) }
     ensures protected { IfOk result (λ sign. sign.protected ≡ protected.now) }
-    ensures cause { IfErr result (IsReadCause (C.faults file.old) (C.faults file.new)) }
+    ensures cause { IfErr result (IsMessageCause (C.faults file.old) (C.faults file.new)) }
     ensures count { OnOk result (C.faults file.new ≡ C.faults file.old) }
     ensures stays { StaysSource C.len C.known C.faults file.old file.new }
 {

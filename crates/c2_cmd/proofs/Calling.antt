@@ -145,7 +145,7 @@ embed_begins said hash known other last found roles a b m w (Ok reply) is named 
 
 -- and what the new file meets is what the call promises of it
 pub embed_met : (said : Question → Verdict) (hash : Alg → List ℕ → List ℕ) (known other last : Option (List ℕ)) (found : Option Roles) (roles : Roles) (a b m : List ℕ) (r : Result Reply Fault) → found ≡ Some roles → roles.command ≡ command.Embed → known ≡ Some a → other ≡ Some b → last ≡ Some m
-    → IfOk r (λ reply. reply.answer ≡ answer.Done → (new : Built) → IsEmbedded hash a b m (Ok new) → BuiltMeets hash a b new) → IfOk r (λ reply. reply.answer ≡ answer.Done → Meets found (inputs known other last said hash))
+    → IfOk r (λ reply. reply.answer ≡ answer.Done → (new : Built) → IsEmbedded hash a b m (Ok new) → BuiltMeets hash a b m new) → IfOk r (λ reply. reply.answer ≡ answer.Done → Meets found (inputs known other last said hash))
 embed_met said hash known other last found roles a b m (Err f) is named ka kb km h = tt
 embed_met said hash known other last found roles a b m (Ok reply) is named ka kb km h = λ done.
     let i = inputs (Some a) (Some b) (Some m) said hash in

@@ -8,7 +8,7 @@ use Rattle.c2_base.specs.Sink.{HasWrittenPrefix}
 use Rattle.c2_base.specs.declared.values.Question.{Question}
 use Rattle.c2_spec.specs.declared.digest.Alg.{Alg}
 use Rattle.c2_spec.specs.declared.panel.Verdict.TheVariants.{Silent}
-use Rattle.c2_build.specs.Answers.{ComesTo, Faults, IsBegun, IsBuildCause, IsDelivered, IsEmbedding, LeavesSink, WithoutFault, file_of}
+use Rattle.c2_build.specs.Answers.{ComesTo, Faults, IsBegun, IsBuildCause, IsDelivered, IsEmbedding, IsPlanCause, LeavesSink, PlanFaults, WithoutFault, file_of}
 use Rattle.c2_build.specs.Answers.{SinkState as BuildSink}
 use Rattle.c2_build.specs.Building.{Built, IsEmbedded, IsPlanned}
 use Rattle.c2_build.specs.declared.error.BuildError.{BuildError}
@@ -154,12 +154,33 @@ embed_caused a b c d e f k l error (Ok reply) cause h = tt
 embed_caused a b c d e f k l error (Err fault) cause (inl is) = fault_caused a b c d e f k l error fault is cause
 embed_caused a b c d e f k l error (Err fault) cause (inr is) = subst (λ (x : Fault). IsFileCause (Rose a b ⊎ (Rose c d ⊎ Rose e f)) (Rose k l) x) (sym is.1) tt
 
+-- the counts of a plan, with no message and no sink
+abbrev as_faults : PlanFaults → Faults
+as_faults f = record { media = f.media; definition = f.definition; message = 0; out = 0 }
+
+-- the cause of an error of `plan` is one of `embed` with no message and no sink
+plan_as : (a b c d : ℕ) (e : BuildError) → IsPlanCause (record { media = a; definition = c }) (record { media = b; definition = d }) e
+    → IsBuildCause (record { media = a; definition = c; message = 0; out = 0 }) (record { media = b; definition = d; message = 0; out = 0 }) e
+plan_as a b c d (MediaRefused reason number) h = ap as_faults h
+plan_as a b c d (BadDefinition field) h = ap as_faults h
+plan_as a b c d (BadSignature part) h = absurd h
+plan_as a b c d Later h = ap as_faults h
+plan_as a b c d (RedactionRefused text code) h = ap as_faults h
+plan_as a b c d NoInstance h = ap as_faults h
+plan_as a b c d (StoreTooLarge len) h = ap as_faults h
+plan_as a b c d (ReserveTooSmall needed) h = absurd h
+plan_as a b c d ReadFault (inl h) = inl h
+plan_as a b c d ReadFault (inr h) = inr (inl h)
+plan_as a b c d JudgeFault h = absurd h
+plan_as a b c d WriteFault h = absurd h
+plan_as a b c d NoMemory h = tt
+
 -- and each of `plan`, which has no message and writes no file
 pub plan_caused : (a b c d : ℕ) (error : BuildError) (r : Result Reply Fault)
-    → IsBuildCause (record { media = a; definition = c; message = 0; out = 0 }) (record { media = b; definition = d; message = 0; out = 0 }) error
+    → IsPlanCause (record { media = a; definition = c }) (record { media = b; definition = d }) error
     → IfErr r (IsFaultOf error) → IfErr r (IsFileCause (Rose a b ⊎ Rose c d) ⊥)
 plan_caused a b c d error (Ok reply) cause h = tt
-plan_caused a b c d error (Err fault) cause h = fewer fault (embed_caused a b c d 0 0 0 0 error (Err fault) cause h)
+plan_caused a b c d error (Err fault) cause h = fewer fault (embed_caused a b c d 0 0 0 0 error (Err fault) (plan_as a b c d error cause) h)
   where
     fewer : (fault : Fault) → IsFileCause (Rose a b ⊎ (Rose c d ⊎ Rose 0 0)) (Rose 0 0) fault → IsFileCause (Rose a b ⊎ Rose c d) ⊥ fault
     fewer Input (inl h) = inl h

@@ -255,7 +255,7 @@ Asks (Some roles) i qs = CommandAsks roles.command i qs
 -- is what `plan` gives to be signed, and without the new range it is the media.
 abbrev pub CommandMeets : Command → Inputs → Type 0
 CommandMeets command.Embed i =
-    (b : Built) → IsEmbedded i.hash i.media i.second i.third (Ok b) → BuiltMeets i.hash i.media i.second b
+    (b : Built) → IsEmbedded i.hash i.media i.second i.third (Ok b) → BuiltMeets i.hash i.media i.second i.third b
 CommandMeets c i = ⊤
 
 -- so does the new file of words with these roles

@@ -74,7 +74,7 @@ pub fn reply_to_embed<H: Hashing, A: Source, B: Source, C: Source, K: Sink>(
     ensures met { ForSome (A.known media.old) (λ a. ForSome (B.known definition.old) (λ b.
         ForSome (C.known message.old) (λ c. IfOk result (λ reply. reply.answer ≡ Answer.Done
         → (new : AnyBuilt) → IsEmbedded H.digest_of a b c (Ok new)
-        → BuiltMeets H.digest_of a b new)))) }
+        → BuiltMeets H.digest_of a b c new)))) }
 
     // Whatever the files hold.
     ensures words { IfOk result (λ reply. reply.answer ≢ Answer.Usage) }

@@ -1,7 +1,7 @@
 use Rattle.std.proofs.Common.{subst}
 use Rattle.c2_build.specs.Building.{IsMediaStage}
 use Rattle.c2_build.proofs.Inputs.{store_stage, stored_media}
-use Rattle.c2_build.proofs.media.store_waits.Goals as goal
+use Rattle.c2_build.proofs.media.store_kind.Goals as goal
 
 -- a store of manifests
 pub returns-in-Ok-Here-clause-stage : goal.returns-in-Ok-Here-clause-stage

@@ -1,5 +1,5 @@
 use Rattle.c2_build.proofs.Inputs.{refused_media}
-use Rattle.c2_build.proofs.media.media_waits.Goals as goal
+use Rattle.c2_build.proofs.media.media_kind.Goals as goal
 
 -- a refused file
 pub returns-clause-stage : goal.returns-clause-stage
