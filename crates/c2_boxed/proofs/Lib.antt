@@ -1,0 +1,6 @@
+mod Bases
+mod BmffSizes
+mod Covering
+mod Frames
+mod OneStore
+mod Placing
