@@ -26,7 +26,7 @@ from drafts import ALL_EXCLUDED, APP0, Assertion, Bmff, BmffHash, DataHash, Ingr
 from make import segment
 from make_store import array, box, claim_box, data, item, mapping, manifest, open_array, open_map, sign1, signature_box, superbox, tag, text, uint
 from media import media_of
-from rows import Approving, folded
+from tables import Approving, folded
 from rule_rows import note, old, with_
 from store import JUDGE_FAULT, JudgeFault, report
 from worked_builds import ASSERTIONS, DEFINITION, FILM, LABEL, LATER, LATER_DEFINITION, MESSAGE, ODD_HEADER, SMALL, URL, changed, with_redactions, with_reserve

@@ -3,7 +3,8 @@
 
     rows.py write [TABLE..]    writes the tables of crates/c2_rows that are computed, or those that are named: `show`, `questions`
                                without verdict files, `validate` with a judge who approves every question, `films` under
-                               `validate`, `manifests`, and `pairs` under `compare`
+                               `validate`, `manifests`, `pairs` under `compare`, and `builds`, `build_refusals` and `build_faults`
+                               under `plan` and `embed`
     rows.py check              fails where one of them isn't the one that would be written
     rows.py files DIRECTORY    writes a JPEG around each of these stores and of those of rule_rows.py, and the verdicts on the latter
 """
@@ -12,6 +13,7 @@ import hashlib
 import os
 import sys
 
+import build_tables
 import compare_rows
 import film_rows
 import question_rows
@@ -77,6 +79,9 @@ TABLES = {
     "films": films,
     "manifests": manifests,
     "pairs": compare_rows.table,
+    "builds": build_tables.builds,
+    "build_refusals": build_tables.refusals,
+    "build_faults": build_tables.faults,
 }
 
 

@@ -14,7 +14,7 @@ from drafts import APP0, provenance_box
 from make_store import jpeg
 from manifests import Manifest, manifests_of
 from media import media_of
-from rows import Approving
+from tables import Approving
 from store import report
 from validate_rows import PICTURE, photographed
 

@@ -5,15 +5,45 @@ use std::alloc::Global;
 // The most bytes of a store in a packet.
 const MAX_PACKET: usize = 63_984;
 
-/// The bytes of hex, in which `COUNT*PIECE` between spaces stands for a piece that comes so many times.
-pub fn bytes_of(alloc: Global, digits: &str) -> Result<Vec<u8>, Trouble> {
+/// The bytes of a file: a text that begins with `{` is itself, everything else is hex. In this `COUNT*PIECE` between spaces stands for
+/// a piece that comes so many times, and `FIRST..LAST*PIECE` for one that comes with each of these numbers, in two bytes at its `#`.
+pub fn bytes_of(alloc: Global, text: &str) -> Result<Vec<u8>, Trouble> {
+    if text.starts_with('{') {
+        return Ok(Vec::from_slice(alloc, text.as_bytes())?);
+    }
     let mut bytes = Vec::new(alloc);
-    for word in digits.split(' ') {
+    for word in text.split(' ') {
         let (count, piece) = word.split_once('*').unwrap_or(("1", word));
-        let piece = hex::decode(alloc, piece)?;
-        push_often(&mut bytes, piece.as_slice(), count.parse::<u32>()?)?;
+        match count.split_once("..") {
+            Some((first, last)) => {
+                let numbers = (first.parse::<u16>()?, last.parse::<u16>()?);
+                push_numbered(alloc, &mut bytes, numbers, piece)?;
+            }
+            None => {
+                let piece = hex::decode(alloc, piece)?;
+                push_often(&mut bytes, piece.as_slice(), count.parse::<u32>()?)?;
+            }
+        }
     }
     Ok(bytes)
+}
+
+// Appends a piece with each number from the first to the last.
+fn push_numbered(
+    alloc: Global,
+    bytes: &mut Vec<u8>,
+    numbers: (u16, u16),
+    piece: &str,
+) -> Result<(), Trouble> {
+    let (front, back) = piece.split_once('#').ok_or(Trouble::BadLine)?;
+    let front = hex::decode(alloc, front)?;
+    let back = hex::decode(alloc, back)?;
+    for number in numbers.0..=numbers.1 {
+        bytes.extend_from_slice(front.as_slice())?;
+        bytes.extend_from_slice(&number.to_be_bytes())?;
+        bytes.extend_from_slice(back.as_slice())?;
+    }
+    Ok(())
 }
 
 // Appends a piece so many times.

@@ -3,11 +3,22 @@ use crate::bytes::bytes_of;
 use crate::trouble::Trouble;
 use std::alloc::Global;
 
-/// The two files of a row, as they stand there. Where there is no second, none of its calls may come.
+/// The files that rows have had at the three places of sources, and how many of them the last row has.
 #[derive(Drop)]
 pub struct Given {
     pub first: Vec<u8>,
-    pub second: Option<Vec<u8>>,
+    pub second: Vec<u8>,
+    pub third: Vec<u8>,
+    pub count: usize,
+}
+
+/// The files of a row, and the lengths of pieces in which they are read.
+#[derive(Clone, Copy)]
+pub struct Read<'a> {
+    pub first: &'a [u8],
+    pub second: Option<&'a [u8]>,
+    pub third: Option<&'a [u8]>,
+    pub pieces: (usize, usize),
 }
 
 impl Given {
@@ -15,24 +26,45 @@ impl Given {
     pub fn new(alloc: Global) -> Given {
         Given {
             first: Vec::new(alloc),
-            second: None,
+            second: Vec::new(alloc),
+            third: Vec::new(alloc),
+            count: 0,
         }
     }
 
-    /// Takes in what stands in a row: one file in hex, or two with a bar between them. A dot stands for the file of the row before.
+    /// Takes in what stands in a row: up to three files with bars between them. A dot stands for the last file at this place.
     pub fn take(&mut self, alloc: Global, text: &str) -> Result<(), Trouble> {
-        let (first, second) = match text.split_once(" | ") {
-            Some((first, second)) => (first, Some(second)),
-            None => (text, None),
-        };
-        if first != "." {
-            self.first = bytes_of(alloc, first)?;
-        }
-        match second {
-            Some(".") => {}
-            Some(digits) => self.second = Some(bytes_of(alloc, digits)?),
-            None => self.second = None,
+        self.count = 0;
+        for file in text.split(" | ") {
+            let kept = match self.count {
+                0 => &mut self.first,
+                1 => &mut self.second,
+                2 => &mut self.third,
+                _ => return Err(Trouble::BadLine),
+            };
+            if file != "." {
+                *kept = bytes_of(alloc, file)?;
+            }
+            self.count = self.count.saturating_add(1);
         }
         Ok(())
+    }
+
+    /// These files with another first one, read in pieces of these lengths.
+    pub fn with_first<'a>(&'a self, first: &'a [u8], pieces: (usize, usize)) -> Read<'a> {
+        Read {
+            first,
+            second: if self.count > 1 {
+                Some(self.second.as_slice())
+            } else {
+                None
+            },
+            third: if self.count > 2 {
+                Some(self.third.as_slice())
+            } else {
+                None
+            },
+            pieces,
+        }
     }
 }

@@ -9,6 +9,7 @@ mod given;
 mod judges;
 mod once;
 mod settings;
+mod sinks;
 mod table;
 mod trouble;
 mod views;

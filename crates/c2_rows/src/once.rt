@@ -1,20 +1,25 @@
 // One run, and what it comes to.
+use crate::given::Read;
 use crate::judges::{Named, judge_of};
 use crate::settings::{Fault, Hash, Object, Settings};
+use crate::sinks::InPieces;
 use crate::trouble::Trouble;
-use c2_base::{Blob, HostFile, MemSink, MemSource};
+use c2_base::{Blob, MemSink, MemSource, Source, VastSource};
 use c2_cmd::run;
-use c2_hash::{Sha, WeakSum};
+use c2_hash::{Alg, Hashing, Sha, WeakSum, digest_of};
 use c2_judge::Judge;
 use std::alloc::Global;
 
-/// What a run comes to: the status, the report, whether that is finished, and how often each judge was asked.
+/// What a run comes to: the status, the report, whether that is finished, how often each judge was asked, the new file, and whether
+/// that is finished.
 #[derive(Drop)]
 pub struct Outcome {
     pub status: u8,
     pub report: String,
     pub finished: bool,
     pub asked: String,
+    pub file: Blob,
+    pub is_whole: bool,
 }
 
 impl Outcome {
@@ -30,8 +35,23 @@ impl Outcome {
             told.push_str(", asked ")?;
             told.push_str(self.asked.as_str())?;
         }
+        push_file(alloc, &mut told, self.file.as_slice(), self.is_whole)?;
         Ok(told)
     }
+}
+
+// Appends what a new file is, unless nothing was done to it.
+fn push_file(alloc: Global, told: &mut String, file: &[u8], is_whole: bool) -> Result<(), Trouble> {
+    if file.is_empty() && !is_whole {
+        return Ok(());
+    }
+    let digest = hex::encode(alloc, digest_of(&Sha, Alg::Sha256, file).as_slice())?;
+    let (length, digest) = (file.len(), digest.as_str());
+    write!(told, ", out {length} {digest}")?;
+    if !is_whole {
+        told.push_str(", not finished")?;
+    }
+    Ok(())
 }
 
 // Appends the lines of a report with ` / ` between them.
@@ -54,12 +74,71 @@ fn push_lines(told: &mut String, report: &str) -> Result<(), Trouble> {
     Ok(())
 }
 
-/// Runs the words over files, which are read in pieces of these lengths, where an object fails.
+// A file that is read in pieces of this length and fails at this call; at its first, where there is no file.
+fn source_of(
+    alloc: Global,
+    file: Option<&[u8]>,
+    most: usize,
+    fail_at: u64,
+) -> Result<MemSource, Trouble> {
+    let fail_at = if file.is_some() { fail_at } else { 1 };
+    let bytes = Blob::copied(alloc, file.unwrap_or(&[]))?;
+    Ok(MemSource::new(bytes, most.max(1), fail_at))
+}
+
+// A sink of this room that takes so many bytes a call and fails at this one; at its first, where there is no room for it.
+fn sink_of(
+    alloc: Global,
+    room: Option<usize>,
+    most: usize,
+    fail_at: u64,
+) -> Result<InPieces<MemSink>, Trouble> {
+    let fail_at = if room.is_some() { fail_at } else { 1 };
+    let sink = MemSink::with_room(alloc, room.unwrap_or(0), fail_at)?;
+    Ok(InPieces { sink, most })
+}
+
+/// Runs the words over files, where an object fails.
 pub fn run_once(
     alloc: Global,
     settings: &Settings,
-    files: (&[u8], Option<&[u8]>),
-    pieces: (usize, usize),
+    read: Read,
+    fault: Fault,
+) -> Result<Outcome, Trouble> {
+    if let Some(size) = settings.size {
+        return run_vast(alloc, settings, size, read, fault);
+    }
+    let fail_at = fault.of(Object::Media);
+    let mut media = source_of(alloc, Some(read.first), read.pieces.0, fail_at)?;
+    match settings.hash {
+        Hash::Sha => run_over(alloc, &Sha, settings, &mut media, read, fault),
+        Hash::WeakSum => run_over(alloc, &WeakSum, settings, &mut media, read, fault),
+    }
+}
+
+// The same, where the first file is the front of one of so many bytes.
+fn run_vast(
+    alloc: Global,
+    settings: &Settings,
+    size: usize,
+    read: Read,
+    fault: Fault,
+) -> Result<Outcome, Trouble> {
+    let front = Blob::copied(alloc, read.first)?;
+    if size < read.first.len() || settings.hash != Hash::Sha {
+        return Err(Trouble::BadLine);
+    }
+    let mut media = VastSource::new(front, size as u64);
+    run_over(alloc, &Sha, settings, &mut media, read, fault)
+}
+
+// Runs the words over this first file.
+fn run_over<H: Hashing, A: Source>(
+    alloc: Global,
+    hashing: &H,
+    settings: &Settings,
+    media: &mut A,
+    read: Read,
     fault: Fault,
 ) -> Result<Outcome, Trouble> {
     let mut judges: Vec<Box<dyn Judge>> = Vec::new(alloc);
@@ -70,24 +149,23 @@ pub fn run_once(
             Named::Listed(judge) => judges.push(Box::new(alloc, judge)?)?,
         }
     }
-    // The first call of a second file that isn't there fails.
-    let second_fails = files.1.map_or(1, |_| fault.of(Object::Second));
-    let media = Blob::copied(alloc, files.0)?;
-    let mut media = MemSource::new(media, pieces.0.max(1), fault.of(Object::Media));
-    let second = Blob::copied(alloc, files.1.unwrap_or(&[]))?;
-    let mut second = MemSource::new(second, pieces.1.max(1), second_fails);
-    let mut report = MemSink::with_room(alloc, settings.room, fault.of(Object::Report))?;
-    // No row has a third file or a new one: each would fail at its first call.
-    let mut third = HostFile::absent();
-    let mut file = MemSink::with_room(alloc, 0, 1)?;
-    let (words, first, other) = (&settings.words, &mut media, &mut second);
-    let (last, new) = (&mut third, &mut file);
-    let (out, panel) = (&mut report, &mut judges);
-    let status = match settings.hash {
-        Hash::Sha => run(alloc, &Sha, words, first, other, last, new, out, panel),
-        Hash::WeakSum => run(alloc, &WeakSum, words, first, other, last, new, out, panel),
-    };
-    outcome_of(alloc, status.code(), &report, &judges)
+    let (most, other) = read.pieces;
+    let mut second = source_of(alloc, read.second, other, fault.of(Object::Second))?;
+    let mut third = source_of(alloc, read.third, other, fault.of(Object::Third))?;
+    let mut out = sink_of(alloc, settings.out, most, fault.of(Object::Out))?;
+    let mut report = sink_of(alloc, Some(settings.room), most, fault.of(Object::Report))?;
+    let status = run(
+        alloc,
+        hashing,
+        &settings.words,
+        media,
+        &mut second,
+        &mut third,
+        &mut out,
+        &mut report,
+        &mut judges,
+    );
+    outcome_of(alloc, status.code(), &report.sink, &out.sink, &judges)
 }
 
 // The outcome of a run.
@@ -95,6 +173,7 @@ fn outcome_of(
     alloc: Global,
     status: u8,
     report: &MemSink,
+    out: &MemSink,
     judges: &Vec<Box<dyn Judge>>,
 ) -> Result<Outcome, Trouble> {
     let mut asked = String::new(alloc);
@@ -109,5 +188,7 @@ fn outcome_of(
         report: String::from_str(alloc, text)?,
         finished: report.finished(),
         asked,
+        file: Blob::copied(alloc, out.bytes())?,
+        is_whole: out.finished(),
     })
 }

@@ -40,8 +40,14 @@ pub enum Object {
     /// The second file.
     Second,
 
+    /// The third file.
+    Third,
+
     /// A judge.
     Judge,
+
+    /// The new file.
+    Out,
 
     /// The report.
     Report,
@@ -73,7 +79,7 @@ pub struct Settings {
     /// How many bytes the packets have at most in which the media stands as a store; none: the media is the file.
     pub packets: Vec<usize>,
 
-    /// The lengths of pieces in which the two files are read.
+    /// The lengths of pieces in which the files are read, and the report and the new file are taken.
     pub pieces: Vec<(usize, usize)>,
 
     /// The judges, as `judges` reads them.
@@ -81,6 +87,12 @@ pub struct Settings {
 
     /// How many bytes the report takes.
     pub room: usize,
+
+    /// How many bytes the new file takes; none: its first call fails.
+    pub out: Option<usize>,
+
+    /// How many bytes the first file has, where it is the front of a file of zeros.
+    pub size: Option<usize>,
 
     /// What fails.
     pub fault: Fault,
@@ -118,6 +130,8 @@ impl Settings {
             pieces: Vec::new(alloc),
             judges: String::new(alloc),
             room: 1000,
+            out: None,
+            size: None,
             fault,
             view: View::Run,
             status: 0,
@@ -137,6 +151,8 @@ impl Settings {
             "pieces" => self.pieces = pairs_of(alloc, value)?,
             "judges" => self.judges = String::from_str(alloc, value)?,
             "room" => self.room = value.parse::<usize>()?,
+            "out" => self.out = number_of(value)?,
+            "size" => self.size = number_of(value)?,
             "fault" => self.fault = fault_of(value)?,
             "view" => self.view = view_of(value)?,
             "status" => self.status = value.parse::<u8>()?,
@@ -158,6 +174,14 @@ fn words_of(alloc: Global, line: &str) -> Result<Vec<String>, Trouble> {
         words.push(String::from_str(alloc, word)?)?;
     }
     Ok(words)
+}
+
+// A number, or `none`.
+fn number_of(word: &str) -> Result<Option<usize>, Trouble> {
+    if word == "none" {
+        return Ok(None);
+    }
+    Ok(Some(word.parse::<usize>()?))
 }
 
 // Numbers, a space between them.
@@ -211,7 +235,9 @@ fn fault_of(line: &str) -> Result<Fault, Trouble> {
     let object = match name {
         "media" => Object::Media,
         "second" => Object::Second,
+        "third" => Object::Third,
         "judge" => Object::Judge,
+        "out" => Object::Out,
         "report" => Object::Report,
         _ => return Err(Trouble::BadLine),
     };

@@ -3,7 +3,7 @@ use crate::bytes::in_jpeg;
 use crate::given::Given;
 use crate::settings::Settings;
 use crate::trouble::Trouble;
-use crate::views::{Read, view};
+use crate::views::view;
 use std::alloc::Global;
 
 /// What the lines so far say, and how many rows there were.
@@ -114,18 +114,11 @@ fn in_pieces(
     if settings.pieces.is_empty() {
         return Err(Trouble::BadLine);
     }
-    let second = given.second.as_ref().map(|bytes| bytes.as_slice());
     for pieces in settings.pieces.iter() {
-        let pieces = *pieces;
-        let read = Read {
-            first,
-            second,
-            pieces,
-        };
-        let got = view(alloc, settings, read)?;
+        let got = view(alloc, settings, given.with_first(first, *pieces))?;
         if got.as_str() != wanted {
             let got = got.as_str();
-            let (a, b) = pieces;
+            let (a, b) = *pieces;
             return Ok(Some(format!(in alloc; "{got} in pieces of {a} and {b}")?));
         }
     }

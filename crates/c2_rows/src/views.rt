@@ -1,21 +1,14 @@
 // What a row comes to.
 use crate::bytes::one_more;
+use crate::given::Read;
 use crate::once::{Outcome, run_once};
-use crate::settings::{Fault, Settings, View};
+use crate::settings::{Fault, Object, Settings, View};
 use crate::trouble::Trouble;
 use c2_cmd::roles;
 use std::alloc::Global;
 
 // The most calls of one object.
 const MOST_CALLS: u64 = 10_000;
-
-/// The files of a row, and the lengths of pieces in which they are read.
-#[derive(Clone, Copy)]
-pub struct Read<'a> {
-    pub first: &'a [u8],
-    pub second: Option<&'a [u8]>,
-    pub pieces: (usize, usize),
-}
 
 /// What a row comes to in its view, over these files.
 pub fn view(alloc: Global, settings: &Settings, read: Read) -> Result<String, Trouble> {
@@ -30,8 +23,7 @@ pub fn view(alloc: Global, settings: &Settings, read: Read) -> Result<String, Tr
 
 // The run over these files.
 fn whole(alloc: Global, settings: &Settings, read: Read) -> Result<Outcome, Trouble> {
-    let files = (read.first, read.second);
-    run_once(alloc, settings, files, read.pieces, settings.fault)
+    run_once(alloc, settings, read, settings.fault)
 }
 
 // Lets an object fail at each of its calls in turn, until none fails, and compares each with the run in which nothing fails.
@@ -40,9 +32,7 @@ fn each_call(alloc: Global, settings: &Settings, read: Read) -> Result<String, T
     let told = wanted.told(alloc)?;
     let object = settings.fault.object;
     for call in 1..MOST_CALLS {
-        let files = (read.first, read.second);
-        let fault = Fault { object, call };
-        let got = run_once(alloc, settings, files, read.pieces, fault)?;
+        let got = run_once(alloc, settings, read, Fault { object, call })?;
         if got.status != settings.status {
             return last_call(alloc, settings, told, &got, call);
         }
@@ -78,7 +68,17 @@ fn is_fault(settings: &Settings, whole: &Outcome, got: &Outcome) -> bool {
     let is_part = settings.part && whole.report.as_str().starts_with(report);
     let asked = settings.asked.as_str();
     let is_asked = asked.split(' ').any(|times| times == got.asked.as_str());
-    !got.finished && (report.is_empty() || is_part) && (asked.is_empty() || is_asked)
+    let is_report = !got.finished && (report.is_empty() || is_part);
+    is_report && (asked.is_empty() || is_asked) && has_file(settings, whole, got)
+}
+
+// Whether the new file is a part of the whole one that isn't finished; where the report fails, it is the whole one.
+fn has_file(settings: &Settings, whole: &Outcome, got: &Outcome) -> bool {
+    let (whole_file, file) = (whole.file.as_slice(), got.file.as_slice());
+    if settings.fault.object == Object::Report {
+        return file == whole_file && got.is_whole == whole.is_whole;
+    }
+    !got.is_whole && whole_file.starts_with(file)
 }
 
 // The statuses of the runs over each prefix of the first file but itself.
