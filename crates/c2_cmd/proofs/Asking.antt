@@ -8,12 +8,12 @@ use Rattle.c2_spec.specs.declared.panel.Verdict.{Verdict}
 use Rattle.c2_spec.specs.Judges.Panel.{verdicts, panel_size, Counted, MovedBelow}
 use Rattle.c2_rules.proofs.AskingLemmas.{asked_one}
 use Rattle.c2_rules.specs.Asking.{HaveAskedPrefix}
-use Rattle.c2_cmd.specs.CommandLine.{reading_roles, reads_media}
+use Rattle.c2_words.specs.CommandLine.{reading_roles, reads_media}
 use Rattle.c2_rules.specs.Validated.{AreQuestions, CheckAsks}
 use Rattle.c2_cmd.specs.Outcome.{Inputs, Asks, CommandAsks, inputs, uses_media}
-use Rattle.c2_cmd.specs.declared.types.Command.{Command}
-use Rattle.c2_cmd.specs.declared.types.Command.TheVariants as command
-use Rattle.c2_cmd.specs.declared.types.Roles.{Roles}
+use Rattle.c2_words.specs.declared.types.Command.{Command}
+use Rattle.c2_words.specs.declared.types.Command.TheVariants as command
+use Rattle.c2_words.specs.declared.types.Roles.{Roles}
 
 -- words and inputs come to one list of questions
 abbrev pub OneList : Type 0
@@ -29,7 +29,7 @@ pub known_file : (said : Question → Verdict) (hash : Alg → List ℕ → List
 known_file said hash None other last found roles qs is media questions tells asks = absurd (false≢true (tells (ap uses_media is ∙ media ∙ ap reads_media questions)))
 known_file said hash (Some file) other last found roles qs is media questions tells asks =
     let i = inputs (Some file) other last said hash in
-    (file, refl, subst (λ (c : Command). CommandAsks c i qs) questions (subst (λ (x : Option Roles). Asks x i qs) is asks))
+    (file, refl, subst (λ (c : Command). CommandAsks c roles i qs) questions (subst (λ (x : Option Roles). Asks x i qs) is asks))
 
 -- and what a call of `validate` asks is what the check of its file asks
 pub checked_file : (said : Question → Verdict) (hash : Alg → List ℕ → List ℕ) (known other last : Option (List ℕ)) (found : Option Roles) (roles : Roles) (qs : List Question) → found ≡ Some roles → is_some roles.media ≡ reads_media roles.command → roles.command ≡ command.Validate → (uses_media found ≡ true → IsSome known)
@@ -37,7 +37,7 @@ pub checked_file : (said : Question → Verdict) (hash : Alg → List ℕ → Li
 checked_file said hash None other last found roles qs is media validates tells asks = absurd (false≢true (tells (ap uses_media is ∙ media ∙ ap reads_media validates)))
 checked_file said hash (Some file) other last found roles qs is media validates tells asks =
     let i = inputs (Some file) other last said hash in
-    (file, refl, subst (λ (c : Command). CommandAsks c i qs) validates (subst (λ (x : Option Roles). Asks x i qs) is asks))
+    (file, refl, subst (λ (c : Command). CommandAsks c roles i qs) validates (subst (λ (x : Option Roles). Asks x i qs) is asks))
 
 -- the panel was asked the one question, and failed at none
 pub prefix_one : (said : List (Question → Verdict)) (q : Question) (before now : List ℕ) → MovedBelow Counted (panel_size (verdicts said q)) before now → HaveAskedPrefix said (q ∷ []) before now

@@ -16,17 +16,19 @@ use Rattle.c2_spec.specs.Located.{Opening, refused, absent, here}
 use Rattle.c2_spec.specs.declared.digest.Alg.{Alg}
 use Rattle.c2_spec.specs.declared.panel.Verdict.{Verdict}
 use Rattle.c2_spec.specs.Judges.Panel.{Judges}
-use Rattle.c2_cmd.specs.CommandLine.{checks_first, writes_file}
-use Rattle.c2_cmd.specs.Outcome.{Asks, CommandAsks, CommandMeets, Inputs, IsCommandOutcome, IsEmbedOutcome, IsOutcome, IsPlanOutcome, Meets, Outcome, Reports, answered, compare_outcome, has_first_checked, inputs, plan_outcome}
+use Rattle.c2_words.specs.CommandLine.{checks_first, writes_file}
+use Rattle.c2_cmd.specs.Outcome.{Asks, CommandAsks, CommandMeets, Inputs, IsCommandOutcome, IsEmbedOutcome, IsOutcome, IsPlanOutcome, Meets, Outcome, Reports, answered, compare_outcome, has_first_checked, inputs, pieces_in, plan_outcome, sample_outcome}
+use Rattle.c2_sample.specs.declared.types.Sampled.{Sampled}
+use Rattle.c2_sample.specs.declared.types.Sampled.TheVariants as sampled
 use Rattle.c2_cmd.specs.Reply.{AskedFor, Begins, IsFileCause, StandsFor, TakesFile, outcome_of}
 use Rattle.c2_cmd.specs.Run.{SinkState}
 use Rattle.c2_cmd.specs.declared.reply.Fault.{Fault}
 use Rattle.c2_cmd.specs.declared.reply.Fault.TheVariants.{Input, Output, Judge, Memory}
 use Rattle.c2_cmd.specs.declared.reply.Reply.{Reply}
 use Rattle.c2_cmd.specs.declared.types.Answer.TheVariants as answer
-use Rattle.c2_cmd.specs.declared.types.Command.{Command}
-use Rattle.c2_cmd.specs.declared.types.Command.TheVariants as command
-use Rattle.c2_cmd.specs.declared.types.Roles.{Roles}
+use Rattle.c2_words.specs.declared.types.Command.{Command}
+use Rattle.c2_words.specs.declared.types.Command.TheVariants as command
+use Rattle.c2_words.specs.declared.types.Roles.{Roles}
 use Rattle.c2_cmd.proofs.Replying.{OneOutcome, no_reply, one_reply}
 use Rattle.c2_cmd.proofs.Written.{then_nothing}
 
@@ -57,6 +59,11 @@ unfiled_plan : (r : Result (List ℕ) BuildError) → (plan_outcome r).file ≡ 
 unfiled_plan (Ok bytes) = refl
 unfiled_plan (Err e) = refl
 
+-- nor a sample
+unfiled_sample : (n : ℕ) (s : Sampled) → (sample_outcome n s).file ≡ None
+unfiled_sample n (sampled.Checked lengths found) = refl
+unfiled_sample n (sampled.Refused e) = refl
+
 -- a command that writes no file has an outcome without one
 unfiled_command : (c : Command) (roles : Roles) (i : Inputs) (e : Outcome) → writes_file c ≡ false → IsCommandOutcome c roles i e → e.file ≡ None
 unfiled_command command.Digest roles i e none h = unfiled_report _ (λ start len store x k. ap (λ (o : Outcome). o.file) k) h.0 e h.2
@@ -67,6 +74,7 @@ unfiled_command command.Validate roles i e none h = ap (λ (o : Outcome). o.file
 unfiled_command command.Compare roles i e none h = ap (λ (o : Outcome). o.file) h.3 ∙ unfiled_comparison h.0 h.1
 unfiled_command command.Plan roles i e none h = ap (λ (o : Outcome). o.file) h.2 ∙ unfiled_plan h.0
 unfiled_command command.Embed roles i e none h = absurd (false≢true (sym none))
+unfiled_command command.Sample roles i e none h = ap (λ (o : Outcome). o.file) h.2 ∙ unfiled_sample (pieces_in roles) h.0
 
 -- so nothing is done to the sink for one, in a call with this command
 pub unfiled : (found : Option Roles) (roles : Roles) (c : Command) (i : Inputs) (e : Outcome) (state : SinkState) (r : Result Reply Fault) → found ≡ Some roles → roles.command ≡ c → writes_file c ≡ false → IsOutcome found i e → TakesFile e.file state state r
@@ -85,11 +93,11 @@ unmet_command command.Validate i none = tt
 unmet_command command.Compare i none = tt
 unmet_command command.Plan i none = tt
 unmet_command command.Embed i none = absurd (false≢true (sym none))
+unmet_command command.Sample i none = tt
 
 -- so by a call with one
-pub unmet : (found : Option Roles) (roles : Roles) (c : Command) (i : Inputs) (r : Result Reply Fault) → found ≡ Some roles → roles.command ≡ c → writes_file c ≡ false → IfOk r (λ reply. reply.answer ≡ answer.Done → Meets found i)
-unmet found roles c i (Ok reply) is named none = λ done. subst (λ (x : Option Roles). Meets x i) (sym is) (subst (λ (x : Command). CommandMeets x i) (sym named) (unmet_command c i none))
-unmet found roles c i (Err f) is named none = tt
+pub unmet : (found : Option Roles) (roles : Roles) (c : Command) (i : Inputs) → found ≡ Some roles → roles.command ≡ c → writes_file c ≡ false → Meets found i
+unmet found roles c i is named none = subst (λ (x : Option Roles). Meets x i) (sym is) (subst (λ (x : Command). CommandMeets x i) (sym named) (unmet_command c i none))
 
 -- ---- `plan`
 
@@ -144,12 +152,11 @@ embed_begins said hash known other last found roles a b m w (Ok reply) is named 
 }
 
 -- and what the new file meets is what the call promises of it
-pub embed_met : (said : Question → Verdict) (hash : Alg → List ℕ → List ℕ) (known other last : Option (List ℕ)) (found : Option Roles) (roles : Roles) (a b m : List ℕ) (r : Result Reply Fault) → found ≡ Some roles → roles.command ≡ command.Embed → known ≡ Some a → other ≡ Some b → last ≡ Some m
-    → IfOk r (λ reply. reply.answer ≡ answer.Done → (new : Built) → IsEmbedded hash a b m (Ok new) → BuiltMeets hash a b m new) → IfOk r (λ reply. reply.answer ≡ answer.Done → Meets found (inputs known other last said hash))
-embed_met said hash known other last found roles a b m (Err f) is named ka kb km h = tt
-embed_met said hash known other last found roles a b m (Ok reply) is named ka kb km h = λ done.
+pub embed_met : (said : Question → Verdict) (hash : Alg → List ℕ → List ℕ) (known other last : Option (List ℕ)) (found : Option Roles) (roles : Roles) (a b m : List ℕ) → found ≡ Some roles → roles.command ≡ command.Embed → known ≡ Some a → other ≡ Some b → last ≡ Some m
+    → ((new : Built) → IsEmbedded hash a b m (Ok new) → BuiltMeets hash a b m new) → Meets found (inputs known other last said hash)
+embed_met said hash known other last found roles a b m is named ka kb km h =
     let i = inputs (Some a) (Some b) (Some m) said hash in
-    let s = subst (λ (c : Command). CommandMeets c i) (sym named) (h done) in
+    let s = subst (λ (c : Command). CommandMeets c i) (sym named) h in
     let r = subst (λ (x : Option (List ℕ)). CommandMeets roles.command (inputs (Some a) (Some b) x said hash)) (sym km) s in
     let q = subst (λ (x : Option (List ℕ)). CommandMeets roles.command (inputs (Some a) x last said hash)) (sym kb) r in
     let p = subst (λ (x : Option (List ℕ)). CommandMeets roles.command (inputs x other last said hash)) (sym ka) q in
@@ -167,9 +174,9 @@ unchecked claim found roles c is named none checked = absurd (false≢true (sym 
 
 -- a build asks nothing
 asks_nothing : (found : Option Roles) (roles : Roles) (c : Command) (i : Inputs) (qs : List Question) → found ≡ Some roles → roles.command ≡ c → (c ≡ command.Plan) ⊎ (c ≡ command.Embed) → Asks found i qs → qs ≡ []
-asks_nothing found roles c i qs is named which asks = by c which (subst (λ (x : Command). CommandAsks x i qs) named (subst (λ (x : Option Roles). Asks x i qs) is asks))
+asks_nothing found roles c i qs is named which asks = by c which (subst (λ (x : Command). CommandAsks x roles i qs) named (subst (λ (x : Option Roles). Asks x i qs) is asks))
   where
-    by : (c : Command) → (c ≡ command.Plan) ⊎ (c ≡ command.Embed) → CommandAsks c i qs → qs ≡ []
+    by : (c : Command) → (c ≡ command.Plan) ⊎ (c ≡ command.Embed) → CommandAsks c roles i qs → qs ≡ []
     by command.Plan which h = h
     by command.Embed which h = h
     by command.Digest which h = h
@@ -181,6 +188,8 @@ asks_nothing found roles c i qs is named which asks = by c which (subst (λ (x :
     by command.Validate (inr is) h = absurd (cc (is))
     by command.Compare (inl is) h = absurd (cc (is))
     by command.Compare (inr is) h = absurd (cc (is))
+    by command.Sample (inl is) h = absurd (cc (is))
+    by command.Sample (inr is) h = absurd (cc (is))
 
 -- and nobody was asked by one that left the judges
 pub asked_nobody : (found : Option Roles) (roles : Roles) (c : Command) (i : Inputs) (qs : List Question) (old new : Judges) (input output : Type 0) (r : Result Reply Fault) → found ≡ Some roles → roles.command ≡ c → (c ≡ command.Plan) ⊎ (c ≡ command.Embed) → new.asked ≡ old.asked → IfErr r (IsFileCause input output) → Asks found i qs → AskedFor qs old new r

@@ -18,7 +18,7 @@ use Rattle.c2_compare.specs.Comparing.{HasAsked, IsCompareCause, IsCompared}
 use Rattle.c2_compare.specs.declared.error.CompareError.{CompareError}
 use Rattle.c2_compare.specs.declared.error.CompareError.TheVariants.{ReadFault, WriteFault, JudgeFault, NoMemory}
 use Rattle.c2_texts.specs.Texts.{different_line, not_accepted_line, same_line}
-use Rattle.c2_cmd.specs.CommandLine.{comparing_roles, reads_media, reads_second, reads_third, writes_file}
+use Rattle.c2_words.specs.CommandLine.{comparing_roles, reads_media, reads_second, reads_third, writes_file}
 use Rattle.c2_cmd.specs.Outcome.{Outcome, Asks, CommandAsks, IsCommandOutcome, IsCompareOutcome, IsOutcome, compare_outcome, inputs, reports, uses_media, uses_out, uses_second, uses_third}
 use Rattle.c2_cmd.specs.Reply.{AskedFor, Begins, CausedBy, IsCause, IsFileCause, IsMediaCause, StandsFor, compare_fault, outcome_of}
 use Rattle.c2_cmd.specs.Run.{HasFailed}
@@ -26,9 +26,9 @@ use Rattle.c2_cmd.specs.declared.reply.Fault.{Fault}
 use Rattle.c2_cmd.specs.declared.reply.Fault.TheVariants.{Input, Output, Judge, Memory}
 use Rattle.c2_cmd.specs.declared.reply.Reply.{Reply}
 use Rattle.c2_cmd.specs.declared.types.Answer.TheVariants as answer
-use Rattle.c2_cmd.specs.declared.types.Command.{Command}
-use Rattle.c2_cmd.specs.declared.types.Command.TheVariants as command
-use Rattle.c2_cmd.specs.declared.types.Roles.{Roles}
+use Rattle.c2_words.specs.declared.types.Command.{Command}
+use Rattle.c2_words.specs.declared.types.Command.TheVariants as command
+use Rattle.c2_words.specs.declared.types.Roles.{Roles}
 use Rattle.c2_cmd.proofs.Replying.{OneOutcome}
 use Rattle.c2_cmd.proofs.Written.{prefix_before, prefix_whole}
 
@@ -89,6 +89,16 @@ compare_cause a b c d r s old new e f is h = subst (λ (x : Fault). CausedBy (Ro
     by WriteFault h = h
     by JudgeFault h = h
     by NoMemory h = tt
+
+-- a judge fails the run where one failed the comparison
+pub judge_failed : (claim : Type 0) (e : CompareError) (f : Fault) → f ≡ compare_fault e → (e ≡ JudgeFault → claim) → f ≡ Judge → claim
+judge_failed claim e f is h judge = by e (sym is ∙ judge) h
+  where
+    by : (e : CompareError) → compare_fault e ≡ Judge → (e ≡ JudgeFault → claim) → claim
+    by ReadFault same h = absurd (cc (same))
+    by WriteFault same h = absurd (cc (same))
+    by JudgeFault same h = h refl
+    by NoMemory same h = absurd (cc (same))
 
 -- and who was asked until then
 pub compare_asked : (qs : List Question) (old new : Judges) (e : CompareError) (f : Fault) → f ≡ compare_fault e → HasAsked qs old new (Err e) → AskedFor {T = Reply} qs old new (Err f)
@@ -214,6 +224,6 @@ pub asks_compare : (said : Question → Verdict) (hash : Alg → List ℕ → Li
     → Asks found (inputs known other last said hash) qs → CompareAsks hash said a b qs
 asks_compare said hash known other last found roles a b qs is named ka kb h =
     let p = subst (λ (x : Option Roles). Asks x (inputs known other last said hash) qs) is h in
-    let q = subst (λ (x : Option (List ℕ)). CommandAsks roles.command (inputs x other last said hash) qs) ka p in
-    let r = subst (λ (x : Option (List ℕ)). CommandAsks roles.command (inputs (Some a) x last said hash) qs) kb q in
-    subst (λ (c : Command). CommandAsks c (inputs (Some a) (Some b) last said hash) qs) named r
+    let q = subst (λ (x : Option (List ℕ)). CommandAsks roles.command roles (inputs x other last said hash) qs) ka p in
+    let r = subst (λ (x : Option (List ℕ)). CommandAsks roles.command roles (inputs (Some a) x last said hash) qs) kb q in
+    subst (λ (c : Command). CommandAsks c roles (inputs (Some a) (Some b) last said hash) qs) named r

@@ -1,5 +1,5 @@
 -- What `run` promises, by the reply that it has.
-use Rattle.std.proofs.Common.{◌≡◌, refl, sym, ◌∙◌, ap, subst, inl, inr, ℕ, ◌<◌, ◌^◌, true, List, [], ◌++◌, Option, Some, None, string_bytes}
+use Rattle.std.proofs.Common.{◌≡◌, refl, sym, ◌∙◌, ap, subst, inl, inr, ◌⊎◌, ℕ, ◌<◌, ◌^◌, true, List, [], ◌++◌, Option, Some, None, string_bytes}
 use Rattle.std.specs.Prelude.{All, IsSome, is_some, unwrap_or, Ok, Err}
 use Rattle.std.proofs.lemmas.Bool.{false≢true}
 use Rattle.std.specs.Option.{ForSome}
@@ -12,17 +12,18 @@ use Rattle.c2_spec.specs.Judges.Panel.{Judges}
 use Rattle.c2_rules.specs.Asking.{HaveAsked}
 use Rattle.c2_binding.specs.declared.compared.Compared.{Compared}
 use Rattle.c2_binding.specs.declared.compared.Compared.TheVariants as compared
-use Rattle.c2_cmd.specs.CommandLine.{reports_whole}
-use Rattle.c2_cmd.specs.Outcome.{Inputs, Outcome, IsCommandOutcome, IsOutcome, compare_outcome, has_whole_report, inputs}
+use Rattle.c2_words.specs.CommandLine.{reports_whole}
+use Rattle.c2_cmd.specs.Outcome.{HasDigests, Inputs, Outcome, IsCommandOutcome, IsOutcome, compare_outcome, has_whole_report, inputs}
+use Rattle.c2_layout.specs.Fresh.{GivesDigests}
 use Rattle.c2_cmd.specs.Reply.{StandsFor, TakesFile}
-use Rattle.c2_cmd.specs.Run.{SinkState, AskedPanel, Delivers, HasFile, HasNoFile, HasNoReply, HasReport, IsFileFirst, Leaves, WithoutFault, status_of}
+use Rattle.c2_cmd.specs.Run.{SinkState, AskedPanel, Delivers, Finishes, HasFile, HasWholeFile, HasNoFile, HasNoReply, HasReport, IsFileFirst, Leaves, WithoutFault, status_of}
 use Rattle.c2_cmd.specs.declared.reply.Fault.TheVariants.{Input, Output, Judge, Memory}
 use Rattle.c2_cmd.specs.declared.reply.Reply.{Reply}
 use Rattle.c2_cmd.specs.declared.types.Answer.{Answer}
 use Rattle.c2_cmd.specs.declared.types.Answer.TheVariants as answer
-use Rattle.c2_cmd.specs.declared.types.Command.{Command}
-use Rattle.c2_cmd.specs.declared.types.Command.TheVariants as command
-use Rattle.c2_cmd.specs.declared.types.Roles.{Roles}
+use Rattle.c2_words.specs.declared.types.Command.{Command}
+use Rattle.c2_words.specs.declared.types.Command.TheVariants as command
+use Rattle.c2_words.specs.declared.types.Roles.{Roles}
 use Rattle.c2_cmd.specs.declared.types.Status.{Status}
 use Rattle.c2_cmd.specs.declared.types.Status.TheVariants.{Done, Failing, Refused, NoStore, Usage, InputFault, OutputFault, JudgeFault, NoMemory, DifferentClaims, Evidence, BuildRefused, NotAccepted}
 use Rattle.c2_cmd.proofs.Written.{prefix_behind, written_behind}
@@ -133,6 +134,20 @@ without claim Evidence h = h
 without claim BuildRefused h = h
 without claim NotAccepted h = h
 
+-- a run with an answer ends by none of the faults before its report
+pub no_fault : (claim : Type 0) (a : Answer) (s t : Status) → s ≡ status_of a → HasNoReply t → s ≡ t → claim
+no_fault claim a s t is none same = absurd (no_end a (subst HasNoReply (sym same ∙ is) none))
+
+-- a run that isn't done has finished the file, where that is whole
+pub whole_failed : (s : Status) (old new : SinkState) → (s ≡ Done → ⊥) → HasWholeFile old new s → Finishes old new
+whole_failed s old new undone (inl done) = absurd (undone done)
+whole_failed s old new undone (inr h) = h
+
+-- one with an answer is done, or has finished it
+pub whole_answered : (a : Answer) (s : Status) (old new : SinkState) → s ≡ status_of a → HasWholeFile old new s → (a ≡ answer.Done) ⊎ Finishes old new
+whole_answered a s old new is (inl done) = inl (done_alone a (sym is ∙ done))
+whole_answered a s old new is (inr h) = inr h
+
 -- ---- the report
 
 -- a text that was delivered is the report of an outcome with this answer
@@ -226,6 +241,7 @@ whole_file command.Validate roles i e h some = refl
 whole_file command.Compare roles i e h some = absurd (false≢true (ap is_some (sym (compare_unfiled h.0 h.1)) ∙ subst (λ (o : Outcome). IsSome o.file) h.3 some))
 whole_file command.Plan roles i e h some = refl
 whole_file command.Embed roles i e h some = refl
+whole_file command.Sample roles i e h some = refl
 
 -- so has a call
 pub whole_where_filed : (found : Option Roles) (i : Inputs) (e : Outcome) → IsOutcome found i e → IsSome e.file → has_whole_report found ≡ true
@@ -259,9 +275,10 @@ bytes_of (Some file) h = h file refl
 
 -- words and inputs whose files are bytes come to an outcome
 abbrev pub EachOutcome : Type 0
-EachOutcome = (roles : Option Roles) (i : Inputs) → All (λ b. b < 2 ^ 8) i.media → All (λ b. b < 2 ^ 8) i.second → All (λ b. b < 2 ^ 8) i.third → (expected : Outcome) × IsOutcome roles i expected
+EachOutcome = (roles : Option Roles) (i : Inputs) → All (λ b. b < 2 ^ 8) i.media → All (λ b. b < 2 ^ 8) i.second → All (λ b. b < 2 ^ 8) i.third → HasDigests roles i → (expected : Outcome) × IsOutcome roles i expected
 
 -- so does each call
-pub comes_to : EachOutcome → (roles : Option Roles) (known other last : Option (List ℕ)) (said : Question → Verdict) (hash : Alg → List ℕ → List ℕ) → ForSome known (All (λ b. b < 2 ^ 8)) → ForSome other (All (λ b. b < 2 ^ 8)) → ForSome last (All (λ b. b < 2 ^ 8))
+pub comes_to : EachOutcome → (roles : Option Roles) (known other last : Option (List ℕ)) (said : Question → Verdict) (hash : Alg → List ℕ → List ℕ) → ForSome known (All (λ b. b < 2 ^ 8)) → ForSome other (All (λ b. b < 2 ^ 8)) → ForSome last (All (λ b. b < 2 ^ 8)) → GivesDigests hash
     → (expected : Outcome) × IsOutcome roles (inputs known other last said hash) expected
-comes_to law roles known other last said hash h k l = law roles (inputs known other last said hash) (bytes_of known h) (bytes_of other k) (bytes_of last l)
+comes_to law None known other last said hash h k l gives = law None (inputs known other last said hash) (bytes_of known h) (bytes_of other k) (bytes_of last l) tt
+comes_to law (Some roles) known other last said hash h k l gives = law (Some roles) (inputs known other last said hash) (bytes_of known h) (bytes_of other k) (bytes_of last l) (λ makes. gives)

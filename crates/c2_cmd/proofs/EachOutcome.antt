@@ -1,5 +1,5 @@
 -- Words and inputs whose files are bytes come to an outcome, and to a list of questions.
-use Rattle.std.proofs.Common.{refl, ℕ, ◌<◌, ◌^◌, List, [], ◌∷◌, Option, Some, None}
+use Rattle.std.proofs.Common.{◌≡◌, true, refl, ℕ, ◌<◌, ◌^◌, List, [], ◌∷◌, Option, Some, None}
 use Rattle.std.specs.Prelude.{⊤, All}
 use Rattle.c2_base.specs.declared.values.Question.{Question}
 use Rattle.c2_spec.specs.declared.claim.Claim.{Claim}
@@ -21,11 +21,14 @@ use Rattle.c2_binding.specs.declared.compared.Compared.{Compared}
 use Rattle.c2_build.specs.Meeting.{SomeEmbedding, SomePlan}
 use Rattle.c2_texts.specs.Texts.{refused_line, none_line, usage_line, listing, digest_line}
 use Rattle.c2_spec.specs.PutIn.{taken_out}
-use Rattle.c2_cmd.specs.Outcome.{Outcome, Inputs, Reports, IsOutcome, IsCommandOutcome, IsDigested, IsListing, IsShown, IsQuestioned, IsMediaOutcome, Asks, CommandAsks, answered, compare_outcome, embed_outcome, plan_outcome, questioned, shown, reports}
+use Rattle.c2_cmd.specs.Outcome.{HasDigests, pieces_in, sample_outcome, Outcome, Inputs, Reports, IsOutcome, IsCommandOutcome, IsDigested, IsListing, IsShown, IsQuestioned, IsMediaOutcome, Asks, CommandAsks, answered, compare_outcome, embed_outcome, plan_outcome, questioned, shown, reports}
+use Rattle.c2_layout.specs.Fresh.{GivesDigests}
+use Rattle.c2_sample.specs.Sample.{EachSample, EachSampleAsks}
+use Rattle.c2_words.specs.CommandLine.{makes_media}
 use Rattle.c2_cmd.specs.declared.types.Answer.TheVariants as answer
-use Rattle.c2_cmd.specs.declared.types.Command.{Command}
-use Rattle.c2_cmd.specs.declared.types.Command.TheVariants as command
-use Rattle.c2_cmd.specs.declared.types.Roles.{Roles}
+use Rattle.c2_words.specs.declared.types.Command.{Command}
+use Rattle.c2_words.specs.declared.types.Command.TheVariants as command
+use Rattle.c2_words.specs.declared.types.Roles.{Roles}
 
 -- what the laws of the crates below say
 pub record Laws : Type 0 where
@@ -35,6 +38,8 @@ pub record Laws : Type 0 where
   pub compared : (hash : Alg → List ℕ → List ℕ) (said : Question → Verdict) (first second : List ℕ) (a b : Answer) → IsAnswer hash said first a → IsAnswer hash said second b → (what : Compared) × (text : List ℕ) × IsComparison hash said first second what text
   pub planned : SomePlan
   pub embedded : SomeEmbedding
+  pub sampled : EachSample
+  pub sample_asks : EachSampleAsks
   pub compare_asks : (hash : Alg → List ℕ → List ℕ) (said : Question → Verdict) (first second : List ℕ) (a : Answer) (ps qs : List Question) → IsAnswer hash said first a → CheckAsks hash said first ps → CheckAsks hash said second qs → (all : List Question) × CompareAsks hash said first second all
 
 -- ---- a file is opened, and its manifests are read
@@ -99,30 +104,33 @@ each_questioned : (said : Question → Verdict) (t : Tree) (rs : List Reading) �
 each_questioned said t rs reads = (questioned said rs, (rs, reads, refl))
 
 -- every command has an outcome where its files are bytes
-each_command : Laws → (c : Command) (roles : Roles) (i : Inputs) → All (λ b. b < 2 ^ 8) i.media → All (λ b. b < 2 ^ 8) i.second → All (λ b. b < 2 ^ 8) i.third → (e : Outcome) × IsCommandOutcome c roles i e
-each_command laws command.Digest roles i held other more =
+each_command : Laws → (c : Command) (roles : Roles) (i : Inputs) → All (λ b. b < 2 ^ 8) i.media → All (λ b. b < 2 ^ 8) i.second → All (λ b. b < 2 ^ 8) i.third → (makes_media c ≡ true → GivesDigests i.hash) → (e : Outcome) × IsCommandOutcome c roles i e
+each_command laws command.Digest roles i held other more gives =
     let o = each_opened laws i held in
     let e = each_report (IsDigested (i.hash Sha256) i.media) o.1.0 (λ start len store. (reports answer.Done (digest_line start len (i.hash Sha256 (taken_out start len i.media))), refl)) in
     (e.0, (o.1.0, o.1.1, e.1))
-each_command laws command.List roles i held other more =
+each_command laws command.List roles i held other more gives =
     let b = each_boxed laws i held in
     let e = each_report IsListing b.0 (λ start len t. (reports answer.Done (listing t), refl)) in
     (e.0, (b.0, b.1, e.1))
-each_command laws command.Show roles i held other more = each_media laws IsShown (each_shown laws) i held
-each_command laws command.Questions roles i held other more = each_media laws (IsQuestioned i.said) (each_questioned i.said) i held
-each_command laws command.Validate roles i held other more = let a = laws.answer i.hash i.said i.media held in (answered a.0, (a.0, a.1, refl))
-each_command laws command.Compare roles i held other more =
+each_command laws command.Show roles i held other more gives = each_media laws IsShown (each_shown laws) i held
+each_command laws command.Questions roles i held other more gives = each_media laws (IsQuestioned i.said) (each_questioned i.said) i held
+each_command laws command.Validate roles i held other more gives = let a = laws.answer i.hash i.said i.media held in (answered a.0, (a.0, a.1, refl))
+each_command laws command.Compare roles i held other more gives =
     let a = laws.answer i.hash i.said i.media held in
     let b = laws.answer i.hash i.said i.second other in
     let e = laws.compared i.hash i.said i.media i.second a.0 b.0 a.1 b.1 in
     (compare_outcome e.0 e.1, (e.0, e.1, e.2, refl))
-each_command laws command.Plan roles i held other more = let r = laws.planned i.hash i.media i.second held in (plan_outcome r.0, (r.0, r.1, refl))
-each_command laws command.Embed roles i held other more = let r = laws.embedded i.hash i.media i.second i.third held more in (embed_outcome r.0, (r.0, r.1, refl))
+each_command laws command.Plan roles i held other more gives = let r = laws.planned i.hash i.media i.second held in (plan_outcome r.0, (r.0, r.1, refl))
+each_command laws command.Embed roles i held other more gives = let r = laws.embedded i.hash i.media i.second i.third held more in (embed_outcome r.0, (r.0, r.1, refl))
+each_command laws command.Sample roles i held other more gives =
+    let s = laws.sampled i.hash i.said (pieces_in roles) (gives refl) in
+    (sample_outcome (pieces_in roles) s.0, (s.0, s.1, refl))
 
 -- a call whose files are bytes has an outcome, whether its words fit a command or none
-pub each_outcome : Laws → (roles : Option Roles) (i : Inputs) → All (λ b. b < 2 ^ 8) i.media → All (λ b. b < 2 ^ 8) i.second → All (λ b. b < 2 ^ 8) i.third → (e : Outcome) × IsOutcome roles i e
-each_outcome laws None i held other more = (reports answer.Usage usage_line, refl)
-each_outcome laws (Some roles) i held other more = each_command laws roles.command roles i held other more
+pub each_outcome : Laws → (roles : Option Roles) (i : Inputs) → All (λ b. b < 2 ^ 8) i.media → All (λ b. b < 2 ^ 8) i.second → All (λ b. b < 2 ^ 8) i.third → HasDigests roles i → (e : Outcome) × IsOutcome roles i e
+each_outcome laws None i held other more gives = (reports answer.Usage usage_line, refl)
+each_outcome laws (Some roles) i held other more gives = each_command laws roles.command roles i held other more gives
 
 -- ---- questions
 
@@ -136,21 +144,22 @@ each_asked laws asks i held = let o = each_opened laws i held in go o.0 o.1 o.2
     go (here start len t) is read = (asks read.0, (here start len t, is, (read.0, read.1, refl)))
 
 -- every command has a list of questions for its judges where its files are bytes
-each_asks : Laws → (c : Command) (i : Inputs) → All (λ b. b < 2 ^ 8) i.media → All (λ b. b < 2 ^ 8) i.second → All (λ b. b < 2 ^ 8) i.third → (qs : List Question) × CommandAsks c i qs
-each_asks laws command.Digest i held other more = ([], refl)
-each_asks laws command.List i held other more = ([], refl)
-each_asks laws command.Show i held other more = ([], refl)
-each_asks laws command.Questions i held other more = each_asked laws questions i held
-each_asks laws command.Validate i held other more = laws.asks i.hash i.said i.media held
-each_asks laws command.Compare i held other more =
+each_asks : Laws → (c : Command) (roles : Roles) (i : Inputs) → All (λ b. b < 2 ^ 8) i.media → All (λ b. b < 2 ^ 8) i.second → All (λ b. b < 2 ^ 8) i.third → (makes_media c ≡ true → GivesDigests i.hash) → (qs : List Question) × CommandAsks c roles i qs
+each_asks laws command.Digest roles i held other more gives = ([], refl)
+each_asks laws command.List roles i held other more gives = ([], refl)
+each_asks laws command.Show roles i held other more gives = ([], refl)
+each_asks laws command.Questions roles i held other more gives = each_asked laws questions i held
+each_asks laws command.Validate roles i held other more gives = laws.asks i.hash i.said i.media held
+each_asks laws command.Compare roles i held other more gives =
     let a = laws.answer i.hash i.said i.media held in
     let ps = laws.asks i.hash i.said i.media held in
     let qs = laws.asks i.hash i.said i.second other in
     laws.compare_asks i.hash i.said i.media i.second a.0 ps.0 qs.0 a.1 ps.1 qs.1
-each_asks laws command.Plan i held other more = ([], refl)
-each_asks laws command.Embed i held other more = ([], refl)
+each_asks laws command.Plan roles i held other more gives = ([], refl)
+each_asks laws command.Embed roles i held other more gives = ([], refl)
+each_asks laws command.Sample roles i held other more gives = laws.sample_asks i.hash i.said (pieces_in roles) (gives refl)
 
 -- a call whose files are bytes has a list of questions: an empty one where its words fit no command
-pub each_list : Laws → (roles : Option Roles) (i : Inputs) → All (λ b. b < 2 ^ 8) i.media → All (λ b. b < 2 ^ 8) i.second → All (λ b. b < 2 ^ 8) i.third → (qs : List Question) × Asks roles i qs
-each_list laws None i held other more = ([], refl)
-each_list laws (Some roles) i held other more = each_asks laws roles.command i held other more
+pub each_list : Laws → (roles : Option Roles) (i : Inputs) → All (λ b. b < 2 ^ 8) i.media → All (λ b. b < 2 ^ 8) i.second → All (λ b. b < 2 ^ 8) i.third → HasDigests roles i → (qs : List Question) × Asks roles i qs
+each_list laws None i held other more gives = ([], refl)
+each_list laws (Some roles) i held other more gives = each_asks laws roles.command roles i held other more gives

@@ -1,6 +1,7 @@
 -- What `plan` and `embed` report, write and fail with, by what the build comes to.
 use Rattle.std.proofs.Common.{◌≡◌, ◌≢◌, refl, sym, ◌∙◌, ap, subst, inl, inr, ◌⊎◌, ℕ, zero, suc, Bool, List, [], ◌++◌, take, Option, Some, None, arith, append-nil}
 use Rattle.std.specs.Prelude.{IfErr, IfOk, OnOk}
+use Rattle.std.proofs.lemmas.Bool.{false≢true}
 use Rattle.std.specs.declared.result.Result.{Result}
 use Rattle.std.specs.declared.result.Result.TheVariants.{Ok, Err}
 use Rattle.c2_base.specs.Causes.{Rose}
@@ -15,15 +16,15 @@ use Rattle.c2_build.specs.declared.error.BuildError.{BuildError}
 use Rattle.c2_build.specs.declared.error.BuildError.TheVariants.{MediaRefused, BadDefinition, BadSignature, Later, RedactionRefused, NoInstance, StoreTooLarge, ReserveTooSmall, ReadFault, JudgeFault, WriteFault, NoMemory}
 use Rattle.c2_build.specs.declared.types.Embedded.{Embedded}
 use Rattle.c2_texts.specs.Builds.{embedded_line, tbs_line}
-use Rattle.c2_cmd.specs.CommandLine.{writing_roles}
+use Rattle.c2_words.specs.CommandLine.{writing_roles}
 use Rattle.c2_cmd.specs.Outcome.{Outcome, IsEmbedOutcome, IsPlanOutcome, embed_outcome, refused_build, reports}
-use Rattle.c2_cmd.specs.Reply.{IsFaultOf, IsFileCause, RepliesTo, StandsFor, TakesFile, build_fault, outcome_of}
+use Rattle.c2_cmd.specs.Reply.{HasWhole, IsFaultOf, IsFileCause, RepliesTo, StandsFor, TakesFile, build_fault, outcome_of}
 use Rattle.c2_cmd.specs.Run.{SinkState, Delivers, state_of}
 use Rattle.c2_cmd.specs.declared.reply.Fault.{Fault}
 use Rattle.c2_cmd.specs.declared.reply.Fault.TheVariants.{Input, Output, Judge, Memory}
 use Rattle.c2_cmd.specs.declared.reply.Reply.{Reply}
 use Rattle.c2_cmd.specs.declared.types.Answer.TheVariants as answer
-use Rattle.c2_cmd.specs.declared.types.Command.TheVariants as command
+use Rattle.c2_words.specs.declared.types.Command.TheVariants as command
 use Rattle.c2_cmd.proofs.Replying.{OneOutcome}
 
 -- ---- what is refused
@@ -106,6 +107,12 @@ refused_words e (Err f) h = tt
 pub not_done : (e : BuildError) (r : Result Reply Fault) (claim : Type 0) → IfOk r (RepliesTo e) → IfOk r (λ reply. reply.answer ≡ answer.Done → claim)
 not_done e (Ok reply) claim h = λ done. let both = sym (says_refused e reply h) ∙ done in absurd (cc (both))
 not_done e (Err f) claim h = tt
+
+-- so it isn't done, nor has it finished a sink that an error left as it was
+pub not_whole : (e : BuildError) (r : Result Reply Fault) (claim : Type 0) (old new : SinkState) → new.finished ≡ old.finished → IfOk r (RepliesTo e) → HasWhole old new r → claim
+not_whole e (Ok reply) claim old new same h (inl done) = let both = sym (says_refused e reply h) ∙ done in absurd (cc (both))
+not_whole e (Ok reply) claim old new same h (inr whole) = absurd (false≢true (sym whole.before ∙ sym same ∙ whole.is_finished))
+not_whole e (Err f) claim old new same h whole = absurd (false≢true (sym whole.before ∙ sym same ∙ whole.is_finished))
 
 -- ---- `plan`
 
@@ -194,6 +201,16 @@ plan_caused a b c d error (Err fault) cause h = fewer fault (embed_caused a b c 
 pub memory_filed : (input output : Type 0) (r : Result Reply Fault) → IfErr r (λ e. e ≡ Memory) → IfErr r (IsFileCause input output)
 memory_filed input output (Ok reply) h = tt
 memory_filed input output (Err e) h = subst (λ (x : Fault). IsFileCause input output x) (sym h) tt
+
+-- and no other fault is answered
+pub only_memory : (f : Fault) (claim : Type 0) (r : Result Reply Fault) → f ≢ Memory → IfErr r (λ e. e ≡ Memory) → IfErr r (λ e. e ≡ f → claim)
+only_memory f claim (Ok reply) other h = tt
+only_memory f claim (Err e) other h = λ is. absurd (other (sym is ∙ h))
+
+-- what holds anyway holds after a fault
+pub after_fault : (f : Fault) (claim : Type 0) (r : Result Reply Fault) → claim → IfErr r (λ e. e ≡ f → claim)
+after_fault f claim (Ok reply) h = tt
+after_fault f claim (Err e) h = λ is. h
 
 -- ---- `embed`: the report
 
@@ -302,6 +319,26 @@ embed_unfiled {K} one hash a b c written finished old new e (Err f) expected com
     by NoInstance is h left = absurd (cc (is))
     by (StoreTooLarge len) is h left = absurd (cc (is))
     by (ReserveTooSmall needed) is h left = absurd (cc (is))
+
+-- out of memory under a build or under its refusal leaves the sink
+pub memory_leaves : (left whole : Type 0) (e : BuildError) (r : Result Reply Fault) → IfErr r (IsFaultOf e) → LeavesSink (Err e) left → IfErr r (λ x. x ≡ Memory → left ⊎ whole)
+memory_leaves left whole e (Ok reply) h k = tt
+memory_leaves left whole e (Err x) (inr is) k = λ memory. inl (refused_sink e left is.0 k)
+memory_leaves left whole e (Err x) (inl is) k = λ memory. inl (by e (is ∙ ap Some memory) k)
+  where
+    by : (e : BuildError) → build_fault e ≡ Some Memory → LeavesSink (Err e) left → left
+    by ReadFault is k = absurd (cc (is))
+    by WriteFault is k = absurd (cc (is))
+    by JudgeFault is k = k
+    by NoMemory is k = k
+    by (MediaRefused reason number) is k = k
+    by (BadDefinition field) is k = k
+    by (BadSignature part) is k = k
+    by Later is k = k
+    by (RedactionRefused text code) is k = k
+    by NoInstance is k = k
+    by (StoreTooLarge len) is k = k
+    by (ReserveTooSmall needed) is k = k
 
 -- a refused build leaves the sink as it was
 pub refused_unfiled : (claim : Type 0) (e : BuildError) (r : Result Reply Fault) → IfOk r (RepliesTo e) → LeavesSink (Err e) claim → IfOk r (λ reply. reply.answer ≡ answer.BuildRefused → claim)

@@ -7,9 +7,9 @@ mod EachOutcome
 mod Embedding
 mod Lines
 mod Listing
-mod Naming
 mod OneOutcome
 mod Preparing
 mod Replying
+mod Sampling
 mod Validating
 mod Written

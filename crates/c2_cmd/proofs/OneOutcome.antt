@@ -22,10 +22,11 @@ use Rattle.c2_binding.specs.Comparison.{IsComparison, CompareAsks}
 use Rattle.c2_binding.specs.declared.compared.Compared.{Compared}
 use Rattle.c2_build.specs.Building.{IsEmbedded, IsPlanned}
 use Rattle.c2_build.specs.Meeting.{OneEmbedding, OnePlan}
-use Rattle.c2_cmd.specs.Outcome.{Outcome, Inputs, Reports, IsOutcome, IsCommandOutcome, IsDigested, IsListing, IsShown, IsQuestioned, Asks, CommandAsks, answered, compare_outcome, embed_outcome, plan_outcome, shown, questioned}
-use Rattle.c2_cmd.specs.declared.types.Command.{Command}
-use Rattle.c2_cmd.specs.declared.types.Command.TheVariants as command
-use Rattle.c2_cmd.specs.declared.types.Roles.{Roles}
+use Rattle.c2_cmd.specs.Outcome.{Outcome, Inputs, Reports, IsOutcome, IsCommandOutcome, IsDigested, IsListing, IsShown, IsQuestioned, Asks, CommandAsks, answered, compare_outcome, embed_outcome, pieces_in, plan_outcome, sample_outcome, shown, questioned}
+use Rattle.c2_sample.specs.Sample.{IsSampled, OneSample, OneSampleAsks}
+use Rattle.c2_words.specs.declared.types.Command.{Command}
+use Rattle.c2_words.specs.declared.types.Command.TheVariants as command
+use Rattle.c2_words.specs.declared.types.Roles.{Roles}
 
 -- what the laws of the crates below say
 pub record Laws : Type 0 where
@@ -42,6 +43,8 @@ pub record Laws : Type 0 where
   pub compared : (hash : Alg → List ℕ → List ℕ) (said : Question → Verdict) (first second : List ℕ) (a b : Compared) (t u : List ℕ) → IsComparison hash said first second a t → IsComparison hash said first second b u → (a ≡ b) × (t ≡ u)
   pub planned : OnePlan
   pub embedded : OneEmbedding
+  pub sampled : OneSample
+  pub sample_asks : OneSampleAsks
   pub compare_asks : (hash : Alg → List ℕ → List ℕ) (said : Question → Verdict) (first second : List ℕ) (ps qs : List Question) → CompareAsks hash said first second ps → CompareAsks hash said first second qs → ps ≡ qs
 
 -- where the first value is one, and so is each that follows from it, the second is one
@@ -108,6 +111,7 @@ one_command laws command.Compare roles i x y h k =
     h.3 ∙ ap (λ (what : Compared). compare_outcome what h.1) one.0 ∙ ap (compare_outcome k.0) one.1 ∙ sym k.3
 one_command laws command.Plan roles i x y h k = one_after (IsPlanned i.hash i.media i.second) (λ r e. e ≡ plan_outcome r) (laws.planned i.hash i.media i.second) (λ r a b p q. p ∙ sym q) x y h k
 one_command laws command.Embed roles i x y h k = one_after (IsEmbedded i.hash i.media i.second i.third) (λ r e. e ≡ embed_outcome r) (laws.embedded i.hash i.media i.second i.third) (λ r a b p q. p ∙ sym q) x y h k
+one_command laws command.Sample roles i x y h k = one_after (IsSampled i.hash i.said (pieces_in roles)) (λ s e. e ≡ sample_outcome (pieces_in roles) s) (laws.sampled i.hash i.said (pieces_in roles)) (λ s a b p q. p ∙ sym q) x y h k
 
 -- a call has one outcome at most, whether its words fit a command or none
 pub one_outcome : Laws → (roles : Option Roles) (i : Inputs) (x y : Outcome) → IsOutcome roles i x → IsOutcome roles i y → x ≡ y
@@ -117,17 +121,18 @@ one_outcome laws (Some roles) i x y h k = one_command laws roles.command roles i
 -- ---- questions
 
 -- a command has one list of questions at most for what it is handed
-one_asks : Laws → (c : Command) (i : Inputs) (ps qs : List Question) → CommandAsks c i ps → CommandAsks c i qs → ps ≡ qs
-one_asks laws command.Digest i ps qs h k = h ∙ sym k
-one_asks laws command.List i ps qs h k = h ∙ sym k
-one_asks laws command.Show i ps qs h k = h ∙ sym k
-one_asks laws command.Questions i ps qs h k = laws.questions i.media ps qs h k
-one_asks laws command.Validate i ps qs h k = laws.asks i.hash i.said i.media ps qs h k
-one_asks laws command.Compare i ps qs h k = laws.compare_asks i.hash i.said i.media i.second ps qs h k
-one_asks laws command.Plan i ps qs h k = h ∙ sym k
-one_asks laws command.Embed i ps qs h k = h ∙ sym k
+one_asks : Laws → (c : Command) (roles : Roles) (i : Inputs) (ps qs : List Question) → CommandAsks c roles i ps → CommandAsks c roles i qs → ps ≡ qs
+one_asks laws command.Digest roles i ps qs h k = h ∙ sym k
+one_asks laws command.List roles i ps qs h k = h ∙ sym k
+one_asks laws command.Show roles i ps qs h k = h ∙ sym k
+one_asks laws command.Questions roles i ps qs h k = laws.questions i.media ps qs h k
+one_asks laws command.Validate roles i ps qs h k = laws.asks i.hash i.said i.media ps qs h k
+one_asks laws command.Compare roles i ps qs h k = laws.compare_asks i.hash i.said i.media i.second ps qs h k
+one_asks laws command.Plan roles i ps qs h k = h ∙ sym k
+one_asks laws command.Embed roles i ps qs h k = h ∙ sym k
+one_asks laws command.Sample roles i ps qs h k = laws.sample_asks i.hash i.said (pieces_in roles) ps qs h k
 
 -- a call has one list of questions at most, whether its words fit a command or none
 pub one_list : Laws → (roles : Option Roles) (i : Inputs) (ps qs : List Question) → Asks roles i ps → Asks roles i qs → ps ≡ qs
 one_list laws None i ps qs h k = h ∙ sym k
-one_list laws (Some roles) i ps qs h k = one_asks laws roles.command i ps qs h k
+one_list laws (Some roles) i ps qs h k = one_asks laws roles.command roles i ps qs h k

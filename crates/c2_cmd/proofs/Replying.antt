@@ -20,7 +20,7 @@ use Rattle.c2_validate.specs.declared.types.Opened.TheVariants as opened
 use Rattle.c2_validate.specs.declared.types.StoreRead.{StoreRead}
 use Rattle.c2_validate.specs.declared.types.StoreRead.TheVariants as read
 use Rattle.c2_cmd.specs.Outcome.{Outcome, Inputs, reports, Reports, IsListing, IsMediaOutcome, IsCommandOutcome, IsOutcome, inputs, uses_media}
-use Rattle.c2_cmd.specs.CommandLine.{reads_media}
+use Rattle.c2_words.specs.CommandLine.{reads_media}
 use Rattle.c2_cmd.specs.Reply.{outcome_of, Begins, Completes, StandsFor, IsShort, IsStored, IsFoundOutcome, IsMediaCause}
 use Rattle.c2_cmd.specs.declared.open.Stored.{Stored}
 use Rattle.c2_cmd.specs.declared.open.Stored.TheVariants as stored
@@ -28,8 +28,8 @@ use Rattle.c2_cmd.specs.declared.reply.Fault.{Fault}
 use Rattle.c2_cmd.specs.declared.reply.Fault.TheVariants as fault
 use Rattle.c2_cmd.specs.declared.reply.Reply.{Reply}
 use Rattle.c2_cmd.specs.declared.types.Answer.TheVariants as answer
-use Rattle.c2_cmd.specs.declared.types.Command.{Command}
-use Rattle.c2_cmd.specs.declared.types.Roles.{Roles}
+use Rattle.c2_words.specs.declared.types.Command.{Command}
+use Rattle.c2_words.specs.declared.types.Roles.{Roles}
 use Rattle.c2_texts.specs.Texts.{refused_line, usage_line}
 use Rattle.c2_cmd.proofs.Written.{nothing_written, then_nothing}
 

@@ -28,7 +28,7 @@ no_words true e = cc (e)
 no_words false e = cc (e)
 
 -- nor for another answer
-fits_words : (found : Checked) → (answered found).answer ≢ answer.Usage
+pub fits_words : (found : Checked) → (answered found).answer ≢ answer.Usage
 fits_words (checked.Valid summary) e = cc (e)
 fits_words (checked.Failing failing) e = no_words (is_unsupported failing.code) e
 fits_words (checked.Refused reason number) e = cc (e)

@@ -1,5 +1,5 @@
 -- The outcome of a run: a relation between the roles of its words, what it is handed, and its outcome.
-use Rattle.std.specs.Prelude.{◌≡◌, ⊤, ℕ, Bool, true, false, List, [], is_some, unwrap_or, Some, None, if◌then◌else◌}
+use Rattle.std.specs.Prelude.{◌≡◌, ⊤, ℕ, Bool, true, false, List, [], ◌++◌, is_some, unwrap_or, Some, None, if◌then◌else◌}
 use Rattle.std.specs.List.{flat_map}
 use Rattle.std.specs.declared.option.Option.{Option}
 use Rattle.std.specs.declared.result.Result.{Result}
@@ -31,15 +31,19 @@ use Rattle.c2_build.specs.Building.{Built, IsEmbedded, IsPlanned}
 use Rattle.c2_build.specs.Meeting.{BuiltMeets}
 use Rattle.c2_build.specs.declared.error.BuildError.{BuildError}
 use Rattle.c2_build.specs.declared.error.BuildError.TheVariants as build
+use Rattle.c2_layout.specs.Fresh.{GivesDigests}
+use Rattle.c2_sample.specs.Sample.{IsSampled, SampleAsks, sample_line}
+use Rattle.c2_sample.specs.declared.types.Sampled.{Sampled}
+use Rattle.c2_sample.specs.declared.types.Sampled.TheVariants as sampled
 use Rattle.c2_texts.specs.Builds.{bad_definition_line, bad_signature_line, embedded_line, later_line, media_refused_line, no_instance_line, redaction_refused_line, reserve_too_small_line, store_too_large_line, tbs_line}
 use Rattle.c2_texts.specs.Show.{show_line}
 use Rattle.c2_texts.specs.Texts.{usage_line, refused_line, none_line, digest_line, listing, question_line, no_question_line, valid_line, failing_line, same_line, different_line, not_accepted_line}
 use Rattle.c2_cmd.specs.declared.types.Answer.{Answer}
 use Rattle.c2_cmd.specs.declared.types.Answer.TheVariants as answer
-use Rattle.c2_cmd.specs.declared.types.Command.{Command}
-use Rattle.c2_cmd.specs.declared.types.Command.TheVariants as command
-use Rattle.c2_cmd.specs.declared.types.Roles.{Roles}
-use Rattle.c2_cmd.specs.CommandLine.{asks_judges, checks_first, reports_whole}
+use Rattle.c2_words.specs.declared.types.Command.{Command}
+use Rattle.c2_words.specs.declared.types.Command.TheVariants as command
+use Rattle.c2_words.specs.declared.types.Roles.{Roles}
+use Rattle.c2_words.specs.CommandLine.{asks_judges, checks_first, makes_media, reports_whole}
 
 -- what an outcome depends on beside the words: the bytes of the sources, what the panel of judges says of a question,
 -- and the hash
@@ -183,6 +187,19 @@ abbrev pub IsEmbedOutcome : (Alg → List ℕ → List ℕ) → List ℕ → Lis
 IsEmbedOutcome hash media definition message expected =
     (r : Result Built BuildError) × IsEmbedded hash media definition message r × (expected ≡ embed_outcome r)
 
+-- what is reported where so many pieces come to this: the line of their files, and that of the check; or what is refused
+abbrev pub sample_outcome : ℕ → Sampled → Outcome
+sample_outcome n (sampled.Checked lengths found) = reports (answered found).answer (sample_line n lengths ++ (answered found).report)
+sample_outcome n (sampled.Refused e) = refused_build e
+
+-- how many pieces are asked for: 0 where the roles have no number, which those of `sample` have
+abbrev pub pieces_in : Roles → ℕ
+pieces_in roles = unwrap_or roles.count 0
+
+-- the outcome of `sample` with so many pieces
+abbrev pub IsSampleOutcome : (Alg → List ℕ → List ℕ) → (Question → Verdict) → ℕ → Outcome → Type 0
+IsSampleOutcome hash said n expected = (s : Sampled) × IsSampled hash said n s × (expected ≡ sample_outcome n s)
+
 -- the outcome of a command with these roles
 abbrev pub IsCommandOutcome : Command → Roles → Inputs → Outcome → Type 0
 IsCommandOutcome command.Digest roles i expected = IsDigestOutcome (i.hash Sha256) i.media expected
@@ -193,11 +210,17 @@ IsCommandOutcome command.Validate roles i expected = IsValidated i.hash i.said i
 IsCommandOutcome command.Compare roles i expected = IsCompareOutcome i.hash i.said i.media i.second expected
 IsCommandOutcome command.Plan roles i expected = IsPlanOutcome i.hash i.media i.second expected
 IsCommandOutcome command.Embed roles i expected = IsEmbedOutcome i.hash i.media i.second i.third expected
+IsCommandOutcome command.Sample roles i expected = IsSampleOutcome i.hash i.said (pieces_in roles) expected
 
 -- the outcome of words with these roles, or with none
 abbrev pub IsOutcome : Option Roles → Inputs → Outcome → Type 0
 IsOutcome None i expected = expected ≡ reports answer.Usage usage_line
 IsOutcome (Some roles) i expected = IsCommandOutcome roles.command roles i expected
+
+-- the hash gives digests, for words with roles by which a file is built of made media: so this file is bytes
+abbrev pub HasDigests : Option Roles → Inputs → Type 0
+HasDigests None i = ⊤
+HasDigests (Some roles) i = makes_media roles.command ≡ true → GivesDigests i.hash
 
 -- whether the command reads the media
 abbrev pub uses_media : Option Roles → Bool
@@ -236,20 +259,21 @@ has_first_checked (Some roles) = checks_first roles.command
 
 -- the judges are asked these questions, in this order, by a command: none by a build, since only media without a store are built
 -- into
-abbrev pub CommandAsks : Command → Inputs → List Question → Type 0
-CommandAsks command.Digest i qs = qs ≡ []
-CommandAsks command.List i qs = qs ≡ []
-CommandAsks command.Show i qs = qs ≡ []
-CommandAsks command.Questions i qs = AreQuestions i.media qs
-CommandAsks command.Validate i qs = CheckAsks i.hash i.said i.media qs
-CommandAsks command.Compare i qs = CompareAsks i.hash i.said i.media i.second qs
-CommandAsks command.Plan i qs = qs ≡ []
-CommandAsks command.Embed i qs = qs ≡ []
+abbrev pub CommandAsks : Command → Roles → Inputs → List Question → Type 0
+CommandAsks command.Digest roles i qs = qs ≡ []
+CommandAsks command.List roles i qs = qs ≡ []
+CommandAsks command.Show roles i qs = qs ≡ []
+CommandAsks command.Questions roles i qs = AreQuestions i.media qs
+CommandAsks command.Validate roles i qs = CheckAsks i.hash i.said i.media qs
+CommandAsks command.Compare roles i qs = CompareAsks i.hash i.said i.media i.second qs
+CommandAsks command.Plan roles i qs = qs ≡ []
+CommandAsks command.Embed roles i qs = qs ≡ []
+CommandAsks command.Sample roles i qs = SampleAsks i.hash i.said (pieces_in roles) qs
 
 -- the judges are asked these questions, in order, by words with these roles; words without roles ask none
 abbrev pub Asks : Option Roles → Inputs → List Question → Type 0
 Asks None i qs = qs ≡ []
-Asks (Some roles) i qs = CommandAsks roles.command i qs
+Asks (Some roles) i qs = CommandAsks roles.command roles i qs
 
 -- The new file of a command, where it builds one, meets what is promised of it: all rules hold but for the verdict on it, what it asks
 -- is what `plan` gives to be signed, and without the new range it is the media.

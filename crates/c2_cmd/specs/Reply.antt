@@ -28,7 +28,7 @@ use Rattle.c2_compare.specs.declared.error.CompareError.TheVariants as compare_e
 use Rattle.c2_validate.specs.declared.error.ValidateError.{ValidateError}
 use Rattle.c2_validate.specs.declared.error.ValidateError.TheVariants as error
 use Rattle.c2_cmd.specs.Outcome.{Outcome, reports, Reports, IsListing, IsMediaOutcome, IsQuestioned, refused_build, verdict_lines}
-use Rattle.c2_cmd.specs.Run.{SinkState, Delivers, Leaves}
+use Rattle.c2_cmd.specs.Run.{SinkState, Delivers, Finishes, Leaves}
 use Rattle.c2_cmd.specs.declared.open.Stored.{Stored}
 use Rattle.c2_cmd.specs.declared.open.Stored.TheVariants as stored
 use Rattle.c2_cmd.specs.declared.prepare.Prepared.{Prepared}
@@ -72,6 +72,11 @@ TakesFile (Some file) old new (Err Input) = Leaves file old new
 TakesFile (Some file) old new (Err Output) = Leaves file old new
 TakesFile (Some file) old new (Err Judge) = new ≡ old
 TakesFile (Some file) old new (Err Memory) = (new ≡ old) ⊎ Delivers file old new
+
+-- the new file is whole, by its sink and the result of a call: the reply says that it is done, or the call has finished the file
+abbrev pub HasWhole : SinkState → SinkState → Result Reply Fault → Type 0
+HasWhole old new (Ok reply) = (reply.answer ≡ answer.Done) ⊎ Finishes old new
+HasWhole old new (Err e) = Finishes old new
 
 -- ---- causes of faults
 

@@ -1,5 +1,5 @@
 -- What `run` promises by its status: what its report holds, what its faults come from, and what it leaves as it was.
-use Rattle.std.specs.Prelude.{◌≡◌, ◌⊎◌, ℕ, Bool, true, List, IsSome, Some, None, ⊤, map, string_bytes, String}
+use Rattle.std.specs.Prelude.{◌≡◌, ◌⊎◌, ℕ, Bool, true, false, List, IsSome, Some, None, ⊤, map, string_bytes, String}
 use Rattle.std.specs.declared.option.Option.{Option}
 use Rattle.c2_base.specs.Causes.{Rose}
 use Rattle.c2_base.specs.Sink.{then_written, HasWrittenPrefix}
@@ -8,11 +8,11 @@ use Rattle.c2_spec.specs.declared.digest.Alg.{Alg}
 use Rattle.c2_spec.specs.declared.panel.Verdict.{Verdict}
 use Rattle.c2_spec.specs.Judges.Panel.{SomeRose, NoneFell, Judges, panel_says}
 use Rattle.c2_rules.specs.Asking.{HaveAsked, HaveAskedPrefix, HaveFailed}
-use Rattle.c2_cmd.specs.CommandLine.{roles_of}
+use Rattle.c2_words.specs.CommandLine.{roles_of}
 use Rattle.c2_cmd.specs.Outcome.{Outcome, Inputs, inputs, uses_media, uses_second, uses_third, uses_judges, IsOutcome, Asks, Meets}
 use Rattle.c2_cmd.specs.declared.types.Answer.{Answer}
 use Rattle.c2_cmd.specs.declared.types.Answer.TheVariants as answer
-use Rattle.c2_cmd.specs.declared.types.Roles.{Roles}
+use Rattle.c2_words.specs.declared.types.Roles.{Roles}
 use Rattle.c2_cmd.specs.declared.types.Status.{Status}
 use Rattle.c2_cmd.specs.declared.types.Status.TheVariants.{Done, Failing, Refused, NoStore, Usage, InputFault, OutputFault, JudgeFault, NoMemory, DifferentClaims, Evidence, BuildRefused, NotAccepted}
 
@@ -87,8 +87,8 @@ pub record Leaves (text : List ℕ) (old new : SinkState) : Type 0 where
   pub prefix : HasWrittenPrefix old.written new.written text
   pub same : new.finished ≡ old.finished
 
--- the report after a run with this outcome and this status: all of the outcome's report, or after a fault or out of memory
--- a prefix of it
+-- The report after a run with this outcome and this status: the status is that of the outcome's answer, and the report took all of
+-- its text and is finished; or after a fault or out of memory it took a prefix of that text, and this call hasn't finished it.
 abbrev pub HasReport : Outcome → SinkState → SinkState → Status → Type 0
 HasReport expected old new InputFault = Leaves expected.report old new
 HasReport expected old new OutputFault = Leaves expected.report old new
@@ -97,8 +97,9 @@ HasReport expected old new NoMemory = Leaves expected.report old new
 HasReport expected old new status = (status ≡ status_of expected.answer) × Delivers expected.report old new
 
 -- The new file after a run with this outcome and this status. Where the outcome has a file: all of it, and it is finished; after a fault
--- of a source a prefix of it; after one of a sink a prefix of it or, where the report failed, all of it; out of memory nothing or all
--- of it. Where the outcome has none: nothing was done.
+-- of a source a prefix of it; after one of a sink a prefix of it or all of it (then it was the report that failed: the clause
+-- `out_unfinished` says of a new file that failed that the call hasn't finished it); after one of a judge nothing; out of memory nothing
+-- or all of it. Where the outcome has none: nothing was done.
 abbrev pub HasFile : Option (List ℕ) → SinkState → SinkState → Status → Type 0
 HasFile None old new status = new ≡ old
 HasFile (Some file) old new InputFault = Leaves file old new
@@ -106,6 +107,15 @@ HasFile (Some file) old new OutputFault = Leaves file old new ⊎ Delivers file 
 HasFile (Some file) old new JudgeFault = new ≡ old
 HasFile (Some file) old new NoMemory = (new ≡ old) ⊎ Delivers file old new
 HasFile (Some file) old new status = Delivers file old new
+
+-- a call finished a sink that wasn't
+pub record Finishes (old new : SinkState) : Type 0 where
+  pub before : old.finished ≡ false
+  pub is_finished : new.finished ≡ true
+
+-- the new file is whole, by its sink and the status: the run is done, or it has finished the file, whatever failed behind that
+abbrev pub HasWholeFile : SinkState → SinkState → Status → Type 0
+HasWholeFile old new status = (status ≡ Done) ⊎ Finishes old new
 
 -- nothing was written to the report before the file was whole and finished
 abbrev pub IsFileFirst : Option (List ℕ) → SinkState → SinkState → SinkState → SinkState → Type 0
@@ -141,8 +151,8 @@ HasNoReply JudgeFault = ⊤
 HasNoReply NoMemory = ⊤
 HasNoReply status = ⊥
 
--- Which judges were asked how often, and who failed, by the status: each of these questions was put to the panel, or after a
--- fault or out of memory those of a prefix of them.
+-- Which judges were asked how often, and who failed, by the status: each of these questions was put to the panel, also where a sink
+-- failed; after a fault of a source and out of memory those of a prefix; after one of a judge those before the one at which it failed.
 abbrev pub AskedPanel : List Question → Judges → Judges → Status → Type 0
 AskedPanel qs old new InputFault = HaveAskedPrefix old.said qs old.asked new.asked
 AskedPanel qs old new NoMemory = HaveAskedPrefix old.said qs old.asked new.asked

@@ -6,7 +6,7 @@ ghost use Rattle.c2_base.specs.Source.{StaysSource};
 ghost use Rattle.c2_build.specs.Building.{Built as AnyBuilt, IsEmbedded};
 ghost use Rattle.c2_build.specs.Meeting.{BuiltMeets};
 ghost use Rattle.c2_cmd.specs.Outcome.{IsEmbedOutcome, IsPlanOutcome, Outcome, refusal_line};
-ghost use Rattle.c2_cmd.specs.Reply.{IsFaultOf, IsFileCause, RepliesTo, StandsFor, TakesFile, outcome_of};
+ghost use Rattle.c2_cmd.specs.Reply.{HasWhole, IsFaultOf, IsFileCause, RepliesTo, StandsFor, TakesFile, outcome_of};
 ghost use Rattle.c2_cmd.specs.Run.{state_of};
 
 use crate::laws::one_outcome;
@@ -71,10 +71,12 @@ pub fn reply_to_embed<H: Hashing, A: Source, B: Source, C: Source, K: Sink>(
         ForSome (A.known media.old) (λ a. ForSome (B.known definition.old) (λ b.
         ForSome (C.known message.old) (λ c. (expected : Outcome)
         → IsEmbedOutcome H.digest_of a b c expected → TakesFile expected.file old new result))) }
-    ensures met { ForSome (A.known media.old) (λ a. ForSome (B.known definition.old) (λ b.
-        ForSome (C.known message.old) (λ c. IfOk result (λ reply. reply.answer ≡ Answer.Done
-        → (new : AnyBuilt) → IsEmbedded H.digest_of a b c (Ok new)
-        → BuiltMeets H.digest_of a b c new)))) }
+    ensures met { let old = state_of K.written K.finished out.old in
+        let new = state_of K.written K.finished out.new in
+        ForSome (A.known media.old) (λ a. ForSome (B.known definition.old) (λ b.
+        ForSome (C.known message.old) (λ c. HasWhole old new result
+        → (built : AnyBuilt) → IsEmbedded H.digest_of a b c (Ok built)
+        → BuiltMeets H.digest_of a b c built))) }
 
     // Whatever the files hold.
     ensures words { IfOk result (λ reply. reply.answer ≢ Answer.Usage) }
@@ -91,6 +93,10 @@ pub fn reply_to_embed<H: Hashing, A: Source, B: Source, C: Source, K: Sink>(
     ensures message_count { OnOk result (C.faults message.new ≡ C.faults message.old) }
     ensures finished { IfOk result
         (λ reply. reply.answer ≡ Answer.Done → K.finished out.new ≡ true) }
+    ensures begun { IfErr result
+        (λ e. e ≡ Fault.Input → K.finished out.new ≡ K.finished out.old) }
+    ensures memory { IfErr result
+        (λ e. e ≡ Fault.Memory → (out.new ≡ out.old) ⊎ (K.finished out.new ≡ true)) }
     ensures refused { IfOk result
         (λ reply. reply.answer ≡ Answer.BuildRefused → out.new ≡ out.old) }
     ensures out_count { OnOk result (K.faults out.new ≡ K.faults out.old) }
@@ -121,8 +127,8 @@ fn refusal_reply(alloc: Global, error: &BuildError) -> Result<Reply, Fault>
     }
 }
 
-// The line of a build that is refused.
-fn refusal_line(alloc: Global, error: &BuildError) -> Result<String, AllocError>
+/// The line of a build that is refused.
+pub fn refusal_line(alloc: Global, error: &BuildError) -> Result<String, AllocError>
     ensures { IfOk result (λ text. string_bytes text ≡ refusal_line error.now) }
 {
     match error {

@@ -63,6 +63,7 @@ pub fn reply_to_compare<H: Hashing, A: Source, B: Source, W: Sink>(
     ensures report_count { OnOk result (W.faults report.new ≡ W.faults report.old) }
     ensures report_later { W.faults report.old ≤ W.faults report.new }
     ensures report_unfinished { W.finished report.new ≡ W.finished report.old }
+    ensures judged { IfErr result (λ e. e ≡ Fault.Judge → report.new ≡ report.old) }
     ensures judges { let old = judges_of (λ j. says j) (λ j. asked_times j) (λ j. judge_faults j)
         judges.old.items in
         let new = judges_of (λ j. says j) (λ j. asked_times j) (λ j. judge_faults j)

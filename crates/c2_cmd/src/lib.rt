@@ -4,7 +4,6 @@
 #![tactic(auto)]
 
 mod building;
-mod command_line;
 mod comparison;
 mod digest;
 mod laws;
@@ -16,10 +15,11 @@ mod questions;
 mod replies;
 mod reply;
 mod run_command;
+mod sample;
 mod show;
 pub mod types;
 mod validate;
 
-pub use command_line::roles;
+pub use c2_words::roles;
 pub use laws::{each_run_has_an_outcome, one_outcome};
 pub use run_command::run;

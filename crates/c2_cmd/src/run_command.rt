@@ -9,11 +9,10 @@ ghost use Rattle.c2_binding.specs.Comparison.{IsRefusedFirst};
 ghost use Rattle.c2_rules.specs.declared.answer.Answer.{Answer as AnyAnswer};
 ghost use Rattle.c2_spec.specs.Judges.Panel.{LeavesJudges, judges_of, panel_says};
 ghost use Rattle.c2_cmd.specs.Outcome.{Outcome, has_first_checked, has_whole_report, uses_judges, uses_media, uses_out, uses_second, uses_third};
-ghost use Rattle.c2_cmd.specs.Reply.{AskedThose, Begins, CausedBy, TakesFile};
-ghost use Rattle.c2_cmd.specs.Run.{AskedPanel, ComesTo, Delivers, HasFailed, HasFile, HasMet, HasNoFile, HasNoReply, HasReport, IsFileFirst, IsKnown, KeepsJudges, Puts, WithoutFault, call_of, roles_in, state_of};
+ghost use Rattle.c2_cmd.specs.Reply.{AskedThose, Begins, CausedBy, HasWhole, TakesFile};
+ghost use Rattle.c2_cmd.specs.Run.{AskedPanel, ComesTo, Delivers, HasFailed, HasFile, HasMet, HasNoFile, HasNoReply, HasReport, HasWholeFile, IsFileFirst, IsKnown, KeepsJudges, Puts, WithoutFault, call_of, roles_in, state_of};
 
 use crate::building::{reply_to_embed, reply_to_plan};
-use crate::command_line::roles;
 use crate::comparison::reply_to_compare;
 use crate::digest::reply_to_digest;
 use crate::laws::{each_run_has_an_outcome, one_outcome};
@@ -21,12 +20,15 @@ use crate::list::reply_to_list;
 use crate::questions::reply_to_questions;
 use crate::replies::usage_reply;
 use crate::reply::{Fault, Reply};
+use crate::sample::reply_to_sample;
 use crate::show::reply_to_show;
-use crate::types::{Answer, Command, RolesError, Status};
+use crate::types::{Answer, Status};
 use crate::validate::reply_to_validate;
 use c2_base::{Failed, Sink, Source, write_all};
 use c2_hash::Hashing;
 use c2_judge::Judge;
+use c2_words::roles;
+use c2_words::types::{Command, RolesError};
 use std::alloc::Global;
 
 /// Runs the command that the words spell, over the files, the sinks and the judges that it is handed: `second` is the other file of
@@ -35,11 +37,12 @@ use std::alloc::Global;
 /// Where the bytes of the files that the command reads are known, the report holds the outcome's text and is finished; after a fault or
 /// out of memory it holds a prefix of it. `Usage` comes exactly where the words fit no command, unless the report fails or memory
 /// runs out. `InputFault`, `OutputFault` and `JudgeFault` come only where a file that the command reads, the report or the new file, or
-/// a judge whom the command may ask failed in this call; `NoMemory` where memory ran out. `compare` writes evidence while it reads it:
-/// each other command has its whole report before it writes any of it.
+/// a judge whom the command may ask failed in this call; `NoMemory` where memory ran out. `compare` writes evidence while it reads it,
+/// behind its last question: each other command has its whole report before it writes any of it.
 ///
-/// `embed` has written and finished the whole new file before the first byte of the report; after a fault the file may hold a prefix, and
-/// then isn't finished. A refused build leaves it as it was, and so does every other command.
+/// Where these bytes are known, `embed` has written and finished the whole new file before the first byte of the report, and after a
+/// fault the file may hold a prefix. Whatever the files hold: a file that failed isn't finished by the call, nor is one after a source
+/// that failed; out of memory it is as it was, or finished; a refused build, a failed judge and every other command leave it as it was.
 // The condition always holds. A public function without one that changes boxed judges can't be called from another crate
 // under a contract.
 pub fn run<H: Hashing, A: Source, B: Source, C: Source, K: Sink, W: Sink>(
@@ -89,7 +92,9 @@ pub fn run<H: Hashing, A: Source, B: Source, C: Source, K: Sink, W: Sink>(
         let other = B.known second.old in
         let last = C.known third.old in
         let call = call_of words.now.items known other last said H.digest_of in
-        IsKnown call → result ≡ Status.Done → HasMet call }
+        let old = state_of K.written K.finished out.old in
+        let new = state_of K.written K.finished out.new in
+        IsKnown call → HasWholeFile old new result → HasMet call }
     ensures outcome { let said = map (λ j. says j) judges.old.items in
         let known = A.known media.old in
         let other = B.known second.old in
@@ -142,10 +147,15 @@ pub fn run<H: Hashing, A: Source, B: Source, C: Source, K: Sink, W: Sink>(
     ensures out_finished { uses_out (roles_in words.now.items) ≡ true → result ≡ Status.Done
         → K.finished out.new ≡ true }
     ensures out_unnamed { uses_out (roles_in words.now.items) ≡ false → out.new ≡ out.old }
+    ensures out_begun { result ≡ Status.InputFault → K.finished out.new ≡ K.finished out.old }
+    ensures out_memory { result ≡ Status.NoMemory
+        → (out.new ≡ out.old) ⊎ (K.finished out.new ≡ true) }
     ensures refused { HasNoFile result → out.new ≡ out.old }
     ensures report_quiet { WithoutFault (W.faults report.new ≡ W.faults report.old) result }
+    ensures report_finished { WithoutFault (W.finished report.new ≡ true) result }
     ensures report_unwritten { has_whole_report (roles_in words.now.items) ≡ true
         → HasNoReply result → report.new ≡ report.old }
+    ensures report_judged { result ≡ Status.JudgeFault → report.new ≡ report.old }
     ensures report_later { W.faults report.old ≤ W.faults report.new }
     ensures report_unfinished { W.faults report.old < W.faults report.new
         → W.finished report.new ≡ W.finished report.old }
@@ -217,7 +227,9 @@ fn reply_to<H: Hashing, A: Source, B: Source, C: Source, K: Sink, W: Sink>(
         let other = B.known second.old in
         let last = C.known third.old in
         let call = call_of words.now.items known other last said H.digest_of in
-        IsKnown call → IfOk result (λ reply. reply.answer ≡ Answer.Done → HasMet call) }
+        let old = state_of K.written K.finished out.old in
+        let new = state_of K.written K.finished out.new in
+        IsKnown call → HasWhole old new result → HasMet call }
     ensures asked { let said = map (λ j. says j) judges.old.items in
         let known = A.known media.old in
         let other = B.known second.old in
@@ -264,12 +276,17 @@ fn reply_to<H: Hashing, A: Source, B: Source, C: Source, K: Sink, W: Sink>(
     ensures out_unnamed { uses_out (roles_in words.now.items) ≡ false → out.new ≡ out.old }
     ensures refused { IfOk result
         (λ reply. reply.answer ≡ Answer.BuildRefused → out.new ≡ out.old) }
+    ensures out_begun { IfErr result
+        (λ e. e ≡ Fault.Input → K.finished out.new ≡ K.finished out.old) }
+    ensures out_memory { IfErr result
+        (λ e. e ≡ Fault.Memory → (out.new ≡ out.old) ⊎ (K.finished out.new ≡ true)) }
     ensures judged { IfErr result (λ e. e ≡ Fault.Judge → out.new ≡ out.old) }
     ensures report_count { OnOk result (W.faults report.new ≡ W.faults report.old) }
     ensures report_later { W.faults report.old ≤ W.faults report.new }
     ensures report_unfinished { W.finished report.new ≡ W.finished report.old }
     ensures report_unwritten { has_whole_report (roles_in words.now.items) ≡ true
         → report.new ≡ report.old }
+    ensures report_judged { IfErr result (λ e. e ≡ Fault.Judge → report.new ≡ report.old) }
     ensures judges { let old = judges_of (λ j. says j) (λ j. asked_times j) (λ j. judge_faults j)
         judges.old.items in
         let new = judges_of (λ j. says j) (λ j. asked_times j) (λ j. judge_faults j)
@@ -303,6 +320,7 @@ fn reply_to<H: Hashing, A: Source, B: Source, C: Source, K: Sink, W: Sink>(
         Command::Compare => reply_to_compare(alloc, hashing, media, second, report, judges),
         Command::Plan => reply_to_plan(alloc, hashing, media, second, judges),
         Command::Embed => reply_to_embed(alloc, hashing, media, second, third, judges, out),
+        Command::Sample => reply_to_sample(alloc, hashing, found.count.unwrap_or(0), judges),
     }
 }
 

@@ -60,8 +60,8 @@ pub fn reply_to_validate<H: Hashing, S: Source>(
     }
 }
 
-// The reply to what the check answers.
-fn reply_to_answer(alloc: Global, checked: &Checked) -> Result<Reply, Fault>
+/// The reply to what the check answers.
+pub fn reply_to_answer(alloc: Global, checked: &Checked) -> Result<Reply, Fault>
     ensures reply { IfOk result (λ reply. outcome_of reply ≡ answered checked.now) }
     ensures memory { IfErr result (λ e. e ≡ Fault.Memory) }
 {

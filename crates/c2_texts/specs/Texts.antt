@@ -20,7 +20,7 @@ use Rattle.c2_spec.specs.Jumbf.Boxes.{IndexedBox, boxes_of, any_bytes, any_kind,
 
 -- where the words don't fit
 abbrev pub usage_line : List ℕ
-usage_line = text_line (codes "usage: c2 digest|list|show MEDIA; questions|validate MEDIA [JUDGE..]; compare MEDIA OTHER [JUDGE..]; plan MEDIA DEFINITION [JUDGE..]; embed MEDIA DEFINITION SIGNATURE OUT [JUDGE..]")
+usage_line = text_line (codes "usage: c2 digest|list|show MEDIA; questions|validate MEDIA [JUDGE..]; compare MEDIA OTHER [JUDGE..]; plan MEDIA DEFINITION [JUDGE..]; embed MEDIA DEFINITION SIGNATURE OUT [JUDGE..]; sample N")
 
 -- a refusal, with its number
 abbrev pub refused_line : Reason → ℕ → List ℕ

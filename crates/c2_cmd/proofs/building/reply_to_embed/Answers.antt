@@ -1,4 +1,7 @@
-use Rattle.c2_cmd.proofs.Embedding.{delivered, embed_caused, embed_filed, embed_refused, embed_replied, embed_unfiled, memory_filed, not_done, refused_embedding, refused_unfiled}
+use Rattle.std.proofs.Common.{inr}
+use Rattle.c2_cmd.specs.Run.{state_of}
+use Rattle.c2_cmd.specs.declared.reply.Fault.TheVariants.{Input, Memory}
+use Rattle.c2_cmd.proofs.Embedding.{after_fault, delivered, embed_caused, embed_filed, embed_refused, embed_replied, embed_unfiled, memory_filed, memory_leaves, not_done, not_whole, only_memory, refused_embedding, refused_unfiled}
 use Rattle.c2_cmd.proofs.building.reply_to_embed.Goals as goal
 
 -- the line of the new range stands for the outcome of `embed`
@@ -25,11 +28,32 @@ returns-in-Err-clause-file g c a known b other m last expected comes =
     embed_unfiled c.one_outcome.ensures.outcome g.H.Hashing.digest_of a b m g.K.Sink.written g.K.Sink.finished c.args.out.now c.embed.new.out c.in-Err.error c.refusal_reply.result expected
     (c.in-Err.ensures.embedded a known b other m last) c.in-Err.ensures.untouched c.refusal_reply.ensures.reply c.refusal_reply.ensures.fault comes
 
--- a refused build is not done
-pub returns-in-Err-clause-met : goal.returns-in-Err-clause-met
-returns-in-Err-clause-met g c a known b other m last = not_done c.in-Err.error c.refusal_reply.result _ c.refusal_reply.ensures.reply
+-- the new file meets what is promised of it
+pub returns-in-Ok-clause-met : goal.returns-in-Ok-clause-met
+returns-in-Ok-clause-met g c a known b other m last whole built is = c.in-Ok.ensures.meets a known b other m last built is
 
--- so nothing is said of its sink
+-- a build that isn't done has no whole file
+pub returns-in-Err-clause-met : goal.returns-in-Err-clause-met
+returns-in-Err-clause-met g c a known b other m last =
+    not_whole c.in-Err.error c.refusal_reply.result _ (state_of g.K.Sink.written g.K.Sink.finished c.args.out.now) (state_of g.K.Sink.written g.K.Sink.finished c.embed.new.out) c.in-Err.ensures.finished c.refusal_reply.ensures.reply
+
+-- once the file is whole no source fails
+pub returns-in-Ok-clause-begun : goal.returns-in-Ok-clause-begun
+returns-in-Ok-clause-begun g c = only_memory Input _ c.embedded_reply.result (λ e. cc (e)) c.embedded_reply.ensures.memory
+
+-- an error leaves the sink unfinished
+pub returns-in-Err-clause-begun : goal.returns-in-Err-clause-begun
+returns-in-Err-clause-begun g c = after_fault Input _ c.refusal_reply.result c.in-Err.ensures.finished
+
+-- the sink is finished where memory runs out under the reply
+pub returns-in-Ok-clause-memory : goal.returns-in-Ok-clause-memory
+returns-in-Ok-clause-memory g c = after_fault Memory _ c.embedded_reply.result (inr c.in-Ok.ensures.finished)
+
+-- and left as it was where it does before
+pub returns-in-Err-clause-memory : goal.returns-in-Err-clause-memory
+returns-in-Err-clause-memory g c = memory_leaves _ _ c.in-Err.error c.refusal_reply.result c.refusal_reply.ensures.fault c.in-Err.ensures.untouched
+
+-- nothing is said of the sink of a refused build
 pub returns-in-Err-clause-finished : goal.returns-in-Err-clause-finished
 returns-in-Err-clause-finished g c = not_done c.in-Err.error c.refusal_reply.result _ c.refusal_reply.ensures.reply
 

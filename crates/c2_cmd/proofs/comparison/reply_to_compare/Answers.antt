@@ -1,6 +1,8 @@
 use Rattle.std.proofs.Common.{map}
 use Rattle.c2_spec.specs.Judges.Panel.{judges_of, panel_says}
-use Rattle.c2_cmd.proofs.Comparing.{compare_asked, compare_cause, fault_begins, memory_caused, reply_begins}
+use Rattle.c2_cmd.specs.declared.reply.Fault.TheVariants.{Judge}
+use Rattle.c2_cmd.proofs.Comparing.{compare_asked, compare_cause, fault_begins, judge_failed, memory_caused, reply_begins}
+use Rattle.c2_cmd.proofs.Embedding.{only_memory}
 use Rattle.c2_cmd.proofs.Validating.{asked_before}
 use Rattle.c2_cmd.proofs.comparison.reply_to_compare.Goals as goal
 
@@ -37,6 +39,14 @@ returns-in-Ok-clause-unread g c a known found refused = (c.in-Ok.ensures.refused
 -- also after a fault
 pub returns-in-Err-clause-unread : goal.returns-in-Err-clause-unread
 returns-in-Err-clause-unread g c a known found refused = (c.in-Err.ensures.refused a known found refused.is_answer refused.invalid).0
+
+-- once the files are compared no judge fails
+pub returns-in-Ok-clause-judged : goal.returns-in-Ok-clause-judged
+returns-in-Ok-clause-judged g c = only_memory Judge _ c.reply_to_compared.result (λ e. cc (e)) c.reply_to_compared.ensures.memory
+
+-- a judge that fails leaves the report as it was
+pub returns-in-Err-clause-judged : goal.returns-in-Err-clause-judged
+returns-in-Err-clause-judged g c = judge_failed _ c.in-Err.error c.from.result c.from.ensures c.in-Err.ensures.judged
 
 -- only want of memory is left to fail a reply
 pub returns-in-Ok-clause-fault : goal.returns-in-Ok-clause-fault

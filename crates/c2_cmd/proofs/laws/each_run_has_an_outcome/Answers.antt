@@ -10,6 +10,8 @@ returns-clause-outcome c = each_outcome (record {
   compared = c.each_comparison.ensures.answer;
   planned = c.each_build_comes_to_something.ensures.plan;
   embedded = c.each_build_comes_to_something.ensures.embedding;
+  sampled = c.each_sample_comes_to_something.ensures.sample;
+  sample_asks = c.each_sample_comes_to_something.ensures.asks;
   compare_asks = c.each_comparison.ensures.asks;
 })
 
@@ -22,5 +24,7 @@ returns-clause-questions c = each_list (record {
   compared = c.each_comparison.ensures.answer;
   planned = c.each_build_comes_to_something.ensures.plan;
   embedded = c.each_build_comes_to_something.ensures.embedding;
+  sampled = c.each_sample_comes_to_something.ensures.sample;
+  sample_asks = c.each_sample_comes_to_something.ensures.asks;
   compare_asks = c.each_comparison.ensures.asks;
 })

@@ -17,6 +17,8 @@ returns-clause-outcome c = one_outcome (record {
   compared = λ hash said first second. c.one_comparison.ensures.answer hash said first second (c.one_opening.ensures.file first) (c.one_opening.ensures.file second);
   planned = c.a_build_comes_to_one_thing.ensures.plan;
   embedded = c.a_build_comes_to_one_thing.ensures.embedding;
+  sampled = c.a_sample_comes_to_one_thing.ensures.sample;
+  sample_asks = c.a_sample_comes_to_one_thing.ensures.asks;
   compare_asks = λ hash said first second. c.one_comparison.ensures.asks hash said first second (c.one_opening.ensures.file first) (c.one_opening.ensures.file second);
 })
 
@@ -36,5 +38,7 @@ returns-clause-questions c = one_list (record {
   compared = λ hash said first second. c.one_comparison.ensures.answer hash said first second (c.one_opening.ensures.file first) (c.one_opening.ensures.file second);
   planned = c.a_build_comes_to_one_thing.ensures.plan;
   embedded = c.a_build_comes_to_one_thing.ensures.embedding;
+  sampled = c.a_sample_comes_to_one_thing.ensures.sample;
+  sample_asks = c.a_sample_comes_to_one_thing.ensures.asks;
   compare_asks = λ hash said first second. c.one_comparison.ensures.asks hash said first second (c.one_opening.ensures.file first) (c.one_opening.ensures.file second);
 })

@@ -4,8 +4,9 @@ use Rattle.c2_cmd.proofs.Asking.{checked_file, known_file}
 use Rattle.c2_cmd.proofs.Calling.{as_embed, asked_nobody, embed_begins, embed_met, plan_begins, unchecked, unfiled, unjudged, unmet}
 use Rattle.c2_cmd.proofs.Comparing.{asks_compare, both_caused, compare_begins, embedded_caused, judged_caused, media_caused, media_used, out_used, planned_caused, second_used, there, third_used}
 use Rattle.c2_cmd.proofs.Replying.{replied, replied_usage}
+use Rattle.c2_cmd.proofs.Sampling.{asks_sample, sample_begins, sample_caused}
 use Rattle.c2_cmd.specs.Outcome.{inputs}
-use Rattle.c2_cmd.specs.declared.types.Command.TheVariants as command
+use Rattle.c2_words.specs.declared.types.Command.TheVariants as command
 use Rattle.c2_cmd.proofs.run_command.reply_to.Goals as goal
 
 -- the reply to `digest` is the call's
@@ -174,12 +175,12 @@ returns-in-Embed-clause-file g c known expected comes =
 
 -- what it writes meets what the call promises of it
 pub returns-in-Embed-clause-met : goal.returns-in-Embed-clause-met
-returns-in-Embed-clause-met g c known =
+returns-in-Embed-clause-met g c known whole =
     let said = panel_says (map (λ j. (goal.Judge-dyn g (j.vtable, j.value)).says j.value) c.args.judges.now.items) in
     let a = there (g.A.Source.known c.args.media.now) (known.media_known (media_used _ c.in-Ok.found command.Embed c.in-Ok.ensures.roles c.in-Ok.ensures.media c.in-Embed.is refl)) in
     let b = there (g.B.Source.known c.args.second.now) (known.second_known (second_used _ c.in-Ok.found command.Embed c.in-Ok.ensures.roles c.in-Ok.ensures.second c.in-Embed.is refl)) in
     let m = there (g.C.Source.known c.args.third.now) (known.third_known (third_used _ c.in-Ok.found command.Embed c.in-Ok.ensures.roles c.in-Ok.ensures.third c.in-Embed.is refl)) in
-    embed_met said g.H.Hashing.digest_of (g.A.Source.known c.args.media.now) (g.B.Source.known c.args.second.now) (g.C.Source.known c.args.third.now) _ c.in-Ok.found a.0 b.0 m.0 c.reply_to_embed.result c.in-Ok.ensures.roles c.in-Embed.is a.1 b.1 m.1 (c.reply_to_embed.ensures.met a.0 a.1 b.0 b.1 m.0 m.1)
+    embed_met said g.H.Hashing.digest_of (g.A.Source.known c.args.media.now) (g.B.Source.known c.args.second.now) (g.C.Source.known c.args.third.now) _ c.in-Ok.found a.0 b.0 m.0 c.in-Ok.ensures.roles c.in-Embed.is a.1 b.1 m.1 (c.reply_to_embed.ensures.met a.0 a.1 b.0 b.1 m.0 m.1 whole)
 
 -- `digest` writes no file
 pub returns-in-Digest-clause-file : goal.returns-in-Digest-clause-file
@@ -190,10 +191,10 @@ returns-in-Digest-clause-file g c known expected comes =
 
 -- so nothing is promised of one
 pub returns-in-Digest-clause-met : goal.returns-in-Digest-clause-met
-returns-in-Digest-clause-met g c known =
+returns-in-Digest-clause-met g c known whole =
     let said = panel_says (map (λ j. (goal.Judge-dyn g (j.vtable, j.value)).says j.value) c.args.judges.now.items) in
     let i = inputs (g.A.Source.known c.args.media.now) (g.B.Source.known c.args.second.now) (g.C.Source.known c.args.third.now) said g.H.Hashing.digest_of in
-    unmet _ c.in-Ok.found command.Digest i c.reply_to_digest.result c.in-Ok.ensures.roles c.in-Digest.is refl
+    unmet _ c.in-Ok.found command.Digest i c.in-Ok.ensures.roles c.in-Digest.is refl
 
 -- `list` writes no file
 pub returns-in-List-clause-file : goal.returns-in-List-clause-file
@@ -204,10 +205,10 @@ returns-in-List-clause-file g c known expected comes =
 
 -- so nothing is promised of one
 pub returns-in-List-clause-met : goal.returns-in-List-clause-met
-returns-in-List-clause-met g c known =
+returns-in-List-clause-met g c known whole =
     let said = panel_says (map (λ j. (goal.Judge-dyn g (j.vtable, j.value)).says j.value) c.args.judges.now.items) in
     let i = inputs (g.A.Source.known c.args.media.now) (g.B.Source.known c.args.second.now) (g.C.Source.known c.args.third.now) said g.H.Hashing.digest_of in
-    unmet _ c.in-Ok.found command.List i c.reply_to_list.result c.in-Ok.ensures.roles c.in-List.is refl
+    unmet _ c.in-Ok.found command.List i c.in-Ok.ensures.roles c.in-List.is refl
 
 -- `show` writes no file
 pub returns-in-Show-clause-file : goal.returns-in-Show-clause-file
@@ -218,10 +219,10 @@ returns-in-Show-clause-file g c known expected comes =
 
 -- so nothing is promised of one
 pub returns-in-Show-clause-met : goal.returns-in-Show-clause-met
-returns-in-Show-clause-met g c known =
+returns-in-Show-clause-met g c known whole =
     let said = panel_says (map (λ j. (goal.Judge-dyn g (j.vtable, j.value)).says j.value) c.args.judges.now.items) in
     let i = inputs (g.A.Source.known c.args.media.now) (g.B.Source.known c.args.second.now) (g.C.Source.known c.args.third.now) said g.H.Hashing.digest_of in
-    unmet _ c.in-Ok.found command.Show i c.reply_to_show.result c.in-Ok.ensures.roles c.in-Show.is refl
+    unmet _ c.in-Ok.found command.Show i c.in-Ok.ensures.roles c.in-Show.is refl
 
 -- `questions` writes no file
 pub returns-in-Questions-clause-file : goal.returns-in-Questions-clause-file
@@ -232,10 +233,10 @@ returns-in-Questions-clause-file g c known expected comes =
 
 -- so nothing is promised of one
 pub returns-in-Questions-clause-met : goal.returns-in-Questions-clause-met
-returns-in-Questions-clause-met g c known =
+returns-in-Questions-clause-met g c known whole =
     let said = panel_says (map (λ j. (goal.Judge-dyn g (j.vtable, j.value)).says j.value) c.args.judges.now.items) in
     let i = inputs (g.A.Source.known c.args.media.now) (g.B.Source.known c.args.second.now) (g.C.Source.known c.args.third.now) said g.H.Hashing.digest_of in
-    unmet _ c.in-Ok.found command.Questions i c.reply_to_questions.result c.in-Ok.ensures.roles c.in-Questions.is refl
+    unmet _ c.in-Ok.found command.Questions i c.in-Ok.ensures.roles c.in-Questions.is refl
 
 -- `validate` writes no file
 pub returns-in-Validate-clause-file : goal.returns-in-Validate-clause-file
@@ -246,10 +247,10 @@ returns-in-Validate-clause-file g c known expected comes =
 
 -- so nothing is promised of one
 pub returns-in-Validate-clause-met : goal.returns-in-Validate-clause-met
-returns-in-Validate-clause-met g c known =
+returns-in-Validate-clause-met g c known whole =
     let said = panel_says (map (λ j. (goal.Judge-dyn g (j.vtable, j.value)).says j.value) c.args.judges.now.items) in
     let i = inputs (g.A.Source.known c.args.media.now) (g.B.Source.known c.args.second.now) (g.C.Source.known c.args.third.now) said g.H.Hashing.digest_of in
-    unmet _ c.in-Ok.found command.Validate i c.reply_to_validate.result c.in-Ok.ensures.roles c.in-Validate.is refl
+    unmet _ c.in-Ok.found command.Validate i c.in-Ok.ensures.roles c.in-Validate.is refl
 
 -- `compare` writes no file
 pub returns-in-Compare-clause-file : goal.returns-in-Compare-clause-file
@@ -260,10 +261,10 @@ returns-in-Compare-clause-file g c known expected comes =
 
 -- so nothing is promised of one
 pub returns-in-Compare-clause-met : goal.returns-in-Compare-clause-met
-returns-in-Compare-clause-met g c known =
+returns-in-Compare-clause-met g c known whole =
     let said = panel_says (map (λ j. (goal.Judge-dyn g (j.vtable, j.value)).says j.value) c.args.judges.now.items) in
     let i = inputs (g.A.Source.known c.args.media.now) (g.B.Source.known c.args.second.now) (g.C.Source.known c.args.third.now) said g.H.Hashing.digest_of in
-    unmet _ c.in-Ok.found command.Compare i c.reply_to_compare.result c.in-Ok.ensures.roles c.in-Compare.is refl
+    unmet _ c.in-Ok.found command.Compare i c.in-Ok.ensures.roles c.in-Compare.is refl
 
 -- `plan` writes no file
 pub returns-in-Plan-clause-file : goal.returns-in-Plan-clause-file
@@ -274,10 +275,10 @@ returns-in-Plan-clause-file g c known expected comes =
 
 -- so nothing is promised of one
 pub returns-in-Plan-clause-met : goal.returns-in-Plan-clause-met
-returns-in-Plan-clause-met g c known =
+returns-in-Plan-clause-met g c known whole =
     let said = panel_says (map (λ j. (goal.Judge-dyn g (j.vtable, j.value)).says j.value) c.args.judges.now.items) in
     let i = inputs (g.A.Source.known c.args.media.now) (g.B.Source.known c.args.second.now) (g.C.Source.known c.args.third.now) said g.H.Hashing.digest_of in
-    unmet _ c.in-Ok.found command.Plan i c.reply_to_plan.result c.in-Ok.ensures.roles c.in-Plan.is refl
+    unmet _ c.in-Ok.found command.Plan i c.in-Ok.ensures.roles c.in-Plan.is refl
 
 -- nobody is asked by `plan`
 pub returns-in-Plan-clause-asked : goal.returns-in-Plan-clause-asked
@@ -315,3 +316,45 @@ returns-in-Err-Usage-clause-reply g c known =
     let said = panel_says (map (λ j. (goal.Judge-dyn g (j.vtable, j.value)).says j.value) c.args.judges.now.items) in
     let fits = c.in-Err-Usage.ensures.roles in
     replied_usage c.one_outcome.ensures.outcome said g.H.Hashing.digest_of (g.A.Source.known c.args.media.now) (g.B.Source.known c.args.second.now) (g.C.Source.known c.args.third.now) _ (g.W.Sink.written c.args.report.now) c.usage_reply.result (rw c.in-Err-Usage.field-0-is at fits) c.usage_reply.ensures.reply
+
+-- the reply to `sample` is the call's
+pub returns-in-Sample-clause-reply : goal.returns-in-Sample-clause-reply
+returns-in-Sample-clause-reply g c known =
+    let said = panel_says (map (λ j. (goal.Judge-dyn g (j.vtable, j.value)).says j.value) c.args.judges.now.items) in
+    let i = inputs (g.A.Source.known c.args.media.now) (g.B.Source.known c.args.second.now) (g.C.Source.known c.args.third.now) said g.H.Hashing.digest_of in
+    sample_begins c.one_outcome.ensures.outcome i _ c.in-Ok.found c.unwrap_or.result (g.W.Sink.written c.args.report.now) c.reply_to_sample.result c.in-Ok.ensures.roles c.in-Sample.is c.unwrap_or.ensures c.reply_to_sample.ensures.reply
+
+-- a fault of `sample` has its cause
+pub returns-in-Sample-clause-fault : goal.returns-in-Sample-clause-fault
+returns-in-Sample-clause-fault g c =
+    let old = judges_of (λ j. (goal.Judge-dyn g (j.vtable, j.value)).says j.value) (λ j. (goal.Judge-dyn g (j.vtable, j.value)).asked_times j.value) (λ j. (goal.Judge-dyn g (j.vtable, j.value)).judge_faults j.value) c.args.judges.now.items in
+    let new = judges_of (λ j. (goal.Judge-dyn g (j.vtable, j.value)).says j.value) (λ j. (goal.Judge-dyn g (j.vtable, j.value)).asked_times j.value) (λ j. (goal.Judge-dyn g (j.vtable, j.value)).judge_faults j.value) c.reply_to_sample.new.judges.items in
+    sample_caused _ _ old new c.reply_to_sample.result c.reply_to_sample.ensures.fault
+
+-- by `sample` the judges are asked what the call puts to them, or after a fault what comes up to it
+pub returns-in-Sample-clause-asked : goal.returns-in-Sample-clause-asked
+returns-in-Sample-clause-asked g c known qs asks =
+    let said = panel_says (map (λ j. (goal.Judge-dyn g (j.vtable, j.value)).says j.value) c.args.judges.now.items) in
+    let i = inputs (g.A.Source.known c.args.media.now) (g.B.Source.known c.args.second.now) (g.C.Source.known c.args.third.now) said g.H.Hashing.digest_of in
+    c.reply_to_sample.ensures.asked qs (asks_sample i _ c.in-Ok.found c.unwrap_or.result qs c.in-Ok.ensures.roles c.in-Sample.is c.unwrap_or.ensures asks)
+
+-- nobody is asked by `sample` where there is no question
+pub returns-in-Sample-clause-judges_unasked : goal.returns-in-Sample-clause-judges_unasked
+returns-in-Sample-clause-judges_unasked g c known asks =
+    let said = panel_says (map (λ j. (goal.Judge-dyn g (j.vtable, j.value)).says j.value) c.args.judges.now.items) in
+    let i = inputs (g.A.Source.known c.args.media.now) (g.B.Source.known c.args.second.now) (g.C.Source.known c.args.third.now) said g.H.Hashing.digest_of in
+    c.reply_to_sample.ensures.unasked (asks_sample i _ c.in-Ok.found c.unwrap_or.result [] c.in-Ok.ensures.roles c.in-Sample.is c.unwrap_or.ensures asks)
+
+-- it writes no file
+pub returns-in-Sample-clause-file : goal.returns-in-Sample-clause-file
+returns-in-Sample-clause-file g c known expected comes =
+    let said = panel_says (map (λ j. (goal.Judge-dyn g (j.vtable, j.value)).says j.value) c.args.judges.now.items) in
+    let i = inputs (g.A.Source.known c.args.media.now) (g.B.Source.known c.args.second.now) (g.C.Source.known c.args.third.now) said g.H.Hashing.digest_of in
+    unfiled _ c.in-Ok.found command.Sample i expected _ c.reply_to_sample.result c.in-Ok.ensures.roles c.in-Sample.is refl comes
+
+-- so nothing is promised of one
+pub returns-in-Sample-clause-met : goal.returns-in-Sample-clause-met
+returns-in-Sample-clause-met g c known whole =
+    let said = panel_says (map (λ j. (goal.Judge-dyn g (j.vtable, j.value)).says j.value) c.args.judges.now.items) in
+    let i = inputs (g.A.Source.known c.args.media.now) (g.B.Source.known c.args.second.now) (g.C.Source.known c.args.third.now) said g.H.Hashing.digest_of in
+    unmet _ c.in-Ok.found command.Sample i c.in-Ok.ensures.roles c.in-Sample.is refl

@@ -1,32 +1,33 @@
-use Rattle.std.proofs.Common.{map, ◌∙◌, ap, sym}
+use Rattle.std.proofs.Common.{map, ◌∙◌, ap, sym, inr}
 use Rattle.c2_spec.specs.Judges.Panel.{judges_of, panel_says}
 use Rattle.c2_cmd.specs.Run.{state_of}
-use Rattle.c2_cmd.proofs.Delivering.{asked_whole, comes_to, done_alone, file_before, file_delivered, file_input, file_judge, file_memory, file_output, first_filed, first_unwritten, refused_alone, whole_where_filed, wrote_all, wrote_prefix}
+use Rattle.c2_cmd.specs.declared.types.Status.TheVariants.{InputFault, OutputFault, JudgeFault, NoMemory}
+use Rattle.c2_cmd.proofs.Delivering.{asked_whole, comes_to, done_alone, file_before, file_delivered, file_input, file_judge, file_memory, file_output, first_filed, first_unwritten, no_fault, refused_alone, whole_answered, whole_failed, whole_where_filed, without, wrote_all, wrote_prefix}
 use Rattle.c2_cmd.proofs.run_command.run.Goals as goal
 
 -- where a source failed, the call has an outcome
 pub returns-in-Err-Input-clause-outcome : goal.returns-in-Err-Input-clause-outcome
-returns-in-Err-Input-clause-outcome g c known = comes_to c.each_run_has_an_outcome.ensures.outcome _ (g.A.Source.known c.args.media.now) (g.B.Source.known c.args.second.now) (g.C.Source.known c.args.third.now) (panel_says (map (λ j. (goal.Judge-dyn g (j.vtable, j.value)).says j.value) c.args.judges.now.items)) g.H.Hashing.digest_of (g.met.A.Source.known_bytes c.args.media.now) (g.met.B.Source.known_bytes c.args.second.now) (g.met.C.Source.known_bytes c.args.third.now)
+returns-in-Err-Input-clause-outcome g c known = comes_to c.each_run_has_an_outcome.ensures.outcome _ (g.A.Source.known c.args.media.now) (g.B.Source.known c.args.second.now) (g.C.Source.known c.args.third.now) (panel_says (map (λ j. (goal.Judge-dyn g (j.vtable, j.value)).says j.value) c.args.judges.now.items)) g.H.Hashing.digest_of (g.met.A.Source.known_bytes c.args.media.now) (g.met.B.Source.known_bytes c.args.second.now) (g.met.C.Source.known_bytes c.args.third.now) g.met.H.Hashing.is_digest
 
 -- where the report failed before the reply, the call has an outcome
 pub returns-in-Err-Output-clause-outcome : goal.returns-in-Err-Output-clause-outcome
-returns-in-Err-Output-clause-outcome g c known = comes_to c.each_run_has_an_outcome.ensures.outcome _ (g.A.Source.known c.args.media.now) (g.B.Source.known c.args.second.now) (g.C.Source.known c.args.third.now) (panel_says (map (λ j. (goal.Judge-dyn g (j.vtable, j.value)).says j.value) c.args.judges.now.items)) g.H.Hashing.digest_of (g.met.A.Source.known_bytes c.args.media.now) (g.met.B.Source.known_bytes c.args.second.now) (g.met.C.Source.known_bytes c.args.third.now)
+returns-in-Err-Output-clause-outcome g c known = comes_to c.each_run_has_an_outcome.ensures.outcome _ (g.A.Source.known c.args.media.now) (g.B.Source.known c.args.second.now) (g.C.Source.known c.args.third.now) (panel_says (map (λ j. (goal.Judge-dyn g (j.vtable, j.value)).says j.value) c.args.judges.now.items)) g.H.Hashing.digest_of (g.met.A.Source.known_bytes c.args.media.now) (g.met.B.Source.known_bytes c.args.second.now) (g.met.C.Source.known_bytes c.args.third.now) g.met.H.Hashing.is_digest
 
 -- where a judge failed, the call has an outcome
 pub returns-in-Err-Judge-clause-outcome : goal.returns-in-Err-Judge-clause-outcome
-returns-in-Err-Judge-clause-outcome g c known = comes_to c.each_run_has_an_outcome.ensures.outcome _ (g.A.Source.known c.args.media.now) (g.B.Source.known c.args.second.now) (g.C.Source.known c.args.third.now) (panel_says (map (λ j. (goal.Judge-dyn g (j.vtable, j.value)).says j.value) c.args.judges.now.items)) g.H.Hashing.digest_of (g.met.A.Source.known_bytes c.args.media.now) (g.met.B.Source.known_bytes c.args.second.now) (g.met.C.Source.known_bytes c.args.third.now)
+returns-in-Err-Judge-clause-outcome g c known = comes_to c.each_run_has_an_outcome.ensures.outcome _ (g.A.Source.known c.args.media.now) (g.B.Source.known c.args.second.now) (g.C.Source.known c.args.third.now) (panel_says (map (λ j. (goal.Judge-dyn g (j.vtable, j.value)).says j.value) c.args.judges.now.items)) g.H.Hashing.digest_of (g.met.A.Source.known_bytes c.args.media.now) (g.met.B.Source.known_bytes c.args.second.now) (g.met.C.Source.known_bytes c.args.third.now) g.met.H.Hashing.is_digest
 
 -- where memory ran out, the call has an outcome
 pub returns-in-Err-Memory-clause-outcome : goal.returns-in-Err-Memory-clause-outcome
-returns-in-Err-Memory-clause-outcome g c known = comes_to c.each_run_has_an_outcome.ensures.outcome _ (g.A.Source.known c.args.media.now) (g.B.Source.known c.args.second.now) (g.C.Source.known c.args.third.now) (panel_says (map (λ j. (goal.Judge-dyn g (j.vtable, j.value)).says j.value) c.args.judges.now.items)) g.H.Hashing.digest_of (g.met.A.Source.known_bytes c.args.media.now) (g.met.B.Source.known_bytes c.args.second.now) (g.met.C.Source.known_bytes c.args.third.now)
+returns-in-Err-Memory-clause-outcome g c known = comes_to c.each_run_has_an_outcome.ensures.outcome _ (g.A.Source.known c.args.media.now) (g.B.Source.known c.args.second.now) (g.C.Source.known c.args.third.now) (panel_says (map (λ j. (goal.Judge-dyn g (j.vtable, j.value)).says j.value) c.args.judges.now.items)) g.H.Hashing.digest_of (g.met.A.Source.known_bytes c.args.media.now) (g.met.B.Source.known_bytes c.args.second.now) (g.met.C.Source.known_bytes c.args.third.now) g.met.H.Hashing.is_digest
 
 -- where the reply was delivered, the call has an outcome
 pub returns-in-Ok-deliver-clause-outcome : goal.returns-in-Ok-deliver-clause-outcome
-returns-in-Ok-deliver-clause-outcome g c known = comes_to c.each_run_has_an_outcome.ensures.outcome _ (g.A.Source.known c.args.media.now) (g.B.Source.known c.args.second.now) (g.C.Source.known c.args.third.now) (panel_says (map (λ j. (goal.Judge-dyn g (j.vtable, j.value)).says j.value) c.args.judges.now.items)) g.H.Hashing.digest_of (g.met.A.Source.known_bytes c.args.media.now) (g.met.B.Source.known_bytes c.args.second.now) (g.met.C.Source.known_bytes c.args.third.now)
+returns-in-Ok-deliver-clause-outcome g c known = comes_to c.each_run_has_an_outcome.ensures.outcome _ (g.A.Source.known c.args.media.now) (g.B.Source.known c.args.second.now) (g.C.Source.known c.args.third.now) (panel_says (map (λ j. (goal.Judge-dyn g (j.vtable, j.value)).says j.value) c.args.judges.now.items)) g.H.Hashing.digest_of (g.met.A.Source.known_bytes c.args.media.now) (g.met.B.Source.known_bytes c.args.second.now) (g.met.C.Source.known_bytes c.args.third.now) g.met.H.Hashing.is_digest
 
 -- where the report failed under the reply, the call has an outcome
 pub returns-clause-outcome : goal.returns-clause-outcome
-returns-clause-outcome g c known = comes_to c.each_run_has_an_outcome.ensures.outcome _ (g.A.Source.known c.args.media.now) (g.B.Source.known c.args.second.now) (g.C.Source.known c.args.third.now) (panel_says (map (λ j. (goal.Judge-dyn g (j.vtable, j.value)).says j.value) c.args.judges.now.items)) g.H.Hashing.digest_of (g.met.A.Source.known_bytes c.args.media.now) (g.met.B.Source.known_bytes c.args.second.now) (g.met.C.Source.known_bytes c.args.third.now)
+returns-clause-outcome g c known = comes_to c.each_run_has_an_outcome.ensures.outcome _ (g.A.Source.known c.args.media.now) (g.B.Source.known c.args.second.now) (g.C.Source.known c.args.third.now) (panel_says (map (λ j. (goal.Judge-dyn g (j.vtable, j.value)).says j.value) c.args.judges.now.items)) g.H.Hashing.digest_of (g.met.A.Source.known_bytes c.args.media.now) (g.met.B.Source.known_bytes c.args.second.now) (g.met.C.Source.known_bytes c.args.third.now) g.met.H.Hashing.is_digest
 
 -- where a source failed, the report has a prefix of the outcome's text, and this call hasn't finished it
 pub returns-in-Err-Input-clause-report : goal.returns-in-Err-Input-clause-report
@@ -136,9 +137,54 @@ returns-in-Ok-deliver-clause-order g c known expected comes = first_filed expect
 pub returns-clause-order : goal.returns-clause-order
 returns-clause-order g c known expected comes = first_filed expected.file c.in-Ok.reply _ _ _ _ (c.in-Ok.ensures.file known expected comes)
 
--- a run that is done has written a file that meets what is promised of it
+-- a run that is done, or that finished the file, has written one that meets what is promised of it
 pub returns-in-Ok-deliver-clause-met : goal.returns-in-Ok-deliver-clause-met
-returns-in-Ok-deliver-clause-met g c known done = c.in-Ok.ensures.met known (done_alone c.in-Ok.reply.answer (sym c.status.ensures ∙ done))
+returns-in-Ok-deliver-clause-met g c known whole = c.in-Ok.ensures.met known (whole_answered c.in-Ok.reply.answer c.status.result _ _ c.status.ensures whole)
+
+-- also where the report failed behind it
+pub returns-clause-met : goal.returns-clause-met
+returns-clause-met g c known whole = c.in-Ok.ensures.met known (inr (whole_failed OutputFault _ _ (λ e. cc (e)) whole))
+
+-- and where a source failed, a sink, a judge, or memory ran out
+pub returns-in-Err-Input-clause-met : goal.returns-in-Err-Input-clause-met
+returns-in-Err-Input-clause-met g c known whole = c.in-Err-Input.ensures.met known (whole_failed InputFault _ _ (λ e. cc (e)) whole)
+
+pub returns-in-Err-Output-clause-met : goal.returns-in-Err-Output-clause-met
+returns-in-Err-Output-clause-met g c known whole = c.in-Err-Output.ensures.met known (whole_failed OutputFault _ _ (λ e. cc (e)) whole)
+
+pub returns-in-Err-Judge-clause-met : goal.returns-in-Err-Judge-clause-met
+returns-in-Err-Judge-clause-met g c known whole = c.in-Err-Judge.ensures.met known (whole_failed JudgeFault _ _ (λ e. cc (e)) whole)
+
+pub returns-in-Err-Memory-clause-met : goal.returns-in-Err-Memory-clause-met
+returns-in-Err-Memory-clause-met g c known whole = c.in-Err-Memory.ensures.met known (whole_failed NoMemory _ _ (λ e. cc (e)) whole)
+
+-- a source that failed leaves the file unfinished
+pub returns-in-Err-Input-clause-out_begun : goal.returns-in-Err-Input-clause-out_begun
+returns-in-Err-Input-clause-out_begun g c same = c.in-Err-Input.ensures.out_begun c.in-Err-Input.field-0-is
+
+-- a run with an answer had no such fault
+pub returns-in-Ok-deliver-clause-out_begun : goal.returns-in-Ok-deliver-clause-out_begun
+returns-in-Ok-deliver-clause-out_begun g c same = no_fault _ c.in-Ok.reply.answer c.status.result InputFault c.status.ensures tt same
+
+-- out of memory the file is as it was, or finished
+pub returns-in-Err-Memory-clause-out_memory : goal.returns-in-Err-Memory-clause-out_memory
+returns-in-Err-Memory-clause-out_memory g c same = c.in-Err-Memory.ensures.out_memory c.in-Err-Memory.field-0-is
+
+-- a run with an answer didn't run out of it
+pub returns-in-Ok-deliver-clause-out_memory : goal.returns-in-Ok-deliver-clause-out_memory
+returns-in-Ok-deliver-clause-out_memory g c same = no_fault _ c.in-Ok.reply.answer c.status.result NoMemory c.status.ensures tt same
+
+-- a judge's failure leaves the report as it was
+pub returns-in-Err-Judge-clause-report_judged : goal.returns-in-Err-Judge-clause-report_judged
+returns-in-Err-Judge-clause-report_judged g c same = c.in-Err-Judge.ensures.report_judged c.in-Err-Judge.field-0-is
+
+-- a run with an answer had none
+pub returns-in-Ok-deliver-clause-report_judged : goal.returns-in-Ok-deliver-clause-report_judged
+returns-in-Ok-deliver-clause-report_judged g c same = no_fault _ c.in-Ok.reply.answer c.status.result JudgeFault c.status.ensures tt same
+
+-- and has finished its report
+pub returns-in-Ok-deliver-clause-report_finished : goal.returns-in-Ok-deliver-clause-report_finished
+returns-in-Ok-deliver-clause-report_finished g c = without _ c.status.result c.in-Ok-deliver.ensures.delivered.is_finished
 
 -- and the sink for it is finished
 pub returns-in-Ok-deliver-clause-out_finished : goal.returns-in-Ok-deliver-clause-out_finished

@@ -1,0 +1,7 @@
+mod Builds
+mod Checking
+mod EachSample
+mod MadeBytes
+mod Making
+mod OneSample
+mod WorkedDefinition

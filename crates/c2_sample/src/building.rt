@@ -1,0 +1,80 @@
+// The build of a media file in memory.
+ghost use Rattle.std.specs.Prelude.{◌≡◌, IfOk, true};
+ghost use Rattle.c2_sample.specs.Sample.{IsNewFile, is_refusal};
+
+use crate::inputs::{sample_definition, sample_message};
+use c2_base::limits::MAX_STORE_LEN;
+use c2_base::{Blob, MemSink, NoMemory, SureSource};
+use c2_build::{BuildError, embed};
+use c2_hash::Hashing;
+use c2_jpegseg::segments_len;
+use c2_judge::Judge;
+use std::alloc::Global;
+
+/// What is built of a media file.
+#[derive(Drop)]
+pub enum NewFile {
+    /// This file.
+    Built(Blob),
+
+    /// Nothing.
+    Refused(BuildError),
+}
+
+/// Builds a store into media, with the definition and the message of a sample. The sink has room for the media and the longest
+/// store, and no judge is there to be asked.
+pub fn build<H: Hashing>(alloc: Global, hashing: &H, media: Blob) -> Result<NewFile, NoMemory>
+    ensures { IfOk result (IsNewFile H.digest_of media) }
+{
+    let room = media
+        .as_slice()
+        .len()
+        .saturating_add(segments_len(MAX_STORE_LEN) as usize);
+    let mut definition = SureSource::new(sample_definition(alloc)?);
+    let mut message = SureSource::new(sample_message(alloc)?);
+    let mut media = SureSource::new(media);
+    let mut none: Vec<Box<dyn Judge>> = Vec::new(alloc);
+    let mut file = MemSink::with_room(alloc, room, 0)?;
+    match embed(
+        alloc,
+        hashing,
+        &mut media,
+        &mut definition,
+        &mut message,
+        &mut none,
+        &mut file,
+    ) {
+        Ok(_) => Ok(NewFile::Built(Blob::copied(alloc, file.bytes())?)),
+        Err(error) => refused(error),
+    }
+}
+
+// What is refused; a source, a sink or a judge in memory doesn't fail, so every other error is out of memory.
+fn refused(error: BuildError) -> Result<NewFile, NoMemory>
+    ensures { IfOk result (λ file. (is_refusal error ≡ true) × (file ≡ NewFile.Refused error)) }
+{
+    if is_refusal(&error) {
+        return Ok(NewFile::Refused(error));
+    }
+    Err(NoMemory)
+}
+
+// Whether an error is a refusal of what is built.
+fn is_refusal(error: &BuildError) -> bool
+    ensures { result ≡ is_refusal error.now }
+{
+    match error {
+        BuildError::ReadFault
+        | BuildError::JudgeFault
+        | BuildError::WriteFault
+        | BuildError::NoMemory => false,
+        BuildError::MediaRefused(_, _)
+        | BuildError::BadDefinition(_)
+        | BuildError::BadSignature(_)
+        | BuildError::Later
+        | BuildError::RedactionRefused(_, _)
+        | BuildError::NoInstance
+        | BuildError::StoreTooLarge(_)
+        | BuildError::ReserveTooSmall(_) => true,
+    }
+}

@@ -1,0 +1,133 @@
+// What a sample comes to.
+ghost use Rattle.std.specs.Prelude.{◌≡◌, [], map, length, IfOk, IfErr, vec_len};
+ghost use Rattle.c2_rules.specs.Validated.{CheckAsks};
+ghost use Rattle.c2_spec.specs.Judges.Panel.{LeavesJudges, judges_of, panel_says};
+ghost use Rattle.c2_base.specs.InMemory.{sure_bytes};
+ghost use Rattle.c2_sample.specs.Sample.{HasAskedThose, IsFileSampled, IsLength, IsSampleCause, IsSampled, SampleAsks, sample_error};
+
+use crate::building::{NewFile, build};
+use crate::media::sample_media;
+use crate::{Lengths, SampleError, Sampled};
+use c2_base::{Blob, NoMemory, SureSource};
+use c2_build::a_build_comes_to_one_thing;
+use c2_hash::Hashing;
+use c2_judge::Judge;
+use c2_validate::types::Opened;
+use c2_validate::{ValidateError, find_store, validate};
+use std::alloc::Global;
+
+/// What so many pieces come to: the file that is built of them, checked with these judges, or what is refused.
+///
+/// No judge is asked while the file is built. `JudgeFault` comes only where a judge failed that was due.
+// The condition always holds: a function that changes boxed judges is called under a contract only where it has one.
+pub fn sample<H: Hashing>(
+    alloc: Global,
+    hashing: &H,
+    count: u32,
+    judges: &mut Vec<Box<dyn Judge>>,
+) -> Result<Sampled, SampleError>
+    requires { Unit {0} }
+    ensures sampled { let said = panel_says (map (λ j. says j) judges.old.items) in
+        IfOk result (IsSampled H.digest_of said count) }
+    ensures asked { let said = panel_says (map (λ j. says j) judges.old.items) in
+        let old = judges_of (λ j. says j) (λ j. asked_times j) (λ j. judge_faults j)
+        judges.old.items in
+        let new = judges_of (λ j. says j) (λ j. asked_times j) (λ j. judge_faults j)
+        judges.new.items in
+        HasAskedThose (SampleAsks H.digest_of said count) old new result }
+    ensures unasked { let said = panel_says (map (λ j. says j) judges.old.items) in
+        SampleAsks H.digest_of said count [] → judges.new ≡ judges.old }
+    ensures cause { let old = judges_of (λ j. says j) (λ j. asked_times j) (λ j. judge_faults j)
+        judges.old.items in
+        let new = judges_of (λ j. says j) (λ j. asked_times j) (λ j. judge_faults j)
+        judges.new.items in
+        IfErr result (IsSampleCause old new) }
+    ensures leaves { let old = judges_of (λ j. says j) (λ j. asked_times j) (λ j. judge_faults j)
+        judges.old.items in
+        let new = judges_of (λ j. says j) (λ j. asked_times j) (λ j. judge_faults j)
+        judges.new.items in
+        LeavesJudges old new result }
+    ensures judges_len { vec_len judges.new ≡ vec_len judges.old }
+{
+    // Only the prover needs this law.
+    a_build_comes_to_one_thing();
+    let Ok(media) = sample_media(alloc, count) else {
+        return Err(SampleError::NoMemory);
+    };
+    let len = media.as_slice().len() as u64;
+    match build(alloc, hashing, media) {
+        Ok(NewFile::Built(file)) => check(alloc, hashing, len, file, judges),
+        Ok(NewFile::Refused(error)) => Ok(Sampled::Refused(error)),
+        Err(NoMemory) => Err(SampleError::NoMemory),
+    }
+}
+
+// What a new file comes to, over media of this length.
+fn check<H: Hashing>(
+    alloc: Global,
+    hashing: &H,
+    media: u64,
+    file: Blob,
+    judges: &mut Vec<Box<dyn Judge>>,
+) -> Result<Sampled, SampleError>
+    requires { Unit {0} }
+    ensures sampled { let said = panel_says (map (λ j. says j) judges.old.items) in
+        IfOk result (IsFileSampled H.digest_of said media file) }
+    ensures asked { let said = panel_says (map (λ j. says j) judges.old.items) in
+        let old = judges_of (λ j. says j) (λ j. asked_times j) (λ j. judge_faults j)
+        judges.old.items in
+        let new = judges_of (λ j. says j) (λ j. asked_times j) (λ j. judge_faults j)
+        judges.new.items in
+        HasAskedThose (CheckAsks H.digest_of said file) old new result }
+    ensures unasked { let said = panel_says (map (λ j. says j) judges.old.items) in
+        CheckAsks H.digest_of said file [] → judges.new ≡ judges.old }
+    ensures cause { let old = judges_of (λ j. says j) (λ j. asked_times j) (λ j. judge_faults j)
+        judges.old.items in
+        let new = judges_of (λ j. says j) (λ j. asked_times j) (λ j. judge_faults j)
+        judges.new.items in
+        IfErr result (IsSampleCause old new) }
+    ensures leaves { let old = judges_of (λ j. says j) (λ j. asked_times j) (λ j. judge_faults j)
+        judges.old.items in
+        let new = judges_of (λ j. says j) (λ j. asked_times j) (λ j. judge_faults j)
+        judges.new.items in
+        LeavesJudges old new result }
+    ensures judges_len { vec_len judges.new ≡ vec_len judges.old }
+{
+    let len = file.as_slice().len() as u64;
+    let mut source = SureSource::new(file);
+    let Ok(store) = store_len(alloc, &mut source) else {
+        return Err(SampleError::NoMemory);
+    };
+    let lengths = Lengths {
+        media,
+        file: len,
+        store,
+    };
+    match validate(alloc, hashing, &mut source, judges) {
+        Ok(answer) => Ok(Sampled::Checked(lengths, answer)),
+        Err(error) => Err(sample_error(error)),
+    }
+}
+
+// How many bytes the store has that the file is found to have.
+fn store_len(alloc: Global, source: &mut SureSource) -> Result<u64, NoMemory>
+    ensures length { IfOk result (IsLength (sure_bytes source.old)) }
+    ensures same { sure_bytes source.new ≡ sure_bytes source.old }
+{
+    match find_store(alloc, source) {
+        Ok(Opened::Here(media)) => Ok(media.found.store.as_slice().len() as u64),
+        Ok(Opened::NoStore(_)) => Ok(0),
+        Ok(Opened::Refused(_, _)) => Ok(0),
+        Err(_) => Err(NoMemory),
+    }
+}
+
+// What an error of the check is; a source in memory doesn't fail.
+fn sample_error(error: ValidateError) -> SampleError
+    ensures { result ≡ sample_error error }
+{
+    match error {
+        ValidateError::JudgeFault => SampleError::JudgeFault,
+        ValidateError::ReadFault | ValidateError::NoMemory => SampleError::NoMemory,
+    }
+}
