@@ -81,9 +81,10 @@ fn agree(manifest: &Option<Ref>, signature: &Option<Ref>) -> bool
 
 /// The ingredient that an item is (C2PA Technical Specification 2.x, "Ingredient").
 ///
-/// Form: the item is no map; `relationship` isn't `parentOf`, `componentOf` or `inputTo`; `activeManifest` is there and no
-/// hashed URI of a manifest itself; `claimSignature` is there and no hashed URI of the signature of that manifest, or
-/// comes without `activeManifest`. A null field counts as absent, and other fields pass unread.
+/// `Form` refuses an item that is no map, and a map of which one of these isn't so: `relationship` is one of the texts `parentOf`,
+/// `componentOf` and `inputTo`; `activeManifest`, if there, is a reference whose URI names a whole manifest; `claimSignature`, if
+/// there, is a reference whose URI names that manifest's signature, so it needs the former. Null stands for nothing, and no other
+/// field matters.
 pub fn read_ingredient(alloc: Global, item: &Cbor) -> Result<Ingredient, FieldError>
     ensures { IsAnswer FieldError.NoMemory (ingredient_of (view item.now)) result }
 {

@@ -62,8 +62,8 @@ fn kind_in(bytes: &[u8]) -> [u8; 4]
     [bytes[4], bytes[5], bytes[6], bytes[7]]
 }
 
-/// The header of the box that begins with `bytes`, where `left` bytes of the file are left from there. A box of size 0 has the
-/// length `left`.
+/// The header of the box at the front of `bytes`, from which on the file has `left` bytes: so many are in a box that says 0 for its
+/// size.
 ///
 /// [`HeadError::Short`]: `bytes` or `left` are fewer than the header needs, or the box ends after `left`. [`HeadError::Bad`]: the size
 /// is from 2 to 7, or a 64-bit one below 16. The first that holds in this order: the header's bytes, the size, the box's end. Takes

@@ -42,7 +42,8 @@ impl Model for Cover {
 /// Why there is no cover.
 #[derive(Clone, Copy, Debug, PartialEq, Eq, Error)]
 pub enum CoverError {
-    /// The range of this index is the first that begins before the end of the one before it, or ends after the file.
+    /// The ranges don't rise inside the file: this is the index of the first that reaches back into the one before it, or past the
+    /// file's end.
     #[error("range {0} begins before the end of the one before it, or ends after the file")]
     BadRange(usize),
 
@@ -90,8 +91,8 @@ impl From<AllocError> for CoverError {
 
 /// Whether the ranges rise inside a file of `size` bytes; they may touch and be empty.
 ///
-/// The error is the index, from 0, of the first range that begins before the end of the one before it, or ends after the file.
-/// An end past 2^64 - 1 lies after every file. Takes no memory.
+/// The error is the index, from 0, of the first range that reaches back into the one before it, or past the file's end, as one does
+/// whose end 64 bits can't hold. Takes no memory.
 pub fn check_ranges(ranges: &[Range], size: u64) -> Result<(), usize>
     ensures fit { OnOk result (bad_range size ranges.now ≡ None) }
     ensures first { IfErr result (λ i. bad_range size ranges.now ≡ Some i) }

@@ -77,11 +77,11 @@ redactions_in v = optional_list_at as_str (codes "redact") v
 abbrev pub is_assertion_field : List ℕ → Bool
 is_assertion_field k = bytes_eq k (codes "label") || bytes_eq k (codes "kind") || bytes_eq k (codes "hex")
 
--- a byte that no label has: `/` and control bytes
+-- a byte that no new label has: `/` and control bytes
 abbrev pub is_barred : ℕ → Bool
 is_barred b = (b == 0x2F) || nat_lt b 0x20 || (b == 0x7F)
 
--- a kind that is written as it is given: the builder makes bindings and ingredients itself
+-- a kind that is written as it is given: bindings and ingredients are made by the build itself, and cloud data isn't supported
 abbrev pub is_new_kind : Kind → Bool
 is_new_kind kinds.Actions = true
 is_new_kind kinds.Ordinary = true

@@ -26,10 +26,10 @@ pub struct ListJudge {
 impl ListJudge {
     /// The judge of a verdict file.
     ///
-    /// Each line is the id of a question in 64 lower case hex digits, one space, and `approved`, `mismatch`, `untrusted` or
-    /// `invalid`. The last line feed may be missing, and an empty file has no rows. Where several rows have one id, the
-    /// first holds. `TooLarge` comes above 1,048,576 bytes, and then no line is read; `BadRow` has the first line, from 1,
-    /// that hasn't this form.
+    /// A line tells one verdict: 64 hex digits of lower case, which are a question's id, a space, and one of the words `approved`,
+    /// `mismatch`, `untrusted` and `invalid`. The last line needn't be closed, and a file without bytes has no lines. Of lines on one
+    /// question the first counts. `TooLarge`: the file has more than 1,048,576 bytes, which aren't looked at. `BadRow`: a line of
+    /// another form, the first of them, counted from 1.
     pub fn read(alloc: Global, bytes: &[u8]) -> Result<ListJudge, ListError>
         ensures ok { IfOk result (λ judge. SaysFile bytes.now (list_says judge)) }
         ensures err { IfErr result (HasListReason bytes.now) }

@@ -129,10 +129,10 @@ fn manifests_of(
 
 /// The store that a tree is.
 ///
-/// Refused with the first of these: NotStore where the root is no superbox of type `c2pa` labelled `c2pa`; for each child
-/// superbox in order ManifestType with its place for another type than `c2ma` and `c2um`, then ManifestLabel with its place
-/// for a label that is missing, empty or has `/`; NoManifest; TooMany with their number where there are more than 1,024
-/// manifests. Leaf children pass unread.
+/// The first of these refuses it. `NotStore`: its root isn't the superbox of type and label `c2pa`. Then the superboxes in it are gone
+/// through in their order, each named by its place: `ManifestType`, it is neither a `c2ma` nor a `c2um`; `ManifestLabel`, it has
+/// no label, an empty one, or one with a slash. At last `NoManifest` where there was none, and `TooMany` with their number where
+/// it is above 1,024. Boxes that hold no others may stand among them, whatever they are.
 pub fn of_tree(alloc: Global, tree: &Tree<'_>) -> Result<Store, StoreError>
     ensures { MatchResult result (λ s. (store_refusal tree.now ≡ None) × (s ≡ store_of tree.now))
         (λ e. (e ≡ StoreError.NoMemory) ⊎ (store_refusal tree.now ≡ Some e)) }

@@ -24,7 +24,8 @@ fn is_number(bytes: &[u8]) -> bool
 }
 
 #[tactic(auto, using(crate::proofs::Numbers::base_here))]
-/// The label less a suffix of `__` and one or more ASCII digits, where it has one. Takes no memory.
+/// The label without the number that tells it from others of its kind: what follows the last `__` goes, with it, where that is
+/// digits alone and at least one. Takes no memory.
 pub fn base_label(label: &str) -> &str
     ensures { result.now ≡ base_of label.now }
 {

@@ -84,9 +84,9 @@ fn relative<'a>(path: &'a str) -> Uri<'a>
 
 /// The URI of a box that a text spells (C2PA Technical Specification 2.x, "JUMBF URI references").
 ///
-/// None exactly where the text doesn't begin `self#jumbf=`, or its rest begins with `/` but not with `/c2pa/`, or a label
-/// between slashes, after `/c2pa/` where that is there, is empty. After `/c2pa/` the first label is the manifest's, and with
-/// no further one the manifest itself is named. Takes no memory.
+/// It is `self#jumbf=` and labels with slashes between them, none of them empty. Where `/c2pa/` stands in front of the labels, the
+/// first of them is a manifest's, and the others, if any, lead from there; otherwise all of them lead from the own manifest, and no
+/// slash stands in front. Any other text is None. Takes no memory.
 pub fn parse(text: &str) -> Option<Uri<'_>>
     ensures { option_map uri_view result ≡ uri_of text.now }
 {
