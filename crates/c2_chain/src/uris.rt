@@ -29,7 +29,7 @@ pub fn at_manifest(alloc: Global, own: &Kept<'_>, code: Code) -> Result<Option<F
     let uri = format!(in alloc; "self#jumbf=/c2pa/{name}")?;
     Ok(Some(Failing {
         code,
-        uri: Text::from_string(uri),
+        uri: Text::from_string(alloc, uri)?,
     }))
 }
 
@@ -42,7 +42,7 @@ pub fn at_signature(alloc: Global, own: &Kept<'_>, code: Code) -> Result<Option<
     let uri = format!(in alloc; "self#jumbf=/c2pa/{name}/c2pa.signature")?;
     Ok(Some(Failing {
         code,
-        uri: Text::from_string(uri),
+        uri: Text::from_string(alloc, uri)?,
     }))
 }
 
@@ -56,7 +56,7 @@ pub fn at_claim(alloc: Global, own: &Kept<'_>, code: Code) -> Result<Option<Fail
     let uri = format!(in alloc; "self#jumbf=/c2pa/{name}/{claim}")?;
     Ok(Some(Failing {
         code,
-        uri: Text::from_string(uri),
+        uri: Text::from_string(alloc, uri)?,
     }))
 }
 
@@ -74,7 +74,7 @@ pub fn at_assertion(
     let uri = format!(in alloc; "self#jumbf=/c2pa/{manifest}/c2pa.assertions/{label}")?;
     Ok(Some(Failing {
         code,
-        uri: Text::from_string(uri),
+        uri: Text::from_string(alloc, uri)?,
     }))
 }
 
@@ -108,6 +108,6 @@ fn at_store(alloc: Global, manifest: &str, code: Code) -> Result<Option<Failing>
     let uri = format!(in alloc; "self#jumbf=/c2pa/{manifest}/c2pa.assertions")?;
     Ok(Some(Failing {
         code,
-        uri: Text::from_string(uri),
+        uri: Text::from_string(alloc, uri)?,
     }))
 }

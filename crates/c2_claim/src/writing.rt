@@ -141,7 +141,7 @@ fn signature_written(alloc: Global, label: &str) -> Result<Cbor, NoMemory>
     let mut uri = String::from_str(alloc, "self#jumbf=/c2pa/")?;
     uri.push_str(label)?;
     uri.push_str("/c2pa.signature")?;
-    Ok(Cbor::Text(Text::from_string(uri)))
+    Ok(Cbor::Text(Text::from_string(alloc, uri)?))
 }
 
 // The item of the program's name.

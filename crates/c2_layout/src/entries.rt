@@ -14,7 +14,7 @@ pub fn own_ref(alloc: Global, label: &str, digest: &[u8]) -> Result<Ref, NoMemor
     url.push_str(label)?;
     let hash = Blob::copied(alloc, digest)?;
     Ok(Ref {
-        url: Text::from_string(url),
+        url: Text::from_string(alloc, url)?,
         hash,
         alg: None,
     })

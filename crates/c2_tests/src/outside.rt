@@ -31,8 +31,13 @@ fn a_full_sink_fails_and_keeps_what_it_has(rt: HostRuntime) -> Result<(), Fail> 
 
 #[test]
 fn texts_are_kept(rt: HostRuntime) -> Result<(), Fail> {
-    let text = Text::copied(rt.alloc(), "é")?;
+    let alloc = rt.alloc();
+    let text = Text::copied(alloc, "é")?;
     assert_eq!(rt; text.as_str(), "é");
+    let longest_inside = Text::copied(alloc, "fourteen bytes")?;
+    assert_eq!(rt; longest_inside.as_str(), "fourteen bytes");
+    let apart = Text::copied(alloc, "fifteen letters")?;
+    assert_eq!(rt; apart.as_str(), "fifteen letters");
     Ok(())
 }
 

@@ -53,7 +53,7 @@ fn spell(alloc: Global, uri: &Uri<'_>) -> Result<Text, NoMemory>
         }
         None => push_path(&mut text, uri.target)?,
     }
-    Ok(Text::from_string(text))
+    Text::from_string(alloc, text)
 }
 
 /// The text of a URI, which `parse` reads as this URI again.

@@ -54,11 +54,11 @@ fn fails(alloc: Global, own: &Kept<'_>, name: &str, code: Code) -> Result<Bound,
     ensures cause { IfErr result (λ e. e ≡ ValidateError.NoMemory) }
 {
     let manifest = label(own);
-    match format!(in alloc; "self#jumbf=/c2pa/{manifest}/c2pa.assertions/{name}") {
-        Ok(uri) => Ok(Bound::Fails(Failing {
-            code,
-            uri: Text::from_string(uri),
-        })),
+    let Ok(uri) = format!(in alloc; "self#jumbf=/c2pa/{manifest}/c2pa.assertions/{name}") else {
+        return Err(ValidateError::NoMemory);
+    };
+    match Text::from_string(alloc, uri) {
+        Ok(uri) => Ok(Bound::Fails(Failing { code, uri })),
         Err(_) => Err(ValidateError::NoMemory),
     }
 }
@@ -496,11 +496,12 @@ fn fails_unbound(alloc: Global, own: &Kept<'_>) -> Result<Bound, ValidateError>
     ensures cause { IfErr result (λ e. e ≡ ValidateError.NoMemory) }
 {
     let manifest = label(own);
-    match format!(in alloc; "self#jumbf=/c2pa/{manifest}") {
-        Ok(uri) => Ok(Bound::Fails(Failing {
-            code: Code::AssertionCborInvalid,
-            uri: Text::from_string(uri),
-        })),
+    let Ok(uri) = format!(in alloc; "self#jumbf=/c2pa/{manifest}") else {
+        return Err(ValidateError::NoMemory);
+    };
+    let code = Code::AssertionCborInvalid;
+    match Text::from_string(alloc, uri) {
+        Ok(uri) => Ok(Bound::Fails(Failing { code, uri })),
         Err(_) => Err(ValidateError::NoMemory),
     }
 }
