@@ -8,12 +8,11 @@ use Rattle.std.specs.List.{flat_map, AllByRecursion}
 use Rattle.std.specs.Str.{bytes_eq}
 use Rattle.c2_spec.specs.Bmff.Boxes.{AreBoxForms, Box, HasRoots, IsBox, IsSizedBox, SizeForm, box_bytes, box_len, boxes_len, ftyp_kind, header_len, most_roots, size_fits, uuid_kind, begins_bmff}
 use Rattle.c2_spec.specs.Bmff.Store.{HasBmffStore, HasNoBmffStore, HoldsBmffStore, content_of, is_c2pa_box, is_for_manifest, is_other_box, is_store_box, is_version_zero}
-use Rattle.c2_boxed.specs.Writing.{AreBaseRoots, IsBmffBase, same, without, base_roots, freed, is_file_end}
+use Rattle.c2_spec.specs.Bmff.Writing.{AreBaseRoots, IsBmffBase, same, without, base_roots, freed, is_file_end}
 use Rattle.c2_spec.specs.PutIn.{taken_out}
 use Rattle.c2_spec.proofs.BmffOneList.{first_box, other_boxes, roots_once}
-use Rattle.c2_spec.proofs.BmffOneStore.{store_or_none}
-use Rattle.c2_boxed.proofs.OneStore.{split_once}
-use Rattle.c2_boxed.proofs.BmffSizes.{bytes_size}
+use Rattle.c2_spec.proofs.BmffOneStore.{split_once, store_or_none}
+use Rattle.c2_spec.proofs.BmffSizes.{bytes_size}
 use Rattle.c2_boxed.proofs.Placing.{all_append, begins_list, bytes_more, first_is, forms_append, forms_back, forms_front, left_is, one_more}
 
 -- ---- a freed box

@@ -12,10 +12,10 @@ use Rattle.c2_spec.specs.Bmff.Cover.{IsBmffCover, after_offset, bmff_text, root_
 use Rattle.c2_spec.specs.Bmff.Hash.{ByteTest, Exclusion, IsExcluded, IsExcludedBy, MeetsTest}
 use Rattle.c2_spec.specs.Bmff.Paths.{OnPath, last, below, PathStep, PlacedBox, matched, placed_from}
 use Rattle.c2_spec.specs.Bmff.Store.{c2pa_user_type}
-use Rattle.c2_boxed.specs.Writing.{all_of, before_mfra, built_exclusions, built_part, built_text, c2pa_box, is_left_out, is_mfra, last_mfra, mfra_kind, with_store}
+use Rattle.c2_spec.specs.Bmff.Writing.{all_of, before_mfra, built_exclusions, built_part, built_text, c2pa_box, is_left_out, is_mfra, last_mfra, mfra_kind, with_store}
 use Rattle.c2_spec.specs.Cover.{kept_from}
 use Rattle.c2_spec.proofs.BmffOneList.{first_box, other_boxes}
-use Rattle.c2_boxed.proofs.BmffSizes.{bytes_size}
+use Rattle.c2_spec.proofs.BmffSizes.{bytes_size}
 use Rattle.c2_spec.proofs.Kept.{kept_none, kept_whole}
 use Rattle.c2_boxed.proofs.Frames.{frame_out}
 use Rattle.c2_boxed.proofs.Placing.{parts_are}

@@ -4,7 +4,7 @@ use Rattle.std.proofs.lemmas.Bool.{and_from, le-leb, lt-ltb}
 use Rattle.std.proofs.lemmas.List.{take_all}
 use Rattle.c2_spec.specs.Bmff.Boxes.{Box, IsSizedBox, box_bytes, box_len}
 use Rattle.c2_spec.specs.Bmff.Store.{content_of, has_store_box, is_c2pa_box, is_store_box, store_in, store_part}
-use Rattle.c2_boxed.specs.Writing.{IsBoxStore, c2pa_box, c2pa_frame_len, c2pa_payload, is_left_out}
+use Rattle.c2_spec.specs.Bmff.Writing.{IsBoxStore, c2pa_box, c2pa_frame_len, c2pa_payload, is_left_out}
 use Rattle.c2_spec.specs.Jumbf.Faults.{has_head, told_total}
 
 -- what stands after its header

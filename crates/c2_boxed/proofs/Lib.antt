@@ -1,6 +1,4 @@
 mod Bases
-mod BmffSizes
 mod Covering
 mod Frames
-mod OneStore
 mod Placing

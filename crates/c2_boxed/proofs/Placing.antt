@@ -7,7 +7,7 @@ use Rattle.std.specs.List.{flat_map, AllByRecursion}
 use Rattle.std.specs.Str.{bytes_eq}
 use Rattle.c2_spec.specs.Bmff.Boxes.{AreBoxForms, Box, HasRoots, IsBox, IsSizedBox, begins_bmff, box_bytes, box_len, boxes_len, ftyp_kind, is_to_end}
 use Rattle.c2_spec.specs.Bmff.Paths.{placed_from}
-use Rattle.c2_boxed.specs.Writing.{before_mfra, is_file_end, is_mfra, last_mfra, mfra_kind, open_end}
+use Rattle.c2_spec.specs.Bmff.Writing.{before_mfra, is_file_end, is_mfra, last_mfra, mfra_kind, open_end}
 use Rattle.c2_spec.specs.PutIn.{put_in, taken_out}
 use Rattle.c2_spec.proofs.BmffOneList.{first_box, tells}
 

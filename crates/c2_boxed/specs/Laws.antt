@@ -5,7 +5,7 @@ use Rattle.c2_spec.specs.Bmff.Boxes.{Box, HasRoots, box_bytes, box_len, most_roo
 use Rattle.c2_spec.specs.Bmff.Cover.{IsBmffCover}
 use Rattle.c2_spec.specs.Bmff.Paths.{placed_from}
 use Rattle.c2_spec.specs.Bmff.Store.{HoldsBmffStore, is_other_box}
-use Rattle.c2_boxed.specs.Writing.{IsBmffBase, IsBoxStore, base_roots, built_exclusions, built_text, c2pa_box, c2pa_frame_len, insert_place, is_file_end, open_end, with_store}
+use Rattle.c2_spec.specs.Bmff.Writing.{IsBmffBase, IsBoxStore, base_roots, built_exclusions, built_text, c2pa_box, c2pa_frame_len, insert_place, is_file_end, open_end, with_store}
 use Rattle.c2_spec.specs.PutIn.{put_in, taken_out}
 
 -- A file with these root boxes can take the store: it has none, its last box isn't open, and with the store's box it is small enough.

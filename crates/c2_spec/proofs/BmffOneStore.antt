@@ -26,7 +26,7 @@ tail_same : (b c : Box) (bs cs : List Box) → b ∷ bs ≡ c ∷ cs → bs ≡ 
 tail_same b c bs cs e = cc (e)
 
 -- a list has one box that holds a store with only other boxes before it
-split_once : (bs cs : List Box) (h k : Box) (xs ys : List Box) → bs ++ h ∷ xs ≡ cs ++ k ∷ ys → AllByRecursion (λ (b : Box). is_other_box b ≡ true) bs → is_store_box h ≡ true → AllByRecursion (λ (b : Box). is_other_box b ≡ true) cs → is_store_box k ≡ true → (bs ≡ cs) × (h ≡ k)
+pub split_once : (bs cs : List Box) (h k : Box) (xs ys : List Box) → bs ++ h ∷ xs ≡ cs ++ k ∷ ys → AllByRecursion (λ (b : Box). is_other_box b ≡ true) bs → is_store_box h ≡ true → AllByRecursion (λ (b : Box). is_other_box b ≡ true) cs → is_store_box k ≡ true → (bs ≡ cs) × (h ≡ k)
 split_once [] [] h k xs ys e p a q b = (refl, head_same h k xs ys e)
 split_once [] (c ∷ cs) h k xs ys e p a q b = absurd (no_both c (ap is_store_box (sym (head_same h c xs (cs ++ k ∷ ys) e)) ∙ a) q.0)
 split_once (c ∷ bs) [] h k xs ys e p a q b = absurd (no_both c (ap is_store_box (head_same c k (bs ++ h ∷ xs) ys e) ∙ b) p.0)

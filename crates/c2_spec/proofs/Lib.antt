@@ -18,6 +18,7 @@ pub mod JumbfCode
 pub mod JumbfRows
 pub mod Kept
 pub mod BmffTests
+pub mod BmffSizes
 pub mod BmffOneList
 pub mod BmffPassing
 pub mod BmffNoFault

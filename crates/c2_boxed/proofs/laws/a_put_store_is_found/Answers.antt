@@ -3,8 +3,8 @@ use Rattle.std.specs.List.{flat_map, AllByRecursion}
 use Rattle.std.specs.Prelude.{true}
 use Rattle.c2_spec.specs.Bmff.Boxes.{Box, HasRoots, begins_bmff, box_bytes, boxes_len}
 use Rattle.c2_spec.specs.Bmff.Store.{HoldsBmffStore, is_other_box}
-use Rattle.c2_boxed.specs.Writing.{before_mfra, c2pa_box, c2pa_frame_len, freed, insert_place, last_mfra, with_store, without}
-use Rattle.c2_boxed.proofs.BmffSizes.{bytes_size}
+use Rattle.c2_spec.specs.Bmff.Writing.{before_mfra, c2pa_box, c2pa_frame_len, freed, insert_place, last_mfra, with_store, without}
+use Rattle.c2_spec.proofs.BmffSizes.{bytes_size}
 use Rattle.c2_spec.specs.PutIn.{taken_out}
 use Rattle.c2_boxed.specs.Laws.{file_with}
 use Rattle.c2_boxed.proofs.Frames.{frame_len, holds_store, is_frame, same_store, whole_store}
