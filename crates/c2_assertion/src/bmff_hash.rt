@@ -6,11 +6,11 @@ ghost use Rattle.c2_spec.specs.Cbor.Fields.{IsAnswer, each_of, list_of, optional
 ghost use Rattle.std.specs.List.{list_any};
 ghost use Rattle.c2_spec.specs.Bmff.Paths.{enters_other, path_of};
 ghost use Rattle.c2_spec.specs.Bmff.Hash as form;
-ghost use Rattle.c2_bmff.specs.Exclusions.{byte_test};
+ghost use Rattle.c2_paths.specs.Exclusions.{byte_test};
 
 use c2_base::limits::MAX_EXCLUSIONS;
 use c2_base::{Blob, NoMemory, Range, Ranges, Text};
-use c2_bmff::{ByteTests, Exclusion, Exclusions, Path, read_path};
+use c2_paths::{ByteTests, Exclusion, Exclusions, Path, read_path};
 use c2_cbor::{Cbor, field};
 use c2_spec::FieldError;
 use std::alloc::Global;

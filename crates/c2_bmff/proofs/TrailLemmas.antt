@@ -9,14 +9,16 @@ use Rattle.std.proofs.lemmas.List.Folds.{list_any-append}
 use Rattle.std.proofs.lemmas.Option.{slice_get_within, slice_get-get_or, get_or_from_slice_get}
 use Rattle.c2_spec.specs.Bmff.Hash.{Exclusion, in_subset}
 use Rattle.c2_spec.specs.Bmff.Paths.{PathStep, is_entered, nth_of}
-use Rattle.c2_bmff.specs.Children.{go_on, kids, on_rows}
-use Rattle.c2_bmff.specs.Marks.{SharedPath, excludes_any, in_row, in_row_subset, marks, marks_any, takes}
+use Rattle.c2_boxes.specs.Children.{kids}
+use Rattle.c2_paths.specs.PathRows.{go_on, on_rows}
+use Rattle.c2_marks.specs.Marks.{SharedPath, excludes_any, in_row, in_row_subset, marks, marks_any, takes}
 use Rattle.c2_bmff.specs.Trails.{ahead, arrives, from_step, has_step, no_exclusion, of_entry, of_kind, of_option, picks, rows_ahead, through}
-use Rattle.c2_bmff.specs.declared.root_boxes.RootBox.{RootBox}
+use Rattle.c2_boxes.specs.declared.root_boxes.RootBox.{RootBox}
 use Rattle.c2_bmff.specs.declared.walking.Coming.{Coming}
 use Rattle.c2_bmff.specs.declared.walking.Coming.TheVariants as coming
 use Rattle.c2_bmff.specs.declared.walking.Trail.{Trail}
-use Rattle.c2_bmff.proofs.ChildLemmas.{path_start, path_stops, steps_from}
+use Rattle.c2_marks.proofs.MarkLemmas.{or_join}
+use Rattle.c2_paths.proofs.PathRows.{path_start, path_stops, steps_from}
 
 -- ---- tests joined
 
@@ -28,14 +30,9 @@ or_swap false true false = refl
 or_swap false false true = refl
 or_swap false false false = refl
 
--- nor does how three are joined
-pub or_join3 : (a b c : Bool) → ((a || b) || c) ≡ (a || (b || c))
-or_join3 true b c = refl
-or_join3 false b c = refl
-
 -- a test joined to the second of two
 pub or_in : (a b c : Bool) → (a || (b || c)) ≡ ((a || c) || b)
-or_in a b c = sym (or_join3 a b c) ∙ or_swap a b c
+or_in a b c = sym (or_join a b c) ∙ or_swap a b c
 
 -- ---- tests of an exclusion
 
@@ -215,7 +212,7 @@ level_none file es i rows ts e = ap (λ (xs : List RootBox). list_any (ahead fil
 
 -- one trail that is past a box, where the others are joined
 pub pass_joins : (f f' t x x' f0 y0 : Bool) → (f' || x') ≡ (f || x) → (f || t) ≡ (f0 || y0) → (f' || (t || x')) ≡ (f0 || (y0 || x))
-pass_joins f f' t x x' f0 y0 e h = or_in f' t x' ∙ ap (λ (b : Bool). b || t) e ∙ or_swap f x t ∙ ap (λ (b : Bool). b || x) h ∙ or_join3 f0 y0 x
+pass_joins f f' t x x' f0 y0 e h = or_in f' t x' ∙ ap (λ (b : Bool). b || t) e ∙ or_swap f x t ∙ ap (λ (b : Bool). b || x) h ∙ or_join f0 y0 x
 
 -- where the rests of two lists are one, so are their first members and the rests after those
 pub rest_same : (k : ℕ) (xs ys : List Trail) (d : Trail) → k < length xs → k < length ys → drop k xs ≡ drop k ys → (get_or xs k d ≡ get_or ys k d) × (drop (k + 1) xs ≡ drop (k + 1) ys)
@@ -247,7 +244,7 @@ through_inside file es i r k h = go (slice_get es k) h
 -- where the first members give what all can give, the others change nothing
 whole_any : {A : Type 0} (p : A → Bool) (b : Bool) → ((x : A) → p x ≡ true → b ≡ true) → (xs : List A) (n : ℕ) (now old : Bool) → (b ≡ true → now ≡ true) → now ≡ (old || list_any p (take n xs)) → now ≡ (old || list_any p xs)
 whole_any p b h xs n now old whole so_far =
-    so_far ∙ by (list_any p (drop n xs)) refl (old || list_any p (take n xs)) (sym so_far) ∙ or_join3 old (list_any p (take n xs)) (list_any p (drop n xs))
+    so_far ∙ by (list_any p (drop n xs)) refl (old || list_any p (take n xs)) (sym so_far) ∙ or_join old (list_any p (take n xs)) (list_any p (drop n xs))
     ∙ ap (λ (c : Bool). old || c) (sym (list_any-append p (take n xs) (drop n xs)) ∙ ap (list_any p) (take-append-drop n xs))
   where
     by : (rest : Bool) → list_any p (drop n xs) ≡ rest → (c : Bool) → c ≡ now → c ≡ (c || rest)

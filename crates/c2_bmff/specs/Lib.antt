@@ -1,15 +1,2 @@
-pub mod Causes
-pub mod Children
-pub mod Exclusions
-pub mod Headers
-pub mod Heads
-pub mod Marks
 pub mod Matched
-pub mod Parts
-pub mod PathTexts
-pub mod Provenance
-pub mod Roots
-pub mod Runs
-pub mod Search
 pub mod Trails
-pub mod Windows

@@ -1,33 +1,20 @@
-//! The boxes of a BMFF file (ISO/IEC 14496-12), and the C2PA store in one of them.
+//! The boxes of a BMFF file (ISO/IEC 14496-12), the C2PA store in one of them, and the positions that a BMFF hash excludes.
 //!
-//! What a box, a list of root boxes, a store and a refusal are stands in `c2_spec`, modules `Bmff.Boxes` and `Bmff.Store`.
+//! Here is the walk over boxes for all exclusions at once. What is read and written of boxes is handed on from `c2_boxes`, paths and
+//! exclusions from `c2_paths`. What they are stands in `c2_spec`, modules `Bmff.Boxes`, `Bmff.Store`, `Bmff.Paths` and `Bmff.Hash`.
 #![tactic(auto)]
 
-mod children;
-mod entries;
-mod exclusion;
-mod far;
-mod header;
+mod fronts;
 mod laws;
-mod marking;
 mod matching;
-mod parts;
-mod paths;
-mod provenance;
-mod reading;
-mod root_boxes;
-mod runs;
 pub mod types;
 mod walking;
 
-pub use exclusion::{ByteTests, Exclusion, Exclusions};
-pub use header::{BoxHead, HeadError, head};
-pub use laws::{
-    a_bmff_file_comes_to_one_thing, a_file_has_one_list_of_roots, a_test_decides_what_is_excluded,
-    bmff_store_bytes_are_of_the_file, each_bmff_file_comes_to_something,
+pub use c2_boxes::{
+    BoxHead, HeadError, RootBox, a_bmff_file_comes_to_one_thing, a_file_has_one_list_of_roots,
+    bmff_store_bytes_are_of_the_file, each_bmff_file_comes_to_something, head, insert_place,
+    locate, roots, write_box,
 };
+pub use c2_paths::{ByteTests, Exclusion, Exclusions, Path, Segment, read_path};
+pub use laws::a_test_decides_what_is_excluded;
 pub use matching::{match_path, match_paths};
-pub use paths::{Path, Segment, read_path};
-pub use provenance::locate;
-pub use reading::roots;
-pub use root_boxes::RootBox;

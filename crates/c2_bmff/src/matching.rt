@@ -2,15 +2,15 @@
 ghost use Rattle.std.specs.Prelude.{◌≡◌, All, OnOk, IfOk, IfErr};
 ghost use Rattle.std.specs.Option.{ForSome};
 ghost use Rattle.c2_base.specs.Source.{StaysSource};
-ghost use Rattle.c2_bmff.specs.Causes.{IsCaused, OrOutside};
-ghost use Rattle.c2_bmff.specs.Marks.{IsRangeWithin};
+ghost use Rattle.c2_boxes.specs.Causes.{IsCaused, OrOutside};
+ghost use Rattle.c2_marks.specs.Marks.{IsRangeWithin};
 ghost use Rattle.c2_bmff.specs.Matched.{AreAllExcluded, AreExcluded};
-ghost use Rattle.c2_bmff.specs.Roots.{IsBoxWithin};
+ghost use Rattle.c2_boxes.specs.Roots.{IsBoxWithin};
 
-use crate::exclusion::Exclusion;
-use crate::root_boxes::Roots;
 use crate::walking::mark_all;
 use c2_base::{MediaError, Ranges, Source};
+use c2_boxes::types::Roots;
+use c2_paths::Exclusion;
 use std::alloc::Global;
 use std::slice;
 

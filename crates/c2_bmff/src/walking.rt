@@ -2,25 +2,21 @@
 ghost use Rattle.std.specs.Prelude.{◌≡◌, ◌||◌, ◌+◌, ◌*◌, ◌<◌, [], ◌∷◌, ◌++◌, ℕ, List, All, OnOk, IfOk, IfErr, IfSome, is_some, cond, get_or, length, take, ◌≤◌};
 ghost use Rattle.std.specs.List.{list_any};
 ghost use Rattle.std.specs.Option.{ForSome};
-ghost use Rattle.c2_base.specs.Causes.{HasCause};
 ghost use Rattle.c2_base.specs.Source.{StaysSource};
 ghost use Rattle.c2_spec.specs.Bmff.Hash.{Exclusion as AnyExclusion};
 ghost use Rattle.c2_spec.specs.Bmff.Paths.{nth_of};
 ghost use Rattle.c2_spec.specs.Cover.{is_excluded};
-ghost use Rattle.c2_bmff.specs.Causes.{IsCaused, OrOutside};
-ghost use Rattle.c2_bmff.specs.Children.{IsRowWithin, kids};
-ghost use Rattle.c2_bmff.specs.Marks.{IsFront, IsRangeWithin, SharedPath, excludes_any, excludes_row, marks};
+ghost use Rattle.c2_boxes.specs.Causes.{IsCaused, OrOutside};
+ghost use Rattle.c2_boxes.specs.Children.{IsRowWithin, kids};
+ghost use Rattle.c2_marks.specs.Marks.{IsFront, IsRangeWithin, SharedPath, excludes_any, excludes_row, marks};
 ghost use Rattle.c2_bmff.specs.Trails.{IsLevelWithin, ahead, arrives, found, from_step, has_step, level_ahead, level_left, levels_left, no_exclusion, picks, through};
-ghost use Rattle.c2_bmff.specs.declared.root_boxes.RootBox.{RootBox};
+ghost use Rattle.c2_boxes.specs.declared.root_boxes.RootBox.{RootBox};
 
-use crate::children::children;
-use crate::entries::{Ask, Entry, entries_of};
-use crate::exclusion::Exclusion;
-use crate::marking::{add_sorted, is_whole, join_full, mark_row};
-use crate::paths::{Segment, enters};
-use crate::root_boxes::{RootBox, fill_first};
-use crate::runs::{asked_len, asks_bytes};
-use c2_base::{Failed, MediaError, NoMemory, Range, Source};
+use crate::fronts::{fill_front, room_for};
+use c2_base::{MediaError, NoMemory, Range, Source};
+use c2_boxes::{RootBox, children};
+use c2_marks::{Ask, Entry, add_sorted, entries_of, is_whole, join_full, mark_row};
+use c2_paths::{Exclusion, Segment, enters};
 use std::alloc::Global;
 
 // Which of the coming siblings of a step's type the step means.
@@ -170,58 +166,6 @@ fn pass_all(
         pass(entries, row, &mut trails[k], here, below)?;
     }
     Ok(())
-}
-
-// How many first bytes of a box these exclusions of one path ask for, and no more than are read at a time.
-fn most_of(asks: &[Ask]) -> usize {
-    let mut most = 0;
-    for ask in asks {
-        most = asked_len(&ask.tests).max(most);
-    }
-    most
-}
-
-// The same of all exclusions.
-fn most_asked(entries: &[Entry<'_>]) -> usize {
-    let mut most = 0;
-    for entry in entries {
-        most = most_of(entry.asks.as_slice()).max(most);
-    }
-    most
-}
-
-// Room for the first bytes of a box.
-fn room_for(alloc: Global, entries: &[Entry<'_>]) -> Result<Vec<u8>, NoMemory> {
-    let count = most_asked(entries);
-    let bytes = vec![in alloc; 0; count]?;
-    Ok(bytes)
-}
-
-// The number of first bytes of the box of this row that are in `bytes`: as many as there is room for where none were and this
-// exclusion asks for bytes of it.
-fn fill_front<S: Source>(
-    source: &mut S,
-    ask: &Ask,
-    row: RootBox,
-    bytes: &mut [u8],
-    count: usize,
-) -> Result<usize, Failed>
-    requires inside { IsRowWithin (S.len source.old) row }
-    requires few { count ≤ length bytes.old }
-    requires front { ForSome (S.known source.old)
-        (λ file. IsFront file row (take count bytes.old)) }
-    ensures few { IfOk result (λ n. n ≤ length bytes.new) }
-    ensures front { IfOk result (λ n. ForSome (S.known source.old)
-        (λ file. IsFront file row (take n bytes.new))) }
-    ensures stays { StaysSource S.len S.known S.faults source.old source.new }
-    ensures cause { HasCause (S.faults source.old) (S.faults source.new) result }
-{
-    if count > 0 || !asks_bytes(&ask.tests, row.length) {
-        return Ok(count);
-    }
-    let most = row.length.min(bytes.len() as u64) as usize;
-    fill_first(source, row.start, bytes, most)?;
-    Ok(most)
 }
 
 // Adds the positions that these exclusions of one path exclude through the box of this row, of which so many first bytes are in `bytes`,

@@ -7,10 +7,10 @@ use Rattle.std.specs.Str.{bytes_eq}
 use Rattle.c2_base.specs.declared.media.Found.{Found}
 use Rattle.c2_base.specs.declared.media.MediaError.{MediaError}
 use Rattle.c2_base.specs.declared.media.MediaError.TheVariants as media
-use Rattle.c2_bmff.specs.Causes.{OrOutside}
-use Rattle.c2_bmff.specs.Roots.{AreRootsOf}
-use Rattle.c2_bmff.specs.Search.{IsStoreOr}
-use Rattle.c2_bmff.specs.declared.root_boxes.RootBox.{RootBox}
+use Rattle.c2_boxes.specs.Causes.{OrOutside}
+use Rattle.c2_boxes.specs.Roots.{AreRootsOf}
+use Rattle.c2_boxes.specs.Search.{IsStoreOr}
+use Rattle.c2_boxes.specs.declared.root_boxes.RootBox.{RootBox}
 use Rattle.c2_spec.specs.Bmff.Boxes.{begins_bmff, ftyp_kind}
 use Rattle.c2_spec.specs.Bmff.Store.{FirstBmffFault, IsBmffLocated, ProvenanceFault, provenance}
 use Rattle.c2_spec.specs.Container.{IsLocated, begins_jpeg, is_bmff}

@@ -31,7 +31,7 @@ use Rattle.c2_rules.specs.Readings.{ReadBox, Reading, AreReadings}
 use Rattle.c2_rules.specs.Rules.{label_kind, is_binding, box_with}
 use Rattle.c2_rules.specs.Tests.{Test, test, first_failing}
 use Rattle.c2_rules.specs.declared.code.Code.TheVariants as code
-use Rattle.c2_bmff.specs.Roots.{rows_of}
+use Rattle.c2_boxes.specs.Roots.{rows_of}
 use Rattle.c2_cover.specs.Covers.{excluded_of}
 use Rattle.c2_validate.specs.Opened.{IsContainerOf}
 use Rattle.c2_validate.specs.declared.bound.Bound.{Bound}

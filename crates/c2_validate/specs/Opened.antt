@@ -10,7 +10,7 @@ use Rattle.c2_spec.specs.Container.{IsLocated, begins_jpeg, is_bmff}
 use Rattle.c2_spec.specs.Jumbf.Tree.{Tree}
 use Rattle.c2_spec.specs.Located.{Opening, Located, refused, absent, here}
 use Rattle.c2_rules.specs.Opened.{IsManifestStore}
-use Rattle.c2_bmff.specs.Roots.{AreRootsOf, IsBoxWithin}
+use Rattle.c2_boxes.specs.Roots.{AreRootsOf, IsBoxWithin}
 use Rattle.c2_validate.specs.declared.error.ValidateError.{ValidateError}
 use Rattle.c2_validate.specs.declared.error.ValidateError.TheVariants.{ReadFault, JudgeFault, NoMemory}
 use Rattle.c2_validate.specs.declared.types.Container.{Container}

@@ -1,11 +1,11 @@
 use Rattle.std.proofs.Common.{◌≡◌, ◌∙◌, ◌||◌, Bool, true, false, List, sym, ap}
 use Rattle.std.specs.List.{list_any}
 use Rattle.c2_spec.specs.Bmff.Paths.{is_entered}
-use Rattle.c2_bmff.specs.Children.{kids}
+use Rattle.c2_boxes.specs.Children.{kids}
 use Rattle.c2_bmff.specs.Trails.{ahead, found, from_step, has_step, through}
 use Rattle.c2_bmff.specs.declared.walking.Trail.{Trail}
-use Rattle.c2_bmff.proofs.MarkLemmas.{any_append, or_false}
-use Rattle.c2_bmff.proofs.TrailLemmas.{arrive_on, arrive_stops, or_join3}
+use Rattle.c2_marks.proofs.MarkLemmas.{any_append, or_false, or_join}
+use Rattle.c2_bmff.proofs.TrailLemmas.{arrive_on, arrive_stops}
 use Rattle.c2_bmff.proofs.walking.arrive.Goals as goal
 
 -- where the path enters the box, its next step is taken among the children
@@ -18,7 +18,7 @@ returns-in_ok-push-2 c file i =
     let below : Bool = list_any (ahead file es i (kids file c.args.row)) c.args.below.now.items in
     ap (λ (ts : List Trail). here || list_any (ahead file es i (kids file c.args.row)) ts) c.in_ok-push-2.ensures.items
     ∙ ap (λ (b : Bool). here || b) (any_append (ahead file es i (kids file c.args.row)) c.args.below.now.items c.in-Some.next)
-    ∙ sym (or_join3 here below (ahead file es i (kids file c.args.row) c.in-Some.next))
+    ∙ sym (or_join here below (ahead file es i (kids file c.args.row) c.in-Some.next))
     ∙ ap (λ (b : Bool). (here || below) || b) (c.in-Some.ensures.ahead file i (kids file c.args.row) ∙ ap (λ (t : Trail). from_step file es i (kids file c.args.row) t.entry t.taken) c.at.view_is ∙ sym (arrive_on file es i c.args.row c.args.at more enters))
 
 -- where the box isn't entered, nothing is below it

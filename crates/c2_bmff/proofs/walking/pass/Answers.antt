@@ -2,7 +2,8 @@ use Rattle.std.proofs.Common.{◌≡◌, ◌∙◌, ◌||◌, ◌∷◌, ◌++�
 use Rattle.std.specs.Str.{bytes_eq}
 use Rattle.c2_bmff.specs.declared.walking.Trail.{Trail}
 use Rattle.c2_bmff.specs.Trails.{ahead, arrives, found, picks}
-use Rattle.c2_bmff.proofs.TrailLemmas.{after, or_join3, pass_own}
+use Rattle.c2_marks.proofs.MarkLemmas.{or_join}
+use Rattle.c2_bmff.proofs.TrailLemmas.{after, pass_own}
 use Rattle.c2_bmff.proofs.walking.pass.Goals as goal
 
 -- what is found in a box that is meant, and what its siblings have, is what they had with it
@@ -14,5 +15,5 @@ returns-in_ok-arrive c file i rows =
     let own : bytes_eq c.args.row.kind t.step.kind ≡ true = ap (λ (x : Trail). bytes_eq c.args.row.kind x.step.kind) (sym c.at.view_is) ∙ sym c.if-eq.ensures in
     let old : Bool = found file es i c.args.row c.args.here.now.items c.args.below.now.items in
     ap (λ (b : Bool). b || ahead file es i rows (after t coming)) (c.in_ok-arrive.ensures file i)
-    ∙ or_join3 old (arrives file es i c.args.row t) (ahead file es i rows (after t coming))
+    ∙ or_join old (arrives file es i c.args.row t) (ahead file es i rows (after t coming))
     ∙ ap (λ (b : Bool). old || b) (sym (pass_own file es i c.args.row rows t true coming own (λ x xs. ap (λ (y : Trail). picks y.coming (x ∷ xs)) (sym c.at.view_is) ∙ c.past-is_meant.ensures x xs ∙ ap (λ (b : Bool). cond b (x ∷ []) [] ++ picks coming xs) c.if-is_meant.true)))

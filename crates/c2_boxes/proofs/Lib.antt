@@ -1,0 +1,13 @@
+pub mod Appending
+pub mod BoxThere
+pub mod ChildLemmas
+pub mod FoundLemmas
+pub mod HeaderLemmas
+pub mod PartLemmas
+pub mod PlaceLemmas
+pub mod RowLemmas
+pub mod SearchLemmas
+pub mod SomeOutcome
+pub mod StandLemmas
+pub mod StoreBytes
+pub mod WalkLemmas

@@ -1,0 +1,9 @@
+pub mod Appends
+pub mod Causes
+pub mod Children
+pub mod Headers
+pub mod Heads
+pub mod Places
+pub mod Provenance
+pub mod Roots
+pub mod Search

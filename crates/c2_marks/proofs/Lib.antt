@@ -1,0 +1,4 @@
+pub mod MarkLemmas
+pub mod OrderLemmas
+pub mod RunLemmas
+pub mod WindowLemmas

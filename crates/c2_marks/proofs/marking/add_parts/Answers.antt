@@ -1,0 +1,32 @@
+use Rattle.std.proofs.Common.{◌∙◌, ◌||◌, sym, ap₂, arith}
+use Rattle.std.proofs.Common.{Bool}
+use Rattle.c2_spec.specs.Cover.{is_excluded}
+use Rattle.c2_marks.specs.Marks.{in_row_part}
+use Rattle.c2_marks.proofs.MarkLemmas.{any_more, no_range}
+use Rattle.c2_marks.proofs.OrderLemmas.{rest_adds_nothing}
+use Rattle.c2_marks.proofs.marking.add_parts.Goals as goal
+
+-- with the next part, its positions are held too, and no range ends after the old ones and the box do
+pub loop-part-preserved : goal.loop-part-preserved
+loop-part-preserved c =
+    let before = c.loop-part.invariant in
+    let call = c.in_ok-add_new.ensures in
+    let k = c.loop-part.part-index in
+    record {
+      same = λ i.
+          call.same i ∙ ap₂ (λ (a b : Bool). a || b) (before.same i) (c.part_in.ensures.holds i)
+          ∙ sym (any_more (in_row_part i c.args.row) c.args.parts.now k no_range (is_excluded c.args.ranges.now.items i) c.loop-part-test.true);
+      within = λ n old fits. call.within n (before.within n old fits) (omega (arith, c.part_in.ensures.within, fits));
+    }
+
+-- where a part ends no earlier than the box, the parts after it add nothing
+pub returns-then-ends_row-clause-same : goal.returns-then-ends_row-clause-same
+returns-then-ends_row-clause-same c i =
+    let before = c.loop-part.invariant in
+    let k = c.loop-part.part-index in
+    c.in_ok-add_new.ensures.same i ∙ ap₂ (λ (a b : Bool). a || b) (before.same i) (c.part_in.ensures.holds i)
+    ∙ rest_adds_nothing i c.args.row c.args.parts.now k no_range (is_excluded c.args.ranges.now.items i) c.requires.rising c.loop-part-test.true (λ later from. c.ends_row.ensures c.if-ends_row.true i later from)
+
+-- and no range ends after the old ones and the box do
+pub returns-then-ends_row-clause-within : goal.returns-then-ends_row-clause-within
+returns-then-ends_row-clause-within c = λ n old fits. c.in_ok-add_new.ensures.within n (c.loop-part.invariant.within n old fits) (omega (arith, c.part_in.ensures.within, fits))

@@ -1,0 +1,4 @@
+pub mod PathLemmas
+pub mod PathRows
+pub mod PathWritten
+pub mod Pieces

@@ -1,0 +1,3 @@
+pub mod Exclusions
+pub mod PathRows
+pub mod PathTexts
