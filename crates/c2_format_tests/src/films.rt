@@ -1,6 +1,6 @@
 // Headers of boxes, and vast files of them: values from ISO/IEC 14496-12 by hand.
-use c2_base::{Blob, MediaError, VastSource};
-use c2_bmff::{HeadError, head, locate, roots};
+use c2_base::{Blob, MediaError, MemSink, VastSource};
+use c2_bmff::{HeadError, head, locate, roots, write_box};
 use std::test::Fail;
 
 // A box `ftyp` of 16 bytes and a box `mdat` with one byte.
@@ -15,6 +15,13 @@ const STORE: [u8; 79] = [
     0x75, 0x69, 0x64, 0xD8, 0xFE, 0xC3, 0xD6, 0x1B, 0x0E, 0x48, 0x3C, 0x92, 0x97, 0x58, 0x28, 0x87,
     0x7E, 0xC4, 0x81, 0, 0, 0, 0, 0x6D, 0x61, 0x6E, 0x69, 0x66, 0x65, 0x73, 0x74, 0, 0, 0, 0, 0, 0,
     0, 0, 0, 0, 0, 0, 0x10, 0x6A, 0x75, 0x6D, 0x62, 1, 2, 3, 4, 5, 6, 7, 8, 0, 0,
+];
+
+// The box of a bare JUMBF box of 16 bytes, as it is written.
+const BOXED: [u8; 61] = [
+    0, 0, 0, 0x3D, 0x75, 0x75, 0x69, 0x64, 0xD8, 0xFE, 0xC3, 0xD6, 0x1B, 0x0E, 0x48, 0x3C, 0x92,
+    0x97, 0x58, 0x28, 0x87, 0x7E, 0xC4, 0x81, 0, 0, 0, 0, 0x6D, 0x61, 0x6E, 0x69, 0x66, 0x65, 0x73,
+    0x74, 0, 0, 0, 0, 0, 0, 0, 0, 0, 0, 0, 0, 0x10, 0x6A, 0x75, 0x6D, 0x62, 1, 2, 3, 4, 5, 6, 7, 8,
 ];
 
 #[test]
@@ -49,4 +56,16 @@ fn a_header_is_read_from_the_bytes_that_are_there(rt: HostRuntime) {
     assert!(rt; head(&long, 40) == Err(HeadError::Bad));
     assert!(rt; head(&long, 15) == Err(HeadError::Short));
     assert!(rt; head(&long[..15], 40) == Err(HeadError::Short));
+}
+
+#[test]
+fn a_store_is_written_in_its_box(rt: HostRuntime) -> Result<(), Fail> {
+    let alloc = rt.alloc();
+    let mut sink = MemSink::with_room(alloc, 61, 0)?;
+    assert!(rt; write_box(&BOXED[45..], &mut sink).is_ok());
+    assert_eq!(rt; sink.bytes(), BOXED.as_slice());
+    let mut small = MemSink::with_room(alloc, 60, 0)?;
+    assert!(rt; write_box(&BOXED[45..], &mut small).is_err());
+    assert_eq!(rt; small.bytes(), &BOXED[..60]);
+    Ok(())
 }

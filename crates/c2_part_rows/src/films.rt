@@ -4,7 +4,7 @@ use crate::read::bytes_of;
 use crate::settings::{Settings, range_of};
 use crate::trouble::Trouble;
 use c2_base::{Blob, MemSource, Range, Ranges};
-use c2_bmff::{ByteTests, Exclusion, locate, match_path, match_paths, read_path, roots};
+use c2_bmff::{ByteTests, Exclusion, insert_place, locate, match_path, match_paths, read_path, roots};
 use std::alloc::Global;
 
 /// Whether a text has the form of a path.
@@ -41,6 +41,27 @@ pub fn store(alloc: Global, source: &mut MemSource) -> Result<String, Trouble> {
         Ok(boxes) => located(alloc, locate(alloc, source, &boxes)),
         Err(error) => Ok(format!(in alloc; "{error:?}")?),
     }
+}
+
+/// Where the box of a store goes in a film, without the root box of the index that is set, where one is.
+pub fn box_place(
+    alloc: Global,
+    settings: &Settings,
+    source: &mut MemSource,
+) -> Result<String, Trouble> {
+    let Ok(boxes) = roots(alloc, source) else {
+        return Err(Trouble::BadLine);
+    };
+    let mut skip = None;
+    if settings.text("without") != "" {
+        let index = settings.number("without")?;
+        if index >= boxes.as_slice().len() as u64 {
+            return Err(Trouble::BadLine);
+        }
+        skip = Some(index as usize);
+    }
+    let place = insert_place(&boxes, skip);
+    Ok(format!(in alloc; "{place:?}")?)
 }
 
 // One exclusion: a path, and behind spaces a length, `OFFSET=HEX` for each byte test, and `START+LENGTH` for each part.

@@ -18,6 +18,7 @@ pub enum FileView {
     FreeNumber,
     RootBoxes,
     Film,
+    BoxPlace,
     Exclusions,
 }
 
@@ -63,6 +64,7 @@ fn said(
         }
         FileView::RootBoxes => films::root_boxes(alloc, source),
         FileView::Film => films::store(alloc, source),
+        FileView::BoxPlace => films::box_place(alloc, settings, source),
         FileView::Exclusions => films::excluded(alloc, settings, source),
     }
 }

@@ -94,6 +94,7 @@ const VIEWS: [(&str, Shown); 31] = [
     ("free number", Shown::File(media::FileView::FreeNumber)),
     ("root boxes", Shown::File(media::FileView::RootBoxes)),
     ("film", Shown::File(media::FileView::Film)),
+    ("box place", Shown::File(media::FileView::BoxPlace)),
     ("exclusions", Shown::File(media::FileView::Exclusions)),
 ];
 
