@@ -54,7 +54,7 @@ enum BytesView {
 }
 
 // The views by their names.
-const VIEWS: [(&str, Shown); 31] = [
+const VIEWS: [(&str, Shown); 32] = [
     ("label kind", Shown::Text(TextView::LabelKind)),
     ("uri", Shown::Text(TextView::Uri)),
     ("base label", Shown::Text(TextView::BaseLabel)),
