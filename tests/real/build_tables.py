@@ -145,7 +145,24 @@ def refusals():
     lines = Lines("What `plan` and `embed` refuse, where nothing is written.")
     for each, *told in chosen(False):
         put(lines, each, *told)
+    unread(lines)
     return lines.text
+
+
+def unread(lines):
+    """What isn't due isn't read: its first call would fail."""
+    lines.set(judges="", size="none", pieces="7", room=1_000)
+    for words, fault, media, given, what in (
+        (EMBED, "second", b"", DEFINITION, "no media: the definition isn't read"),
+        (EMBED, "third", b"", DEFINITION, "no media: the message isn't read"),
+        (EMBED, "third", SMALL, b"{}", "no definition: the message isn't read"),
+        (PLAN, "second", b"", DEFINITION, "no media: the definition isn't read"),
+    ):
+        built = Computed("", media, given, MESSAGE, "approved", None)
+        status, line = (built.embedded if words == EMBED else built.planned)[:2]
+        files = media.hex(), definition_text(given), folded(MESSAGE)
+        lines.set(words=words, fault=f"{fault} 1")
+        lines.row(f"{status} {line}", *files[: len(words.split()) - (2 if words == EMBED else 1)], what=f"{words.split()[0]} of {what}")
 
 
 def faults():

@@ -1,13 +1,14 @@
 -- What a call of `plan` or `embed` comes to, by its files; and that no other call writes a file.
 use Rattle.std.proofs.Common.{◌≡◌, refl, sym, ◌∙◌, ap, subst, inl, inr, ◌⊎◌, ℕ, true, false, List, [], Option, Some, None}
 use Rattle.std.specs.Prelude.{IfErr, IfOk}
+use Rattle.std.specs.Option.{ForSome}
 use Rattle.std.specs.declared.result.Result.{Result}
 use Rattle.std.specs.declared.result.Result.TheVariants.{Ok, Err}
 use Rattle.std.proofs.lemmas.Bool.{false≢true}
 use Rattle.c2_base.specs.declared.values.Question.{Question}
 use Rattle.c2_binding.specs.declared.compared.Compared.{Compared}
 use Rattle.c2_binding.specs.declared.compared.Compared.TheVariants as compared
-use Rattle.c2_build.specs.Building.{Built, IsEmbedded}
+use Rattle.c2_build.specs.Building.{Built, IsDefinitionRefused, IsEmbedded, IsMediaRefused}
 use Rattle.c2_build.specs.Meeting.{BuiltMeets}
 use Rattle.c2_build.specs.declared.error.BuildError.{BuildError}
 use Rattle.c2_rules.specs.declared.answer.Answer.{Answer as Checked}
@@ -16,12 +17,12 @@ use Rattle.c2_spec.specs.Located.{Opening, refused, absent, here}
 use Rattle.c2_spec.specs.declared.digest.Alg.{Alg}
 use Rattle.c2_spec.specs.declared.panel.Verdict.{Verdict}
 use Rattle.c2_spec.specs.Judges.Panel.{Judges}
-use Rattle.c2_words.specs.CommandLine.{checks_first, writes_file}
-use Rattle.c2_cmd.specs.Outcome.{Asks, CommandAsks, CommandMeets, Inputs, IsCommandOutcome, IsEmbedOutcome, IsOutcome, IsPlanOutcome, Meets, Outcome, Reports, answered, compare_outcome, has_first_checked, inputs, pieces_in, plan_outcome, sample_outcome}
+use Rattle.c2_words.specs.CommandLine.{writes_file}
+use Rattle.c2_cmd.specs.Outcome.{Asks, CommandAsks, CommandMeets, Inputs, IsCommandOutcome, IsEmbedOutcome, IsOutcome, IsPlanOutcome, Meets, Outcome, Reports, answered, compare_outcome, inputs, pieces_in, plan_outcome, sample_outcome}
 use Rattle.c2_sample.specs.declared.types.Sampled.{Sampled}
 use Rattle.c2_sample.specs.declared.types.Sampled.TheVariants as sampled
 use Rattle.c2_cmd.specs.Reply.{AskedFor, Begins, IsFileCause, StandsFor, TakesFile, outcome_of}
-use Rattle.c2_cmd.specs.Run.{SinkState}
+use Rattle.c2_cmd.specs.Run.{IsKnownAs, IsOfCommand, SinkState}
 use Rattle.c2_cmd.specs.declared.reply.Fault.{Fault}
 use Rattle.c2_cmd.specs.declared.reply.Fault.TheVariants.{Input, Output, Judge, Memory}
 use Rattle.c2_cmd.specs.declared.reply.Reply.{Reply}
@@ -162,15 +163,16 @@ embed_met said hash known other last found roles a b m is named ka kb km h =
     let p = subst (λ (x : Option (List ℕ)). CommandMeets roles.command (inputs x other last said hash)) (sym ka) q in
     subst (λ (x : Option Roles). Meets x (inputs known other last said hash)) (sym is) p
 
--- ---- judges and the second file
+-- ---- judges, and files that aren't due
 
--- a command that doesn't check its first file first
-unchecked_command : (found : Option Roles) (roles : Roles) (c : Command) → found ≡ Some roles → roles.command ≡ c → has_first_checked found ≡ checks_first c
-unchecked_command found roles c is named = ap has_first_checked is ∙ ap checks_first named
+-- what holds of the command of words with roles holds of the command that is run
+pub of_command : (Holds : Command → Type 0) (found : Option Roles) (roles : Roles) (c : Command) → found ≡ Some roles → roles.command ≡ c → IsOfCommand Holds found → Holds c
+of_command Holds found roles c is named h = subst Holds named (subst (λ (x : Option Roles). IsOfCommand Holds x) is h)
 
--- so nothing is promised of a second file that it leaves
-pub unchecked : (claim : Type 0) (found : Option Roles) (roles : Roles) (c : Command) → found ≡ Some roles → roles.command ≡ c → checks_first c ≡ false → has_first_checked found ≡ true → claim
-unchecked claim found roles c is named none checked = absurd (false≢true (sym none ∙ sym (unchecked_command found roles c is named) ∙ checked))
+-- a message is left as it was that isn't due by the media or by the definition
+pub message_left : (media second : Option (List ℕ)) (claim : Type 0) → ForSome media (λ a. IsMediaRefused a → claim) → ForSome second (λ b. IsDefinitionRefused b → claim) → IsKnownAs IsMediaRefused media ⊎ IsKnownAs IsDefinitionRefused second → claim
+message_left media second claim first other (inl k) = first k.file k.is_known k.holds
+message_left media second claim first other (inr k) = other k.file k.is_known k.holds
 
 -- a build asks nothing
 asks_nothing : (found : Option Roles) (roles : Roles) (c : Command) (i : Inputs) (qs : List Question) → found ≡ Some roles → roles.command ≡ c → (c ≡ command.Plan) ⊎ (c ≡ command.Embed) → Asks found i qs → qs ≡ []

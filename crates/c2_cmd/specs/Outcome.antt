@@ -43,7 +43,7 @@ use Rattle.c2_cmd.specs.declared.types.Answer.TheVariants as answer
 use Rattle.c2_words.specs.declared.types.Command.{Command}
 use Rattle.c2_words.specs.declared.types.Command.TheVariants as command
 use Rattle.c2_words.specs.declared.types.Roles.{Roles}
-use Rattle.c2_words.specs.CommandLine.{asks_judges, checks_first, makes_media, reports_whole}
+use Rattle.c2_words.specs.CommandLine.{asks_judges, makes_media, reports_whole}
 
 -- what an outcome depends on beside the words: the bytes of the sources, what the panel of judges says of a question,
 -- and the hash
@@ -251,11 +251,6 @@ uses_judges (Some roles) = asks_judges roles.command
 abbrev pub has_whole_report : Option Roles → Bool
 has_whole_report None = true
 has_whole_report (Some roles) = reports_whole roles.command
-
--- whether the second file is read only where the first is accepted, by words with these roles
-abbrev pub has_first_checked : Option Roles → Bool
-has_first_checked None = false
-has_first_checked (Some roles) = checks_first roles.command
 
 -- the judges are asked these questions, in this order, by a command: none by a build, since only media without a store are built
 -- into

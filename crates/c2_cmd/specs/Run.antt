@@ -8,10 +8,15 @@ use Rattle.c2_spec.specs.declared.digest.Alg.{Alg}
 use Rattle.c2_spec.specs.declared.panel.Verdict.{Verdict}
 use Rattle.c2_spec.specs.Judges.Panel.{SomeRose, NoneFell, Judges, panel_says}
 use Rattle.c2_rules.specs.Asking.{HaveAsked, HaveAskedPrefix, HaveFailed}
+use Rattle.c2_rules.specs.declared.answer.Answer.{Answer as Checked}
+use Rattle.c2_binding.specs.Comparison.{IsRefusedFirst}
+use Rattle.c2_build.specs.Building.{IsDefinitionRefused, IsMediaRefused}
 use Rattle.c2_words.specs.CommandLine.{roles_of}
 use Rattle.c2_cmd.specs.Outcome.{Outcome, Inputs, inputs, uses_media, uses_second, uses_third, uses_judges, IsOutcome, Asks, Meets}
 use Rattle.c2_cmd.specs.declared.types.Answer.{Answer}
 use Rattle.c2_cmd.specs.declared.types.Answer.TheVariants as answer
+use Rattle.c2_words.specs.declared.types.Command.{Command}
+use Rattle.c2_words.specs.declared.types.Command.TheVariants as command
 use Rattle.c2_words.specs.declared.types.Roles.{Roles}
 use Rattle.c2_cmd.specs.declared.types.Status.{Status}
 use Rattle.c2_cmd.specs.declared.types.Status.TheVariants.{Done, Failing, Refused, NoStore, Usage, InputFault, OutputFault, JudgeFault, NoMemory, DifferentClaims, Evidence, BuildRefused, NotAccepted}
@@ -67,6 +72,43 @@ Puts c qs = Asks c.roles (handed c) qs
 -- the new file of the call meets what is promised of it
 abbrev pub HasMet : Call → Type 0
 HasMet c = Meets c.roles (handed c)
+
+-- the bytes of a file are known, and this holds of them
+pub record IsKnownAs (Holds : List ℕ → Type 0) (known : Option (List ℕ)) : Type 0 where
+  pub file : List ℕ
+  pub is_known : known ≡ Some file
+  pub holds : Holds file
+
+-- the check of a file answers something by which it isn't accepted
+abbrev pub IsNotAccepted : (Alg → List ℕ → List ℕ) → (Question → Verdict) → List ℕ → Type 0
+IsNotAccepted hash said file = (found : Checked) × IsRefusedFirst hash said file found
+
+-- this holds of the command of words with these roles; words without roles have none
+abbrev pub IsOfCommand : (Command → Type 0) → Option Roles → Type 0
+IsOfCommand Holds None = ⊥
+IsOfCommand Holds (Some roles) = Holds roles.command
+
+-- what is known of a call of a command tells that its second file isn't due: `compare` reads it only where the first file is
+-- accepted, `plan` and `embed` only where the media isn't refused
+abbrev pub HasSecondNotDue : Call → Command → Type 0
+HasSecondNotDue c command.Compare = IsKnownAs (IsNotAccepted c.hash (panel_says c.said)) c.media
+HasSecondNotDue c command.Plan = IsKnownAs IsMediaRefused c.media
+HasSecondNotDue c command.Embed = IsKnownAs IsMediaRefused c.media
+HasSecondNotDue c other = ⊥
+
+-- the second file of a call isn't due
+abbrev pub IsSecondNotDue : Call → Type 0
+IsSecondNotDue c = IsOfCommand (HasSecondNotDue c) c.roles
+
+-- what is known of a call of a command tells that its third file isn't due: `embed` reads it only where neither the media nor the
+-- definition is refused
+abbrev pub HasThirdNotDue : Call → Command → Type 0
+HasThirdNotDue c command.Embed = IsKnownAs IsMediaRefused c.media ⊎ IsKnownAs IsDefinitionRefused c.second
+HasThirdNotDue c other = ⊥
+
+-- the third file of a call isn't due
+abbrev pub IsThirdNotDue : Call → Type 0
+IsThirdNotDue c = IsOfCommand (HasThirdNotDue c) c.roles
 
 -- a sink: what was written to it, where that is known, and whether it is finished
 pub record SinkState : Type 0 where

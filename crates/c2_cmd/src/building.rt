@@ -3,7 +3,7 @@ ghost use Rattle.std.specs.Prelude.{◌≡◌, ◌≢◌, ◌⊎◌, ◌<◌, �
 ghost use Rattle.std.specs.Option.{ForSome};
 ghost use Rattle.c2_base.specs.Causes.{Rose};
 ghost use Rattle.c2_base.specs.Source.{StaysSource};
-ghost use Rattle.c2_build.specs.Building.{Built as AnyBuilt, IsEmbedded};
+ghost use Rattle.c2_build.specs.Building.{Built as AnyBuilt, IsDefinitionRefused, IsEmbedded, IsMediaRefused};
 ghost use Rattle.c2_build.specs.Meeting.{BuiltMeets};
 ghost use Rattle.c2_cmd.specs.Outcome.{IsEmbedOutcome, IsPlanOutcome, Outcome, refusal_line};
 ghost use Rattle.c2_cmd.specs.Reply.{HasWhole, IsFaultOf, IsFileCause, RepliesTo, StandsFor, TakesFile, outcome_of};
@@ -34,6 +34,8 @@ pub fn reply_to_plan<H: Hashing, A: Source, B: Source>(
     requires { Unit {0} }
     ensures reply { ForSome (A.known media.old) (λ a. ForSome (B.known definition.old) (λ b.
         IfOk result (λ reply. IsPlanOutcome H.digest_of a b (outcome_of reply)))) }
+    ensures unread { ForSome (A.known media.old) (λ a.
+        IsMediaRefused a → definition.new ≡ definition.old) }
     ensures words { IfOk result (λ reply. reply.answer ≢ Answer.Usage) }
     ensures fault { let first = Rose (A.faults media.old) (A.faults media.new) in
         let other = Rose (B.faults definition.old) (B.faults definition.new) in
@@ -77,6 +79,13 @@ pub fn reply_to_embed<H: Hashing, A: Source, B: Source, C: Source, K: Sink>(
         ForSome (C.known message.old) (λ c. HasWhole old new result
         → (built : AnyBuilt) → IsEmbedded H.digest_of a b c (Ok built)
         → BuiltMeets H.digest_of a b c built))) }
+    // What isn't due isn't read.
+    ensures unread { ForSome (A.known media.old) (λ a.
+        IsMediaRefused a → definition.new ≡ definition.old) }
+    ensures message_unread_first { ForSome (A.known media.old) (λ a.
+        IsMediaRefused a → message.new ≡ message.old) }
+    ensures message_unread { ForSome (B.known definition.old) (λ b.
+        IsDefinitionRefused b → message.new ≡ message.old) }
 
     // Whatever the files hold.
     ensures words { IfOk result (λ reply. reply.answer ≢ Answer.Usage) }

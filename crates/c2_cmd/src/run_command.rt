@@ -1,16 +1,13 @@
 // The top call.
 ghost use Rattle.std.specs.Prelude.{◌≡◌, ◌⊎◌, ◌<◌, ◌≤◌, map, string_bytes, None, true, false, OnOk, OnErr, IfOk, IfErr, List, [], vec_len};
-ghost use Rattle.std.specs.Option.{ForSome};
 ghost use Rattle.c2_base.specs.Causes.{HasCause, Rose};
 ghost use Rattle.c2_base.specs.Source.{StaysSource};
 ghost use Rattle.c2_base.specs.Sink.{HasWrittenPrefix};
 ghost use Rattle.c2_base.specs.declared.values.Question.{Question};
-ghost use Rattle.c2_binding.specs.Comparison.{IsRefusedFirst};
-ghost use Rattle.c2_rules.specs.declared.answer.Answer.{Answer as AnyAnswer};
-ghost use Rattle.c2_spec.specs.Judges.Panel.{LeavesJudges, judges_of, panel_says};
-ghost use Rattle.c2_cmd.specs.Outcome.{Outcome, has_first_checked, has_whole_report, uses_judges, uses_media, uses_out, uses_second, uses_third};
+ghost use Rattle.c2_spec.specs.Judges.Panel.{LeavesJudges, judges_of};
+ghost use Rattle.c2_cmd.specs.Outcome.{Outcome, has_whole_report, uses_judges, uses_media, uses_out, uses_second, uses_third};
 ghost use Rattle.c2_cmd.specs.Reply.{AskedThose, Begins, CausedBy, HasWhole, TakesFile};
-ghost use Rattle.c2_cmd.specs.Run.{AskedPanel, ComesTo, Delivers, HasFailed, HasFile, HasMet, HasNoFile, HasNoReply, HasReport, HasWholeFile, IsFileFirst, IsKnown, KeepsJudges, Puts, WithoutFault, call_of, roles_in, state_of};
+ghost use Rattle.c2_cmd.specs.Run.{AskedPanel, ComesTo, Delivers, HasFailed, HasFile, HasMet, HasNoFile, HasNoReply, HasReport, HasWholeFile, IsFileFirst, IsKnown, IsSecondNotDue, IsThirdNotDue, KeepsJudges, Puts, WithoutFault, call_of, roles_in, state_of};
 
 use crate::building::{reply_to_embed, reply_to_plan};
 use crate::comparison::reply_to_compare;
@@ -43,6 +40,9 @@ use std::alloc::Global;
 /// Where these bytes are known, `embed` has written and finished the whole new file before the first byte of the report, and after a
 /// fault the file may hold a prefix. Whatever the files hold: a file that failed isn't finished by the call, nor is one after a source
 /// that failed; out of memory it is as it was, or finished; a refused build, a failed judge and every other command leave it as it was.
+///
+/// A file that isn't due is left as it was, where the bytes that tell so are known: `second` under `compare` where the media isn't
+/// accepted, under `plan` and `embed` where it is refused, and `third` where the media or the definition is.
 // The condition always holds. A public function without one that changes boxed judges can't be called from another crate
 // under a contract.
 pub fn run<H: Hashing, A: Source, B: Source, C: Source, K: Sink, W: Sink>(
@@ -126,14 +126,21 @@ pub fn run<H: Hashing, A: Source, B: Source, C: Source, K: Sink, W: Sink>(
     ensures second_stays { StaysSource B.len B.known B.faults second.old second.new }
     ensures second_unnamed { uses_second (roles_in words.now.items) ≡ false
         → second.new ≡ second.old }
-    ensures second_unread { let said = panel_says (map (λ j. says j) judges.old.items) in
-        has_first_checked (roles_in words.now.items) ≡ true
-        → ForSome (A.known media.old) (λ file. (found : AnyAnswer)
-        → IsRefusedFirst H.digest_of said file found → second.new ≡ second.old) }
-
+    ensures second_unread { let said = map (λ j. says j) judges.old.items in
+        let known = A.known media.old in
+        let other = B.known second.old in
+        let last = C.known third.old in
+        let call = call_of words.now.items known other last said H.digest_of in
+        IsSecondNotDue call → second.new ≡ second.old }
     ensures third_quiet { WithoutFault (C.faults third.new ≡ C.faults third.old) result }
     ensures third_stays { StaysSource C.len C.known C.faults third.old third.new }
     ensures third_unnamed { uses_third (roles_in words.now.items) ≡ false → third.new ≡ third.old }
+    ensures third_unread { let said = map (λ j. says j) judges.old.items in
+        let known = A.known media.old in
+        let other = B.known second.old in
+        let last = C.known third.old in
+        let call = call_of words.now.items known other last said H.digest_of in
+        IsThirdNotDue call → third.new ≡ third.old }
 
     // The sinks: when a fault of theirs is answered, and what becomes of them whatever the files hold.
     ensures output { let roles = roles_in words.now.items in
@@ -260,13 +267,21 @@ fn reply_to<H: Hashing, A: Source, B: Source, C: Source, K: Sink, W: Sink>(
     ensures second_count { OnOk result (B.faults second.new ≡ B.faults second.old) }
     ensures second_unnamed { uses_second (roles_in words.now.items) ≡ false
         → second.new ≡ second.old }
-    ensures second_unread { let said = panel_says (map (λ j. says j) judges.old.items) in
-        has_first_checked (roles_in words.now.items) ≡ true
-        → ForSome (A.known media.old) (λ file. (found : AnyAnswer)
-        → IsRefusedFirst H.digest_of said file found → second.new ≡ second.old) }
+    ensures second_unread { let said = map (λ j. says j) judges.old.items in
+        let known = A.known media.old in
+        let other = B.known second.old in
+        let last = C.known third.old in
+        let call = call_of words.now.items known other last said H.digest_of in
+        IsSecondNotDue call → second.new ≡ second.old }
     ensures third_stays { StaysSource C.len C.known C.faults third.old third.new }
     ensures third_count { OnOk result (C.faults third.new ≡ C.faults third.old) }
     ensures third_unnamed { uses_third (roles_in words.now.items) ≡ false → third.new ≡ third.old }
+    ensures third_unread { let said = map (λ j. says j) judges.old.items in
+        let known = A.known media.old in
+        let other = B.known second.old in
+        let last = C.known third.old in
+        let call = call_of words.now.items known other last said H.digest_of in
+        IsThirdNotDue call → third.new ≡ third.old }
     ensures out_count { OnOk result (K.faults out.new ≡ K.faults out.old) }
     ensures out_later { K.faults out.old ≤ K.faults out.new }
     ensures out_unfinished { K.faults out.old < K.faults out.new

@@ -106,18 +106,6 @@ reports_whole command.Plan = true
 reports_whole command.Embed = true
 reports_whole command.Sample = true
 
--- whether a command reads its second file only where the first is accepted
-abbrev pub checks_first : Command → Bool
-checks_first command.Digest = false
-checks_first command.List = false
-checks_first command.Show = false
-checks_first command.Questions = false
-checks_first command.Validate = false
-checks_first command.Compare = true
-checks_first command.Plan = false
-checks_first command.Embed = false
-checks_first command.Sample = false
-
 -- how many names of judges may follow
 abbrev pub most_judges : Command → ℕ
 most_judges command.Digest = 0

@@ -1,11 +1,12 @@
 use Rattle.std.proofs.Common.{map, [], refl, ap, inl, inr}
 use Rattle.c2_spec.specs.Judges.Panel.{judges_of, panel_says}
 use Rattle.c2_cmd.proofs.Asking.{checked_file, known_file}
-use Rattle.c2_cmd.proofs.Calling.{as_embed, asked_nobody, embed_begins, embed_met, plan_begins, unchecked, unfiled, unjudged, unmet}
+use Rattle.c2_cmd.proofs.Calling.{as_embed, asked_nobody, embed_begins, embed_met, message_left, of_command, plan_begins, unfiled, unjudged, unmet}
 use Rattle.c2_cmd.proofs.Comparing.{asks_compare, both_caused, compare_begins, embedded_caused, judged_caused, media_caused, media_used, out_used, planned_caused, second_used, there, third_used}
 use Rattle.c2_cmd.proofs.Replying.{replied, replied_usage}
 use Rattle.c2_cmd.proofs.Sampling.{asks_sample, sample_begins, sample_caused}
 use Rattle.c2_cmd.specs.Outcome.{inputs}
+use Rattle.c2_cmd.specs.Run.{HasSecondNotDue, HasThirdNotDue, call_of}
 use Rattle.c2_words.specs.declared.types.Command.TheVariants as command
 use Rattle.c2_cmd.proofs.run_command.reply_to.Goals as goal
 
@@ -132,6 +133,14 @@ returns-in-Compare-clause-judges_unasked g c known asks =
     let a = there (g.A.Source.known c.args.media.now) (known.media_known (media_used _ c.in-Ok.found command.Compare c.in-Ok.ensures.roles c.in-Ok.ensures.media c.in-Compare.is refl)) in
     let b = there (g.B.Source.known c.args.second.now) (known.second_known (second_used _ c.in-Ok.found command.Compare c.in-Ok.ensures.roles c.in-Ok.ensures.second c.in-Compare.is refl)) in
     c.reply_to_compare.ensures.unasked a.0 a.1 b.0 b.1 (asks_compare said g.H.Hashing.digest_of (g.A.Source.known c.args.media.now) (g.B.Source.known c.args.second.now) (g.C.Source.known c.args.third.now) _ c.in-Ok.found a.0 b.0 [] c.in-Ok.ensures.roles c.in-Compare.is a.1 b.1 asks)
+
+-- its other file isn't read where the first isn't accepted
+pub returns-in-Compare-clause-second_unread : goal.returns-in-Compare-clause-second_unread
+returns-in-Compare-clause-second_unread g c due =
+    let said = map (λ j. (goal.Judge-dyn g (j.vtable, j.value)).says j.value) c.args.judges.now.items in
+    let call = call_of c.args.words.now.items (g.A.Source.known c.args.media.now) (g.B.Source.known c.args.second.now) (g.C.Source.known c.args.third.now) said g.H.Hashing.digest_of in
+    let known = of_command (HasSecondNotDue call) _ c.in-Ok.found command.Compare c.in-Ok.ensures.roles c.in-Compare.is due in
+    c.reply_to_compare.ensures.unread known.file known.is_known known.holds.0 known.holds.1
 
 -- the reply to `plan` is the call's
 pub returns-in-Plan-clause-reply : goal.returns-in-Plan-clause-reply
@@ -289,9 +298,13 @@ returns-in-Plan-clause-asked g c known qs asks =
     let i = inputs (g.A.Source.known c.args.media.now) (g.B.Source.known c.args.second.now) (g.C.Source.known c.args.third.now) said g.H.Hashing.digest_of in
     asked_nobody _ c.in-Ok.found command.Plan i qs old new _ _ c.reply_to_plan.result c.in-Ok.ensures.roles c.in-Plan.is (inl refl) (ap (λ v. map (λ j. (goal.Judge-dyn g (j.vtable, j.value)).asked_times j.value) v.items) c.reply_to_plan.ensures.judges) c.reply_to_plan.ensures.fault asks
 
--- its second file is read whatever the first holds
+-- its definition isn't read where the media is refused
 pub returns-in-Plan-clause-second_unread : goal.returns-in-Plan-clause-second_unread
-returns-in-Plan-clause-second_unread g c checked = unchecked _ _ c.in-Ok.found command.Plan c.in-Ok.ensures.roles c.in-Plan.is refl checked
+returns-in-Plan-clause-second_unread g c due =
+    let said = map (λ j. (goal.Judge-dyn g (j.vtable, j.value)).says j.value) c.args.judges.now.items in
+    let call = call_of c.args.words.now.items (g.A.Source.known c.args.media.now) (g.B.Source.known c.args.second.now) (g.C.Source.known c.args.third.now) said g.H.Hashing.digest_of in
+    let known = of_command (HasSecondNotDue call) _ c.in-Ok.found command.Plan c.in-Ok.ensures.roles c.in-Plan.is due in
+    c.reply_to_plan.ensures.unread known.file known.is_known known.holds
 
 -- nobody is asked by `embed`
 pub returns-in-Embed-clause-asked : goal.returns-in-Embed-clause-asked
@@ -302,9 +315,21 @@ returns-in-Embed-clause-asked g c known qs asks =
     let i = inputs (g.A.Source.known c.args.media.now) (g.B.Source.known c.args.second.now) (g.C.Source.known c.args.third.now) said g.H.Hashing.digest_of in
     asked_nobody _ c.in-Ok.found command.Embed i qs old new _ _ c.reply_to_embed.result c.in-Ok.ensures.roles c.in-Embed.is (inr refl) (ap (λ v. map (λ j. (goal.Judge-dyn g (j.vtable, j.value)).asked_times j.value) v.items) c.reply_to_embed.ensures.judges) c.reply_to_embed.ensures.fault asks
 
--- its second file is read whatever the first holds
+-- its definition isn't read where the media is refused
 pub returns-in-Embed-clause-second_unread : goal.returns-in-Embed-clause-second_unread
-returns-in-Embed-clause-second_unread g c checked = unchecked _ _ c.in-Ok.found command.Embed c.in-Ok.ensures.roles c.in-Embed.is refl checked
+returns-in-Embed-clause-second_unread g c due =
+    let said = map (λ j. (goal.Judge-dyn g (j.vtable, j.value)).says j.value) c.args.judges.now.items in
+    let call = call_of c.args.words.now.items (g.A.Source.known c.args.media.now) (g.B.Source.known c.args.second.now) (g.C.Source.known c.args.third.now) said g.H.Hashing.digest_of in
+    let known = of_command (HasSecondNotDue call) _ c.in-Ok.found command.Embed c.in-Ok.ensures.roles c.in-Embed.is due in
+    c.reply_to_embed.ensures.unread known.file known.is_known known.holds
+
+-- nor is its message, where the media or the definition is
+pub returns-in-Embed-clause-third_unread : goal.returns-in-Embed-clause-third_unread
+returns-in-Embed-clause-third_unread g c due =
+    let said = map (λ j. (goal.Judge-dyn g (j.vtable, j.value)).says j.value) c.args.judges.now.items in
+    let call = call_of c.args.words.now.items (g.A.Source.known c.args.media.now) (g.B.Source.known c.args.second.now) (g.C.Source.known c.args.third.now) said g.H.Hashing.digest_of in
+    let known = of_command (HasThirdNotDue call) _ c.in-Ok.found command.Embed c.in-Ok.ensures.roles c.in-Embed.is due in
+    message_left _ _ _ c.reply_to_embed.ensures.message_unread_first c.reply_to_embed.ensures.message_unread known
 
 -- no judge fails under `embed`
 pub returns-in-Embed-clause-judged : goal.returns-in-Embed-clause-judged
