@@ -4,22 +4,23 @@ use c2_base::NoMemory as OutOfMemory;
 /// What is refused of a signed message, in the order in which it is tested.
 #[derive(Clone, Copy, Debug, PartialEq, Eq)]
 pub enum SignaturePart {
-    /// The message has more than `MAX_INPUT_LEN` bytes.
+    /// It is longer than `MAX_INPUT_LEN` bytes.
     Size,
 
     /// It is no COSE_Sign1 message with a detached payload (RFC 9052, section 4.2).
     Form,
 
-    /// What is written of it isn't read as the same message: two keys of one map are written alike.
+    /// Two keys of a map in it come to the same bytes in deterministic encoding (RFC 8949, section 4.2.1): a reader of what is written of
+    /// it would find the key twice.
     Plain,
 
     /// Its protected header isn't the wanted one.
     Protected,
 
-    /// Its unprotected header has more than `MAX_HEADER_ENTRIES` entries.
+    /// More than `MAX_HEADER_ENTRIES` parameters stand in its unprotected header.
     Entries,
 
-    /// Its unprotected header has a text `pad` or `pad2` as a key.
+    /// One of these parameters is named `pad` or `pad2`, as the padding is.
     Pad,
 }
 
