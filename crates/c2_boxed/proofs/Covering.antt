@@ -1,11 +1,11 @@
 -- What the exclusions of a new BMFF hash leave of root boxes.
 use Rattle.std.proofs.Common.{◌≡◌, ◌⊎◌, inl, inr, ℕ, zero, suc, ◌+◌, ◌-◌, ◌<◌, ◌≤◌, Bool, true, false, cond, ◌&&◌, ◌||◌, List, [], ◌∷◌, ◌++◌, length, get_or, take, drop, Option, Some, None, refl, sym, ap, ap₂, subst, ◌∙◌, arith, append-nil, length-append}
-use Rattle.std.proofs.lemmas.Bool.{and_from, and_parts}
+use Rattle.std.proofs.lemmas.Bool.{and_from, and_parts, le-leb, leb-true, lt-ltb, ltb-true, or_left, or_right}
 use Rattle.std.proofs.lemmas.List.{length-take, length-drop}
 use Rattle.std.proofs.lemmas.Slice.Eq.{bytes_eq-Decides}
-use Rattle.std.specs.Prelude.{Contains, filter, ◌↔◌}
+use Rattle.std.specs.Prelude.{Contains, filter, nat_le, nat_lt, ◌↔◌}
 use Rattle.std.specs.Int.{w64, to_be_bytes}
-use Rattle.std.specs.List.{flat_map, AllByRecursion}
+use Rattle.std.specs.List.{flat_map, AllByRecursion, list_any, range_with_len}
 use Rattle.std.specs.Str.{bytes_eq}
 use Rattle.c2_spec.specs.Bmff.Boxes.{AreBoxForms, Box, HasRoots, IsBox, SizeForm, short, long, to_end, box_bytes, box_len, boxes_len, ftyp_kind, uuid_kind}
 use Rattle.c2_spec.specs.Bmff.Cover.{IsBmffCover, after_offset, bmff_text, root_text}
@@ -14,6 +14,7 @@ use Rattle.c2_spec.specs.Bmff.Paths.{OnPath, last, below, PathStep, PlacedBox, m
 use Rattle.c2_spec.specs.Bmff.Store.{c2pa_user_type}
 use Rattle.c2_spec.specs.Bmff.Writing.{all_of, before_mfra, built_exclusions, built_part, built_text, c2pa_box, is_left_out, is_mfra, last_mfra, mfra_kind, with_store}
 use Rattle.c2_spec.specs.Cover.{kept_from}
+use Rattle.c2_boxed.specs.Laws.{HasBuiltCover}
 use Rattle.c2_spec.proofs.BmffOneList.{first_box, other_boxes}
 use Rattle.c2_spec.proofs.BmffSizes.{bytes_size}
 use Rattle.c2_spec.proofs.Kept.{kept_none, kept_whole}
@@ -263,6 +264,57 @@ text_told file roots size excluded text r c = c.bytes ∙ parts_told c.excludes 
     each b m =
         let is : IsBox b.box = placed_box 0 roots b r.forms m in
         part_told c.excludes b is (λ i h. tested b m is i h (is_left_out b.box) (c.excludes i) refl refl)
+
+-- ---- the test
+
+-- some member of a list passes
+any_member : {A : Type 0} (p : A → Bool) (xs : List A) → list_any p xs ≡ true → (x : A) × Member x xs × (p x ≡ true)
+any_member p [] e = absurd (cc (e))
+any_member {A} p (y ∷ ys) e = go (p y) refl e (any_member p ys)
+  where
+    go : (t : Bool) → p y ≡ t → (t || list_any p ys) ≡ true → (list_any p ys ≡ true → (x : A) × Member x ys × (p x ≡ true)) → (x : A) × Member x (y ∷ ys) × (p x ≡ true)
+    go true s h more = (y, inl refl, s)
+    go false s h more = let r = more h in (r.0, inr r.1, r.2)
+
+-- and then some does
+member_any : {A : Type 0} (p : A → Bool) (xs : List A) (x : A) → Member x xs → p x ≡ true → list_any p xs ≡ true
+member_any p [] x m e = absurd m
+member_any p (y ∷ ys) x (inl f) e = or_left (p y) (list_any p ys) (ap p (sym f) ∙ e)
+member_any p (y ∷ ys) x (inr m) e = or_right (p y) (list_any p ys) (member_any p ys x m e)
+
+-- a root box that is left out holds the position
+abbrev holds_out : ℕ → PlacedBox → Bool
+holds_out i b = is_left_out b.box && (nat_le b.at i && nat_lt i (b.at + box_len b.box))
+
+-- some root box does
+abbrev out_at : List Box → ℕ → Bool
+out_at roots i = list_any (holds_out i) (placed_from 0 roots)
+
+-- so it is exactly where the exclusions exclude the position
+out_exactly : (file : List ℕ) (roots : List Box) → HasRoots file roots → (i : ℕ) → (out_at roots i ≡ true) ↔ IsExcluded roots built_exclusions i
+out_exactly file roots r i = (to, from)
+  where
+    to : out_at roots i ≡ true → IsExcluded roots built_exclusions i
+    to e =
+        let m = any_member (holds_out i) (placed_from 0 roots) e in
+        let b : PlacedBox = m.0 in
+        let both = and_parts (is_left_out b.box) (nat_le b.at i && nat_lt i (b.at + box_len b.box)) m.2 in
+        let held = and_parts (nat_le b.at i) (nat_lt i (b.at + box_len b.box)) both.1 in
+        out_excluded roots b i (placed_box 0 roots b r.forms m.1) m.1 both.0 (leb-true b.at i held.0, ltb-true i (b.at + box_len b.box) held.1)
+
+    from : IsExcluded roots built_exclusions i → out_at roots i ≡ true
+    from x =
+        let o = excluded_out roots i x in
+        let b : PlacedBox = o.0 in
+        member_any (holds_out i) (placed_from 0 roots) b o.1
+        (and_from (is_left_out b.box) (nat_le b.at i && nat_lt i (b.at + box_len b.box)) o.2 (and_from (nat_le b.at i) (nat_lt i (b.at + box_len b.box)) (le-leb b.at i o.3.0) (lt-ltb i (b.at + box_len b.box) o.3.1)))
+
+-- so the text that the root boxes tell is what they leave
+pub built_cover : (file : List ℕ) (roots : List Box) (size : ℕ) → HasRoots file roots → HasBuiltCover roots size
+built_cover file roots size r =
+    let out : List ℕ = filter (out_at roots) (range_with_len 0 size) in
+    let c : IsBmffCover roots size built_exclusions out (bmff_text (out_at roots) roots) = record { excludes = out_at roots; exactly = out_exactly file roots r; positions = refl; bytes = refl } in
+    record { excluded = out; cover = subst (IsBmffCover roots size built_exclusions out) (text_told file roots size out (bmff_text (out_at roots) roots) r c) c }
 
 -- ---- with the store and without
 

@@ -67,6 +67,15 @@ CoverIsBuiltText =
     (file : List ℕ) (roots : List Box) (size : ℕ) (excluded text : List ℕ) → HasRoots file roots
     → IsBmffCover roots size built_exclusions excluded text → text ≡ built_text roots
 
+-- what they leave of root boxes that fill so many bytes
+pub record HasBuiltCover (roots : List Box) (size : ℕ) : Type 0 where
+  pub excluded : List ℕ
+  pub cover : IsBmffCover roots size built_exclusions excluded (built_text roots)
+
+-- they leave that of each file
+abbrev pub BuiltTextIsCovered : Type 0
+BuiltTextIsCovered = (file : List ℕ) (roots : List Box) (size : ℕ) → HasRoots file roots → HasBuiltCover roots size
+
 -- it is the same with a store and without
 abbrev pub StoreIsNotCovered : Type 0
 StoreIsNotCovered = (roots : List Box) (store : List ℕ) → built_text (with_store store roots) ≡ built_text roots

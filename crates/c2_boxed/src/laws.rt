@@ -1,5 +1,5 @@
 // Laws of BMFF files with a store and without.
-ghost use Rattle.c2_boxed.specs.Laws.{BaseHasNoStore, BaseIsOne, CoverIsBuiltText, EndIsCutOut, OthersKeepLengths, StoreIsNotCovered, StoreIsPutIn};
+ghost use Rattle.c2_boxed.specs.Laws.{BaseHasNoStore, BaseIsOne, BuiltTextIsCovered, CoverIsBuiltText, EndIsCutOut, OthersKeepLengths, StoreIsNotCovered, StoreIsPutIn};
 
 /// A file that a store is put into has the root boxes that it had and the store's box in its place; the store is found there; without
 /// it the file is what it was.
@@ -20,5 +20,6 @@ pub fn a_base_has_no_store()
 /// hash can be made before the store is known.
 pub fn a_put_store_is_not_covered()
     ensures text { CoverIsBuiltText }
+    ensures some { BuiltTextIsCovered }
     ensures same { StoreIsNotCovered }
 {}
