@@ -12,6 +12,7 @@ pub mod GoodItems
 pub mod Uris
 pub mod WrittenItems
 pub mod NewRules
+pub mod Unbound
 pub mod FreshFile
 pub mod BuildRows
 pub mod WrittenBytes

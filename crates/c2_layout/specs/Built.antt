@@ -11,6 +11,7 @@ use Rattle.c2_spec.specs.Jpeg.Writing.{packets_bytes, segments_len, insert_place
 use Rattle.c2_spec.specs.Jumbf.Tree.{Tree, tree_bytes}
 use Rattle.c2_spec.specs.PutIn.{put_in, taken_out}
 use Rattle.c2_spec.specs.declared.digest.Alg.TheVariants.{Sha256}
+use Rattle.c2_definition.specs.declared.types.NewAssertion.{NewAssertion}
 use Rattle.c2_layout.specs.Store.{Content, data_binding, new_store, range_at}
 
 -- The file is this base, which has no store, with a new one put in, in this range. The binding holds the range, and the digest of
@@ -72,6 +73,12 @@ abbrev pub StoreSizeIsFixed : Type 0
 StoreSizeIsFixed = (hash : List ℕ → List ℕ) (c : Content) (start len : ℕ) (digest message : List ℕ)
     → HasDigestLen hash → length digest ≡ digest_len Sha256
     → length (tree_bytes (new_store hash c (data_binding start len digest) message)) ≡ store_size c (length message)
+
+-- New stores whose bindings have one label and one size, and whose messages have one length, have one length.
+abbrev pub StoreSizesAreSame : Type 0
+StoreSizesAreSame = (f g : List ℕ → List ℕ) (c : Content) (a b : NewAssertion) (m n : List ℕ)
+    → HasDigestLen f → HasDigestLen g → a.label ≡ b.label → length a.bytes ≡ length b.bytes → length m ≡ length n
+    → length (tree_bytes (new_store f c a m)) ≡ length (tree_bytes (new_store g c b n))
 
 -- The built file is this one, where no segment of the base begins a store: its binding has the digest of what the file has outside
 -- its range, which is that of its packets.

@@ -5,3 +5,4 @@ pub mod Parts
 pub mod Written
 pub mod Built
 pub mod Fresh
+pub mod Unbound

@@ -1,8 +1,9 @@
 //! Laws of what is written.
 
-ghost use Rattle.c2_layout.specs.Built.{StoreSizeIsFixed, BuiltFileIs, BuiltFileIsOne, BaseIsLeft, BuiltFileHasItsStore};
+ghost use Rattle.c2_layout.specs.Built.{StoreSizeIsFixed, StoreSizesAreSame, BuiltFileIs, BuiltFileIsOne, BaseIsLeft, BuiltFileHasItsStore};
 ghost use Rattle.c2_layout.specs.Fresh.{FreshFileMeets};
 ghost use Rattle.c2_layout.specs.Manifests.{ManifestsAreBoxes};
+ghost use Rattle.c2_layout.specs.Unbound.{BoundFileMeets, FreshStoreMeets};
 ghost use Rattle.c2_layout.specs.Written.{NewStoreIsRead};
 
 use c2_assertion::{
@@ -32,6 +33,14 @@ pub fn a_new_store_has_one_length()
     a_written_data_hash_has_one_length();
 }
 
+/// The length of a new store depends on no more of its binding and message than the binding's label and both lengths.
+pub fn new_stores_have_one_length()
+    ensures { StoreSizesAreSame }
+{
+    // Only the prover needs this law.
+    sorting_keeps_the_length();
+}
+
 /// There is one file whose new store binds all that the file has outside the store's range, and this is it.
 pub fn a_built_file_is_one()
     ensures is { BuiltFileIs }
@@ -55,6 +64,23 @@ pub fn a_built_file_has_its_store()
     a_written_data_hash_has_one_length();
     packets_hold_the_store();
 }
+
+/// A new store of a definition alone meets each rule but the verdict on its message and the one on its binding, whichever the binding
+/// is, and asks one question: that of its message over its claim.
+pub fn a_fresh_store_meets_the_rules()
+    ensures { FreshStoreMeets }
+{
+    // Only the prover needs these laws.
+    sorting_keeps_the_length();
+    round_trip();
+    a_written_claim_is_read();
+    written_uris_are_read();
+}
+
+/// A file in which such a store is found meets each rule but verdicts, once the store's binding is met in it.
+pub fn a_bound_file_meets_the_rules()
+    ensures { BoundFileMeets }
+{}
 
 /// A file that is built of a JPEG file without a store has the new store, meets each rule but the verdict on its message, and asks
 /// one question: that of its message over its claim.

@@ -19,8 +19,9 @@ pub use binding::data_binding;
 pub use boxes::write_assertion;
 pub use entries::own_ref;
 pub use laws::{
-    a_built_file_has_its_store, a_built_file_is_one, a_fresh_file_meets_the_rules,
-    a_new_store_has_one_length, a_new_store_is_read, manifests_are_boxes,
+    a_bound_file_meets_the_rules, a_built_file_has_its_store, a_built_file_is_one,
+    a_fresh_file_meets_the_rules, a_fresh_store_meets_the_rules, a_new_store_has_one_length,
+    a_new_store_is_read, manifests_are_boxes, new_stores_have_one_length,
 };
 pub use manifest::write_manifest;
 pub use parts::{NewParts, new_parts};
