@@ -18,7 +18,7 @@ use Rattle.c2_rules.specs.CheckList.{question_at, questions_of}
 use Rattle.c2_rules.specs.Chains.{is_reached}
 use Rattle.c2_rules.specs.Ingredients.{assertion_uri, is_ingredient_kind}
 use Rattle.c2_rules.specs.Readings.{IsParsed, IsReadBox, ReadBox, Reading}
-use Rattle.c2_rules.specs.Rules.{assertion_box_uri, form_tests, ingredient_tests, order_tests, reads_parent, redaction_tests, standing_tests}
+use Rattle.c2_rules.specs.Rules.{assertion_box_uri, form_tests, ingredient_tests, kind_tests, order_tests, reads_parent, redaction_tests, standing_tests}
 use Rattle.c2_rules.specs.Rules as rule
 use Rattle.c2_rules.specs.Seen.{Seen, Standing, child_standing, earlier_standing, later, place_standing, signature_contents, standing_of, touched, whole}
 use Rattle.c2_rules.specs.Tests.{Test, downward, each}
@@ -29,11 +29,13 @@ use Rattle.c2_assertion.specs.Written.{ingredient_item}
 use Rattle.c2_definition.specs.declared.types.Definition.{Definition}
 use Rattle.c2_definition.specs.declared.types.NewAssertion.{NewAssertion}
 use Rattle.c2_definition.specs.declared.types.Payload.TheVariants as payload
-use Rattle.c2_layout.specs.Store.{Parent, data_binding, parent_ingredient, parent_ref}
+use Rattle.c2_layout.specs.Store.{Parent, parent_ingredient, parent_ref}
+use Rattle.c2_layout.specs.Unbound.{IsKnownLabel}
 use Rattle.c2_layout.specs.Written.{written_assertion}
 use Rattle.c2_layout.proofs.Labels.{IsLabelText, new_label}
 use Rattle.c2_layout.proofs.Lists.{each-append, each-back, each-front}
 use Rattle.c2_layout.proofs.NewRules.{Holds, IsListed, RestHolds, Said, bindings_of, new_box, new_boxes, new_reading, new_seen, same_bytes}
+use Rattle.c2_layout.proofs.Unbound.{by_label}
 use Rattle.c2_layout.proofs.Uris.{UrisAreRead}
 use Rattle.c2_carried.specs.Carrying.{IsLast}
 use Rattle.c2_carried.specs.Less.{AreLess}
@@ -126,6 +128,36 @@ boxes_zip hash p (a ∷ ds) h =
       boxes_zip hash p ds h.1,
     )
 
+-- ---- the binding among the new ones
+
+-- it is no ingredient
+no_binding_reads : (l : List ℕ) → IsKnownLabel l → is_ingredient_kind (kind_of l) ≡ false
+no_binding_reads = by_label (λ (l : List ℕ). is_ingredient_kind (kind_of l) ≡ false) refl refl
+
+-- and has no form to keep
+binding_forms : (l : List ℕ) → IsKnownLabel l → (standing : List ℕ → Standing) (uri : List ℕ) → AllByRecursion Holds (kind_tests standing uri NoItem (kind_of l))
+binding_forms = by_label (λ (l : List ℕ). (standing : List ℕ → Standing) (uri : List ℕ) → AllByRecursion Holds (kind_tests standing uri NoItem (kind_of l))) (λ s u. tt) (λ s u. tt)
+
+-- so its box is read as none
+pub binding_read : (hash : List ℕ → List ℕ) (p : Parent) (b : NewAssertion) → IsKnownLabel b.label → IsReadBox (written_assertion b) (new_box (parent_box hash p) b)
+binding_read hash p b known =
+    let no : is_ingredient_kind (kind_of b.label) ≡ false = no_binding_reads b.label known in
+    record {
+      same = refl;
+      reads = subst (λ t. MatchBool t (IsParsed ingredient_of (written_assertion b).item (parent_box hash p b)) (parent_box hash p b ≡ NoItem)) (sym no) (ap (λ t. cond t (Value (parent_ingredient hash p)) NoItem) no);
+    }
+
+-- the boxes of the parent and the binding
+abbrev own_boxes : (List ℕ → List ℕ) → Parent → NewAssertion → List ReadBox
+own_boxes hash p b = new_box (parent_box hash p) (parent_item hash p) ∷ new_box none_read b ∷ []
+
+-- behind those of the definition
+split_own : (hash : List ℕ → List ℕ) (p : Parent) (ds : List NewAssertion) (b : NewAssertion) → AllByRecursion IsNew ds → IsKnownLabel b.label
+    → new_boxes (parent_box hash p) (ds ++ (parent_item hash p ∷ b ∷ [])) ≡ new_boxes none_read ds ++ own_boxes hash p b
+split_own hash p ds b h known =
+    split_boxes hash p ds (parent_item hash p ∷ b ∷ []) h
+    ∙ ap (λ t. new_boxes none_read ds ++ (new_box (parent_box hash p) (parent_item hash p) ∷ record { boxed = written_assertion b; ingredient = cond t (Value (parent_ingredient hash p)) NoItem } ∷ [])) (no_binding_reads b.label known)
+
 -- ---- the parent
 
 -- the old active manifest's place and how it stands to the new manifest
@@ -187,20 +219,19 @@ pub parent_listed : (hash : List ℕ → List ℕ) (p : Parent) (ds : List NewAs
 parent_listed hash p ds binding h b = each-append IsListed ds (parent_item hash p ∷ binding ∷ []) (listed_each ds h) (record { text = record { some = lit< tt; named = grind arith }; no_cloud = refl; no_other = refl }, (b, tt))
 
 -- what is asked of the boxes of the new manifest
-pub parent_rest : UrisAreRead → (hash : Alg → List ℕ → List ℕ) (p : Parent) (d : Definition) (start len : ℕ) (digest claim message : List ℕ) (sp : SignParts) (redacted : List ℕ → Bool) (standing : List ℕ → Standing) (active : Reading) (t : Bool)
-    → AllByRecursion IsNew d.assertions → IsLabelText p.label → standing p.label ≡ child_standing t active → signature_contents active ≡ Some p.signed → active.manifest.contents ≡ p.contents
+pub parent_rest : UrisAreRead → (hash : Alg → List ℕ → List ℕ) (p : Parent) (d : Definition) (binding : NewAssertion) (claim message : List ℕ) (sp : SignParts) (redacted : List ℕ → Bool) (standing : List ℕ → Standing) (active : Reading) (t : Bool)
+    → AllByRecursion IsNew d.assertions → IsKnownLabel binding.label → IsLabelText p.label → standing p.label ≡ child_standing t active → signature_contents active ≡ Some p.signed → active.manifest.contents ≡ p.contents
     → AllByRecursion Holds (each (λ k text. redaction_tests d.label (new_claim_uri d.label) text) 0 d.redact)
-    → RestHolds hash (new_seen (parent_reading (hash Sha256) p d (data_binding start len digest) claim message sp) redacted standing)
+    → RestHolds hash (new_seen (parent_reading (hash Sha256) p d binding claim message sp) redacted standing)
 unfolding rule.label_kind
-parent_rest uris hash p d start len digest claim message sp redacted standing active t plain u stands signed contents redactions =
+parent_rest uris hash p d binding claim message sp redacted standing active t plain known u stands signed contents redactions =
     let h : List ℕ → List ℕ = hash Sha256 in
-    let binding : NewAssertion = data_binding start len digest in
     let r : Reading = parent_reading h p d binding claim message sp in
     let s : Seen = new_seen r redacted standing in
-    let tail : List ReadBox = new_boxes (parent_box h p) (parent_item h p ∷ binding ∷ []) in
-    let split : r.boxes ≡ new_boxes none_read d.assertions ++ tail = split_boxes h p d.assertions (parent_item h p ∷ binding ∷ []) plain in
+    let tail : List ReadBox = own_boxes h p binding in
+    let split : r.boxes ≡ new_boxes none_read d.assertions ++ tail = split_own h p d.assertions binding plain known in
     let own : ReadBox = new_box (parent_box h p) (parent_item h p) in
-    let last : ReadBox = new_box (parent_box h p) binding in
+    let last : AllByRecursion Holds (form_tests s (new_box none_read binding)) = binding_forms binding.label known standing (assertion_uri d.label binding.label) in
     let uri : List ℕ = assertion_box_uri r (Some (codes "c2pa.ingredient.v3")) in
     let named : manifest_named (parent_ref h p.label targets.whole p.contents).url ≡ Some p.label = parent_named uris h p u in
     let children : AllByRecursion Holds (ingredient_tests hash s own) =
@@ -209,19 +240,18 @@ parent_rest uris hash p d start len digest claim message sp redacted standing ac
     subst (λ o. AllByRecursion Holds (option_map_or (λ (label : List ℕ). order_tests (assertion_uri d.label (codes "c2pa.ingredient.v3")) (standing label)) o [])) (sym named) (order_holds (assertion_uri d.label (codes "c2pa.ingredient.v3")) (standing p.label) active t stands) in
     record {
       children = subst (λ (bs : List ReadBox). AllByRecursion Holds (each (λ k b. ingredient_tests hash s b) 0 bs)) (sym split) (each_both (ingredient_tests hash s) 0 (new_boxes none_read d.assertions) tail (no_children hash s 0 d.assertions) (λ j. each-append Holds (ingredient_tests hash s own) [] children tt));
-      forms = subst (λ (bs : List ReadBox). AllByRecursion Holds (each (λ k b. form_tests s b) 0 bs)) (sym split) (each_both (form_tests s) 0 (new_boxes none_read d.assertions) tail (no_forms s 0 d.assertions plain) (λ j. each-append Holds (form_tests s own) [] forms tt));
+      forms = subst (λ (bs : List ReadBox). AllByRecursion Holds (each (λ k b. form_tests s b) 0 bs)) (sym split) (each_both (form_tests s) 0 (new_boxes none_read d.assertions) tail (no_forms s 0 d.assertions plain) (λ j. each-append Holds (form_tests s own) (form_tests s (new_box none_read binding) ++ []) forms (each-append Holds (form_tests s (new_box none_read binding)) [] last tt)));
       redactions = redactions;
       parents = subst (λ (bs : List ReadBox). length bs ≤ 1) (sym (ap (filter reads_parent) split ∙ none_parent d.assertions tail)) (lit≤ tt);
     }
 
 -- the parent is the one child
-pub parent_child : UrisAreRead → (rs ss : List Reading) (hash : List ℕ → List ℕ) (p : Parent) (d : Definition) (start len : ℕ) (digest claim message : List ℕ) (sp : SignParts) → AllByRecursion IsNew d.assertions → IsLabelText p.label → AreLess d.redact rs ss → IsLast p rs ss
-    → HasParent rs ss (parent_reading hash p d (data_binding start len digest) claim message sp)
-parent_child uris rs ss hash p d start len digest claim message sp plain u thins h =
-    let binding : NewAssertion = data_binding start len digest in
+pub parent_child : UrisAreRead → (rs ss : List Reading) (hash : List ℕ → List ℕ) (p : Parent) (d : Definition) (binding : NewAssertion) (claim message : List ℕ) (sp : SignParts) → AllByRecursion IsNew d.assertions → IsKnownLabel binding.label → IsLabelText p.label → AreLess d.redact rs ss → IsLast p rs ss
+    → HasParent rs ss (parent_reading hash p d binding claim message sp)
+parent_child uris rs ss hash p d binding claim message sp plain known u thins h =
     let n : ℕ = length ss in
-    let tail : List ReadBox = new_boxes (parent_box hash p) (parent_item hash p ∷ binding ∷ []) in
+    let tail : List ReadBox = own_boxes hash p binding in
     let place : place_of ss p.label ≡ Some (length rs - 1) = less_place d.redact rs ss p.label thins ∙ h.place in
     let child : place_before n (option_and_then (place_of ss) (named_by (Some (parent_ingredient hash p)))) ≡ Some (length rs - 1) =
     ap (λ o. place_before n (option_and_then (place_of ss) o)) (parent_named uris hash p u) ∙ ap (place_before n) place ∙ ap (λ b. cond b (Some (length rs - 1)) None) (lt-ltb (length rs - 1) n (omega (arith, h.some, less_len d.redact rs ss thins))) in
-    ap (filter_map (child_of ss n)) (split_boxes hash p d.assertions (parent_item hash p ∷ binding ∷ []) plain) ∙ none_child ss n d.assertions tail ∙ ap (λ o. cons_option o []) child
+    ap (filter_map (child_of ss n)) (split_own hash p d.assertions binding plain known) ∙ none_child ss n d.assertions tail ∙ ap (λ o. cons_option o []) child

@@ -1,11 +1,10 @@
 -- Assertions of a definition, of which no rule asks anything.
-use Rattle.std.specs.Prelude.{IfSome, is_none}
-use Rattle.std.proofs.Common.{◌≡◌, ℕ, ◌+◌, ◌≤◌, true, false, List, [], ◌∷◌, Option, Some, None, refl, arith}
+use Rattle.std.specs.Prelude.{IfSome}
+use Rattle.std.proofs.Common.{◌≡◌, ℕ, ◌+◌, true, false, List, [], ◌∷◌, Option, Some, None, refl}
 use Rattle.std.specs.List.{AllByRecursion}
 use Rattle.std.specs.Str.{IsUtf8}
-use Rattle.std.proofs.lemmas.Bool.{false≢true, le-ltb}
+use Rattle.std.proofs.lemmas.Bool.{false≢true}
 use Rattle.c2_spec.specs.C2pa.Assertion.{kind_of}
-use Rattle.c2_spec.specs.Cover.{bad_range}
 use Rattle.c2_spec.specs.declared.assertion.Ingredient.{Ingredient}
 use Rattle.c2_spec.specs.declared.assertion.Kind.{Kind}
 use Rattle.c2_spec.specs.declared.assertion.Kind.TheVariants as kinds
@@ -20,7 +19,6 @@ use Rattle.c2_rules.specs.declared.parsed.Parsed.{Parsed}
 use Rattle.c2_rules.specs.declared.parsed.Parsed.TheVariants.{NoItem}
 use Rattle.c2_definition.specs.DefinitionFile as file
 use Rattle.c2_definition.specs.declared.types.NewAssertion.{NewAssertion}
-use Rattle.c2_layout.specs.Store.{range_at}
 use Rattle.c2_layout.specs.Written.{IsText}
 use Rattle.c2_layout.proofs.Labels.{new_label}
 use Rattle.c2_layout.proofs.Lists.{each-append}
@@ -75,7 +73,7 @@ no_forms s k (a ∷ others) h =
     each-append Holds (form_tests s (new_box none_read a)) (each (λ k b. form_tests s b) (k + 1) (new_boxes none_read others))
     (by_kind (λ x. AllByRecursion Holds (kind_tests s.standing (assertion_uri (label_in s.own) a.label) NoItem x)) tt tt (kind_of a.label) (new_label a.label h.0).kind) (no_forms s (k + 1) others h.1)
 
--- ---- texts and ranges
+-- ---- texts
 
 -- a title
 pub title_utf8 : (o : Option (List ℕ)) → IfSome o IsText → IfSome o IsUtf8
@@ -86,10 +84,6 @@ title_utf8 (Some t) h = h.utf8
 pub texts_utf8 : (ts : List (List ℕ)) → AllByRecursion IsText ts → AllByRecursion IsUtf8 ts
 texts_utf8 [] h = tt
 texts_utf8 (t ∷ ts) h = (h.0.utf8, texts_utf8 ts h.1)
-
--- a range that ends in the file is in order
-pub one_in_order : (size start len : ℕ) → start + len ≤ size → is_none (bad_range size (range_at start len ∷ [])) ≡ true
-one_in_order size start len fits = rw (le-ltb start 0 (omega arith), le-ltb size (start + len) fits)
 
 -- ---- references
 

@@ -1,14 +1,14 @@
 -- What a file meets that is built over a JPEG file with a store.
-use Rattle.std.specs.Prelude.{◌≡◌, ◌<◌, ◌+◌, ℕ, false, List, ◌∷◌, length}
+use Rattle.std.specs.Prelude.{◌≡◌, ◌<◌, ◌≤◌, ◌+◌, ℕ, false, List, ◌∷◌, length}
 use Rattle.std.specs.declared.option.Option.TheVariants.{Some, None}
 use Rattle.std.specs.List.{AllByRecursion}
-use Rattle.c2_base.specs.declared.limits.TheConstants.{FILE_LEN_LIMIT, MAX_MANIFESTS}
+use Rattle.c2_base.specs.declared.limits.TheConstants.{FILE_LEN_LIMIT, MAX_MANIFESTS, MAX_STORE_LEN}
 use Rattle.c2_base.specs.declared.values.Question.{Question}
-use Rattle.c2_spec.specs.C2pa.Sign1.{SignParts, SpellsMessage}
+use Rattle.c2_spec.specs.C2pa.Sign1.{SignParts, SpellsMessage, question_of}
 use Rattle.c2_spec.specs.Container.{is_bmff}
 use Rattle.c2_spec.specs.Jpeg.Segments.{Segment}
 use Rattle.c2_spec.specs.Jpeg.Writing.{insert_place}
-use Rattle.c2_spec.specs.Jumbf.Tree.{Tree}
+use Rattle.c2_spec.specs.Jumbf.Tree.{Tree, tree_bytes}
 use Rattle.c2_spec.specs.Located.{here}
 use Rattle.c2_spec.specs.PutIn.{taken_out}
 use Rattle.c2_spec.specs.declared.digest.Alg.{Alg}
@@ -20,13 +20,24 @@ use Rattle.c2_rules.specs.Opened.{IsOpened}
 use Rattle.c2_rules.specs.Readings.{Reading}
 use Rattle.c2_rules.specs.Validated.{IsFileReading}
 use Rattle.c2_definition.specs.declared.types.Definition.{Definition}
+use Rattle.c2_definition.specs.declared.types.NewAssertion.{NewAssertion}
 use Rattle.c2_layout.specs.Built.{CanBuild, built_file, built_len, built_store}
 use Rattle.c2_layout.specs.Fresh.{GivesDigests, IsFreshBase, Meets, new_question}
-use Rattle.c2_layout.specs.Store.{Content, Parent}
+use Rattle.c2_layout.specs.Store.{Content, Parent, new_claim, new_store}
+use Rattle.c2_layout.specs.Unbound.{IsKnownBinding, MeetsUnbound}
 use Rattle.c2_layout.specs.Written.{CanBeWritten}
 use Rattle.c2_carried.specs.Carrying.{IsLast, IsTakenOver}
 use Rattle.c2_carried.specs.Parents.{IsContentOver}
 use Rattle.c2_carried.specs.Refusing.{has_manifest, redaction_refusal}
+
+-- A new store that takes over these older manifests and has the last of them as its parent meets all but its binding, and asks the new
+-- question and then the older ones. The message may be any that spells its parts.
+abbrev pub SucceedingStoreMeets : Type 0
+SucceedingStoreMeets = (hash : Alg → List ℕ → List ℕ) (c : Content) (parent : Parent) (binding : NewAssertion) (message : List ℕ) (p : SignParts) (rs ss : List Reading)
+    → c.parent ≡ Some parent → CanBeWritten c.definition → IsKnownBinding binding
+    → length (tree_bytes (new_store (hash Sha256) c binding message)) ≤ MAX_STORE_LEN → SpellsMessage message p
+    → IsTakenOver hash c rs ss → IsLast parent rs ss
+    → MeetsUnbound hash (new_store (hash Sha256) c binding message) binding (question_of p (new_claim (hash Sha256) c binding) ∷ questions rs)
 
 -- A file that is built over a base without a store, where its store takes over these older manifests and has the last of them as its
 -- parent, has the new store, meets every rule but the verdict on its message, and asks the new question and then the older ones.

@@ -1,6 +1,6 @@
 //! Laws of the file that is built over one with a store.
 
-ghost use Rattle.c2_succeeding.specs.Over.{FileOverStoreMeets, SucceedingFileMeets, ValidIsApproved};
+ghost use Rattle.c2_succeeding.specs.Over.{FileOverStoreMeets, SucceedingFileMeets, SucceedingStoreMeets, ValidIsApproved};
 
 use c2_assertion::{
     a_written_data_hash_has_one_length, a_written_data_hash_is_read, a_written_ingredient_is_read,
@@ -12,6 +12,21 @@ use c2_claim::a_written_claim_is_read;
 use c2_jpegseg::{packets_hold_the_store, segments_end_or_fail};
 use c2_older::rules_hold_without_redacted_boxes;
 use c2_uri::written_uris_are_read;
+
+/// A new store that takes over older manifests meets each rule but the verdict on its message and the one on its binding, whichever the
+/// binding is, and asks the new question and then those of the older manifests.
+pub fn a_succeeding_store_meets_the_rules()
+    ensures { SucceedingStoreMeets }
+{
+    // Only the prover needs these laws.
+    sorting_keeps_the_length();
+    round_trip();
+    a_written_ingredient_is_read();
+    written_items_are_in_order();
+    a_written_claim_is_read();
+    written_uris_are_read();
+    rules_hold_without_redacted_boxes();
+}
 
 /// A file that is built over a base without a store, and whose store takes over older manifests, has the new store, meets each rule
 /// but the verdict on its message, and asks the new question and then those of the older manifests.

@@ -4,18 +4,25 @@ use Rattle.c2_succeeding.proofs.laws.a_succeeding_file_meets_the_rules.Goals as 
 -- the file meets the rules
 pub returns : goal.returns
 returns c = succeeding_meets (record {
-  laws = record {
+  store = record {
     keeps = c.sorting_keeps_the_length.ensures;
-    one = c.a_written_data_hash_has_one_length.ensures.any;
-    hundred = c.a_written_data_hash_has_one_length.ensures.sha256;
-    hold = c.packets_hold_the_store.ensures;
     trip = c.round_trip.ensures;
     claims = c.a_written_claim_is_read.ensures;
-    hashes = c.a_written_data_hash_is_read.ensures;
-    in_order = c.written_items_are_in_order.ensures.data;
     uris = c.written_uris_are_read.ensures;
   };
   ingredients = c.a_written_ingredient_is_read.ensures;
   sorted = c.written_items_are_in_order.ensures.ingredient;
   older = c.rules_hold_without_redacted_boxes.ensures;
+}) (record {
+  store = record {
+    keeps = c.sorting_keeps_the_length.ensures;
+    trip = c.round_trip.ensures;
+    claims = c.a_written_claim_is_read.ensures;
+    uris = c.written_uris_are_read.ensures;
+  };
+  one = c.a_written_data_hash_has_one_length.ensures.any;
+  hundred = c.a_written_data_hash_has_one_length.ensures.sha256;
+  hold = c.packets_hold_the_store.ensures;
+  hashes = c.a_written_data_hash_is_read.ensures;
+  in_order = c.written_items_are_in_order.ensures.data;
 })
