@@ -1,0 +1,116 @@
+-- The binding of a new BMFF file: how long its item is, and that it is read as it was written.
+use Rattle.std.specs.Prelude.{All}
+use Rattle.std.proofs.Common.{◌≡◌, ◌↔◌, ℕ, ◌+◌, ◌≤◌, List, [], ◌∷◌, ◌++◌, length, None, Some, Ok, refl, ap, ◌∙◌, subst, arith, codes, length-append, lit<, lit≤}
+use Rattle.std.proofs.lemmas.List.Elements.{All-cons, All-nil}
+use Rattle.c2_spec.specs.Bmff.Boxes.{ftyp_kind, uuid_kind}
+use Rattle.c2_spec.specs.Bmff.Hash.{BmffHash, bmff_hash_of}
+use Rattle.c2_spec.specs.Bmff.Store.{c2pa_user_type}
+use Rattle.c2_spec.specs.C2pa.Assertion.{most_exclusions}
+use Rattle.c2_spec.specs.Cbor.Deterministic.{deterministic, preferred, preferred_pairs, shortest_head, sorted}
+use Rattle.c2_spec.specs.Cbor.Fields.{HasItem}
+use Rattle.c2_spec.specs.Cbor.Item.{Item, Pairs, bytes, no_pairs, pair, text}
+use Rattle.c2_spec.specs.Cbor.Plain.{HasPlainKeys}
+use Rattle.c2_spec.specs.Digest.{digest_len}
+use Rattle.c2_spec.specs.declared.digest.Alg.TheVariants.{Sha256}
+use Rattle.c2_boxed.specs.Writing.{all_of, built_exclusions, mfra_kind}
+use Rattle.c2_assertion.specs.ReadBack.{IsReadable}
+use Rattle.c2_assertion.specs.Written.{bmff_hash_item, exclusion_item, exclusions_item}
+use Rattle.c2_layout.proofs.GoodItems.{Good, RoundTrip, good_read}
+use Rattle.c2_layout.proofs.Spelled.{Fits}
+use Rattle.c2_layout.proofs.StoreSize.{KeepsLength}
+use Rattle.c2_layout.proofs.Uris.{plain_text}
+use Rattle.c2_films.specs.Films.{BindingHasOneLength, film_binding, film_hash}
+
+-- ---- how long it is
+
+-- a pair and those after it
+pair_len : (k v : Item) (ps : Pairs) → length (preferred_pairs (pair k v ps)) ≡ length (preferred k) + (length (preferred v) + length (preferred_pairs ps))
+pair_len k v ps =
+    omega (arith, length-append (preferred k ++ preferred v) (preferred_pairs ps), length-append (preferred k) (preferred v))
+
+-- the exclusions
+exclusions_len : length (preferred (exclusions_item built_exclusions)) ≡ 78
+unfolding shortest_head
+exclusions_len = refl
+
+-- a digest of SHA-256
+digest_item_len : (digest : List ℕ) → length digest ≡ digest_len Sha256 → length (preferred (bytes digest)) ≡ 34
+unfolding shortest_head
+digest_item_len digest e = length-append (shortest_head 2 (length digest)) digest ∙ ap (λ n. length (shortest_head 2 n) + n) e
+
+-- the item in its own order
+item_len : (digest : List ℕ) → length digest ≡ digest_len Sha256 → length (preferred (bmff_hash_item (film_hash digest))) ≡ 140
+unfolding shortest_head
+item_len digest e =
+    let last : Pairs = pair (text (codes "exclusions")) (exclusions_item built_exclusions) no_pairs in
+    let more : Pairs = pair (text (codes "hash")) (bytes digest) last in
+    omega (
+      arith,
+      length-append (shortest_head 5 3) (preferred_pairs (pair (text (codes "alg")) (text (codes "sha256")) more)),
+      pair_len (text (codes "alg")) (text (codes "sha256")) more,
+      pair_len (text (codes "hash")) (bytes digest) last,
+      pair_len (text (codes "exclusions")) (exclusions_item built_exclusions) no_pairs,
+      digest_item_len digest e,
+      exclusions_len,
+    )
+
+-- so it is in deterministic order
+pub binding_len : KeepsLength → BindingHasOneLength
+binding_len keeps digest e = keeps (bmff_hash_item (film_hash digest)) ∙ item_len digest e
+
+-- ---- what it is read as
+
+-- what the laws of other crates say of a BMFF hash that was written
+pub record HashLaws : Type 0 where
+  pub keeps : KeepsLength
+  pub trip : RoundTrip
+  pub read : (h : BmffHash) → (bmff_hash_of (bmff_hash_item h) ≡ Ok h) ↔ ((length h.exclusions ≤ most_exclusions) × All IsReadable h.exclusions)
+  pub in_order : (h : BmffHash) → sorted (bmff_hash_item h) ≡ bmff_hash_item h
+  pub plain : (h : BmffHash) → HasPlainKeys (bmff_hash_item h)
+
+-- the exclusions can be read
+all_readable : All IsReadable built_exclusions
+all_readable =
+    All-cons IsReadable (all_of uuid_kind (record { offset = 8; value = c2pa_user_type } ∷ [])) (all_of ftyp_kind [] ∷ all_of mfra_kind [] ∷ []) (record { path = refl; rest = record { enters = refl; parts = λ e. cc (e) } })
+    (All-cons IsReadable (all_of ftyp_kind []) (all_of mfra_kind [] ∷ []) (record { path = refl; rest = record { enters = refl; parts = λ e. cc (e) } })
+    (All-cons IsReadable (all_of mfra_kind []) [] (record { path = refl; rest = record { enters = refl; parts = λ e. cc (e) } }) (All-nil IsReadable)))
+
+-- the file type box
+ftyp_fits : Fits (exclusion_item (all_of ftyp_kind []))
+ftyp_fits = (plain_text (codes "xpath") refl, plain_text (codes "/ftyp") refl, tt)
+
+-- `mfra`
+mfra_fits : Fits (exclusion_item (all_of mfra_kind []))
+mfra_fits = (plain_text (codes "xpath") refl, plain_text (codes "/mfra") refl, tt)
+
+-- the C2PA boxes
+user_fits : Fits (exclusion_item (all_of uuid_kind (record { offset = 8; value = c2pa_user_type } ∷ [])))
+user_fits = (
+  plain_text (codes "data") refl,
+  ((plain_text (codes "value") refl, tt, (plain_text (codes "offset") refl, lit< tt, tt)), tt),
+  (plain_text (codes "xpath") refl, plain_text (codes "/uuid") refl, tt),
+)
+
+-- the item can be written
+good : HashLaws → (digest : List ℕ) → Good 64 (bmff_hash_item (film_hash digest))
+good laws digest = record {
+  fits = (plain_text (codes "alg") refl, plain_text (codes "sha256") refl, (plain_text (codes "hash") refl, tt, (plain_text (codes "exclusions") refl, (user_fits, (ftyp_fits, (mfra_fits, tt))), tt)));
+  plain = laws.plain (film_hash digest);
+  shallow = lit≤ tt;
+}
+
+-- an item that is read as this BMFF hash
+pub record IsFilmHash (payload : List ℕ) (h : BmffHash) : Type 0 where
+  pub item : Item
+  pub has : HasItem payload item
+  pub is : bmff_hash_of item ≡ Ok h
+
+-- so the binding is read as it was written
+pub hash_read : HashLaws → (digest : List ℕ) → length digest ≡ digest_len Sha256 → IsFilmHash (deterministic (bmff_hash_item (film_hash digest))) (film_hash digest)
+hash_read laws digest e =
+    let v : Item = bmff_hash_item (film_hash digest) in
+    record {
+      item = v;
+      has = subst (HasItem (deterministic v)) (laws.in_order (film_hash digest)) (good_read laws.keeps laws.trip v (good laws digest) (omega (arith, binding_len laws.keeps digest e)));
+      is = (laws.read (film_hash digest)).1 (lit≤ tt, all_readable);
+    }

@@ -1,0 +1,5 @@
+pub mod Items
+pub mod Building
+pub mod Media
+pub mod Meeting
+pub mod Rows

@@ -1,0 +1,110 @@
+-- The new film and its base are BMFF files where the film they are made of is one.
+use Rattle.std.proofs.Common.{◌≡◌, ℕ, zero, suc, ◌+◌, ◌≤◌, Bool, true, false, cond, not, ◌&&◌, List, [], ◌∷◌, ◌++◌, length, take, refl, sym, ap, ◌∙◌, subst, arith}
+use Rattle.std.specs.List.{flat_map}
+use Rattle.std.specs.Str.{bytes_eq}
+use Rattle.std.proofs.lemmas.Bool.{and_from, and_parts}
+use Rattle.std.proofs.lemmas.Slice.Eq.{bytes_eq-Decides}
+use Rattle.c2_spec.specs.Bmff.Boxes.{Box, HasRoots, SizeForm, short, long, to_end, begins_bmff, box_bytes, boxes_len, uuid_kind}
+use Rattle.c2_spec.specs.Bmff.Store.{is_c2pa_box, is_store_box}
+use Rattle.c2_spec.specs.Container.{begins_jpeg, is_bmff}
+use Rattle.c2_spec.specs.PutIn.{put_in}
+use Rattle.c2_boxed.specs.Laws.{file_with}
+use Rattle.c2_boxed.specs.Writing.{AreBaseRoots, IsBmffBase, base_roots, before_mfra, c2pa_box, freed, insert_place, is_file_end, last_mfra, same, with_store, without}
+
+-- ---- the first two bytes
+
+-- two bytes and more
+two_bytes : (file : List ℕ) → begins_bmff file ≡ true → 2 ≤ length file
+two_bytes [] e = absurd (cc (e))
+two_bytes (a ∷ []) e = absurd (cc (e))
+two_bytes (a ∷ b ∷ more) e = omega arith
+
+-- what is put in behind them leaves them
+put_behind : (n : ℕ) (piece file : List ℕ) → 2 ≤ n → 2 ≤ length file → take 2 (put_in n piece file) ≡ take 2 file
+put_behind zero piece file h k = absurd (omega (arith, h))
+put_behind (suc zero) piece file h k = absurd (omega (arith, h))
+put_behind (suc (suc n)) piece [] h k = absurd (omega (arith, k))
+put_behind (suc (suc n)) piece (a ∷ []) h k = absurd (omega (arith, k))
+put_behind (suc (suc n)) piece (a ∷ b ∷ more) h k = refl
+
+-- two files that begin alike
+same_media : (f g : List ℕ) → take 2 f ≡ take 2 g → is_bmff g ≡ true → begins_bmff f ≡ true → is_bmff f ≡ true
+same_media f g e h k =
+    let no : not (begins_jpeg g) ≡ true = (and_parts (not (begins_jpeg g)) (begins_bmff g) h).0 in
+    and_from (not (begins_jpeg f)) (begins_bmff f) (ap (λ (x : List ℕ). not (bytes_eq x (0xFF ∷ 0xD8 ∷ []))) e ∙ no) k
+
+-- a box has two bytes
+box_two : (b : Box) (rest more : List ℕ) → take 2 (box_bytes b ++ rest) ≡ take 2 (box_bytes b ++ more)
+box_two b rest more = go b.form b.kind b.payload
+  where
+    go : (form : SizeForm) (kind payload : List ℕ) → take 2 (box_bytes (record { form = form; kind = kind; payload = payload }) ++ rest) ≡ take 2 (box_bytes (record { form = form; kind = kind; payload = payload }) ++ more)
+    go short kind payload = refl
+    go long kind payload = refl
+    go to_end kind payload = refl
+
+-- and more
+box_long : (b : Box) (rest : List ℕ) → 2 ≤ length (box_bytes b ++ rest)
+box_long b rest = go b.form b.kind b.payload
+  where
+    go : (form : SizeForm) (kind payload : List ℕ) → 2 ≤ length (box_bytes (record { form = form; kind = kind; payload = payload }) ++ rest)
+    go short kind payload = omega arith
+    go long kind payload = omega arith
+    go to_end kind payload = omega arith
+
+-- ---- the new film
+
+-- its first box isn't the new one
+place_far : (roots : List Box) (store file : List ℕ) → HasRoots file (with_store store roots) → 2 ≤ insert_place roots
+place_far roots store file has = go (before_mfra roots) refl
+  where
+    go : (bs : List Box) → before_mfra roots ≡ bs → 2 ≤ insert_place roots
+    go [] e = absurd (let bad = sym has.begins ∙ ap begins_bmff (has.bytes ∙ ap (λ (bs : List Box). flat_map box_bytes (bs ++ c2pa_box store ∷ last_mfra roots)) e) in cc (bad))
+    go (b ∷ bs) e = subst (λ (xs : List Box). 2 ≤ boxes_len xs) (sym e) (box_long b (flat_map box_bytes bs))
+
+-- so the film is one
+pub film_media : (base : List ℕ) (roots : List Box) (store : List ℕ) → HasRoots base roots → HasRoots (file_with base roots store) (with_store store roots) → is_bmff base ≡ true → is_bmff (file_with base roots store) ≡ true
+film_media base roots store was now h =
+    same_media (file_with base roots store) base (put_behind (insert_place roots) (box_bytes (c2pa_box store)) base (place_far roots store (file_with base roots store) now) (two_bytes base was.begins)) h now.begins
+
+-- ---- the base
+
+-- a box that holds a store is of type `uuid`
+store_kind : (b : Box) → is_store_box b ≡ true → b.kind ≡ uuid_kind
+unfolding is_store_box is_c2pa_box
+store_kind b h = (bytes_eq-Decides b.kind uuid_kind).0 (first (bytes_eq b.kind uuid_kind) _ _ _ h)
+  where
+    first : (a b c d : Bool) → ((a && b) && c && d) ≡ true → a ≡ true
+    first true b c d e = refl
+    first false b c d e = absurd (cc (e))
+
+-- a file doesn't begin with such a box
+uuid_first : (form : SizeForm) (payload rest : List ℕ) → begins_bmff (box_bytes (record { form = form; kind = uuid_kind; payload = payload }) ++ rest) ≡ false
+uuid_first short payload rest = refl
+uuid_first long payload rest = refl
+uuid_first to_end payload rest = refl
+
+-- so it doesn't with one that holds a store
+no_store_first : (b : Box) (rest : List ℕ) → b.kind ≡ uuid_kind → begins_bmff (box_bytes b ++ rest) ≡ false
+no_store_first b rest e = subst (λ (k : List ℕ). begins_bmff (box_bytes (record { form = b.form; kind = k; payload = b.payload }) ++ rest) ≡ false) (sym e) (uuid_first b.form b.payload rest)
+
+-- so the base begins as the file does
+base_starts : (before after : List Box) (old : Box) → is_store_box old ≡ true → begins_bmff (flat_map box_bytes (before ++ old ∷ after)) ≡ true
+    → take 2 (flat_map box_bytes (base_roots before old after)) ≡ take 2 (flat_map box_bytes (before ++ old ∷ after))
+base_starts [] after old h begins = absurd (let bad = sym begins ∙ no_store_first old (flat_map box_bytes after) (store_kind old h) in cc (bad))
+base_starts (b ∷ bs) after old h begins = go (is_file_end after)
+  where
+    go : (t : Bool) → take 2 (flat_map box_bytes (cond t ((b ∷ bs) ++ after) ((b ∷ bs) ++ freed old ∷ after))) ≡ take 2 (flat_map box_bytes ((b ∷ bs) ++ old ∷ after))
+    go true = box_two b (flat_map box_bytes (bs ++ after)) (flat_map box_bytes (bs ++ old ∷ after))
+    go false = box_two b (flat_map box_bytes (bs ++ freed old ∷ after)) (flat_map box_bytes (bs ++ old ∷ after))
+
+-- and is a film
+pub base_media : (media base : List ℕ) (roots : List Box) → IsBmffBase media base roots → HasRoots base roots → is_bmff media ≡ true → is_bmff base ≡ true
+base_media media base roots k has h = go k.are
+  where
+    go : AreBaseRoots k.boxes roots → is_bmff base ≡ true
+    go (same others e) = subst (λ (f : List ℕ). is_bmff f ≡ true) (k.has_roots.bytes ∙ ap (flat_map box_bytes) (sym e) ∙ sym k.bytes) h
+    go (without start len store holds e) =
+        let whole : media ≡ flat_map box_bytes (holds.before ++ holds.holder ∷ holds.after) = k.has_roots.bytes ∙ ap (flat_map box_bytes) holds.split in
+        let begins : begins_bmff (flat_map box_bytes (holds.before ++ holds.holder ∷ holds.after)) ≡ true = sym (ap begins_bmff whole) ∙ k.has_roots.begins in
+        same_media base media
+        (ap (take 2) (k.bytes ∙ ap (flat_map box_bytes) e) ∙ base_starts holds.before holds.after holds.holder holds.is_holder begins ∙ ap (take 2) (sym whole)) h has.begins

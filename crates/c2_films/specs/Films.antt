@@ -1,0 +1,133 @@
+-- The file that is built of a BMFF file (C2PA Technical Specification 2.x, "Embedding manifests into assets" and "BMFF-based hash"): the
+-- C2PA box of the new store is put in, and the store's binding holds the digest of what its exclusions leave of the new file.
+use Rattle.std.specs.Prelude.{◌≡◌, ℕ, ◌+◌, ◌<◌, ◌≤◌, true, List, length, replicate, codes, Some, None}
+use Rattle.std.specs.List.{AllByRecursion}
+use Rattle.c2_base.specs.declared.limits.TheConstants.{MAX_STORE_LEN, FILE_LEN_LIMIT}
+use Rattle.c2_spec.specs.Bmff.Boxes.{Box, HasRoots, box_bytes, most_roots}
+use Rattle.c2_spec.specs.Bmff.Cover.{IsBmffCover}
+use Rattle.c2_spec.specs.Bmff.Hash.{BmffHash}
+use Rattle.c2_spec.specs.Bmff.Paths.{placed_from}
+use Rattle.c2_spec.specs.Bmff.Store.{HasBmffStore, is_other_box}
+use Rattle.c2_spec.specs.Cbor.Deterministic.{deterministic}
+use Rattle.c2_spec.specs.Digest.{alg_name, digest_len}
+use Rattle.c2_spec.specs.Jumbf.Tree.{Tree, tree_bytes}
+use Rattle.c2_spec.specs.PutIn.{put_in, taken_out}
+use Rattle.c2_spec.specs.declared.digest.Alg.TheVariants.{Sha256}
+use Rattle.c2_boxed.specs.Laws.{file_with}
+use Rattle.c2_boxed.specs.Writing.{IsBmffBase, built_exclusions, built_text, c2pa_box, c2pa_frame_len, insert_place, open_end}
+use Rattle.c2_assertion.specs.Written.{bmff_hash_item}
+use Rattle.c2_definition.specs.declared.types.NewAssertion.{NewAssertion}
+use Rattle.c2_definition.specs.declared.types.Payload.TheVariants as payload
+use Rattle.c2_layout.specs.Built.{HasDigestLen, SameFile, no_digest, zero_digest}
+use Rattle.c2_layout.specs.Store.{Content, new_store}
+
+-- ---- the binding
+
+-- The BMFF hash of a new file with this digest. It excludes the C2PA boxes, the file type box, and `mfra`.
+abbrev pub film_hash : List ℕ → BmffHash
+film_hash digest = record { exclusions = built_exclusions; alg = Some (alg_name Sha256); hash = digest }
+
+-- the binding to what these leave of a file
+abbrev pub film_binding : List ℕ → NewAssertion
+film_binding digest = record {
+  label = codes "c2pa.hash.bmff.v2";
+  kind = payload.Cbor;
+  bytes = deterministic (bmff_hash_item (film_hash digest));
+}
+
+-- ---- the new file
+
+-- none of these root boxes has a part in a store
+abbrev pub AreOthers : List Box → Type 0
+AreOthers roots = AllByRecursion (λ (b : Box). is_other_box b ≡ true) roots
+
+-- The file is this base, which has no store, with the box of a new one put in, in this range. The binding holds the digest of what its
+-- exclusions leave of the file itself.
+pub record IsFilmBuilt (hash : List ℕ → List ℕ) (c : Content) (message base file : List ℕ) (start len : ℕ) : Type 0 where
+  pub roots : List Box
+  pub has_roots : HasRoots base roots
+  pub none : AreOthers roots
+  pub closed : open_end (placed_from 0 roots) ≡ None
+  pub place : start ≡ insert_place roots
+  pub boxes : List Box
+  pub has_boxes : HasRoots file boxes
+  pub excluded : List ℕ
+  pub text : List ℕ
+  pub covers : IsBmffCover boxes (length file) built_exclusions excluded text
+  pub store : Tree
+  pub store_is : store ≡ new_store hash c (film_binding (hash text)) message
+  pub size : len ≡ length (box_bytes (c2pa_box (tree_bytes store)))
+  pub put : file ≡ put_in start (box_bytes (c2pa_box (tree_bytes store))) base
+
+-- ---- the same without a circle
+
+-- The new store's length with so many bytes for the signed message. It doesn't depend on digests, so it is that of a store with none.
+abbrev pub film_store_size : Content → ℕ → ℕ
+film_store_size c reserve = length (tree_bytes (new_store no_digest c (film_binding zero_digest) (replicate reserve 0)))
+
+-- the length of its box, which is the new range's
+abbrev pub film_len : Content → ℕ → ℕ
+film_len c reserve = c2pa_frame_len + film_store_size c reserve
+
+-- the new store over a base of these root boxes: what its exclusions leave of the new file is told by them alone
+abbrev pub film_store : (List ℕ → List ℕ) → Content → List ℕ → List Box → Tree
+film_store hash c message roots = new_store hash c (film_binding (hash (built_text roots))) message
+
+-- the new file over a base of these root boxes
+abbrev pub film_file : (List ℕ → List ℕ) → Content → List ℕ → List ℕ → List Box → List ℕ
+film_file hash c message base roots = file_with base roots (tree_bytes (film_store hash c message roots))
+
+-- ---- both are one
+
+-- A base of these root boxes, of which the last isn't open, for a new store with so many bytes for its message: the store isn't too
+-- large, nor has the new file too many bytes or too many root boxes.
+pub record CanBuildFilm (c : Content) (reserve : ℕ) (base : List ℕ) (roots : List Box) : Type 0 where
+  pub has_roots : HasRoots base roots
+  pub closed : open_end (placed_from 0 roots) ≡ None
+  pub small : film_store_size c reserve ≤ MAX_STORE_LEN
+  pub fits : length base + film_len c reserve < FILE_LEN_LIMIT
+  pub few : length roots < most_roots
+
+-- The binding's item has one length for all digests.
+abbrev pub BindingHasOneLength : Type 0
+BindingHasOneLength = (digest : List ℕ) → length digest ≡ digest_len Sha256
+    → length (deterministic (bmff_hash_item (film_hash digest))) ≡ 140
+
+-- So a new store's length doesn't depend on digests.
+abbrev pub FilmSizeIsFixed : Type 0
+FilmSizeIsFixed = (hash : List ℕ → List ℕ) (c : Content) (digest message : List ℕ)
+    → HasDigestLen hash → length digest ≡ digest_len Sha256
+    → length (tree_bytes (new_store hash c (film_binding digest) message)) ≡ film_store_size c (length message)
+
+-- The built file is this one, where no root box of the base has a part in a store.
+abbrev pub FilmIsBuilt : Type 0
+FilmIsBuilt = (hash : List ℕ → List ℕ) (c : Content) (message base : List ℕ) (roots : List Box)
+    → HasDigestLen hash → CanBuildFilm c (length message) base roots → AreOthers roots
+    → IsFilmBuilt hash c message base (film_file hash c message base roots) (insert_place roots) (film_len c (length message))
+
+-- And no other is.
+abbrev pub FilmIsOne : Type 0
+FilmIsOne = (hash : List ℕ → List ℕ) (c : Content) (message base f : List ℕ) (start len : ℕ) (roots : List Box)
+    → HasDigestLen hash → CanBuildFilm c (length message) base roots → IsFilmBuilt hash c message base f start len
+    → SameFile f (film_file hash c message base roots) start (insert_place roots) len (film_len c (length message))
+
+-- ---- what a reader finds
+
+-- The file has the new store in the new range.
+abbrev pub FilmHasItsStore : Type 0
+FilmHasItsStore = (hash : List ℕ → List ℕ) (c : Content) (message base : List ℕ) (roots : List Box)
+    → HasDigestLen hash → CanBuildFilm c (length message) base roots → AreOthers roots
+    → HasBmffStore (film_file hash c message base roots) (insert_place roots) (film_len c (length message))
+    (tree_bytes (film_store hash c message roots))
+
+-- The file less the new range is the base.
+abbrev pub FilmBaseIsLeft : Type 0
+FilmBaseIsLeft = (hash : List ℕ → List ℕ) (c : Content) (message base : List ℕ) (roots : List Box)
+    → HasDigestLen hash → CanBuildFilm c (length message) base roots → AreOthers roots
+    → taken_out (insert_place roots) (film_len c (length message)) (film_file hash c message base roots) ≡ base
+
+-- And the base is what is built over when another store is put into the file.
+abbrev pub FilmBaseIsItsBase : Type 0
+FilmBaseIsItsBase = (hash : List ℕ → List ℕ) (c : Content) (message base : List ℕ) (roots : List Box)
+    → HasDigestLen hash → CanBuildFilm c (length message) base roots → AreOthers roots
+    → IsBmffBase (film_file hash c message base roots) base roots
