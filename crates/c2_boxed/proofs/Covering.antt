@@ -1,5 +1,5 @@
 -- What the exclusions of a new BMFF hash leave of root boxes.
-use Rattle.std.proofs.Common.{◌≡◌, ◌⊎◌, inl, inr, ℕ, zero, suc, ◌+◌, ◌-◌, ◌<◌, ◌≤◌, Bool, true, false, cond, ◌&&◌, ◌||◌, List, [], ◌∷◌, ◌++◌, length, get_or, take, drop, Option, Some, None, refl, sym, ap, ap₂, subst, ◌∙◌, arith, append-nil, length-append}
+use Rattle.std.proofs.Common.{◌≡◌, ◌⊎◌, inl, inr, ℕ, zero, suc, ◌+◌, ◌<◌, ◌≤◌, Bool, true, false, cond, ◌&&◌, ◌||◌, List, [], ◌∷◌, ◌++◌, length, get_or, take, drop, None, refl, sym, ap, ap₂, subst, ◌∙◌, arith}
 use Rattle.std.proofs.lemmas.Bool.{and_from, and_parts, le-leb, leb-true, lt-ltb, ltb-true, or_left, or_right}
 use Rattle.std.proofs.lemmas.List.{length-take, length-drop}
 use Rattle.std.proofs.lemmas.Slice.Eq.{bytes_eq-Decides}
@@ -7,13 +7,12 @@ use Rattle.std.specs.Prelude.{Contains, filter, nat_le, nat_lt, ◌↔◌}
 use Rattle.std.specs.Int.{w64, to_be_bytes}
 use Rattle.std.specs.List.{flat_map, AllByRecursion, list_any, range_with_len}
 use Rattle.std.specs.Str.{bytes_eq}
-use Rattle.c2_spec.specs.Bmff.Boxes.{AreBoxForms, Box, HasRoots, IsBox, SizeForm, short, long, to_end, box_bytes, box_len, boxes_len, ftyp_kind, uuid_kind}
+use Rattle.c2_spec.specs.Bmff.Boxes.{AreBoxForms, Box, HasRoots, IsBox, SizeForm, short, long, to_end, box_bytes, box_len, ftyp_kind, uuid_kind}
 use Rattle.c2_spec.specs.Bmff.Cover.{IsBmffCover, after_offset, bmff_text, root_text}
 use Rattle.c2_spec.specs.Bmff.Hash.{ByteTest, Exclusion, IsExcluded, IsExcludedBy, MeetsTest}
 use Rattle.c2_spec.specs.Bmff.Paths.{OnPath, last, below, PathStep, PlacedBox, matched, placed_from}
 use Rattle.c2_spec.specs.Bmff.Store.{c2pa_user_type}
 use Rattle.c2_spec.specs.Bmff.Writing.{all_of, before_mfra, built_exclusions, built_part, built_text, c2pa_box, is_left_out, is_mfra, last_mfra, mfra_kind, with_store}
-use Rattle.c2_spec.specs.Cover.{kept_from}
 use Rattle.c2_boxed.specs.Laws.{HasBuiltCover}
 use Rattle.c2_spec.proofs.BmffOneList.{first_box, other_boxes}
 use Rattle.c2_spec.proofs.BmffSizes.{bytes_size}

@@ -1,5 +1,5 @@
 -- What holds of BMFF files that a store is put into, and of their bases, as statements.
-use Rattle.std.specs.Prelude.{◌≡◌, ℕ, ◌+◌, ◌^◌, ◌<◌, Bool, true, false, List, length, map, None}
+use Rattle.std.specs.Prelude.{◌≡◌, ℕ, ◌+◌, ◌^◌, ◌<◌, true, false, List, length, map, None}
 use Rattle.std.specs.List.{flat_map, AllByRecursion}
 use Rattle.c2_spec.specs.Bmff.Boxes.{Box, HasRoots, box_bytes, box_len, most_roots}
 use Rattle.c2_spec.specs.Bmff.Cover.{IsBmffCover}

@@ -4,7 +4,9 @@ ghost use Rattle.c2_films.specs.Films.{BindingHasOneLength, FilmBaseIsItsBase, F
 ghost use Rattle.c2_films.specs.Fresh.{FreshFilmMeets};
 ghost use Rattle.c2_films.specs.Over.{FilmOverStoreMeets};
 
-use c2_assertion::{a_written_bmff_hash_is_read, written_items_are_in_order, written_items_have_plain_keys};
+use c2_assertion::{
+    a_written_bmff_hash_is_read, written_items_are_in_order, written_items_have_plain_keys,
+};
 use c2_boxed::{a_base_has_no_store, a_put_store_is_found, a_put_store_is_not_covered};
 use c2_carried::a_valid_store_is_carried;
 use c2_cbor::{round_trip, sorting_keeps_the_length};

@@ -1,7 +1,7 @@
 -- A new store of a definition alone meets the rules, apart from those on its verdict and its binding; and a file with such a store
 -- meets all but verdicts where the binding is met.
 use Rattle.std.specs.Prelude.{IfSome, filter, option_and_then, option_to_list, ◌&&◌}
-use Rattle.std.proofs.Common.{◌≡◌, ◌⊎◌, inl, inr, ℕ, suc, ◌+◌, ◌<◌, ◌≤◌, true, false, cond, List, [], ◌∷◌, ◌++◌, length, map, Option, Some, None, Ok, slice_get, refl, sym, ap, ◌∙◌, subst, arith, codes, lit<, lit≤}
+use Rattle.std.proofs.Common.{◌≡◌, ◌⊎◌, inl, inr, ℕ, suc, ◌+◌, ◌≤◌, true, false, cond, List, [], ◌∷◌, ◌++◌, length, map, Option, Some, None, Ok, slice_get, refl, sym, ap, ◌∙◌, subst, arith, codes, lit<, lit≤}
 use Rattle.std.specs.declared.result.Result.{Result}
 use Rattle.std.specs.Bool.{MatchBool}
 use Rattle.std.specs.List.{AllByRecursion, AllZip, list_any}
