@@ -10,8 +10,8 @@ ghost use Rattle.c2_paths.specs.Exclusions.{byte_test};
 
 use c2_base::limits::MAX_EXCLUSIONS;
 use c2_base::{Blob, NoMemory, Range, Ranges, Text};
-use c2_paths::{ByteTests, Exclusion, Exclusions, Path, read_path};
 use c2_cbor::{Cbor, field};
+use c2_paths::{ByteTests, Exclusion, Exclusions, Path, read_path};
 use c2_spec::FieldError;
 use std::alloc::Global;
 use std::marker::Model;

@@ -9,8 +9,8 @@ ghost use Rattle.c2_assertion.specs.Written.{bmff_hash_item, exclusion_item, par
 use crate::bmff_hash::BmffHash;
 use crate::fields_written::{add_alg, add_field, byte_string};
 use c2_base::{Blob, NoMemory, Range, Ranges, Text};
-use c2_paths::{ByteTests, Exclusion};
 use c2_cbor::Cbor;
+use c2_paths::{ByteTests, Exclusion};
 use std::alloc::Global;
 
 // The item of a byte test.

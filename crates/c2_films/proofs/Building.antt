@@ -18,7 +18,7 @@ use Rattle.c2_spec.specs.declared.kinds.TheConstants.{JUMB}
 use Rattle.c2_spec.proofs.BmffOneList.{roots_once}
 use Rattle.c2_spec.proofs.JumbfHeads.{IsHeaded, box_headed}
 use Rattle.c2_boxed.specs.Laws.{BuiltTextIsCovered, CanTake, CoverIsBuiltText, HasBuiltCover, HoldsNewStore, StoreIsNotCovered, StoreIsPutIn, file_with}
-use Rattle.c2_boxed.specs.Writing.{IsBoxStore, built_text, c2pa_box, c2pa_frame_len, insert_place, with_store}
+use Rattle.c2_spec.specs.Bmff.Writing.{IsBoxStore, built_text, c2pa_box, c2pa_frame_len, insert_place, with_store}
 use Rattle.c2_layout.specs.Built.{HasDigestLen, StoreSizesAreSame, no_digest, zero_digest}
 use Rattle.c2_layout.specs.FreshBoxes.{store_box, trees_then}
 use Rattle.c2_layout.specs.Store.{Content, new_manifest, new_store}

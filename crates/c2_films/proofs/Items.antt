@@ -12,7 +12,7 @@ use Rattle.c2_spec.specs.Cbor.Item.{Item, Pairs, bytes, no_pairs, pair, text}
 use Rattle.c2_spec.specs.Cbor.Plain.{HasPlainKeys}
 use Rattle.c2_spec.specs.Digest.{digest_len}
 use Rattle.c2_spec.specs.declared.digest.Alg.TheVariants.{Sha256}
-use Rattle.c2_boxed.specs.Writing.{all_of, built_exclusions, mfra_kind}
+use Rattle.c2_spec.specs.Bmff.Writing.{all_of, built_exclusions, mfra_kind}
 use Rattle.c2_assertion.specs.ReadBack.{IsReadable}
 use Rattle.c2_assertion.specs.Written.{bmff_hash_item, exclusion_item, exclusions_item}
 use Rattle.c2_layout.proofs.GoodItems.{Good, RoundTrip, good_read}

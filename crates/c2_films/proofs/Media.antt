@@ -9,7 +9,7 @@ use Rattle.c2_spec.specs.Bmff.Store.{is_c2pa_box, is_store_box}
 use Rattle.c2_spec.specs.Container.{begins_jpeg, is_bmff}
 use Rattle.c2_spec.specs.PutIn.{put_in}
 use Rattle.c2_boxed.specs.Laws.{file_with}
-use Rattle.c2_boxed.specs.Writing.{AreBaseRoots, IsBmffBase, base_roots, before_mfra, c2pa_box, freed, insert_place, is_file_end, last_mfra, same, with_store, without}
+use Rattle.c2_spec.specs.Bmff.Writing.{AreBaseRoots, IsBmffBase, base_roots, before_mfra, c2pa_box, freed, insert_place, is_file_end, last_mfra, same, with_store, without}
 
 -- ---- the first two bytes
 

@@ -26,7 +26,7 @@ use Rattle.c2_rules.specs.Ingredients.{assertion_uri}
 use Rattle.c2_rules.specs.Opened.{IsBoxTree, IsManifestStore, IsManifestTree, IsOpened, Opens}
 use Rattle.c2_rules.specs.Rules as rule
 use Rattle.c2_boxed.specs.Laws.{BaseHasNoStore, HasBuiltCover, HoldsNewStore}
-use Rattle.c2_boxed.specs.Writing.{built_text, insert_place, with_store}
+use Rattle.c2_spec.specs.Bmff.Writing.{built_text, insert_place, with_store}
 use Rattle.c2_layout.specs.Built.{HasDigestLen}
 use Rattle.c2_layout.specs.Fresh.{GivesDigests, Meets}
 use Rattle.c2_layout.specs.Store.{Content}

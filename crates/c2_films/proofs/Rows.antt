@@ -7,7 +7,7 @@ use Rattle.c2_base.specs.declared.media.MediaError.TheVariants.{BadBox}
 use Rattle.c2_spec.specs.Bmff.Boxes.{Box, short, to_end, box_bytes, box_len, boxes_len}
 use Rattle.c2_spec.specs.Cbor.Deterministic.{shortest_head}
 use Rattle.c2_spec.specs.Jumbf.Tree.{Tree, tree_bytes}
-use Rattle.c2_boxed.specs.Writing.{base_roots, built_text, c2pa_box, freed, insert_place, place_without}
+use Rattle.c2_spec.specs.Bmff.Writing.{base_roots, built_text, c2pa_box, freed, insert_place, place_without}
 use Rattle.c2_definition.specs.declared.types.Definition.{Definition}
 use Rattle.c2_layout.specs.Built.{no_digest, zero_digest}
 use Rattle.c2_layout.specs.Fresh.{fresh_content}

@@ -14,7 +14,7 @@ use Rattle.c2_spec.specs.Jumbf.Tree.{Tree, tree_bytes}
 use Rattle.c2_spec.specs.PutIn.{put_in, taken_out}
 use Rattle.c2_spec.specs.declared.digest.Alg.TheVariants.{Sha256}
 use Rattle.c2_boxed.specs.Laws.{file_with}
-use Rattle.c2_boxed.specs.Writing.{IsBmffBase, built_exclusions, built_text, c2pa_box, c2pa_frame_len, insert_place, open_end}
+use Rattle.c2_spec.specs.Bmff.Writing.{IsBmffBase, built_exclusions, built_text, c2pa_box, c2pa_frame_len, insert_place, open_end}
 use Rattle.c2_assertion.specs.Written.{bmff_hash_item}
 use Rattle.c2_definition.specs.declared.types.NewAssertion.{NewAssertion}
 use Rattle.c2_definition.specs.declared.types.Payload.TheVariants as payload

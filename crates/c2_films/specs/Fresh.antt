@@ -6,7 +6,7 @@ use Rattle.c2_spec.specs.C2pa.Sign1.{SignParts, SpellsMessage, question_of}
 use Rattle.c2_spec.specs.Container.{is_bmff}
 use Rattle.c2_spec.specs.declared.digest.Alg.{Alg}
 use Rattle.c2_spec.specs.declared.digest.Alg.TheVariants.{Sha256}
-use Rattle.c2_boxed.specs.Writing.{built_text, insert_place}
+use Rattle.c2_spec.specs.Bmff.Writing.{built_text, insert_place}
 use Rattle.c2_layout.specs.Fresh.{GivesDigests, IsFresh, Meets}
 use Rattle.c2_layout.specs.Store.{Content, new_claim}
 use Rattle.c2_layout.specs.Written.{CanBeWritten}

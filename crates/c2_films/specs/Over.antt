@@ -14,7 +14,7 @@ use Rattle.c2_spec.specs.declared.panel.Verdict.{Verdict}
 use Rattle.c2_rules.specs.CheckList.{IsValid, StoreReading, questions}
 use Rattle.c2_rules.specs.Opened.{IsOpened}
 use Rattle.c2_rules.specs.Validated.{IsFileReading}
-use Rattle.c2_boxed.specs.Writing.{IsBmffBase, insert_place}
+use Rattle.c2_spec.specs.Bmff.Writing.{IsBmffBase, insert_place}
 use Rattle.c2_definition.specs.declared.types.Definition.{Definition}
 use Rattle.c2_layout.specs.Fresh.{GivesDigests, Meets}
 use Rattle.c2_layout.specs.Store.{Content}

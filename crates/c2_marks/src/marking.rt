@@ -249,11 +249,7 @@ pub fn add_sorted(ranges: &mut Vec<Range>, others: &mut Vec<Range>) -> Result<()
 
 /// Joins these ranges where there are `full` of them, and gives how many there may be before they are joined again: no fewer than twice
 /// as many as are left.
-pub fn join_full(
-    alloc: Global,
-    ranges: &mut Vec<Range>,
-    full: usize,
-) -> Result<usize, NoMemory>
+pub fn join_full(alloc: Global, ranges: &mut Vec<Range>, full: usize) -> Result<usize, NoMemory>
     requires fit { All (IsRangeWithin (2 ^ 64 - 1)) ranges.old.items }
     ensures same { OnOk result ((i : ℕ)
         → is_excluded ranges.new.items i ≡ is_excluded ranges.old.items i) }

@@ -4,7 +4,9 @@ use crate::read::bytes_of;
 use crate::settings::{Settings, range_of};
 use crate::trouble::Trouble;
 use c2_base::{Blob, MemSource, Range, Ranges};
-use c2_bmff::{ByteTests, Exclusion, insert_place, locate, match_path, match_paths, read_path, roots};
+use c2_bmff::{
+    ByteTests, Exclusion, insert_place, locate, match_path, match_paths, read_path, roots,
+};
 use std::alloc::Global;
 
 /// Whether a text has the form of a path.

@@ -30,8 +30,9 @@ returns-in-Err-clause-refused g c file known =
 -- root boxes that fill the source have headers, and fill a file
 pub invariant_of-result : goal.invariant_of-result
 invariant_of-result g c = (
-    fill_headed c.in_ok-size.size 0 c.in-Ok.rows.items c.in-Ok.ensures.fill,
-    record { size = c.in_ok-size.size; fill = c.in-Ok.ensures.fill; small = omega (arith, c.if-size-ge-FILE_LEN_LIMIT.false) })
+  fill_headed c.in_ok-size.size 0 c.in-Ok.rows.items c.in-Ok.ensures.fill,
+  record { size = c.in_ok-size.size; fill = c.in-Ok.ensures.fill; small = omega (arith, c.if-size-ge-FILE_LEN_LIMIT.false) },
+)
 
 -- and end in it
 pub returns-in-Ok-clause-inside : goal.returns-in-Ok-clause-inside
