@@ -1,5 +1,5 @@
 -- The built film is the one that its definition asks for, and holds the new store.
-use Rattle.std.proofs.Common.{◌≡◌, ℕ, ◌+◌, ◌^◌, ◌<◌, ◌≤◌, Bool, true, false, cond, not, List, [], ◌∷◌, ◌++◌, length, replicate, None, Some, refl, sym, ap, ◌∙◌, subst, arith, codes, lit<}
+use Rattle.std.proofs.Common.{◌≡◌, ℕ, ◌+◌, ◌≤◌, Bool, true, false, cond, not, List, ◌++◌, length, replicate, None, Some, refl, sym, ap, ◌∙◌, subst, arith, codes, lit<}
 use Rattle.std.proofs.lemmas.List.{length-replicate}
 use Rattle.std.specs.Prelude.{nat_lt}
 use Rattle.c2_base.specs.declared.limits.TheConstants.{MAX_STORE_LEN}
@@ -12,7 +12,6 @@ use Rattle.c2_spec.specs.Jumbf.Tree.{Tree, Trees, boxed, description_bytes, tree
 use Rattle.c2_spec.specs.Jumbf.Writing.{fresh_description}
 use Rattle.c2_spec.specs.PutIn.{put_in, taken_out}
 use Rattle.c2_spec.specs.declared.digest.Alg.TheVariants.{Sha256}
-use Rattle.c2_spec.specs.declared.jumbf.JumbfError.{JumbfError}
 use Rattle.c2_spec.specs.declared.jumbf.JumbfError.TheVariants.{BadHead, Overrun}
 use Rattle.c2_spec.specs.declared.kinds.TheConstants.{JUMB}
 use Rattle.c2_spec.proofs.BmffOneList.{roots_once}
@@ -23,7 +22,7 @@ use Rattle.c2_layout.specs.Built.{HasDigestLen, StoreSizesAreSame, no_digest, ze
 use Rattle.c2_layout.specs.FreshBoxes.{store_box, trees_then}
 use Rattle.c2_layout.specs.Store.{Content, new_manifest, new_store}
 use Rattle.c2_layout.proofs.StoreSize.{KeepsLength}
-use Rattle.c2_films.specs.Films.{AreOthers, CanBuildFilm, FilmBaseIsItsBase, FilmBaseIsLeft, FilmHasItsStore, FilmIsBuilt, FilmIsOne, FilmSizeIsFixed, film_binding, film_file, film_len, film_store, film_store_size}
+use Rattle.c2_films.specs.Films.{AreOthers, CanBuildFilm, FilmBaseIsItsBase, FilmBaseIsLeft, FilmHasItsStore, FilmIsBuilt, FilmIsOne, FilmSizeIsFixed, film_binding, film_file, film_store, film_store_size}
 use Rattle.c2_films.proofs.Items.{binding_len}
 
 -- ---- sizes

@@ -1,6 +1,6 @@
 -- The binding of a new BMFF file: how long its item is, and that it is read as it was written.
 use Rattle.std.specs.Prelude.{All}
-use Rattle.std.proofs.Common.{◌≡◌, ◌↔◌, ℕ, ◌+◌, ◌≤◌, List, [], ◌∷◌, ◌++◌, length, None, Some, Ok, refl, ap, ◌∙◌, subst, arith, codes, length-append, lit<, lit≤}
+use Rattle.std.proofs.Common.{◌≡◌, ◌↔◌, ℕ, ◌+◌, ◌≤◌, List, [], ◌∷◌, ◌++◌, length, Ok, refl, ap, ◌∙◌, subst, arith, codes, length-append, lit<, lit≤}
 use Rattle.std.proofs.lemmas.List.Elements.{All-cons, All-nil}
 use Rattle.c2_spec.specs.Bmff.Boxes.{ftyp_kind, uuid_kind}
 use Rattle.c2_spec.specs.Bmff.Hash.{BmffHash, bmff_hash_of}
@@ -19,7 +19,7 @@ use Rattle.c2_layout.proofs.GoodItems.{Good, RoundTrip, good_read}
 use Rattle.c2_layout.proofs.Spelled.{Fits}
 use Rattle.c2_layout.proofs.StoreSize.{KeepsLength}
 use Rattle.c2_layout.proofs.Uris.{plain_text}
-use Rattle.c2_films.specs.Films.{BindingHasOneLength, film_binding, film_hash}
+use Rattle.c2_films.specs.Films.{BindingHasOneLength, film_hash}
 
 -- ---- how long it is
 

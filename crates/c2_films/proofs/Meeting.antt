@@ -28,7 +28,7 @@ use Rattle.c2_rules.specs.Rules as rule
 use Rattle.c2_boxed.specs.Laws.{BaseHasNoStore, HasBuiltCover, HoldsNewStore}
 use Rattle.c2_spec.specs.Bmff.Writing.{built_text, insert_place, with_store}
 use Rattle.c2_layout.specs.Built.{HasDigestLen}
-use Rattle.c2_layout.specs.Fresh.{GivesDigests, Meets}
+use Rattle.c2_layout.specs.Fresh.{Meets}
 use Rattle.c2_layout.specs.Store.{Content}
 use Rattle.c2_layout.specs.Unbound.{BoundFileMeets, FreshStoreMeets, IsKnownBinding, IsMet, MeetsUnbound}
 use Rattle.c2_layout.specs.Written.{CanBeWritten}
