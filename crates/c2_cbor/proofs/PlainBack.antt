@@ -1,5 +1,5 @@
 -- An item whose sorted form has distinct keys is plain.
-use Rattle.std.proofs.Common.{◌≡◌, ◌↔◌, ℕ, ◌≤◌, ◌++◌, List, [], length, take, refl, sym, ap, ◌∙◌, subst, append-nil}
+use Rattle.std.proofs.Common.{◌≡◌, ◌↔◌, ℕ, List, [], length, refl, sym, subst}
 use Rattle.std.specs.Ordering.{nat_cmp, match_ordering}
 use Rattle.std.specs.declared.cmp.Ordering.{Ordering}
 use Rattle.std.specs.declared.cmp.Ordering.TheVariants.{Less, Equal, Greater}
@@ -7,7 +7,6 @@ use Rattle.std.specs.Cmp.Lexicographic.{slice_cmp}
 use Rattle.c2_spec.specs.Cbor.Item.{Item, uint, nint, bytes, text, list, dict, tag, simple, half, single, double, Items, no_items, item, Pairs, no_pairs, pair}
 use Rattle.c2_spec.specs.Cbor.Deterministic.{preferred, insert_pair, sorted, sorted_items, sorted_pairs, deterministic}
 use Rattle.std.proofs.lemmas.List.{take_at}
-use Rattle.c2_spec.specs.Cbor.Answers.{BeginsWith}
 use Rattle.c2_spec.specs.Cbor.Fields.{HasItem}
 use Rattle.c2_spec.specs.Cbor.Legal.{IsLegal, IsNew, HasDistinctKeys, ItemsHaveDistinctKeys, PairsHaveDistinctKeys}
 use Rattle.c2_spec.specs.Cbor.Spelling.{Spells}

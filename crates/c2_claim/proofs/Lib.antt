@@ -1,4 +1,4 @@
 pub mod Telling
 pub mod Absent
-pub mod Taking
 pub mod Written
+pub mod Apart

@@ -1,2 +1,3 @@
 pub mod Unread
 pub mod Written
+pub mod Apart

@@ -1,13 +1,10 @@
 -- The item that a claim is written as (C2PA Technical Specification 2.x, "Claims"): its deterministic bytes are written. A field that
 -- is absent is left out, and so is an empty list of redactions. The fields of each map stand in deterministic order.
-use Rattle.std.specs.Prelude.{ℕ, List, [], ◌∷◌, ◌++◌, codes, map, Some, None}
-use Rattle.std.specs.declared.option.Option.{Option}
-use Rattle.c2_spec.specs.Cbor.Item.{Item, bytes, dict, list, text}
+use Rattle.std.specs.Prelude.{ℕ, List, [], ◌∷◌, ◌++◌, codes, map, Some}
+use Rattle.c2_spec.specs.Cbor.Item.{Item, dict, list, text}
 use Rattle.c2_spec.specs.Cbor.Writing.{field, field_if, ref_item}
 use Rattle.c2_spec.specs.Cbor.View.{items_of, pairs_of}
 use Rattle.c2_spec.specs.C2pa.Uri.{uri_text, signature}
-use Rattle.c2_spec.specs.declared.cbor.Cbor.{Cbor}
-use Rattle.c2_spec.specs.declared.cbor.Ref.{Ref}
 use Rattle.c2_spec.specs.declared.claim.Claim.{Claim}
 use Rattle.c2_claim.specs.declared.writing.ClaimParts.{ClaimParts}
 

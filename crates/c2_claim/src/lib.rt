@@ -4,7 +4,6 @@
 #![tactic(auto)]
 
 mod reading;
-mod redactions;
 mod writing;
 
 pub use c2_spec::{Claim, ClaimError, ClaimField};

@@ -1,4 +1,4 @@
-use Rattle.std.proofs.Common.{◌≡◌, sym, ap, ◌∙◌}
+use Rattle.std.proofs.Common.{sym, ap, ◌∙◌}
 use Rattle.c2_spec.specs.Cbor.Item.{dict}
 use Rattle.c2_spec.specs.Cbor.View.{view, pairs_view}
 use Rattle.c2_cbor.proofs.Views.{view-Map}
