@@ -1,15 +1,12 @@
 -- What a chain says of the manifests of its store, by what was read of them.
-use Rattle.std.proofs.Common.{◌≡◌, ℕ, zero, suc, ◌+◌, ◌<◌, ◌≤◌, ◌==◌, List, [], ◌∷◌, length, map, drop, get_or, Option, Some, None, Result, Ok, Err, IfOk, IfSome, slice_get, position, option_map, refl, sym, ap, ap₂, ◌∙◌, subst, arith}
-use Rattle.std.specs.List.{AllZip}
-use Rattle.std.proofs.lemmas.Option.{slice_get-map, slice_get-get_or, same_Some}
+use Rattle.std.proofs.Common.{◌≡◌, ℕ, zero, suc, ◌<◌, List, [], ◌∷◌, length, map, get_or, Option, Some, None, Result, Ok, Err, IfOk, IfSome, slice_get, refl, sym, ap, ap₂, ◌∙◌, subst}
+use Rattle.std.proofs.lemmas.Option.{slice_get-get_or, same_Some}
 use Rattle.c2_base.specs.declared.values.Question.{Question}
 use Rattle.c2_spec.specs.C2pa.Manifest.{Manifest, HasClaim}
 use Rattle.c2_spec.specs.declared.claim.Claim.{Claim}
 use Rattle.c2_spec.specs.declared.store.ManifestBoxes.{ManifestBoxes}
-use Rattle.c2_rules.specs.BoxPlaces.{BoxPlace, found_or, box_place_from}
 use Rattle.c2_rules.specs.Claims.{Chained, chained_of, HaveClaims}
 use Rattle.std.proofs.lemmas.List.{length-map}
-use Rattle.std.proofs.Math.ListN.{drop_of_length-le}
 use Rattle.c2_rules.specs.Questions.{HasQuestion, IsQuestionOf}
 use Rattle.c2_rules.specs.Readings.{Reading, IsReading, AreReadings, claim_in, question_in}
 use Rattle.c2_chain.specs.Kept.{IsChain}
@@ -112,38 +109,3 @@ pub value_of_chain : {E : Type 0} (v : Chained) (ms : List ManifestBoxes) (rs al
     → IfOk result (λ q. q ≡ question_in r) → IfOk result (λ found. IfSome (slice_get v.readings i) (λ x. found ≡ question_in x))
 value_of_chain {E} v ms rs all i r result is lt same at q =
     subst (λ (x : Chained). IfOk result (λ found. IfSome (slice_get x.readings i) (λ y. found ≡ question_in y))) is (question_value rs i r result (inside v ms rs all i r is lt same at) q)
-
--- ---- an assertion box by its index
-
--- from a place on, a store's manifests are the one at the place and those after it
-dropped : (ms : List ManifestBoxes) (i : ℕ) (m : ManifestBoxes) → slice_get ms i ≡ Some m → drop i ms ≡ m ∷ drop (i + 1) ms
-dropped [] i m at = absurd cc
-dropped (x ∷ ms) zero m at = ap (λ (y : ManifestBoxes). y ∷ ms) (same_Some x m at)
-dropped (x ∷ ms) (suc i) m at = let later : suc i + 1 ≡ suc (i + 1) = omega arith in dropped ms i m at ∙ ap (λ (n : ℕ). m ∷ drop n (x ∷ ms)) (sym later)
-
--- where a manifest's assertion boxes were found, the manifest is there and the boxes are its own
-some_boxes : (o : Option ManifestBoxes) (boxes : List ℕ) → Some boxes ≡ option_map (λ (m : ManifestBoxes). m.assertions) o → (m : ManifestBoxes) × (o ≡ Some m) × (boxes ≡ m.assertions)
-some_boxes None boxes at = absurd cc
-some_boxes (Some m) boxes at = (m, refl, same_Some boxes m.assertions at)
-
--- one manifest more was looked at
-pub looked_at : (ms : List ManifestBoxes) (i at : ℕ) (boxes : List ℕ) (o : Option ℕ) → Some boxes ≡ option_map (λ (m : ManifestBoxes). m.assertions) (slice_get ms i) → o ≡ position (λ (j : ℕ). j == at) boxes
-    → box_place_from i (drop i ms) at ≡ found_or i o (box_place_from (i + 1) (drop (i + 1) ms) at)
-looked_at ms i at boxes o there is =
-    let m = some_boxes (slice_get ms i) boxes there in
-    ap (λ (xs : List ManifestBoxes). box_place_from i xs at) (dropped ms i m.0 m.1)
-    ∙ ap (λ (x : Option ℕ). found_or i x (box_place_from (i + 1) (drop (i + 1) ms) at)) (ap (λ (bs : List ℕ). position (λ (j : ℕ). j == at) bs) (sym m.2) ∙ sym is)
-
--- a box index that stands among this manifest's boxes, and in no earlier one, has its place here
-pub found_here : (ms : List ManifestBoxes) (i at index : ℕ) (boxes : List ℕ) (o : Option ℕ) → box_place_from 0 ms at ≡ box_place_from i (drop i ms) at → Some boxes ≡ option_map (λ (m : ManifestBoxes). m.assertions) (slice_get ms i)
-    → o ≡ position (λ (j : ℕ). j == at) boxes → o ≡ Some index → Some (record { manifest = i; box = index }) ≡ box_place_from 0 ms at
-found_here ms i at index boxes o so_far there is some = sym (so_far ∙ looked_at ms i at boxes o there is ∙ ap (λ (x : Option ℕ). found_or i x (box_place_from (i + 1) (drop (i + 1) ms) at)) some)
-
--- a box index that isn't among this manifest's boxes has the place that the later manifests give it
-pub not_here : (ms : List ManifestBoxes) (i at : ℕ) (boxes : List ℕ) (o : Option ℕ) → box_place_from 0 ms at ≡ box_place_from i (drop i ms) at → Some boxes ≡ option_map (λ (m : ManifestBoxes). m.assertions) (slice_get ms i)
-    → o ≡ position (λ (j : ℕ). j == at) boxes → o ≡ None → box_place_from 0 ms at ≡ box_place_from (i + 1) (drop (i + 1) ms) at
-not_here ms i at boxes o so_far there is none = so_far ∙ looked_at ms i at boxes o there is ∙ ap (λ (x : Option ℕ). found_or i x (box_place_from (i + 1) (drop (i + 1) ms) at)) none
-
--- a box index that isn't among the boxes of any manifest has no place
-pub nowhere : (ms : List ManifestBoxes) (i at : ℕ) → length ms ≤ i → box_place_from 0 ms at ≡ box_place_from i (drop i ms) at → None ≡ box_place_from 0 ms at
-nowhere ms i at past so_far = sym (so_far ∙ ap (λ (xs : List ManifestBoxes). box_place_from i xs at) (drop_of_length-le ms past))

@@ -12,16 +12,15 @@ ghost use Rattle.c2_rules.specs.Readings.{AreReadings, question_in};
 ghost use Rattle.c2_rules.specs.Rules.{claim_tests};
 ghost use Rattle.c2_rules.specs.Tests.{first_failing};
 ghost use Rattle.c2_chain.specs.Checked.{HasPanel};
-ghost use Rattle.c2_chain.specs.Facts.{AreFacts};
+ghost use Rattle.c2_manifests.specs.Facts.{AreFacts};
 
 use crate::asking::{ChainError, own_question};
-use crate::facts::{Facts, facts_of_children};
-use crate::indices::{child_in, ingredient_in};
 use crate::manifest::{check_alone, check_place};
 use c2_base::{NoMemory, Question};
 use c2_hash::Hashing;
 use c2_judge::Judge;
 use c2_jumbf::Tree;
+use c2_manifests::{Facts, child_in, facts_of_children, ingredient_in};
 use c2_reading::{
     ReadManifests, a_reading_is_the_claim_and_the_question, is_reached, is_redacted, is_touched,
     manifests, one_question, reaches as is_below, read_claim_at, read_manifests,

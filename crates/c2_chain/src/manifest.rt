@@ -8,22 +8,18 @@ ghost use Rattle.c2_rules.specs.Rules as rules;
 ghost use Rattle.c2_rules.specs.Seen.{seen_at};
 ghost use Rattle.c2_rules.specs.Tests.{each, over_all, first_failing};
 ghost use Rattle.c2_chain.specs.Checked.{HasPanel, from_redactions, from_boxes, from_entries, from_bindings};
-ghost use Rattle.c2_chain.specs.Facts.{AreFacts};
+ghost use Rattle.c2_manifests.specs.Facts.{AreFacts};
 
 use crate::asking::{ChainError, own_question, verdict_of};
-use crate::bindings::check_bindings;
-use crate::boxes::check_boxes;
-use crate::claims::check_claim;
-use crate::entries::check_entries;
-use crate::facts::{Facts, facts_below};
-use crate::forms::check_forms;
-use crate::ingredients::check_ingredients;
-use crate::labelled::{Labelled, owner, with_labels};
-use crate::redactions::check_own_redactions;
 use crate::verdict::check_verdict;
 use c2_base::NoMemory;
+use c2_entries::{
+    Labelled, check_boxes, check_claim, check_entries, check_own_redactions, owner, with_labels,
+};
 use c2_hash::Hashing;
+use c2_ingredients::{check_bindings, check_forms, check_ingredients};
 use c2_judge::{Judge, Verdict};
+use c2_manifests::{Facts, facts_below};
 use c2_reading::{Kept, ReadManifests, boxes, manifests};
 use c2_rules::Failing;
 use std::alloc::Global;

@@ -1,0 +1,4 @@
+pub mod BoundLemmas
+pub mod ChildLemmas
+pub mod LabelLemmas
+pub mod StandingLemmas
