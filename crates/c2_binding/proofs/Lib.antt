@@ -20,3 +20,5 @@ mod OneComparison
 mod BindingRows
 mod Decided
 mod EachComparison
+pub mod Places
+pub mod Unwritten

@@ -8,11 +8,11 @@ use Rattle.c2_spec.specs.C2pa.Sign1.{SignParts, SpellsMessage}
 use Rattle.c2_spec.specs.Container.{IsLocated}
 use Rattle.c2_spec.specs.Located.{here, refused}
 use Rattle.c2_spec.specs.declared.reason.Reason.{Reason}
-use Rattle.c2_validate.specs.Opened.{IsFound, IsRead}
-use Rattle.c2_validate.specs.declared.types.Opened.{Opened}
-use Rattle.c2_validate.specs.declared.types.Opened.TheVariants as opened
-use Rattle.c2_validate.specs.declared.types.StoreRead.{StoreRead}
-use Rattle.c2_validate.specs.declared.types.StoreRead.TheVariants as read
+use Rattle.c2_media.specs.Opened.{IsFound, IsRead}
+use Rattle.c2_media.specs.declared.types.Opened.{Opened}
+use Rattle.c2_media.specs.declared.types.Opened.TheVariants as opened
+use Rattle.c2_media.specs.declared.types.StoreRead.{StoreRead}
+use Rattle.c2_media.specs.declared.types.StoreRead.TheVariants as read
 use Rattle.c2_definition.specs.DefinitionFile.{Agrees, IsDefinition, definition_in, definition_of}
 use Rattle.c2_definition.specs.declared.error.DefinitionError.{DefinitionError}
 use Rattle.c2_definition.specs.declared.error.DefinitionError.TheVariants as error

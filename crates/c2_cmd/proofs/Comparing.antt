@@ -15,8 +15,8 @@ use Rattle.c2_binding.specs.declared.compared.Compared.{Compared}
 use Rattle.c2_binding.specs.declared.compared.Compared.TheVariants as compared
 use Rattle.c2_binding.specs.declared.compared.Side.TheVariants.{First, Second}
 use Rattle.c2_compare.specs.Comparing.{HasAsked, IsCompareCause, IsCompared}
-use Rattle.c2_compare.specs.declared.error.CompareError.{CompareError}
-use Rattle.c2_compare.specs.declared.error.CompareError.TheVariants.{ReadFault, WriteFault, JudgeFault, NoMemory}
+use Rattle.c2_evidence.specs.declared.error.CompareError.{CompareError}
+use Rattle.c2_evidence.specs.declared.error.CompareError.TheVariants.{ReadFault, WriteFault, JudgeFault, NoMemory}
 use Rattle.c2_texts.specs.Texts.{different_line, not_accepted_line, same_line}
 use Rattle.c2_words.specs.CommandLine.{comparing_roles, reads_media, reads_second, reads_third, writes_file}
 use Rattle.c2_cmd.specs.Outcome.{Outcome, Asks, CommandAsks, IsCommandOutcome, IsCompareOutcome, IsOutcome, compare_outcome, inputs, reports, uses_media, uses_out, uses_second, uses_third}

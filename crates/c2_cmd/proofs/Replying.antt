@@ -14,11 +14,11 @@ use Rattle.c2_spec.specs.Container.{IsLocated}
 use Rattle.c2_spec.specs.Jumbf.Tree.{Tree}
 use Rattle.c2_spec.specs.Located.{Opening, Located, refused, absent, here}
 use Rattle.c2_rules.specs.Opened.{IsBoxTree, IsBoxed, IsManifestStore}
-use Rattle.c2_validate.specs.Opened.{IsFound, IsRead, tree_of}
-use Rattle.c2_validate.specs.declared.types.Opened.{Opened}
-use Rattle.c2_validate.specs.declared.types.Opened.TheVariants as opened
-use Rattle.c2_validate.specs.declared.types.StoreRead.{StoreRead}
-use Rattle.c2_validate.specs.declared.types.StoreRead.TheVariants as read
+use Rattle.c2_media.specs.Opened.{IsFound, IsRead, tree_of}
+use Rattle.c2_media.specs.declared.types.Opened.{Opened}
+use Rattle.c2_media.specs.declared.types.Opened.TheVariants as opened
+use Rattle.c2_media.specs.declared.types.StoreRead.{StoreRead}
+use Rattle.c2_media.specs.declared.types.StoreRead.TheVariants as read
 use Rattle.c2_cmd.specs.Outcome.{Outcome, Inputs, reports, Reports, IsListing, IsMediaOutcome, IsCommandOutcome, IsOutcome, inputs, uses_media}
 use Rattle.c2_words.specs.CommandLine.{reads_media}
 use Rattle.c2_cmd.specs.Reply.{outcome_of, Begins, Completes, StandsFor, IsShort, IsStored, IsFoundOutcome, IsMediaCause}

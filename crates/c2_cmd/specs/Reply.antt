@@ -23,10 +23,10 @@ use Rattle.c2_rules.specs.Validated.{AreQuestions, OpenedAsks}
 use Rattle.c2_texts.specs.Texts.{refused_line, none_line}
 use Rattle.c2_build.specs.declared.error.BuildError.{BuildError}
 use Rattle.c2_build.specs.declared.error.BuildError.TheVariants as build_error
-use Rattle.c2_compare.specs.declared.error.CompareError.{CompareError}
-use Rattle.c2_compare.specs.declared.error.CompareError.TheVariants as compare_error
-use Rattle.c2_validate.specs.declared.error.ValidateError.{ValidateError}
-use Rattle.c2_validate.specs.declared.error.ValidateError.TheVariants as error
+use Rattle.c2_evidence.specs.declared.error.CompareError.{CompareError}
+use Rattle.c2_evidence.specs.declared.error.CompareError.TheVariants as compare_error
+use Rattle.c2_media.specs.declared.error.ValidateError.{ValidateError}
+use Rattle.c2_media.specs.declared.error.ValidateError.TheVariants as error
 use Rattle.c2_cmd.specs.Outcome.{Outcome, reports, Reports, IsListing, IsMediaOutcome, IsQuestioned, refused_build, verdict_lines}
 use Rattle.c2_cmd.specs.Run.{SinkState, Delivers, Finishes, Leaves}
 use Rattle.c2_cmd.specs.declared.open.Stored.{Stored}

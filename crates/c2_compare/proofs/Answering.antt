@@ -13,95 +13,27 @@ use Rattle.c2_rules.specs.declared.answer.Answer.{Answer}
 use Rattle.c2_rules.specs.declared.answer.Answer.TheVariants as answer
 use Rattle.c2_rules.specs.declared.answer.Summary.{Summary}
 use Rattle.c2_rules.proofs.AskingLemmas.{asked_append, failed_append, failed_more, front_all, front_append, front_more}
-use Rattle.c2_binding.specs.Accepted.{HaveOneClaim, IsAccepted, summary_in}
-use Rattle.c2_binding.specs.Comparison.{IsComparison, SecondAsks, evidence_kind, is_valid}
-use Rattle.c2_binding.specs.Differences.{first_difference}
-use Rattle.c2_binding.specs.Evidence.{ListPair, IsReal}
-use Rattle.c2_binding.specs.EvidenceText.{evidence_text}
+use Rattle.c2_binding.specs.Accepted.{IsAccepted}
+use Rattle.c2_binding.specs.Comparison.{IsComparison, SecondAsks, is_valid}
 use Rattle.c2_binding.specs.declared.compared.Compared.{Compared}
 use Rattle.c2_binding.specs.declared.compared.Compared.TheVariants as compared
-use Rattle.c2_binding.specs.declared.compared.EvidenceKind.{EvidenceKind}
 use Rattle.c2_binding.specs.declared.compared.Side.TheVariants.{First, Second}
-use Rattle.c2_validate.specs.Opened as opened
+use Rattle.c2_media.specs.Opened as opened
 use Rattle.c2_validate.specs.Validation as validation
-use Rattle.c2_validate.specs.declared.error.ValidateError.{ValidateError}
-use Rattle.c2_validate.specs.declared.error.ValidateError.TheVariants as error
-use Rattle.c2_compare.specs.Comparing.{HasAsked, IsCompareCause, IsCompared, IsComparedAs, fault_of}
-use Rattle.c2_compare.specs.Covered as covered
-use Rattle.c2_compare.specs.Settled.{HaveFirst, IsSettled}
+use Rattle.c2_media.specs.declared.error.ValidateError.{ValidateError}
+use Rattle.c2_media.specs.declared.error.ValidateError.TheVariants as error
+use Rattle.c2_compare.specs.Comparing.{HasAsked, IsCompareCause, IsCompared, fault_of}
+use Rattle.c2_binding.proofs.Unwritten.{prefix_none, then_nothing}
+use Rattle.c2_evidence.specs.Covered as covered
+use Rattle.c2_settling.specs.Opening.{IsComparedAs}
 use Rattle.c2_compare.specs.declared.checked.Checked.{Checked}
-use Rattle.c2_compare.specs.declared.error.CompareError.{CompareError}
-use Rattle.c2_compare.specs.declared.error.CompareError.TheVariants.{ReadFault, WriteFault, JudgeFault, NoMemory}
-use Rattle.c2_compare.specs.declared.settling.Settled.TheVariants.{DifferentClaims, Evidence, Same}
-use Rattle.c2_compare.proofs.Written.{prefix_none, then_nothing}
+use Rattle.c2_evidence.specs.declared.error.CompareError.{CompareError}
+use Rattle.c2_evidence.specs.declared.error.CompareError.TheVariants.{ReadFault, WriteFault, JudgeFault, NoMemory}
 
 module _ (hash : Alg → List ℕ → List ℕ) (said : Question → Verdict) (first second : List ℕ) where
-  -- the first difference of accepted files with one claim is real
-  abbrev pub RealLaw : Type 0
-  RealLaw = (s t : StoreReading) → HaveOneClaim hash said first second s t → (p : ListPair) → first_difference s t ≡ Some p → IsReal hash said p
-
   -- two files come to one thing at most
   abbrev pub OneLaw : Type 0
   OneLaw = (a b : Compared) (t u : List ℕ) → IsComparison hash said first second a t → IsComparison hash said first second b u → (a ≡ b) × (t ≡ u)
-
-  -- ---- by two stores
-
-  module _ (s t : StoreReading) (h : IsAccepted hash said first s) (k : IsAccepted hash said second t) where
-    -- evidence is what they come to
-    evidence_is : RealLaw → (p : ListPair) → HaveFirst s t p → (kind : EvidenceKind) → kind ≡ evidence_kind p.bound_by
-        → IsComparison hash said first second (compared.Evidence kind) (evidence_text p)
-    evidence_is law p f kind is =
-        let one : HaveOneClaim hash said first second s t = record { first_accepted = h; second_accepted = k; claims = f.claims } in
-        record {
-          store = s;
-          other = t;
-          one_claim = one;
-          differ = f.differ;
-          pair = p;
-          is_first = f.is_first;
-          is_real = law s t one p f.is_first;
-          is_kind = is;
-          is_text = refl;
-        }
-
-    -- the active claims differ
-    pub different : (old new : Option (List ℕ)) → IsSettled s t old new (Ok DifferentClaims)
-        → IsComparedAs hash said first second old new (Ok compared.DifferentClaims)
-    different old new d = (
-      [],
-      (record { store = s; other = t; first_accepted = h; second_accepted = k; differ = d.0 }, refl),
-      d.1 ∙ then_nothing old,
-    )
-
-    -- there is evidence
-    pub evidence : RealLaw → (kind : EvidenceKind) (old new : Option (List ℕ)) → IsSettled s t old new (Ok (Evidence kind))
-        → IsComparedAs hash said first second old new (Ok (compared.Evidence kind))
-    evidence law kind old new d = (evidence_text d.0, evidence_is law d.0 d.1 kind d.2, d.3)
-
-    -- all is equal
-    pub same : (summary : Summary) (old new : Option (List ℕ)) → summary ≡ summary_in first s h.opened
-        → IsSettled s t old new (Ok Same) → IsComparedAs hash said first second old new (Ok (compared.Same summary))
-    same summary old new is d = (
-      [],
-      (
-        record {
-          store = s;
-          other = t;
-          one_claim = record { first_accepted = h; second_accepted = k; claims = d.0 };
-          same = d.1;
-          is_summary = is;
-        },
-        refl,
-      ),
-      d.2 ∙ then_nothing old,
-    )
-
-    -- the call failed
-    pub failed : RealLaw → (e : CompareError) (old new : Option (List ℕ)) → IsSettled s t old new (Err e)
-        → IsComparedAs hash said first second old new (Err e)
-    failed law e old new (inl unchanged) = inl unchanged
-    failed law e old new (inr w) =
-        inr (compared.Evidence (evidence_kind w.0.bound_by), evidence_text w.0, evidence_is law w.0 w.1 (evidence_kind w.0.bound_by) refl, w.2)
 
   -- ---- files that aren't accepted
 

@@ -1,10 +1,2 @@
 pub mod Answering
-pub mod EvidenceLines
-pub mod Found
 pub mod JudgesLater
-pub mod OpenedStores
-pub mod Outcomes
-pub mod Placed
-pub mod Sameness
-pub mod TextLines
-pub mod Written

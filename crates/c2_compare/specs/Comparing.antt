@@ -10,23 +10,20 @@ use Rattle.c2_spec.specs.declared.digest.Alg.{Alg}
 use Rattle.c2_spec.specs.declared.panel.Verdict.{Verdict}
 use Rattle.c2_rules.specs.Asking.{HaveAsked, HaveAskedPrefix, HaveFailed}
 use Rattle.c2_rules.specs.Validated.{IsAnswer}
-use Rattle.c2_rules.specs.CheckList.{StoreReading}
 use Rattle.c2_rules.specs.declared.answer.Answer.{Answer}
 use Rattle.c2_rules.specs.declared.answer.Answer.TheVariants as answer
-use Rattle.c2_validate.specs.Opened.{HasRootsInside, IsFound}
-use Rattle.c2_validate.specs.declared.error.ValidateError.{ValidateError}
-use Rattle.c2_validate.specs.declared.error.ValidateError.TheVariants as error
-use Rattle.c2_validate.specs.declared.types.Media.{Media}
-use Rattle.c2_validate.specs.declared.types.Opened.TheVariants as opened
-use Rattle.c2_binding.specs.Accepted.{IsAccepted}
+use Rattle.c2_media.specs.Opened.{HasRootsInside, IsFound}
+use Rattle.c2_media.specs.declared.error.ValidateError.{ValidateError}
+use Rattle.c2_media.specs.declared.error.ValidateError.TheVariants as error
+use Rattle.c2_media.specs.declared.types.Opened.TheVariants as opened
 use Rattle.c2_binding.specs.Comparison.{IsComparison, CompareAsks, is_valid}
 use Rattle.c2_binding.specs.declared.compared.Compared.{Compared}
 use Rattle.c2_binding.specs.declared.compared.Compared.TheVariants.{NotAccepted}
 use Rattle.c2_binding.specs.declared.compared.Side.TheVariants.{First}
 use Rattle.c2_compare.specs.declared.checked.Checked.{Checked}
 use Rattle.c2_compare.specs.declared.checked.Checked.TheVariants as checked
-use Rattle.c2_compare.specs.declared.error.CompareError.{CompareError}
-use Rattle.c2_compare.specs.declared.error.CompareError.TheVariants.{ReadFault, WriteFault, JudgeFault, NoMemory}
+use Rattle.c2_evidence.specs.declared.error.CompareError.{CompareError}
+use Rattle.c2_evidence.specs.declared.error.CompareError.TheVariants.{ReadFault, WriteFault, JudgeFault, NoMemory}
 
 -- by the answer: what the two files come to was answered and its text written; or a prefix of the text was
 abbrev pub Gives : Compared → List ℕ → Option (List ℕ) → Option (List ℕ)
@@ -93,22 +90,6 @@ IsCheckedAs hash said file (checked.Refused a) = IsAnswer hash said file a × (i
 abbrev pub HasOpenedInside : ℕ → Checked → Type 0
 HasOpenedInside len (checked.Accepted media summary) = HasRootsInside len media.container
 HasOpenedInside len (checked.Refused a) = ⊤
-
--- For private clauses: an accepted file that was opened so, by its store.
-pub record IsAcceptedAs (hash : Alg → List ℕ → List ℕ) (said : Question → Verdict) (file : List ℕ)
-    (media : Media) (s : StoreReading) : Type 0 where
-  pub accepted : IsAccepted hash said file s
-  pub found : IsFound file (opened.Here media)
-
--- For private clauses: what two files come to by their stores, written so.
-abbrev pub IsComparedAs : (Alg → List ℕ → List ℕ) → (Question → Verdict) → List ℕ → List ℕ
-    → Option (List ℕ) → Option (List ℕ) → Result Compared CompareError → Type 0
-IsComparedAs hash said first second old new (Ok what) =
-    (text : List ℕ) × IsComparison hash said first second what text × Appends old new text
-IsComparedAs hash said first second old new (Err e) =
-    (new ≡ old)
-    ⊎ ((what : Compared) × (text : List ℕ) × IsComparison hash said first second what text
-    × HasWrittenPrefix old new text)
 
 -- For private clauses: the fault that an error of the check stands for.
 abbrev pub fault_of : ValidateError → CompareError

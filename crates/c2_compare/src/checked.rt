@@ -8,7 +8,7 @@ ghost use Rattle.c2_base.specs.declared.values.Question.{Question as AnyQuestion
 ghost use Rattle.c2_spec.specs.declared.digest.Alg.{Alg as AnyAlg};
 ghost use Rattle.c2_spec.specs.declared.panel.Verdict.{Verdict as AnyVerdict};
 ghost use Rattle.c2_spec.specs.Judges.Panel.{LeavesJudges, judges_of, panel_says};
-ghost use Rattle.c2_validate.specs.Opened.{IsCause};
+ghost use Rattle.c2_media.specs.Opened.{IsCause};
 ghost use Rattle.c2_validate.specs.Validation.{HasAskedThose, IsFaultCause};
 ghost use Rattle.c2_compare.specs.Comparing.{HasOpenedInside, IsCheckedAs};
 

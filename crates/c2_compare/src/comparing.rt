@@ -6,20 +6,20 @@ ghost use Rattle.c2_binding.specs.Comparison.{CompareAsks};
 ghost use Rattle.c2_rules.specs.Validated.{CheckAsks, IsAnswer};
 ghost use Rattle.c2_rules.specs.declared.answer.Answer.TheVariants as answer;
 ghost use Rattle.c2_spec.specs.Judges.Panel.{LeavesJudges, judges_of, panel_says};
-ghost use Rattle.c2_validate.specs.Opened.{HasRootsInside, IsFound};
-ghost use Rattle.c2_validate.specs.declared.types.Opened.TheVariants as opened;
+ghost use Rattle.c2_media.specs.Opened.{HasRootsInside, IsFound};
+ghost use Rattle.c2_media.specs.declared.types.Opened.TheVariants as opened;
 ghost use Rattle.c2_compare.specs.Comparing.{AsksCompared, HasAsked, IsCompareCause, IsCompared, LeavesSecond, fault_of};
 ghost use Rattle.c2_base.specs.declared.values.Question.{Question as AnyQuestion};
 ghost use Rattle.std.specs.Prelude.{List};
 
 use crate::checked::{Checked, check};
-use crate::error::CompareError;
-use crate::opened::compare_media;
 use c2_base::{Sink, Source};
 use c2_binding::{Compared, Side, accepted_is_valid, one_comparison};
+use c2_evidence::CompareError;
 use c2_hash::Hashing;
 use c2_judge::Judge;
 use c2_rules::Summary;
+use c2_settling::compare_media;
 use c2_validate::{Media, ValidateError, one_check, one_opening};
 use std::alloc::Global;
 

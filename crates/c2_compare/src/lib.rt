@@ -1,23 +1,13 @@
 //! Two media files that one active claim binds: whether their chain contents and their covered texts are equal, and the
 //! evidence where they aren't.
 //!
-//! What two files come to stands in `c2_binding`.
+//! Here each file is checked, and opened where it is accepted. What two accepted files come to is found out by `c2_settling`, over
+//! `c2_differences`, `c2_sameness` and `c2_evidence`; what it is stands in `c2_binding`.
 #![tactic(auto)]
 
 mod checked;
 mod comparing;
-mod covered;
-mod error;
-mod evidence;
-mod lists;
-mod opened;
-mod pairs;
-mod pieces;
-mod same;
-mod search;
-mod settling;
-mod targets;
 
 pub use c2_binding::{Compared, EvidenceKind, Side};
+pub use c2_evidence::CompareError;
 pub use comparing::compare;
-pub use error::CompareError;

@@ -23,8 +23,8 @@ use Rattle.c2_chain.specs.declared.asking.ChainError.{ChainError}
 use Rattle.c2_chain.specs.declared.asking.ChainError.TheVariants as chain
 use Rattle.c2_validate.specs.Checks.{AreRead, AsksSoFar, IsJudgeCause, fault_of}
 use Rattle.c2_validate.specs.Validation.{HasAsked}
-use Rattle.c2_validate.specs.declared.error.ValidateError.{ValidateError}
-use Rattle.c2_validate.specs.declared.error.ValidateError.TheVariants.{ReadFault, JudgeFault, NoMemory}
+use Rattle.c2_media.specs.declared.error.ValidateError.{ValidateError}
+use Rattle.c2_media.specs.declared.error.ValidateError.TheVariants.{ReadFault, JudgeFault, NoMemory}
 
 -- ---- one place
 

@@ -23,17 +23,19 @@ use Rattle.c2_rules.specs.declared.answer.Failing.{Failing}
 use Rattle.c2_rules.specs.declared.answer.Summary.{Summary}
 use Rattle.c2_rules.proofs.AskingLemmas.{front_all, front_none}
 use Rattle.c2_rules.proofs.TestLemmas.{part_fails, part_passes}
-use Rattle.c2_validate.specs.Checks.{IsAnswerOver, IsBoundAs, IsJudgeCause, IsMediaOf, IsTreeAnswered, HasSize, TreeAsks, all_tests, binding_tests}
-use Rattle.c2_validate.specs.Counts.{summary_by}
-use Rattle.c2_validate.specs.Opened.{IsCause}
+use Rattle.c2_media.specs.Bindings.{IsMediaOf}
+use Rattle.c2_bound.specs.Found.{IsBoundAs, HasSize}
+use Rattle.c2_validate.specs.Checks.{IsAnswerOver, IsJudgeCause, IsTreeAnswered, TreeAsks, all_tests, binding_tests}
+use Rattle.c2_counts.specs.Counts.{summary_by}
+use Rattle.c2_media.specs.Opened.{IsCause}
 use Rattle.c2_validate.specs.Validation.{HasAsked, HasAskedThose, IsFaultCause}
-use Rattle.c2_validate.specs.declared.bound.Bound.{Bound}
-use Rattle.c2_validate.specs.declared.bound.Bound.TheVariants.{Fails, Covers}
-use Rattle.c2_validate.specs.declared.error.ValidateError.{ValidateError}
-use Rattle.c2_validate.specs.declared.error.ValidateError.TheVariants.{ReadFault, JudgeFault, NoMemory}
-use Rattle.c2_validate.specs.declared.types.Container.{Container}
-use Rattle.c2_validate.specs.declared.types.Media.{Media}
-use Rattle.c2_validate.proofs.Containers.{OneRoots, contained_media}
+use Rattle.c2_bound.specs.declared.bound.Bound.{Bound}
+use Rattle.c2_bound.specs.declared.bound.Bound.TheVariants.{Fails, Covers}
+use Rattle.c2_media.specs.declared.error.ValidateError.{ValidateError}
+use Rattle.c2_media.specs.declared.error.ValidateError.TheVariants.{ReadFault, JudgeFault, NoMemory}
+use Rattle.c2_media.specs.declared.types.Container.{Container}
+use Rattle.c2_media.specs.declared.types.Media.{Media}
+use Rattle.c2_media.proofs.Containers.{OneRoots, contained_media}
 
 -- ---- the binding
 

@@ -17,15 +17,15 @@ use Rattle.c2_rules.specs.declared.answer.Answer.{Answer}
 use Rattle.c2_rules.specs.declared.answer.Answer.TheVariants as answer
 use Rattle.c2_validate.specs.Checks.{FoundAsks, IsFoundAnswered, IsTreeAnswered, TreeAsks}
 use Rattle.c2_validate.proofs.CheckLemmas.{nobody}
-use Rattle.c2_validate.specs.Opened.{IsFound, IsRead, located_of, tree_of}
+use Rattle.c2_media.specs.Opened.{IsFound, IsRead, located_of, tree_of}
 use Rattle.c2_validate.specs.Validation.{HasAskedThose, IsAnswered}
-use Rattle.c2_validate.specs.declared.error.ValidateError.{ValidateError}
-use Rattle.c2_validate.specs.declared.types.Media.{Media}
-use Rattle.c2_validate.specs.declared.types.Container.{Container}
-use Rattle.c2_validate.specs.declared.types.Opened.{Opened}
-use Rattle.c2_validate.specs.declared.types.Opened.TheVariants as opened
-use Rattle.c2_validate.specs.declared.types.StoreRead.{StoreRead}
-use Rattle.c2_validate.specs.declared.types.StoreRead.TheVariants as read
+use Rattle.c2_media.specs.declared.error.ValidateError.{ValidateError}
+use Rattle.c2_media.specs.declared.types.Media.{Media}
+use Rattle.c2_media.specs.declared.types.Container.{Container}
+use Rattle.c2_media.specs.declared.types.Opened.{Opened}
+use Rattle.c2_media.specs.declared.types.Opened.TheVariants as opened
+use Rattle.c2_media.specs.declared.types.StoreRead.{StoreRead}
+use Rattle.c2_media.specs.declared.types.StoreRead.TheVariants as read
 
 -- a store is opened as one thing at most
 abbrev pub OneStore : Type 0

@@ -7,11 +7,11 @@ ghost use Rattle.c2_chain.specs.Facts.{AreFacts};
 ghost use Rattle.c2_validate.specs.Checks.{AreRead, IsJudgeCause, fault_of};
 ghost use Rattle.c2_validate.specs.Validation.{HasAsked};
 
-use crate::ValidateError;
-use crate::summary::count;
 use c2_chain::{Chain, ChainError, Facts, check_known, child_facts, reached};
+use c2_counts::count;
 use c2_hash::Hashing;
 use c2_judge::Judge;
+use c2_media::ValidateError;
 use c2_rules::{Failing, a_question_where_the_claim_rules_hold};
 use std::alloc::Global;
 

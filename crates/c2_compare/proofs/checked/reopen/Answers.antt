@@ -1,5 +1,5 @@
 use Rattle.std.proofs.Common.{subst}
-use Rattle.c2_validate.specs.Opened.{IsFound}
+use Rattle.c2_media.specs.Opened.{IsFound}
 use Rattle.c2_compare.proofs.checked.reopen.Goals as goal
 
 -- it has a store

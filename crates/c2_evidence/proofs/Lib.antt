@@ -1,0 +1,3 @@
+pub mod EvidenceLines
+pub mod TextLines
+pub mod Written

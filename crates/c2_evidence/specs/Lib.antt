@@ -1,0 +1,4 @@
+pub mod Covered
+pub mod Differing
+pub mod Shown
+pub mod Writing

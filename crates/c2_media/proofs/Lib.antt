@@ -1,0 +1,4 @@
+pub mod Containers
+pub mod Items
+pub mod Located
+pub mod OneOpening

@@ -1,0 +1,45 @@
+// Laws of media files: a file comes to one thing as a container, and is opened as one thing.
+ghost use Rattle.std.specs.Prelude.{◌≡◌, ◌<◌, ◌≤◌, ◌^◌, ℕ, List, All, length};
+ghost use Rattle.c2_base.specs.declared.limits.TheConstants.{MAX_STORE_LEN};
+ghost use Rattle.c2_spec.specs.Jumbf.Tree.{Tree};
+ghost use Rattle.c2_spec.specs.Container.{IsLocated};
+ghost use Rattle.c2_spec.specs.Located.{Located, Opening, here};
+ghost use Rattle.c2_rules.specs.Opened.{IsManifestStore, IsOpened};
+
+use c2_bmff::{
+    a_bmff_file_comes_to_one_thing, bmff_store_bytes_are_of_the_file,
+    each_bmff_file_comes_to_something,
+};
+use c2_jpegseg::{each_file_is_located, store_bytes_are_of_the_file};
+use c2_jumbf::each_list_is_a_tree_or_not;
+
+/// Whatever bytes a file has, it comes to one thing, by its container: a store in a range, no store, or a refusal. A store is no
+/// longer than a store may be, and its bytes are below 2^8 where the file's are.
+pub fn each_media_file_is_located()
+    ensures located { (file : List ℕ) → All (λ b. b < 2 ^ 8) file
+        → (what : Located) × IsLocated file what }
+    ensures once { (file : List ℕ) (v w : Located)
+        → IsLocated file v → IsLocated file w → v ≡ w }
+    ensures are_bytes { (file : List ℕ) (start len : ℕ) (store : List ℕ)
+        → IsLocated file (here start len store)
+        → All (λ b. b < 2 ^ 8) file → All (λ b. b < 2 ^ 8) store }
+    ensures small { (file : List ℕ) (start len : ℕ) (store : List ℕ)
+        → IsLocated file (here start len store) → length store ≤ MAX_STORE_LEN }
+{
+    each_file_is_located();
+    store_bytes_are_of_the_file();
+    each_bmff_file_comes_to_something();
+    a_bmff_file_comes_to_one_thing();
+    bmff_store_bytes_are_of_the_file();
+}
+
+/// A file is opened as one thing at most, and so is a store that was found.
+pub fn one_opening()
+    ensures store { (start len : ℕ) (store : List ℕ) (a b : Opening Tree)
+        → IsManifestStore start len store a → IsManifestStore start len store b → a ≡ b }
+    ensures file { (file : List ℕ) (a b : Opening Tree) → IsOpened file a → IsOpened file b
+        → a ≡ b }
+{
+    each_media_file_is_located();
+    each_list_is_a_tree_or_not();
+}

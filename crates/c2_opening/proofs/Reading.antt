@@ -1,0 +1,58 @@
+-- A store's bytes that were read, and those that are refused.
+use Rattle.std.proofs.Common.{◌≡◌, refl, sym, ◌∙◌, ap, subst, ◌⊎◌, inl, inr, List, ℕ, Option, Some, None, Ok}
+use Rattle.std.specs.Option.{ok_or}
+use Rattle.std.specs.declared.result.Result.{Result}
+use Rattle.c2_base.specs.declared.media.Found.{Found}
+use Rattle.c2_spec.specs.C2pa.Manifest.{store_of, store_refusal}
+use Rattle.c2_spec.specs.Jumbf.Faults.{JumbfFault}
+use Rattle.c2_spec.specs.Jumbf.Tree.{Tree, SpellsTree}
+use Rattle.c2_spec.specs.Located.{refused, here}
+use Rattle.c2_spec.specs.Reason.{boxes_refusal, manifests_refusal}
+use Rattle.c2_spec.specs.declared.jumbf.JumbfError.{JumbfError}
+use Rattle.c2_spec.specs.declared.jumbf.JumbfError.TheVariants as boxes
+use Rattle.c2_spec.specs.declared.reason.Refusal.{Refusal}
+use Rattle.c2_spec.specs.declared.store.ManifestBoxes.{ManifestBoxes}
+use Rattle.c2_spec.specs.declared.store.StoreError.{StoreError}
+use Rattle.c2_spec.specs.declared.store.StoreError.TheVariants as store
+use Rattle.c2_media.specs.Opened.{IsRead}
+use Rattle.c2_media.specs.declared.types.StoreRead.TheVariants.{Here, Refused}
+
+-- where there is a value, it is this
+pub given : {A E : Type 0} (o : Option A) (e : E) (x : A) → ◌≡◌ {A = Result A E} (Ok x) (ok_or o e) → o ≡ Some x
+given None e x h = absurd (cc (h))
+given (Some y) e x h = cc (h)
+
+-- an error that refuses something is not that memory ran out
+faulty : (bytes : List ℕ) (e : JumbfError) (r : Refusal) → boxes_refusal e ≡ Some r → (e ≡ boxes.NoMemory) ⊎ JumbfFault bytes e → JumbfFault bytes e
+faulty bytes e r refuses (inl memory) = absurd (let both = sym refuses ∙ ap boxes_refusal memory in cc (both))
+faulty bytes e r refuses (inr fault) = fault
+
+-- so is no error that refuses a store
+bad_store : (t : Tree) (e : StoreError) (r : Refusal) → manifests_refusal e ≡ Some r → (e ≡ store.NoMemory) ⊎ (store_refusal t ≡ Some e) → store_refusal t ≡ Some e
+bad_store t e r refuses (inl memory) = absurd (let both = sym refuses ∙ ap manifests_refusal memory in cc (both))
+bad_store t e r refuses (inr fault) = fault
+
+-- the first test of the boxes that fails
+pub refused_boxes : (f : Found) (bytes : List ℕ) (e : JumbfError) (o : Option Refusal) (r : Refusal) → bytes ≡ f.store → (e ≡ boxes.NoMemory) ⊎ JumbfFault bytes e → o ≡ boxes_refusal e → o ≡ Some r → IsRead f (Refused r.reason r.number)
+refused_boxes f bytes e o r same fault is some =
+    let refuses : boxes_refusal e ≡ Some r = sym is ∙ some in
+    record {
+      store = (refused r.reason r.number, (e, subst (λ (l : List ℕ). JumbfFault l e) same (faulty bytes e r refuses fault), refuses), refl);
+      boxes = tt;
+    }
+
+-- the first test of the manifests that fails
+pub refused_manifests : (f : Found) (bytes : List ℕ) (t : Tree) (e : StoreError) (o : Option Refusal) (r : Refusal) → bytes ≡ f.store → SpellsTree bytes t → (e ≡ store.NoMemory) ⊎ (store_refusal t ≡ Some e) → o ≡ manifests_refusal e → o ≡ Some r → IsRead f (Refused r.reason r.number)
+refused_manifests f bytes t e o r same spells fault is some =
+    let refuses : manifests_refusal e ≡ Some r = sym is ∙ some in
+    record {
+      store = (here f.start f.length t, (subst (λ (l : List ℕ). SpellsTree l t) same spells, refl), (e, bad_store t e r refuses fault, refuses));
+      boxes = tt;
+    }
+
+-- a store of manifests
+pub read_here : (f : Found) (bytes : List ℕ) (t : Tree) (s : List ManifestBoxes) → bytes ≡ f.store → SpellsTree bytes t → store_refusal t ≡ None → s ≡ store_of t → IsRead f (Here t s)
+read_here f bytes t s same spells none is = record {
+  store = (here f.start f.length t, (subst (λ (l : List ℕ). SpellsTree l t) same spells, refl), (none, refl));
+  boxes = record { accepted = none; same = is };
+}

@@ -1,0 +1,3 @@
+pub mod ByStores
+pub mod OpenedStores
+pub mod Outcomes
