@@ -1,0 +1,6 @@
+mod Clearings
+mod Cuts
+mod FreedBoxes
+mod Frees
+mod Outcomes
+mod Regions
