@@ -8,7 +8,8 @@
 
 `large` means the rows with media that are too long for a table; they take minutes. Bytes are in hex as rows.py folds it; a definition
 that is a line of text without a bar stands as it is. A media `vast FRONT SIZE` has so many bytes, zeros behind its front; other names
-are those of MADE. The judge is a verdict on every question, `none` for no judges, or `broken` for one who fails. `plan` has `=` where
+are those of MADE. The judge is a verdict on every question, with `@N` behind it where he fails at the Nth, `none` for no judges, or
+`broken` for one who fails at each; several have spaces between them. `plan` has `=` where
 it is refused as `embed` is, and else status and line. The new file is in hex in the first row, else there is its SHA-256, and `-` where
 there is none.
 """
@@ -56,18 +57,30 @@ class Vast:
 
 
 class Says(Approving):
-    """A judge who says one word to every question."""
+    """A judge who says one word to every question, and fails at one of them (0: at none; None: at each)."""
 
-    def __init__(self, word):
+    def __init__(self, word, fails_at):
         super().__init__()
-        self.word = word
+        self.word, self.fails_at = word, fails_at
+
+    def __contains__(self, identity):
+        self.asked += 1
+        if self.fails_at in (None, self.asked):
+            raise JudgeFault
+        return self.word != "silent"
 
     def __getitem__(self, identity):
         return self.word
 
 
-def judges_of(name):
-    return [] if name == "none" else [None] if name == "broken" else [Says(name)]
+def judge_named(name):
+    """A judge: `broken`, or a word with `@` and the number of the question at which he fails."""
+    word, _, fails_at = name.partition("@")
+    return Says(word, None if word == "broken" else int(fails_at or 0))
+
+
+def judges_of(names):
+    return [] if names == "none" else [judge_named(name) for name in names.split(" ")]
 
 
 # Definitions and messages
@@ -115,6 +128,14 @@ def signed(media=SMALL, **fields):
     told = embed(media, definition(**fields), MESSAGE, judges_of("approved"))
     assert told[0] != "build", told
     return told[0]
+
+
+def chain(count):
+    """The small JPEG, signed so often, each time under another label."""
+    media = SMALL
+    for number in range(count):
+        media = signed(media, label=LABEL[:-2] + f"{number:02}")
+    return media
 
 
 def redactable():
@@ -178,9 +199,19 @@ def fewer_boxes():
     return FTYP + box(b"free", b"") * (MOST_ROOT_BOXES - 3) + MDAT
 
 
+# Two characters for each of many labels, in runs of numbers that follow each other.
+RUNS = [range(256 * first + 0x30, 256 * first + 0x7F) for first in range(0x30, 0x3D)]
+
+
+def empties(count):
+    """So many manifests without anything."""
+    numbers = [number for run in RUNS for number in run][:count]
+    return [Manifest(number.to_bytes(2, "big").decode()) for number in numbers]
+
+
 def filled(label, store_size, count=1):
     """A JPEG with a store of so many bytes: manifests without anything, and an active one with a long note."""
-    empty = [Manifest(f"{number:04}") for number in range(count - 1)]
+    empty = empties(count - 1)
     around = Jpeg()
     return around.file([*empty, with_note(label, store_size - len(media_of(around.file([*empty, with_note(label, 0)])).store))])
 
@@ -191,12 +222,12 @@ def with_note(label, count):
 
 @made("a store of 1,024 manifests")
 def most_manifests():
-    return Jpeg().file([*(Manifest(f"{number:04}") for number in range(1_023)), Manifest("m", DataHash())])
+    return Jpeg().file([*empties(1_023), Manifest("m", DataHash())])
 
 
 @made("a store of 1,023 manifests")
 def fewer_manifests():
-    return Jpeg().file([*(Manifest(f"{number:04}") for number in range(1_022)), Manifest("m", DataHash())])
+    return Jpeg().file([*empties(1_022), Manifest("m", DataHash())])
 
 
 @made("a store of 33,554,432 bytes with 1,024 manifests")
@@ -339,6 +370,7 @@ def parent_rows():
     yield row("a second store", "embedded 20 2667", first, LATER_DEFINITION)
     second = signed(first, label=LATER)
     yield row("a third store", None, second, definition(label=LABEL[:-1] + "2"))
+    yield row("a tenth store", None, chain(9), definition(label=LABEL[:-2] + "09"))
     yield row("a store that others wrote", None, redactable(), LATER_DEFINITION)
     yield row("another place of the old store", None, SMALL[:20] + segment(0xE1, b"Exif") + store_packets() + SMALL[20:], LATER_DEFINITION)
     yield row("the old store's number is free", None, renumbered(), LATER_DEFINITION)
@@ -382,6 +414,12 @@ def redaction_rows():
     once = embed(media, redacting(target("d", "test.note")), MESSAGE, judges_of("approved"))[0]
     again = definition(label=LABEL[:-1] + "2", redact=[target("d", "test.other")])
     yield row("a redaction behind a redaction", None, once, again)
+    twice = embed(once, again, MESSAGE, judges_of("approved"))[0]
+    both = definition(label=LABEL[:-1] + "3", redact=[target("m", "test.note")])
+    yield row("redactions in three generations", None, twice, both)
+    own = signed(signed(assertions=[new(), new("test.other")]), label=LATER, assertions=[new()], redact=[target(LABEL, "test.note")])
+    further = definition(label=LABEL[:-1] + "2", redact=[target(LATER, "test.note"), target(LABEL, "test.other")])
+    yield row("redactions in what was built over what was built", None, own, further)
     shared = [old(note(), label="d"), old(Ingredient("d"), label="b"), old(Ingredient("d"), label="c")]
     active = Manifest("m", Ingredient("b"), Ingredient("c", label="c2pa.ingredient.v3__2"), DataHash())
     yield row("a redaction in a manifest that two name", None, Jpeg().file([*shared, active]), redacting(target("d", "test.note")))
@@ -522,6 +560,13 @@ def parent_refusals():
         yield row(f"the parent's question, judge {judge}", refused(code), first, LATER_DEFINITION, judge=judge)
     yield row("a judge who fails", JUDGE_FAULT, first, LATER_DEFINITION, judge="broken")
     yield row("a judge who fails and isn't asked", "embedded 20 1141", judge="broken")
+    yield row("a judge who fails and isn't due behind one who speaks", "embedded 20 2667", first, LATER_DEFINITION, judge="approved broken")
+    yield row("a judge who fails behind one who is silent", JUDGE_FAULT, first, LATER_DEFINITION, judge="silent broken")
+    yield row("one judge is silent and the next approves", "embedded 20 2667", first, LATER_DEFINITION, judge="silent approved")
+    second, third = signed(first, label=LATER), definition(label=LABEL[:-1] + "2")
+    yield row("a judge who fails at the second of two questions", JUDGE_FAULT, second, third, judge="approved@2")
+    yield row("a judge who would fail at the third of two questions", None, second, third, judge="approved@3")
+    yield row("a judge who fails, of a picture that is changed", JUDGE_FAULT, changed(first, 19), LATER_DEFINITION, judge="broken")
     yield row("a changed picture", refused("assertion.dataHash.mismatch", ASSERTIONS + "c2pa.hash.data"), changed(first, 19), LATER_DEFINITION)
     film = changed(signed(FILM), 24)
     yield row("a changed film", refused("assertion.bmffHash.mismatch", ASSERTIONS + "c2pa.hash.bmff.v2"), film, LATER_DEFINITION)
@@ -639,14 +684,15 @@ def message_orders():
 # The table
 
 
-def told(call):
-    """Status and line of an answer, and its new file."""
+def told(call, *given, judge):
+    """Status and line of an answer, its new file, and how often each judge was asked."""
+    judges = judges_of(judge)
     try:
-        made = call()
+        made = call(*given, judges)
+        line, status = line_of(made)
     except JudgeFault:
-        return JUDGE_FAULT, "", None
-    line, status = line_of(made)
-    return status, line, made[0] if isinstance(made[0], bytes) else None
+        made, line, status = [None], "", JUDGE_FAULT
+    return status, line, made[0] if isinstance(made[0], bytes) else None, [each.asked for each in judges]
 
 
 class Computed:
@@ -655,12 +701,12 @@ class Computed:
     def __init__(self, what, media, given, signature, judge, known):
         self.what, self.media, self.given, self.signature, self.judge, self.known = what, media, given, signature, judge, known
         contents = media_named(media)
-        self.planned = told(lambda: plan(contents, given, judges_of(judge)))
-        self.embedded = told(lambda: embed(contents, given, signature, judges_of(judge)))
+        self.planned = told(plan, contents, given, judge=judge)
+        self.embedded = told(embed, contents, given, signature, judge=judge)
 
     def kind(self):
         """The answer of `embed` without what differs from row to row."""
-        status, line, _ = self.embedded
+        status, line, *_ = self.embedded
         words = line.split()
         name = words[1] if status == BUILD_REFUSED else words[0] if words else f"status {status}"
         kept = {"MediaRefused": words[2:3], "BadDefinition": words[2:], "BadSignature": words[2:], "ParentFails": words[2:3]}
@@ -668,7 +714,7 @@ class Computed:
 
     def differences(self):
         """What of the row isn't as it is written by hand, or as rules.py says it of the new file."""
-        status, line, contents = self.embedded
+        status, line, contents, _ = self.embedded
         if self.known is not None and self.known != (status if status == JUDGE_FAULT else line):
             yield f"{line}, not {self.known}"
         only_embed = line.startswith(("build BadSignature", "build ReserveTooSmall"))
@@ -680,7 +726,7 @@ class Computed:
                 yield f"{said[0]}, {self.planned[1]}"
 
     def text(self, in_hex):
-        status, line, contents = self.embedded
+        status, line, contents, _ = self.embedded
         media = folded(self.media) if isinstance(self.media, bytes) else self.media
         planned = "=" if self.planned == self.embedded else f"{self.planned[0]} {self.planned[1]}"
         new = "-" if contents is None else contents.hex() if in_hex else hashlib.sha256(contents).hexdigest()

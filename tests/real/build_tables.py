@@ -1,26 +1,31 @@
 """The tables of crates/c2_rows on `plan` and `embed`, with the rows of build_rows.py, for whole runs.
 
 `builds` has what is built, and what `validate` says of it; `build_refusals` what is refused, and that nothing is written then;
-`build_faults` each object failing at each of its calls. c2 doesn't build films yet, nor over an older store: rows of such files are
-left out but for those of WAITING, of which it says so.
+`build_faults` each object failing at each of its calls. c2 doesn't build films yet: rows of such files are left out but for those of
+WAITING, of which it says so.
 """
 
 import hashlib
 
 import tables
 from builder import BUILD_REFUSED, NUMBERS, plan
-from build_rows import GROUPS, MADE, Computed, definition_text, every_number, media_named
+from build_rows import GROUPS, MADE, RUNS, Computed, definition_text, every_number, fewer_manifests, judges_of, media_named, most_manifests, no_room, room
+from locate import Refused
+from make_store import jpeg
 from media import media_of
-from store import report
+from store import JUDGE_FAULT, JudgeFault, report
 from tables import Approving, folded
-from worked_builds import DEFINITION, MESSAGE, SMALL, changed
+from worked_builds import DEFINITION, LATER, LATER_DEFINITION, MESSAGE, SMALL, changed
 
 EMBED, PLAN = "embed J X G OUT", "plan J X"
 EVERY_NUMBER = next(name for name, made in MADE.items() if made is every_number)
-WAITING = "a film", "a second store", "a changed picture", "a label that is taken", "a judge who fails", "an open box before the reserve"
+# Long media that a table can say by pieces: their stores, around which it makes a JPEG.
+IN_PIECES = {name for name, made in MADE.items() if made in (most_manifests, fewer_manifests, room, no_room)}
+WAITING = "a film", "a changed film", "a redaction in a film", "an open box before the reserve"
+LATER_ANSWER = BUILD_REFUSED, "build Later"
 # A media or file that is longer is read in long pieces alone.
 SMALL_ENOUGH = 20_000
-STATUS_OF_FAULTS = {"media": 5, "second": 5, "third": 5, "out": 6, "report": 6}
+STATUS_OF_FAULTS = {"media": 5, "second": 5, "third": 5, "judge": 7, "out": 6, "report": 6}
 
 
 class Lines:
@@ -41,14 +46,34 @@ class Lines:
 
 
 def media_text(media):
-    """The media of a row as a table has it, and the size of a file of which it is the front."""
+    """The media of a row as a table has it, the size of a file of which it is the front, and the packets of a store that it is."""
     if media == EVERY_NUMBER:
         first, last = (contents.hex() for contents in (SMALL[:20], SMALL[20:]))
-        return f"{first} {NUMBERS[0]}..{NUMBERS[-1]}*ffeb00124a50#000000010000000866726565 {last}", "none"
+        return f"{first} {NUMBERS[0]}..{NUMBERS[-1]}*ffeb00124a50#000000010000000866726565 {last}", "none", ""
+    if media in IN_PIECES:
+        contents = media_of(media_named(media)).store
+        assert jpeg(contents) == media_named(media)
+        return in_pieces(contents), "none", "63984"
     if isinstance(media, bytes):
-        return folded(media), "none"
+        return folded(media), "none", ""
     _, front, size = media.split(" ")
-    return front, size
+    return front, size, ""
+
+
+def in_pieces(contents):
+    """A store in hex, in which manifests without anything are told by the two bytes of their labels."""
+    words, at = [], contents.index(b"\3c2pa\0") + 6
+    words.append(contents[:at].hex())
+    for run in RUNS:
+        first, length = run[0].to_bytes(2, "big"), int.from_bytes(contents[at : at + 4], "big")
+        label = contents.find(first + b"\0", at, at + length)
+        if label < 0:
+            break
+        front, back = contents[at:label], contents[label + 2 : at + length]
+        count = next((count for count, number in enumerate(run) if not contents.startswith(front + number.to_bytes(2, "big") + back, at + count * length)), len(run))
+        words.append(f"{run[0]}..{run[count - 1]}*{front.hex()}#{back.hex()}")
+        at += count * length
+    return " ".join([*words, folded(contents[at:])])
 
 
 def is_refused(contents):
@@ -58,37 +83,45 @@ def is_refused(contents):
 
 def waits(media):
     """Whether c2 doesn't build over a media yet."""
+    return media_named(media)[:2] != b"\xff\xd8"
+
+
+def has_store(media):
+    """Whether a media has a store that isn't refused by the tests of the container."""
     contents = media_named(media)
-    if contents[:2] != b"\xff\xd8":
-        return True
-    return isinstance(contents, bytes) and media_of(contents) is not None
+    try:
+        return isinstance(contents, bytes) and media_of(contents) is not None
+    except Refused:
+        return False
+
+
+def is_left_out(media):
+    """Whether a media is too long for a table."""
+    return not isinstance(media, bytes) and media in MADE and media != EVERY_NUMBER and media not in IN_PIECES
 
 
 def answer(each):
     """Status and line of a row of build_rows.py for `embed` and for `plan`, as c2 has them today; None where the row is left out."""
-    if not isinstance(each.media, bytes) and each.media in MADE and each.media != EVERY_NUMBER:
-        return None
     embedded, planned = each.embedded[:2], each.planned[:2]
     if is_refused(media_named(each.media)) or not waits(each.media):
         return embedded, planned
-    later = BUILD_REFUSED, "build Later"
     if embedded[1].startswith("build BadDefinition"):
         return embedded, planned
     if embedded[1].startswith("build BadSignature"):
-        return embedded, later
-    return (later, later) if each.what in WAITING else None
+        return embedded, LATER_ANSWER
+    return (LATER_ANSWER, LATER_ANSWER) if each.what in WAITING else None
 
 
 def chosen(is_built):
     """The rows that c2 answers today, those that build a file or the others."""
     for group in GROUPS:
         for each in group():
-            if each[1] in MADE and each[1] != EVERY_NUMBER:
+            if is_left_out(each[1]):
                 continue
             each = Computed(*each)
-            told = answer(each)
-            if told and (told[0][1].startswith("embedded")) == is_built:
-                yield each, *told
+            answers = answer(each)
+            if answers and (answers[0][1].startswith("embedded")) == is_built:
+                yield each, *answers
 
 
 def new_file(contents):
@@ -96,38 +129,52 @@ def new_file(contents):
 
 
 def put(lines, each, embedded, planned):
-    """Appends a row for `embed`, and one for `plan` where it is of other files than the row before."""
-    media, size = media_text(each.media)
+    """Appends a row for `embed`, and one for `plan` where it is of other files or judges than the row before."""
+    media, size, packed = media_text(each.media)
     files = media, definition_text(each.given), folded(each.signature)
-    longest = max(len(each.given), len(each.signature), len(media) if size == "none" else 0)
-    lines.set(pieces="1 7 65536" if longest < SMALL_ENOUGH else "65536", size=size)
-    judges, asked, word = {"approved": ("", "", ""), "none": ("", "", "")}.get(each.judge, (each.judge, ", asked 0", " V"))
+    longest = max(len(each.given), len(each.signature), len(media_named(each.media)) if size == "none" else 0)
+    lines.set(pieces="1 7 65536" if longest < SMALL_ENOUGH else "65536", size=size, packets=packed)
+    names = [] if each.judge == "none" or (each.judge == "approved" and not has_store(each.media)) else each.judge.split(" ")
     contents = each.embedded[2] if embedded[1].startswith("embedded") else None
     if contents:
         lines.set(out=max(2_000, len(contents)))
-    lines.set(judges=judges, words=EMBED + word)
-    is_planned = files[:2] == tuple(lines.files.get(at) for at in range(2)) and not judges
-    lines.row(f"{embedded[0]} {embedded[1]}{asked}{new_file(contents) if contents else ''}", *files, what=each.what)
+    judges = " ".join(names)
+    is_planned = (*files[:2], judges) == (*(lines.files.get(at) for at in range(2)), lines.known.get("judges"))
+    lines.set(judges=judges, words=EMBED + " V" * len(names))
+    lines.row(told(embedded, asked_in(each.embedded, embedded) if names else []) + (new_file(contents) if contents else ""), *files, what=each.what)
     if is_planned:
         return
-    lines.set(words=PLAN + word, room=max(1_000, len(planned[1]) + 1))
-    lines.row(f"{planned[0]} {planned[1]}{asked}", *files[:2])
+    lines.set(words=PLAN + " V" * len(names), room=max(1_000, len(planned[1]) + 1))
+    lines.row(told(planned, asked_in(each.planned, planned) if names else []), *files[:2])
+
+
+def asked_in(computed, answer):
+    """How often each judge is asked: nobody is where a media has to wait."""
+    return [0 if answer == LATER_ANSWER else count for count in computed[3]]
+
+
+def told(answer, asked):
+    """What a run comes to by its status and line, and by how often each judge was asked."""
+    status, line = answer
+    text = f"{status} {line}" if status != JUDGE_FAULT else f"{status} nothing, not finished"
+    return text + (f", asked {' '.join(map(str, asked))}" if asked else "")
 
 
 def builds():
-    lines = Lines("What `plan` says and `embed` builds of JPEG files without a store.")
+    lines = Lines("What `plan` says and `embed` builds of JPEG files.")
     worked = None
-    for each, *told in chosen(True):
+    for each, *answers in chosen(True):
         worked = worked or each.embedded[2]
-        put(lines, each, *told)
+        put(lines, each, *answers)
     accepted(lines, worked)
+    succeeded(lines, worked)
     return lines.text
 
 
 def accepted(lines, built):
     """What `validate` says of a new file, and of the file with a byte changed."""
     asset, actions = changed(built, 19), changed(built, built.index(b"actions\x81"))
-    lines.set(pieces="1 7 65536", room=1_000, out="none", size="none")
+    lines.set(pieces="1 7 65536", room=1_000, out="none", size="none", packets="")
     for what, contents, judges in (
         ("a new file is accepted", built, "approved"),
         ("a new file without judges", built, ""),
@@ -140,18 +187,43 @@ def accepted(lines, built):
         lines.row(f"{status} {line}" + (f", asked {judge[0].asked}" if judges else ""), contents.hex(), what=what)
 
 
+def succeeded(lines, first):
+    """What `validate` says of a file that is built over a file which was built, and of it with a byte changed in what is carried."""
+    second = Computed("", first, LATER_DEFINITION, MESSAGE, "approved", None).embedded[2]
+    carried = changed(second, second.index(b"actions\x81"))
+    for what, contents, judges in (
+        ("a file that is built over a new file is accepted", second, "approved"),
+        ("it without judges", second, ""),
+        ("it with the first of two judges silent", second, "silent approved"),
+        ("it with a judge who fails at the older question", second, "approved@2"),
+        ("it with another byte in its older actions", carried, "approved"),
+    ):
+        named = judges_of(judges or "none")
+        status, line = validated(contents, named)
+        lines.set(judges=judges, words="validate P" + " V" * len(named))
+        lines.row(told((status, line), [judge.asked for judge in named]), contents.hex(), what=what)
+
+
+def validated(contents, judges):
+    try:
+        line, status = report("validate", contents, judges)
+    except JudgeFault:
+        return JUDGE_FAULT, ""
+    return status, line
+
+
 def refusals():
     """No row has a new file, so that its first call would fail."""
     lines = Lines("What `plan` and `embed` refuse, where nothing is written.")
-    for each, *told in chosen(False):
-        put(lines, each, *told)
+    for each, *answers in chosen(False):
+        put(lines, each, *answers)
     unread(lines)
     return lines.text
 
 
 def unread(lines):
     """What isn't due isn't read: its first call would fail."""
-    lines.set(judges="", size="none", pieces="7", room=1_000)
+    lines.set(judges="", size="none", pieces="7", room=1_000, packets="")
     for words, fault, media, given, what in (
         (EMBED, "second", b"", DEFINITION, "no media: the definition isn't read"),
         (EMBED, "third", b"", DEFINITION, "no media: the message isn't read"),
@@ -166,30 +238,41 @@ def unread(lines):
 
 
 def faults():
-    lines = Lines("Each source, the new file and the report of `plan` and `embed` fail at each call in turn.")
-    files = SMALL.hex(), definition_text(DEFINITION), folded(MESSAGE)
-    built = Computed("", SMALL, DEFINITION, MESSAGE, "approved", None)
-    line, contents = built.embedded[1], built.embedded[2]
+    lines = Lines("Each source, each judge, the new file and the report of `plan` and `embed` fail at each call in turn.")
+    first = Computed("", SMALL, DEFINITION, MESSAGE, "approved", None)
     lines.set(words=EMBED, out=2_000, pieces="1", fault="media 3")
+    files = SMALL.hex(), definition_text(DEFINITION), folded(MESSAGE)
     lines.row("5 nothing, not finished", *files, what="the media fails at its third call")
-    # How many bytes go over each object at least.
-    lengths = {"media": len(SMALL), "second": len(DEFINITION), "third": len(MESSAGE), "out": len(contents), "report": len(line) + 1}
-    lines.set(view="each call")
-    for most in 7, 100:
-        lines.set(pieces=most)
-        for name, length in lengths.items():
-            lines.set(fault=name, status=STATUS_OF_FAULTS[name], least=-(-length // most), part="yes" if name == "report" else "no")
-            lines.row(f"0 {line}{new_file(contents)}", *files, what=f"embed: each call of {named(name)} fails")
-    line = built.planned[1]
-    lengths = {"media": len(SMALL), "second": len(DEFINITION), "report": len(line) + 1}
-    lines.set(words=PLAN, out="none")
-    for most in 7, 100:
-        lines.set(pieces=most)
-        for name, length in lengths.items():
-            lines.set(fault=name, status=STATUS_OF_FAULTS[name], least=-(-length // most), part="yes" if name == "report" else "no")
-            lines.row(f"0 {line}", *files[:2], what=f"plan: each call of {named(name)} fails")
+    each_fault(lines, first, files, 0)
+    files = first.embedded[2].hex(), definition_text(LATER_DEFINITION), folded(MESSAGE)
+    lines.set(out=4_000, judges="approved")
+    each_fault(lines, Computed("", first.embedded[2], LATER_DEFINITION, MESSAGE, "approved", None), files, 1)
     return lines.text
 
 
+def each_fault(lines, built, files, judges):
+    """A row for each object of `embed` and of `plan` that fails at each of its calls, under so many judges."""
+    line, contents = built.embedded[1], built.embedded[2]
+    # How many bytes go over each object at least, and how often a judge is asked.
+    lengths = {"media": len(built.media), "second": len(built.given), "third": len(MESSAGE), "out": len(contents), "report": len(line) + 1}
+    asked, over = (", asked 1", ", over a store") if judges else ("", "")
+    lines.set(view="each call", asked="0 1" if judges else "")
+    for words, wanted, objects in (
+        (EMBED, f"0 {line}{asked}{new_file(contents)}", ("media", "second", "third", "out", "report")),
+        (PLAN, f"0 {built.planned[1]}{asked}", ("media", "second", "report")),
+    ):
+        lines.set(words=words + " V" * judges)
+        if words == PLAN:
+            lengths["report"] = len(built.planned[1]) + 1
+            lines.set(out="none", room=1_500)
+        for most in (100, 1_000) if judges else (7, 100):
+            lines.set(pieces=most)
+            for name in (*objects, *["judge"] * judges):
+                least = 1 if name == "judge" else -(-lengths[name] // most)
+                lines.set(fault=name, status=STATUS_OF_FAULTS[name], least=least, part="yes" if name == "report" else "no")
+                shown = files if words == EMBED else files[:2]
+                lines.row(wanted, *shown, what=f"{words.split()[0]}{over}: each call of {named(name)} fails")
+
+
 def named(name):
-    return {"second": "the definition", "third": "the message", "out": "the new file"}.get(name, f"the {name}")
+    return {"second": "the definition", "third": "the message", "out": "the new file", "judge": "the judge"}.get(name, f"the {name}")

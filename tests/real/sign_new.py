@@ -1,12 +1,13 @@
 #!/usr/bin/env python3
-"""A newsroom signs a photograph by c2: `plan`, a key outside c2, `embed`, a judge outside c2, `validate`.
+"""A newsroom signs a photograph by c2, and another one signs it again: `plan`, a key outside c2, `embed`, a judge outside c2, `validate`.
 
     sign_new.py C2 PICTURE..     of each JPEG without a store: plans, signs (ES256, by the package `cryptography`), embeds, asks for the
-                                 question, judges it with the public key, and validates; compares what djpeg decodes of both files, and
-                                 what the new file has outside its range with the picture; exiftool must find the new manifest's boxes,
-                                 builder.py build the same file, and store.py validate it
+                                 questions, judges them with the public keys, and validates. Then the same over the signed picture with
+                                 another key, and over that one with a third key and both older notes redacted. Compares what djpeg
+                                 decodes of each file with the picture, and what it has outside its range; exiftool must find the boxes
+                                 of the manifests, builder.py build the same file, and store.py validate it
 
-Prints a line for each picture; the first difference ends the run with status 1.
+Prints a line for each file; the first difference ends the run with status 1.
 """
 import json
 import os
@@ -25,8 +26,8 @@ from make_store import array, data, mapping, tag
 HERE = os.path.dirname(os.path.abspath(__file__))
 NULL = b"\xf6"
 PROTECTED = mapping((b"\x01", b"\x26"))  # ES256
-# The labels of a new store's boxes in their order, which are behind those of the store and the manifest.
-LABELS = "c2pa.assertions", "c2pa.actions.v2", "c2pa.hash.data", "c2pa.claim.v2", "c2pa.signature"
+NOTE = "org.example.place"
+URL = "self#jumbf=/c2pa/"
 
 
 def run(*words, wanted=0):
@@ -36,12 +37,15 @@ def run(*words, wanted=0):
     return done.stdout
 
 
-def definition():
+def definition(label, redacted):
     action = mapping((b"\x67actions", array(mapping((b"\x66action", b"\x6cc2pa.created")))))
     return json.dumps({
-        "label": f"urn:c2pa:{uuid.uuid4()}", "instance_id": f"xmp:iid:{uuid.uuid4()}", "generator": "sign_new.py", "title": "A photograph",
-        "protected": PROTECTED.hex(), "reserve": 1024,
-        "assertions": [{"label": "c2pa.actions.v2", "kind": "cbor", "hex": action.hex()}],
+        "label": label, "instance_id": f"xmp:iid:{uuid.uuid4()}", "generator": "sign_new.py", "title": "A photograph",
+        "protected": PROTECTED.hex(), "reserve": 1024, "redact": [f"{URL}{each}/c2pa.assertions/{NOTE}" for each in redacted],
+        "assertions": [
+            {"label": "c2pa.actions.v2", "kind": "cbor", "hex": action.hex()},
+            {"label": NOTE, "kind": "json", "hex": b'{"place":"a street"}'.hex()},
+        ],
     })
 
 
@@ -55,57 +59,90 @@ def contents_of(name):
         return file.read()
 
 
-def way(c2, picture, folder):
-    path = {name: os.path.join(folder, name) for name in ("definition", "tbs", "message", "new.jpg", "again.jpg", "verdicts")}
-    with open(path["definition"], "w") as file:
-        file.write(definition())
-    tbs = bytes.fromhex(run(c2, "plan", picture, path["definition"]).decode().split()[1])
-    key = ec.generate_private_key(ec.SECP256R1())
-    message = signed(key, tbs)
-    with open(path["message"], "wb") as file:
-        file.write(message)
-    embedded = run(c2, "embed", picture, path["definition"], path["message"], path["new.jpg"])
-    _, start, length = embedded.decode().split()
-    question, label, verdict = run(c2, "questions", path["new.jpg"]).decode().split()
-    run(c2, "validate", path["new.jpg"], wanted=1)
-    raw = message[-64:]
-    r, s = int.from_bytes(raw[:32], "big"), int.from_bytes(raw[32:], "big")
-    key.public_key().verify(encode_dss_signature(r, s), tbs, ec.ECDSA(hashes.SHA256()))
-    with open(path["verdicts"], "w") as file:
-        file.write(f"{question} approved\n")
-    line = run(c2, "validate", path["new.jpg"], path["verdicts"]).decode().strip()
-    for difference in differences(picture, path, embedded, line, int(start), int(length), label):
-        sys.exit(f"{picture}: {difference}")
-    print(f"{os.path.basename(picture)}: {line}")
+class Way:
+    """The files of a picture, and the manifests that it has: for each label, whether its note is there."""
 
+    def __init__(self, c2, picture, folder):
+        self.c2, self.picture, self.folder, self.notes = c2, picture, folder, {}
+        self.media, self.verdicts = picture, []
 
-def differences(picture, path, embedded, line, start, length, label):
-    """What of the new file isn't as it must be."""
-    old, new = contents_of(picture), contents_of(path["new.jpg"])
-    if not line.startswith("valid "):
-        yield line
-    if new[:start] + new[start + length:] != old:
-        yield "the new file isn't the picture outside its range"
-    program = [sys.executable, os.path.join(HERE, "builder.py"), "embed", picture, path["definition"], path["message"], path["again.jpg"]]
-    if run(*program) != embedded or contents_of(path["again.jpg"]) != new:
-        yield "builder.py builds another file"
-    if run(sys.executable, os.path.join(HERE, "store.py"), "validate", path["new.jpg"], path["verdicts"]).decode().strip() != line:
-        yield "store.py answers something else"
-    if shutil.which("djpeg") and run("djpeg", picture) != run("djpeg", path["new.jpg"]):
-        yield "other pixels"
-    if shutil.which("exiftool"):
-        labels, before = (run("exiftool", "-a", "-s3", "-JUMDLabel", name).decode().split("\n") for name in (path["new.jpg"], picture))
-        at = labels.index("c2pa") if "c2pa" in labels else len(labels)
-        if labels[at : at + 7] != ["c2pa", label, *LABELS] or labels[:at] + labels[at + 7 :] != before:
-            yield f"exiftool finds the boxes {labels}"
+    def path(self, name):
+        return os.path.join(self.folder, f"{name}-{len(self.notes)}")
+
+    def write(self, name, contents):
+        with open(self.path(name), "wb") as file:
+            file.write(contents)
+        return self.path(name)
+
+    def sign(self, redacted=()):
+        """Signs the picture, or what was made of it last, with a key of its own."""
+        label, key = f"urn:c2pa:{uuid.uuid4()}", ec.generate_private_key(ec.SECP256R1())
+        given = self.write("definition", definition(label, redacted).encode())
+        tbs = bytes.fromhex(run(self.c2, "plan", self.media, given, *self.verdicts).decode().split()[1])
+        message = self.write("message", signed(key, tbs))
+        new, files = self.path("new.jpg"), (self.media, given, message)
+        embedded = run(self.c2, "embed", *files, new, *self.verdicts)
+        again = self.path("again.jpg")
+        program = [sys.executable, os.path.join(HERE, "builder.py"), "embed", *files, again, *self.verdicts]
+        if run(*program) != embedded or contents_of(again) != contents_of(new):
+            self.end("builder.py builds another file")
+        self.notes |= {each: False for each in redacted} | {label: True}
+        self.judge(new, key, tbs, message, label)
+        self.compare(new, *map(int, embedded.decode().split()[1:]))
+        self.media = new
+
+    def judge(self, new, key, tbs, message, label):
+        """The first question is that of the new message; those behind it were judged before."""
+        first, *older = run(self.c2, "questions", new, *self.verdicts).decode().splitlines()
+        question, named, verdict = first.split()
+        if (named, verdict) != (label, "silent") or any(not line.endswith(" approved") for line in older):
+            self.end(f"the questions {first} {older}")
+        run(self.c2, "validate", new, *self.verdicts, wanted=1)
+        raw = contents_of(message)[-64:]
+        numbers = (int.from_bytes(raw[at : at + 32], "big") for at in (0, 32))
+        key.public_key().verify(encode_dss_signature(*numbers), tbs, ec.ECDSA(hashes.SHA256()))
+        self.verdicts = [*self.verdicts, self.write("verdicts", f"{question} approved\n".encode())]
+
+    def compare(self, new, start, length):
+        """Whether the new file is as it must be."""
+        line = run(self.c2, "validate", new, *self.verdicts).decode().strip()
+        if not line.startswith(f"valid manifests={len(self.notes)} "):
+            self.end(line)
+        if run(sys.executable, os.path.join(HERE, "store.py"), "validate", new, *self.verdicts).decode().strip() != line:
+            self.end("store.py answers something else")
+        contents = contents_of(new)
+        if contents[:start] + contents[start + length :] != contents_of(self.picture):
+            self.end("the new file isn't the picture outside its range")
+        if shutil.which("djpeg") and run("djpeg", self.picture) != run("djpeg", new):
+            self.end("other pixels")
+        if shutil.which("exiftool"):
+            self.compare_labels(new)
+        print(f"{os.path.basename(self.picture)}: {line}")
+
+    def compare_labels(self, new):
+        """The labels that exiftool finds are those of the picture, and among them those of the store's boxes in their order."""
+        found, before = (run("exiftool", "-a", "-s3", "-JUMDLabel", name).decode().split("\n") for name in (new, self.picture))
+        wanted = ["c2pa"]
+        for at, (label, has_note) in enumerate(self.notes.items()):
+            notes, parents = [NOTE] * has_note, ["c2pa.ingredient.v3"] * (at > 0)
+            wanted += [label, "c2pa.assertions", "c2pa.actions.v2", *notes, *parents, "c2pa.hash.data", "c2pa.claim.v2", "c2pa.signature"]
+        at = found.index("c2pa") if "c2pa" in found else len(found)
+        if found[at : at + len(wanted)] != wanted or found[:at] + found[at + len(wanted) :] != before:
+            self.end(f"exiftool finds the boxes {found}")
+
+    def end(self, difference):
+        sys.exit(f"{self.picture}, signed {len(self.notes)} times: {difference}")
 
 
 def main():
     c2, *pictures = sys.argv[1:]
     for picture in pictures:
         with tempfile.TemporaryDirectory() as folder:
-            way(c2, picture, folder)
-    print(f"{len(pictures)} pictures are signed, put in and accepted")
+            way = Way(c2, picture, folder)
+            way.sign()
+            way.sign()
+            way.sign(redacted=list(way.notes))
+    print(f"{len(pictures)} pictures are signed three times, put in and accepted")
 
 
 if __name__ == "__main__":

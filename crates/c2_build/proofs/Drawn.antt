@@ -1,18 +1,18 @@
 -- How stages follow each other, by their answers.
-use Rattle.std.proofs.Common.{◌≡◌, inl, inr, ℕ, Bool, List, length, Option, Some, None, refl, sym, subst}
+use Rattle.std.proofs.Common.{◌≡◌, inl, inr, ℕ, List, Option, Some, None, refl, sym, subst}
 use Rattle.std.specs.Prelude.{Result, Ok, Err, OnOk}
+use Rattle.c2_base.specs.declared.values.Question.{Question}
 use Rattle.c2_spec.specs.C2pa.Sign1.{SignParts}
 use Rattle.c2_spec.specs.declared.digest.Alg.{Alg}
+use Rattle.c2_spec.specs.declared.panel.Verdict.{Verdict}
 use Rattle.c2_definition.specs.declared.types.Definition.{Definition}
 use Rattle.c2_build.specs.Answers.{ComesTo, WithoutFault}
-use Rattle.c2_build.specs.Building.{IsBuilt, IsEmbeddedOver, IsPlaceStage, IsPlannedOver, Place, Then, Unless, signed_bytes}
-use Rattle.c2_build.specs.Refusals.{early_tests, first_refusal, late_tests, number_tests, reserve_tests}
+use Rattle.c2_build.specs.Building.{IsEmbeddedOn, IsEmbeddedOver, IsGroundStage, IsPlaceStage, IsPlannedOn, IsPlannedOver, MediaKind, Place, Then, Unless, signed_bytes}
+use Rattle.c2_build.specs.Refusals.{Ground, first_refusal, ground_tests, late_tests, reserve_tests}
 use Rattle.c2_build.specs.Steps.{ComesAs, IsPassed, IsRefusedPlace}
 use Rattle.c2_build.specs.declared.error.BuildError.{BuildError}
-use Rattle.c2_build.specs.declared.error.BuildError.TheVariants as build
 use Rattle.c2_build.proofs.Drafted.{first_fails}
 use Rattle.c2_build.proofs.Outside.{outside_map}
-use Rattle.c2_build.specs.declared.types.MediaKind.{MediaKind}
 
 -- ---- answers
 
@@ -54,22 +54,22 @@ on_any (Err e) h = tt
 -- ---- the place
 
 -- a place that is refused refuses a plan
-pub refused_plan : (hash : Alg → List ℕ → List ℕ) (media : List ℕ) (kind : MediaKind) (d : Definition) (e : BuildError) → IsRefusedPlace media d kind e → IsPlannedOver hash media kind d (Err e)
-refused_plan hash media kind d e (inl h) = unless_fails (first_refusal (early_tests kind d)) _ e h
-refused_plan hash media kind d e (inr h) =
-    unless_passes (first_refusal (early_tests kind d)) _ (Err e) h.0
-    (then_next (IsPlaceStage media) _ h.1.0 (Err e) h.1.1 (unless_fails (first_refusal (number_tests (length media) d h.1.0.number)) _ e h.1.2))
+pub refused_plan : (hash : Alg → List ℕ → List ℕ) (said : Question → Verdict) (media : List ℕ) (kind : MediaKind) (d : Definition) (e : BuildError) → IsRefusedPlace hash said media d kind e → IsPlannedOver hash said media kind d (Err e)
+refused_plan hash said media kind d e (inl h) = then_first (IsGroundStage hash said media d kind) (IsPlannedOn hash) e h
+refused_plan hash said media kind d e (inr h) =
+    then_next (IsGroundStage hash said media d kind) (IsPlannedOn hash) h.0 (Err e) h.1
+    (then_next (IsPlaceStage h.0.base) _ h.2.0 (Err e) h.2.1 (unless_fails (first_refusal (ground_tests h.0 h.2.0.number)) _ e h.2.2))
 
 -- and a new file
-pub refused_embedding : (hash : Alg → List ℕ → List ℕ) (media : List ℕ) (kind : MediaKind) (d : Definition) (parts : SignParts) (e : BuildError) → IsRefusedPlace media d kind e → IsEmbeddedOver hash media kind d parts (Err e)
-refused_embedding hash media kind d parts e (inl h) = unless_fails (first_refusal (early_tests kind d)) _ e h
-refused_embedding hash media kind d parts e (inr h) =
-    unless_passes (first_refusal (early_tests kind d)) _ (Err e) h.0
-    (then_next (IsPlaceStage media) _ h.1.0 (Err e) h.1.1
-    (unless_fails (first_refusal (late_tests (length media) d parts h.1.0.number)) _ e (first_fails (number_tests (length media) d h.1.0.number) (reserve_tests d parts) e h.1.2)))
+pub refused_embedding : (hash : Alg → List ℕ → List ℕ) (said : Question → Verdict) (media : List ℕ) (kind : MediaKind) (d : Definition) (parts : SignParts) (e : BuildError) → IsRefusedPlace hash said media d kind e → IsEmbeddedOver hash said media kind d parts (Err e)
+refused_embedding hash said media kind d parts e (inl h) = then_first (IsGroundStage hash said media d kind) (IsEmbeddedOn hash parts) e h
+refused_embedding hash said media kind d parts e (inr h) =
+    then_next (IsGroundStage hash said media d kind) (IsEmbeddedOn hash parts) h.0 (Err e) h.1
+    (then_next (IsPlaceStage h.0.base) _ h.2.0 (Err e) h.2.1
+    (unless_fails (first_refusal (late_tests h.0 parts h.2.0.number)) _ e (first_fails (ground_tests h.0 h.2.0.number) (reserve_tests h.0.content.definition parts) e h.2.2)))
 
 -- a place that passes lets be planned
-pub passed_plan : (hash : Alg → List ℕ → List ℕ) (media : List ℕ) (kind : MediaKind) (d : Definition) (p : Place) → IsPassed media d kind p → IsPlannedOver hash media kind d (Ok (signed_bytes hash media d p))
-passed_plan hash media kind d p h =
-    unless_passes (first_refusal (early_tests kind d)) _ (Ok (signed_bytes hash media d p)) h.early
-    (then_next (IsPlaceStage media) _ p (Ok (signed_bytes hash media d p)) h.stage (unless_passes (first_refusal (number_tests (length media) d p.number)) _ (Ok (signed_bytes hash media d p)) h.numbers refl))
+pub passed_plan : (hash : Alg → List ℕ → List ℕ) (said : Question → Verdict) (media : List ℕ) (kind : MediaKind) (d : Definition) (g : Ground) (p : Place) → IsPassed hash said media d kind g p → IsPlannedOver hash said media kind d (Ok (signed_bytes hash g p))
+passed_plan hash said media kind d g p h =
+    then_next (IsGroundStage hash said media d kind) (IsPlannedOn hash) g (Ok (signed_bytes hash g p)) h.ground
+    (then_next (IsPlaceStage g.base) _ p (Ok (signed_bytes hash g p)) h.stage (unless_passes (first_refusal (ground_tests g p.number)) _ (Ok (signed_bytes hash g p)) h.numbers refl))

@@ -1,14 +1,22 @@
 -- What the inputs of a build come to, by what calls of other crates answered.
-use Rattle.std.proofs.Common.{◌≡◌, ℕ, ◌<◌, Bool, cond, List, length, inl, refl, sym, ap, subst, arith}
+use Rattle.std.proofs.Common.{◌≡◌, ℕ, ◌<◌, Bool, true, not, ◌&&◌, cond, List, length, inl, refl, sym, ap, subst, arith}
 use Rattle.std.specs.Prelude.{Result, Ok, Err}
 use Rattle.std.proofs.lemmas.Bool.{lt-ltb}
 use Rattle.c2_base.specs.declared.limits.TheConstants.{MAX_INPUT_LEN}
 use Rattle.c2_base.specs.declared.media.Found.{Found}
+use Rattle.c2_spec.specs.Bmff.Boxes.{begins_bmff}
+use Rattle.c2_spec.specs.C2pa.Manifest.{IsStoreOf}
 use Rattle.c2_spec.specs.C2pa.Sign1.{SignParts, SpellsMessage}
-use Rattle.c2_spec.specs.Container.{IsLocated}
-use Rattle.c2_spec.specs.Located.{here, refused}
+use Rattle.c2_spec.specs.Container.{IsLocated, begins_jpeg, is_bmff}
+use Rattle.c2_spec.specs.Jumbf.Tree.{Tree}
+use Rattle.c2_rules.specs.Opened.{IsManifestStore}
+use Rattle.c2_spec.specs.Located.{absent, here, refused}
 use Rattle.c2_spec.specs.declared.reason.Reason.{Reason}
-use Rattle.c2_media.specs.Opened.{IsFound, IsRead}
+use Rattle.c2_spec.specs.declared.store.ManifestBoxes.{ManifestBoxes}
+use Rattle.c2_media.specs.Opened.{IsContainerOf, IsFound, IsRead}
+use Rattle.c2_media.specs.declared.types.Container.{Container}
+use Rattle.c2_media.specs.declared.types.Container.TheVariants as container
+use Rattle.c2_media.specs.declared.types.Media.{Media}
 use Rattle.c2_media.specs.declared.types.Opened.{Opened}
 use Rattle.c2_media.specs.declared.types.Opened.TheVariants as opened
 use Rattle.c2_media.specs.declared.types.StoreRead.{StoreRead}
@@ -25,11 +33,12 @@ use Rattle.c2_message.specs.declared.error.MessageError.{MessageError}
 use Rattle.c2_message.specs.declared.error.MessageError.TheVariants as refusal
 use Rattle.c2_message.specs.declared.error.SignaturePart.{SignaturePart}
 use Rattle.c2_message.specs.declared.error.SignaturePart.TheVariants as part
-use Rattle.c2_build.specs.Building.{IsDefinitionStage, IsMediaStage, IsMessageStage}
+use Rattle.c2_build.specs.Building.{IsDefinitionStage, IsMediaStage, IsMessageStage, MediaKind, fresh, kind_in, stored, waits}
+use Rattle.c2_build.specs.Steps.{IsKind}
 use Rattle.c2_build.specs.declared.error.BuildError.{BuildError}
 use Rattle.c2_build.specs.declared.error.BuildError.TheVariants.{MediaRefused, BadDefinition, BadSignature}
-use Rattle.c2_build.specs.declared.types.MediaKind.{MediaKind}
-use Rattle.c2_build.specs.declared.types.MediaKind.TheVariants.{Waits}
+use Rattle.c2_build.specs.declared.media.MediaFile.{MediaFile}
+use Rattle.c2_build.specs.declared.media.MediaFile.TheVariants as MediaFile
 use Rattle.c2_build.proofs.SomeBuild.{EachDefinition}
 use Rattle.c2_definition.specs.Json.{object_of}
 use Rattle.c2_spec.specs.Cbor.Fields.{require}
@@ -40,15 +49,81 @@ use Rattle.c2_spec.specs.Cbor.Fields.{require}
 pub refused_media : (file : List ℕ) (o : Opened) (reason : Reason) (number : ℕ) → o ≡ opened.Refused reason number → IsFound file o → IsMediaStage file (Err (MediaRefused reason number))
 refused_media file o reason number is h = (refused reason number, (refused reason number, (subst (IsFound file) is h).located, refl), refl)
 
--- what a store is to a build
-abbrev pub store_stage : StoreRead → Result MediaKind BuildError
-store_stage (read.Here t s) = Ok Waits
-store_stage (read.Refused reason number) = Err (MediaRefused reason number)
+-- a file whose store is refused
+pub refused_store : (file : List ℕ) (f : Found) (r : StoreRead) (reason : Reason) (number : ℕ) → r ≡ read.Refused reason number → IsRead f r → IsLocated file (here f.start f.length f.store) → IsMediaStage file (Err (MediaRefused reason number))
+refused_store file f r reason number is h located = (refused reason number, (here f.start f.length f.store, located, (subst (IsRead f) is h).store), refl)
 
--- a file with a store
-pub stored_media : (file : List ℕ) (f : Found) (r : StoreRead) → IsRead f r → IsLocated file (here f.start f.length f.store) → IsMediaStage file (store_stage r)
-stored_media file f (read.Here t s) h located = (here f.start f.length t, (here f.start f.length f.store, located, h.store), refl)
-stored_media file f (read.Refused reason number) h located = (refused reason number, (here f.start f.length f.store, located, h.store), refl)
+-- a JPEG file with a store of manifests
+pub stored_jpeg : (file : List ℕ) (f : Found) (t : Tree) → IsManifestStore f.start f.length f.store (here f.start f.length t) → IsLocated file (here f.start f.length f.store) → begins_jpeg file ≡ true → (kind : MediaKind) × IsMediaStage file (Ok kind) × IsKind (MediaFile.Stored f) kind
+stored_jpeg file f t h located jpeg = (
+  stored f.start f.length t,
+  (
+    here f.start f.length t,
+    (here f.start f.length f.store, located, h),
+    sym (ap (λ (b : Bool). Ok (kind_in (not b && begins_bmff file) (stored f.start f.length t))) jpeg),
+  ),
+  (t, h, refl),
+)
+
+-- a BMFF file with one
+pub stored_bmff : (file : List ℕ) (f : Found) (t : Tree) → IsManifestStore f.start f.length f.store (here f.start f.length t) → IsLocated file (here f.start f.length f.store) → is_bmff file ≡ true → IsMediaStage file (Ok waits)
+stored_bmff file f t h located bmff =
+    (here f.start f.length t, (here f.start f.length f.store, located, h), sym (ap (λ (b : Bool). Ok (kind_in b (stored f.start f.length t))) bmff))
+
+-- what a store was read as that isn't refused
+pub here_tree : (f : Found) (r : StoreRead) (t : Tree) (s : List ManifestBoxes) → r ≡ read.Here t s → IsRead f r → IsManifestStore f.start f.length f.store (here f.start f.length t)
+here_tree f r t s is h = (subst (IsRead f) is h).store
+
+-- its boxes
+pub boxes_of : (f : Found) (r : StoreRead) (t : Tree) (s : List ManifestBoxes) → r ≡ read.Here t s → IsRead f r → IsStoreOf t s
+boxes_of f r t s is h = (subst (IsRead f) is h).boxes
+
+-- what one was read as that is refused
+pub refused_tree : (f : Found) (r : StoreRead) (reason : Reason) (number : ℕ) → r ≡ read.Refused reason number → IsRead f r → IsManifestStore f.start f.length f.store (refused reason number)
+refused_tree f r reason number is h = (subst (IsRead f) is h).store
+
+-- What is known of a file that was found to have a store.
+pub record IsFoundHere (file : List ℕ) (m : Media) : Type 0 where
+  pub located : IsLocated file (here m.found.start m.found.length m.found.store)
+  pub container : IsContainerOf file m.container
+
+-- it was found so
+pub found_here : (file : List ℕ) (o : Opened) (m : Media) → o ≡ opened.Here m → IsFound file o → IsFoundHere file m
+found_here file o m is h = let f = subst (IsFound file) is h in record { located = f.located; container = f.container }
+
+-- What is known of a file that was found to have none.
+pub record IsFoundAbsent (file : List ℕ) (c : Container) : Type 0 where
+  pub located : IsLocated file absent
+  pub container : IsContainerOf file c
+
+-- it was found so
+pub found_absent : (file : List ℕ) (o : Opened) (c : Container) → o ≡ opened.NoStore c → IsFound file o → IsFoundAbsent file c
+found_absent file o c is h = let f = subst (IsFound file) is h in record { located = f.located; container = f.container }
+
+-- a JPEG file without a store
+pub absent_jpeg : (file : List ℕ) (c : Container) → c ≡ container.Jpeg → IsLocated file absent → IsContainerOf file c → (kind : MediaKind) × IsMediaStage file (Ok kind) × IsKind MediaFile.Fresh kind
+absent_jpeg file c jpeg located is =
+    let f = subst (IsContainerOf file) jpeg is in
+    (fresh, (absent, (absent, located, refl), sym (ap (λ (b : Bool). Ok (kind_in (not b && begins_bmff file) fresh)) f)), refl)
+
+-- and a BMFF file
+pub absent_bmff : (file : List ℕ) → is_bmff file ≡ true → IsLocated file absent → (kind : MediaKind) × IsMediaStage file (Ok kind) × IsKind MediaFile.Waits kind
+absent_bmff file bmff located = (waits, (absent, (absent, located, refl), sym (ap (λ (b : Bool). Ok (kind_in b fresh)) bmff)), refl)
+
+-- ---- what kind a file is
+
+-- one without a store
+pub fresh_kind : (m : MediaFile) (kind : MediaKind) → m ≡ MediaFile.Fresh → IsKind m kind → kind ≡ fresh
+fresh_kind m kind is h = subst (λ (x : MediaFile). IsKind x kind) is h
+
+-- one with this store
+pub stored_kind : (m : MediaFile) (f : Found) (kind : MediaKind) → m ≡ MediaFile.Stored f → IsKind m kind
+    → (t : Tree) × IsManifestStore f.start f.length f.store (here f.start f.length t) × (kind ≡ stored f.start f.length t)
+stored_kind m f kind is h = subst (λ (x : MediaFile). IsKind x kind) is h
+
+-- one that waits
+pub waits_kind : (m : MediaFile) (kind : MediaKind) → m ≡ MediaFile.Waits → IsKind m kind → kind ≡ waits
+waits_kind m kind is h = subst (λ (x : MediaFile). IsKind x kind) is h
 
 -- ---- the definition
 

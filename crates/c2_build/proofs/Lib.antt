@@ -15,3 +15,6 @@ mod Placed
 mod NewStores
 mod Ended
 mod Seen
+mod Judged
+mod Grounds
+mod Questioned

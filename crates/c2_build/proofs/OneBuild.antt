@@ -1,27 +1,39 @@
 -- Told inputs come to one plan and to one new file.
-use Rattle.std.proofs.Common.{◌≡◌, ◌⊎◌, inl, inr, ℕ, Bool, true, false, List, length, Option, sym, ap, ◌∙◌, subst}
+use Rattle.std.proofs.Common.{◌≡◌, ◌⊎◌, inl, inr, ℕ, ◌+◌, Bool, true, false, not, ◌&&◌, List, [], length, Option, refl, sym, ap, ◌∙◌, subst}
 use Rattle.std.specs.Prelude.{Result, Ok, Err}
 use Rattle.std.proofs.lemmas.Option.{same_Some}
+use Rattle.c2_base.specs.declared.values.Question.{Question}
+use Rattle.c2_spec.specs.Bmff.Boxes.{Box, HasRoots, begins_bmff}
+use Rattle.c2_spec.specs.C2pa.Manifest.{Manifest, manifests_of}
 use Rattle.c2_spec.specs.C2pa.Sign1.{SignParts, SpellsMessage, message_list}
 use Rattle.c2_spec.specs.Cbor.Item.{Item, tag}
 use Rattle.c2_spec.specs.Cbor.Spelling.{Spells}
+use Rattle.c2_spec.specs.Container.{Container, IsContainer, begins_jpeg, bmff, is_bmff, jpeg}
 use Rattle.c2_spec.specs.Jpeg.Places.{HasNumber, IsOfSegments}
 use Rattle.c2_spec.specs.Jpeg.Segments.{Segment}
 use Rattle.c2_spec.specs.Jumbf.Tree.{Tree}
 use Rattle.c2_spec.specs.Located.{Opening}
+use Rattle.c2_spec.specs.PutIn.{taken_out}
 use Rattle.c2_spec.specs.declared.digest.Alg.{Alg}
+use Rattle.c2_spec.specs.declared.panel.Verdict.{Verdict}
+use Rattle.c2_rules.specs.Binding.{IsMedia, Media}
+use Rattle.c2_rules.specs.CheckList.{IsStoreReading, StoreReading, check_list}
 use Rattle.c2_rules.specs.Opened.{IsOpened}
+use Rattle.c2_rules.specs.Readings.{Reading}
+use Rattle.c2_rules.specs.Tests.{first_failing}
+use Rattle.c2_rules.specs.Validated.{IsFileReading}
 use Rattle.c2_definition.specs.DefinitionFile.{IsDefinition}
 use Rattle.c2_definition.specs.declared.types.Definition.{Definition}
 use Rattle.c2_definition.specs.declared.types.DefinitionField.{DefinitionField}
 use Rattle.c2_message.specs.Message.{RefusedForOne}
 use Rattle.c2_message.specs.Signed.{FillsOrNeedsMore}
 use Rattle.c2_message.specs.declared.error.SignaturePart.{SignaturePart}
-use Rattle.c2_build.specs.Building.{IsBuilt, IsDefinitionRefused, IsDefinitionStage, IsMediaRefused, IsMediaStage, IsMessageRead, IsMessageStage, IsPlace, IsPlaceStage, Place, built_of, definition_stage, media_stage, message_stage, signed_bytes}
+use Rattle.c2_layout.specs.Store.{Content}
+use Rattle.c2_carried.specs.Carrying.{ContentIsOne}
+use Rattle.c2_build.specs.Building.{IsBuilt, IsDefinitionRefused, IsDefinitionStage, IsEmbeddedOn, IsGroundOver, IsGroundStage, IsMediaRefused, IsMediaStage, IsMessageRead, IsMessageStage, IsPlace, IsPlaceStage, IsPlannedOn, MediaKind, Place, Unless, built_of, definition_stage, fresh, fresh_ground, media_stage, message_stage, signed_bytes, stored, waits}
 use Rattle.c2_build.specs.Meeting.{OneEmbedding, OnePlan}
-use Rattle.c2_build.specs.Refusals.{early_tests, first_refusal, late_tests, number_tests}
+use Rattle.c2_build.specs.Refusals.{Ground, first_refusal, ground_tests, late_tests, older_tests, redaction_tests}
 use Rattle.c2_build.proofs.Stages.{IsOne, one_then, one_unless}
-use Rattle.c2_build.specs.declared.types.MediaKind.{MediaKind}
 
 -- ---- what laws of other crates say
 
@@ -45,6 +57,10 @@ OneList = (file : List ℕ) (xs ys : List Segment) → IsOfSegments file xs → 
 abbrev pub OneNumber : Type 0
 OneNumber = (file : List ℕ) (m n : Option ℕ) → HasNumber file m → HasNumber file n → m ≡ n
 
+-- the store of a file is read in one way
+abbrev pub OneStoreReading : Type 0
+OneStoreReading = (file : List ℕ) (t : Tree) (a b : StoreReading) → IsFileReading file t a → IsFileReading file t b → a ≡ b
+
 -- all of them
 pub record OneLaws : Type 0 where
   pub opened : OneOpened
@@ -54,6 +70,42 @@ pub record OneLaws : Type 0 where
   pub number : OneNumber
   pub refused : RefusedForOne
   pub fills : FillsOrNeedsMore
+  pub reading : OneStoreReading
+  pub content : ContentIsOne
+
+-- ---- a store is read in one way
+
+-- a BMFF file has one list of root boxes
+abbrev pub OneRoots : Type 0
+OneRoots = (file : List ℕ) (a b : List Box) → HasRoots file a → HasRoots file b → a ≡ b
+
+-- no JPEG is read by root boxes
+apart : (file : List ℕ) → begins_jpeg file ≡ true → is_bmff file ≡ true → ⊥
+apart file is also = let no : false ≡ is_bmff file = sym (ap (λ (b : Bool). not b && begins_bmff file) is) in let bad = no ∙ also in cc (bad)
+
+-- a file has one container
+one_container : OneRoots → (file : List ℕ) (c d : Container) → IsContainer file c → IsContainer file d → c ≡ d
+one_container one file jpeg jpeg h k = refl
+one_container one file jpeg (bmff b) h k = absurd (apart file h k.0)
+one_container one file (bmff a) jpeg h k = absurd (apart file k h.0)
+one_container one file (bmff a) (bmff b) h k = ap bmff (one file a b h.1 k.1)
+
+-- media of these
+abbrev media_of : List ℕ → Container → Media
+media_of file c = record { bytes = file; container = c }
+
+-- a file is media in one way
+one_file_media : OneRoots → (file : List ℕ) (m n : Media) → IsMedia file m → IsMedia file n → m ≡ n
+one_file_media one file m n h k = ap (λ (b : List ℕ). media_of b m.container) (h.bytes ∙ sym k.bytes) ∙ ap (media_of n.bytes) (one_container one file m.container n.container h.container k.container)
+
+-- the manifests of a media file's store, and the binding of the active one, are read in one way
+abbrev pub OneReadingIn : Type 0
+OneReadingIn = (m : Media) (ms : List Manifest) (s t : StoreReading) → IsStoreReading m ms s → IsStoreReading m ms t → s ≡ t
+
+-- so is the store of a file, which is media in one way
+pub one_store_reading : OneRoots → OneReadingIn → OneStoreReading
+one_store_reading roots one file t a b h k =
+    one h.media (manifests_of t) a b h.reads (subst (λ (m : Media). IsStoreReading m (manifests_of t) b) (one_file_media roots file k.media h.media k.is_media h.is_media) k.reads)
 
 -- ---- a message has one list of parts
 
@@ -109,7 +161,7 @@ one_read one refused protected bytes (Err t) (Ok q) h k = absurd (refused.none p
 one_read one refused protected bytes (Err t) (Err u) h k = ap (λ (x : SignaturePart). Err x) (refused.one protected bytes t u h k)
 
 -- and is one thing to a build
-one_message : OneItem → RefusedForOne → (protected bytes : List ℕ) → IsOne (IsMessageStage protected bytes)
+pub one_message : OneItem → RefusedForOne → (protected bytes : List ℕ) → IsOne (IsMessageStage protected bytes)
 one_message one refused protected bytes r s h k = h.2 ∙ ap message_stage (one_read one refused protected bytes h.0 k.0 h.1 k.1) ∙ sym k.2
 
 -- a place of these parts
@@ -128,27 +180,56 @@ one_place : OneList → OneNumber → (media : List ℕ) → IsOne (IsPlaceStage
 one_place list number media r s h k = h.2 ∙ ap (λ (p : Place). Ok p) (same_place list number media h.0 k.0 h.1 k.1) ∙ sym k.2
 
 -- one new file is built
-one_built : FillsOrNeedsMore → (hash : Alg → List ℕ → List ℕ) (media : List ℕ) (d : Definition) (p : Place) (m : SignParts) → IsOne (IsBuilt hash media d p m)
-one_built fills hash media d p m r s h k =
+one_built : FillsOrNeedsMore → (hash : Alg → List ℕ → List ℕ) (g : Ground) (p : Place) (m : SignParts) → IsOne (IsBuilt hash g p m)
+one_built fills hash g p m r s h k =
     let number : h.0 ≡ k.0 = same_Some h.0 k.0 (sym h.1 ∙ k.1) in
-    h.2.2 ∙ ap (λ (en : ℕ). Ok (built_of hash media d p.segments en h.2.0)) number
-    ∙ ap (λ (message : List ℕ). Ok (built_of hash media d p.segments k.0 message)) (fills.one m d.reserve h.2.0 k.2.0 h.2.1 k.2.1) ∙ sym k.2.2
+    h.2.2 ∙ ap (λ (en : ℕ). Ok (built_of hash g p.segments en h.2.0)) number
+    ∙ ap (λ (message : List ℕ). Ok (built_of hash g p.segments k.0 message)) (fills.one m g.content.definition.reserve h.2.0 k.2.0 h.2.1 k.2.1) ∙ sym k.2.2
+
+-- ---- the ground
+
+-- a ground of these
+abbrev pub ground_of : List ℕ → Content → ℕ → Ground
+ground_of base content manifests = record { base = base; content = content; manifests = manifests }
+
+-- over an older store, what is built over is one
+one_over : ContentIsOne → (media : List ℕ) (d : Definition) (start len : ℕ) (t : Tree) (rs : List Reading) → IsOne (IsGroundOver media d start len t rs)
+one_over one media d start len t rs r s h k =
+    h.2 ∙ ap (λ (c : Content). Ok (ground_of (taken_out start len media) c (length rs + 1))) (one d t h.0 k.0 h.1 k.1) ∙ sym k.2
+
+-- what is built over is one, or what is refused of it
+pub one_ground : OneLaws → (hash : Alg → List ℕ → List ℕ) (said : Question → Verdict) (media : List ℕ) (d : Definition) (kind : MediaKind) → IsOne (IsGroundStage hash said media d kind)
+one_ground l hash said media d waits r s h k = h ∙ sym k
+one_ground l hash said media d fresh r s h k = one_unless (first_refusal (redaction_tests d [])) (λ x. x ≡ Ok (fresh_ground media d)) (λ a b p q. p ∙ sym q) r s h k
+one_ground l hash said media d (stored start len t) r s h k =
+    one_unless (first_refusal (older_tests d h.0.readings (first_failing (check_list hash said h.0)))) (IsGroundOver media d start len t h.0.readings) (one_over l.content media d start len t h.0.readings) r s h.2
+    (subst (λ (x : StoreReading). Unless (first_refusal (older_tests d x.readings (first_failing (check_list hash said x)))) (IsGroundOver media d start len t x.readings) s) (l.reading media t k.0 h.0 k.1 h.1) k.2)
 
 -- ---- both calls
 
+-- what is planned over a ground is one
+one_planned_on : OneLaws → (hash : Alg → List ℕ → List ℕ) (g : Ground) → IsOne (IsPlannedOn hash g)
+one_planned_on l hash g =
+    one_then (IsPlaceStage g.base) _ (one_place l.list l.number g.base) (λ p.
+    one_unless (first_refusal (ground_tests g p.number)) (λ r. r ≡ Ok (signed_bytes hash g p)) (λ r s h k. h ∙ sym k))
+
+-- and what is built
+one_embedded_on : OneLaws → (hash : Alg → List ℕ → List ℕ) (m : SignParts) (g : Ground) → IsOne (IsEmbeddedOn hash m g)
+one_embedded_on l hash m g =
+    one_then (IsPlaceStage g.base) _ (one_place l.list l.number g.base) (λ p.
+    one_unless (first_refusal (late_tests g m p.number)) (IsBuilt hash g p m) (one_built l.fills hash g p m))
+
 -- a plan is one
 pub one_plan : OneLaws → OnePlan
-one_plan l hash media definition =
+one_plan l hash said media definition =
     one_then (IsMediaStage media) _ (one_media l.opened media) (λ kind.
     one_then (IsDefinitionStage definition) _ (one_definition l.definition definition) (λ d.
-    one_unless (first_refusal (early_tests kind d)) _ (one_then (IsPlaceStage media) _ (one_place l.list l.number media) (λ p.
-    one_unless (first_refusal (number_tests (length media) d p.number)) (λ r. r ≡ Ok (signed_bytes hash media d p)) (λ r s h k. h ∙ sym k)))))
+    one_then (IsGroundStage hash said media d kind) _ (one_ground l hash said media d kind) (one_planned_on l hash)))
 
 -- and so is a new file
 pub one_embedding : OneLaws → OneEmbedding
-one_embedding l hash media definition message =
+one_embedding l hash said media definition message =
     one_then (IsMediaStage media) _ (one_media l.opened media) (λ kind.
     one_then (IsDefinitionStage definition) _ (one_definition l.definition definition) (λ d.
     one_then (IsMessageStage d.protected message) _ (one_message l.item l.refused d.protected message) (λ m.
-    one_unless (first_refusal (early_tests kind d)) _ (one_then (IsPlaceStage media) _ (one_place l.list l.number media) (λ p.
-    one_unless (first_refusal (late_tests (length media) d m p.number)) (IsBuilt hash media d p m) (one_built l.fills hash media d p m))))))
+    one_then (IsGroundStage hash said media d kind) _ (one_ground l hash said media d kind) (one_embedded_on l hash m))))

@@ -6,7 +6,6 @@ use Rattle.c2_spec.specs.Jpeg.Places.{HasNumber, IsInsertPlace, SegmentsFault}
 use Rattle.c2_spec.specs.Jpeg.Segments.{Segment}
 use Rattle.c2_spec.specs.Jpeg.Writing.{IsNumberOf, insert_place}
 use Rattle.c2_spec.specs.Located.{HasReason}
-use Rattle.c2_spec.specs.PutIn.{taken_out}
 use Rattle.c2_jpegseg.specs.Refusals.{TellsFault}
 use Rattle.c2_build.specs.Building.{IsPlace, Place}
 use Rattle.c2_build.proofs.OneBuild.{OneList}
@@ -50,8 +49,8 @@ pub record Found (file : List ℕ) (start : ℕ) (number : Option ℕ) : Type 0 
   pub start_is : start ≡ insert_place place.segments
   pub number_is : number ≡ place.number
 
--- in a file of which no range is passed over
-pub found : OneList → (file : List ℕ) (start : ℕ) (number : Option ℕ) → IsInsertPlace (taken_out 0 0 file) start → HasNumber (taken_out 0 0 file) number → Found file start number
+-- both were found in one file
+pub found : OneList → (file : List ℕ) (start : ℕ) (number : Option ℕ) → IsInsertPlace file start → HasNumber file number → Found file start number
 found one file start number p n =
     let same : n.segments ≡ p.segments = one file n.segments p.segments n.is_of p.is_of in
     record {

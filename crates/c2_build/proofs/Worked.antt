@@ -9,6 +9,7 @@ use Rattle.hex.proofs.OnLiterals.{hex_on_literals}
 use Rattle.uuid.proofs.OnLiterals.{uuid_on_literals}
 use Rattle.serde_json.proofs.OnLiterals.{serde_json_on_literals}
 use Rattle.serde_json.specs.Data.{Data}
+use Rattle.c2_base.specs.declared.values.Question.{Question}
 use Rattle.c2_spec.specs.C2pa.Message.{IsPlainMessage, bare_bytes, tagged_message}
 use Rattle.c2_spec.specs.C2pa.Sign1.{SignParts, SpellsMessage}
 use Rattle.c2_spec.specs.Cbor.Deterministic.{shortest_head}
@@ -21,6 +22,7 @@ use Rattle.c2_spec.specs.Jpeg.Store.{HasNoJpegStore}
 use Rattle.c2_spec.specs.Jpeg.Packets.{is_first_packet, is_store_start}
 use Rattle.c2_spec.specs.Located as located
 use Rattle.c2_spec.specs.declared.digest.Alg.{Alg}
+use Rattle.c2_spec.specs.declared.panel.Verdict.{Verdict}
 use Rattle.c2_rules.specs.Opened.{IsOpened}
 use Rattle.c2_definition.specs.DefinitionFile.{HavePayloads, HasPayload, IsDefinition, assertions_in, definition_in}
 use Rattle.c2_definition.specs.Json.{object_of}
@@ -30,12 +32,12 @@ use Rattle.c2_message.specs.Message.{AreFew, HasNoPadding, IsAccepted}
 use Rattle.c2_message.specs.Refusals.{reserve_needed}
 use Rattle.c2_message.specs.Signed.{FillsOrNeedsMore, IsSigned, NeedsMore}
 use Rattle.c2_layout.specs.Written.{HasTexts}
-use Rattle.c2_build.specs.Building.{Built, IsBuilt, IsEmbedded, IsPlace, Place, Unless, built_of}
+use Rattle.c2_build.specs.Building.{Built, IsBuilt, IsDefinitionStage, IsEmbedded, IsEmbeddedOn, IsGroundStage, IsMediaStage, IsMessageStage, IsPlace, IsPlaceStage, Place, Unless, built_of, fresh, fresh_ground}
 use Rattle.c2_build.specs.Meeting.{HasTextsIn, SomeBuildSucceeds}
-use Rattle.c2_build.specs.Refusals.{first_refusal, late_tests}
+use Rattle.c2_build.specs.Refusals.{Ground, first_refusal, late_tests}
 use Rattle.c2_build.specs.declared.error.BuildError.{BuildError}
 use Rattle.c2_build.proofs.OneBuild.{OneDefinition, OneItem, same_message}
-use Rattle.c2_build.specs.declared.types.MediaKind.TheVariants.{Fresh}
+use Rattle.c2_build.proofs.Drawn.{then_next}
 
 -- ---- the definition
 
@@ -220,36 +222,26 @@ texts_in one d is = let same : defined ≡ d = cc (one definition_file (Ok defin
 -- ---- the build
 
 -- no test fails
-none_fails : first_refusal (late_tests (length media) defined parts (Some 0x0211)) ≡ None
+none_fails : first_refusal (late_tests (fresh_ground media defined) parts (Some 0x0211)) ≡ None
 unfolding shortest_head
 none_fails = refl
 
--- a new file comes of it, whatever the hash
-pub worked : OneItem → FillsOrNeedsMore → (hash : Alg → List ℕ → List ℕ) → (b : Built) × IsEmbedded hash media definition_file message (Ok b)
-worked one fills hash =
+-- a new file comes of it, whatever the hash and the judges
+pub worked : OneItem → FillsOrNeedsMore → (hash : Alg → List ℕ → List ℕ) (said : Question → Verdict) → (b : Built) × IsEmbedded hash said media definition_file message (Ok b)
+worked one fills hash said =
     let filled = signed fills in
-    let b : Built = built_of hash media defined place.segments 0x0211 filled.0 in
-    let is_built : IsBuilt hash media defined place parts (Ok b) = (0x0211, refl, (filled.0, filled.1, refl)) in (
+    let g : Ground = fresh_ground media defined in
+    let b : Built = built_of hash g place.segments 0x0211 filled.0 in
+    let is_built : IsBuilt hash g place parts (Ok b) = (0x0211, refl, (filled.0, filled.1, refl)) in (
       b,
-      record {
-        first = Ok Fresh;
-        is_first = (located.absent, is_absent, refl);
-        next = record {
-          first = Ok defined;
-          is_first = (Ok defined, is_defined, refl);
-          next = record {
-            first = Ok parts;
-            is_first = (Ok parts, (accepted one, spelled), refl);
-            next = record {
-              first = Ok place;
-              is_first = (place, is_place, refl);
-              next = subst (λ (o : Option BuildError). Unless o (IsBuilt hash media defined place parts) (Ok b)) (sym none_fails) is_built;
-            };
-          };
-        };
-      },
+      then_next (IsMediaStage media) _ fresh (Ok b) (located.absent, is_absent, refl)
+          (then_next (IsDefinitionStage definition_file) _ defined (Ok b) (Ok defined, is_defined, refl)
+          (then_next (IsMessageStage defined.protected message) _ parts (Ok b) (Ok parts, (accepted one, spelled), refl)
+          (then_next (IsGroundStage hash said media defined fresh) (IsEmbeddedOn hash parts) g (Ok b) refl
+          (then_next (IsPlaceStage media) _ place (Ok b) (place, is_place, refl)
+          (subst (λ (o : Option BuildError). Unless o (IsBuilt hash g place parts) (Ok b)) (sym none_fails) is_built))))),
     )
 
 -- so some build succeeds
 pub some_succeeds : OneDefinition → OneItem → FillsOrNeedsMore → SomeBuildSucceeds
-some_succeeds one item fills hash = let w = worked item fills hash in (media, definition_file, message, w.0, texts_in one, w.1)
+some_succeeds one item fills hash said = let w = worked item fills hash said in (media, definition_file, message, w.0, texts_in one, w.1)

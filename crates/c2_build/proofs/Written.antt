@@ -1,10 +1,11 @@
 -- What is written, step by step, and what was read of it.
-use Rattle.std.proofs.Common.{◌≡◌, ℕ, ◌+◌, ◌-◌, ◌<◌, ◌≤◌, Bool, List, [], ◌++◌, length, take, drop, min, Option, Result, Ok, Err, refl, sym, ap, ◌∙◌, subst, arith, append_assoc, append-nil, length-append}
+use Rattle.std.proofs.Common.{◌≡◌, ◌⊎◌, inl, inr, ℕ, zero, suc, ◌+◌, ◌-◌, ◌<◌, ◌≤◌, Bool, List, [], ◌∷◌, ◌++◌, length, take, drop, min, max, Option, Result, Ok, Err, refl, sym, ap, ◌∙◌, subst, arith, append_assoc, append-nil, length-append}
 use Rattle.std.proofs.Math.Seq.{take-add, take-append-add}
-use Rattle.std.proofs.lemmas.List.{take-append-le, take_all, take-take, drop-drop, length-take, length-drop}
+use Rattle.std.proofs.lemmas.Bool.{cases_lt}
+use Rattle.std.proofs.lemmas.List.{take-append-drop, take-append-le, take_all, take-take, drop-drop, length-take, length-take-le, length-drop}
 use Rattle.std.specs.declared.option.Option.TheVariants.{Some, None}
 use Rattle.c2_base.specs.Sink.{HasWrittenPrefix, then_written, spare_less}
-use Rattle.c2_spec.specs.PutIn.{put_in}
+use Rattle.c2_spec.specs.PutIn.{put_in, taken_out}
 use Rattle.c2_build.specs.Steps.{Breaks, IsOverSpare, IsStep, Puts, piece_of}
 use Rattle.c2_build.specs.declared.error.BuildError.{BuildError}
 use Rattle.c2_build.specs.declared.error.BuildError.TheVariants as build
@@ -75,8 +76,11 @@ over_more (build.MediaRefused reason number) s m n le h = tt
 over_more (build.BadDefinition field) s m n le h = tt
 over_more (build.BadSignature part) s m n le h = tt
 over_more build.Later s m n le h = tt
+over_more (build.ParentFails code uri) s m n le h = tt
+over_more (build.LabelTaken label) s m n le h = tt
 over_more (build.RedactionRefused text code) s m n le h = tt
 over_more build.NoInstance s m n le h = tt
+over_more (build.TooManyManifests k) s m n le h = tt
 over_more (build.StoreTooLarge k) s m n le h = tt
 over_more (build.ReserveTooSmall k) s m n le h = tt
 over_more build.ReadFault s m n le h = tt
@@ -90,8 +94,11 @@ over_later (build.MediaRefused reason number) old mid m n is h = tt
 over_later (build.BadDefinition field) old mid m n is h = tt
 over_later (build.BadSignature part) old mid m n is h = tt
 over_later build.Later old mid m n is h = tt
+over_later (build.ParentFails code uri) old mid m n is h = tt
+over_later (build.LabelTaken label) old mid m n is h = tt
 over_later (build.RedactionRefused text code) old mid m n is h = tt
 over_later build.NoInstance old mid m n is h = tt
+over_later (build.TooManyManifests k) old mid m n is h = tt
 over_later (build.StoreTooLarge k) old mid m n is h = tt
 over_later (build.ReserveTooSmall k) old mid m n is h = tt
 over_later build.ReadFault old mid m n is h = tt
@@ -139,12 +146,115 @@ next_breaks written spare finished file from at to n m old mid new e le inside s
     let bytes : piece_of file from at ++ (take m (drop at file) ++ rest) ≡ piece_of file from to = ap (λ (x : List ℕ). piece_of file from at ++ x) back ∙ parts_join file from at to le (omega (arith, inside)) in
     subst (λ (x : List ℕ). Breaks written spare finished x old new e) bytes all
 
--- the first bytes of a file and the next piece, as it was read into a buffer
-pub read_more : (file list piece rest : List ℕ) (at n : ℕ) → at + n ≤ length file → length piece ≡ n → list ≡ take at file → piece ≡ take (length piece) (drop at file) → list ++ take n (piece ++ rest) ≡ take (at + n) file
-read_more file list piece rest at n inside size front is =
+-- the piece up to a place and the next one, as it was read into a buffer
+pub read_piece : (file bytes piece rest : List ℕ) (from at n : ℕ) → from ≤ at → length piece ≡ n → bytes ≡ piece_of file from at → piece ≡ take (length piece) (drop at file) → bytes ++ take n (piece ++ rest) ≡ piece_of file from (at + n)
+read_piece file bytes piece rest from at n le size front is =
     let cut : take n (piece ++ rest) ≡ piece = take-append-le n piece rest (omega (arith, size)) ∙ take_all n piece (omega (arith, size)) in
-    let next : piece ≡ take n (drop at file) = is ∙ ap (λ (k : ℕ). take k (drop at file)) size in
-    ap (λ (x : List ℕ). list ++ x) (cut ∙ next) ∙ ap (λ (x : List ℕ). x ++ take n (drop at file)) front ∙ sym (take-add at n file)
+    ap (λ (x : List ℕ). bytes ++ x) (cut ∙ is ∙ piece_from file at n (length piece) size) ∙ ap (λ (x : List ℕ). x ++ piece_of file at (at + n)) front ∙ parts_join file from at (at + n) le (omega arith)
+
+-- no bytes are between a place and itself
+pub piece_none : (file : List ℕ) (at : ℕ) → piece_of file at at ≡ []
+piece_none file at = let none : at - at ≡ 0 = omega arith in ap (λ (n : ℕ). take n (drop at file)) none
+
+-- ---- a file less a range
+
+-- what is left of two lists behind the first
+drop_back : (xs ys : List ℕ) (n : ℕ) → length xs ≤ n → drop n (xs ++ ys) ≡ drop (n - length xs) ys
+drop_back [] ys n le = let same : n ≡ n - 0 = omega arith in ap (λ (k : ℕ). drop k ys) same
+drop_back (x ∷ xs) ys zero le = absurd (omega (arith, le))
+drop_back (x ∷ xs) ys (suc n) le = let same : n - length xs ≡ suc n - suc (length xs) = omega arith in drop_back xs ys n (omega (arith, le)) ∙ ap (λ (k : ℕ). drop k ys) same
+
+-- and in the first
+drop_front : (xs ys : List ℕ) (n : ℕ) → n ≤ length xs → drop n (xs ++ ys) ≡ drop n xs ++ ys
+drop_front xs ys zero le = refl
+drop_front [] ys (suc n) le = absurd (omega (arith, le))
+drop_front (x ∷ xs) ys (suc n) le = drop_front xs ys n (omega (arith, le))
+
+-- a piece of the first of two lists
+piece_front : (xs ys : List ℕ) (from to : ℕ) → from ≤ to → to ≤ length xs → piece_of (xs ++ ys) from to ≡ piece_of xs from to
+piece_front xs ys from to a b = ap (take (to - from)) (drop_front xs ys from (omega (arith, a, b))) ∙ take-append-le (to - from) (drop from xs) ys (omega (arith, a, b, length-drop from xs))
+
+-- and of the second
+piece_back : (xs ys : List ℕ) (from to : ℕ) → length xs ≤ from → from ≤ to → piece_of (xs ++ ys) from to ≡ piece_of ys (from - length xs) (to - length xs)
+piece_back xs ys from to a b =
+    let count : to - from ≡ to - length xs - (from - length xs) = omega (arith, a, b) in
+    ap (take (to - from)) (drop_back xs ys from a) ∙ ap (λ (n : ℕ). take n (drop (from - length xs) ys)) count
+
+-- before the range a file less it is the file
+less_front : (start len : ℕ) (file : List ℕ) (from to : ℕ) → start + len ≤ length file → from ≤ to → to ≤ start → piece_of (taken_out start len file) from to ≡ piece_of file from to
+less_front start len file from to inside a b =
+    let size : length (take start file) ≡ start = length-take-le start file (omega (arith, inside)) in
+    piece_front (take start file) (drop (start + len) file) from to a (omega (arith, b, size)) ∙ sym (piece_front (take start file) (drop start file) from to a (omega (arith, b, size)))
+    ∙ ap (λ (x : List ℕ). piece_of x from to) (take-append-drop start file)
+
+-- and behind it it is the file further on
+less_back : (start len : ℕ) (file : List ℕ) (from to : ℕ) → start + len ≤ length file → start ≤ from → from ≤ to → piece_of (taken_out start len file) from to ≡ piece_of file (from + len) (to + len)
+less_back start len file from to inside a b =
+    let rest : List ℕ = drop (start + len) file in
+    let one : length (take start file) ≡ start = length-take-le start file (omega (arith, inside)) in
+    let two : length (take (start + len) file) ≡ start + len = length-take-le (start + len) file inside in
+    let low : from - length (take start file) ≡ from + len - length (take (start + len) file) = omega (arith, one, two) in
+    let high : to - length (take start file) ≡ to + len - length (take (start + len) file) = omega (arith, one, two) in
+    piece_back (take start file) rest from to (omega (arith, a, one)) b
+    ∙ ap (λ (n : ℕ). piece_of rest n (to - length (take start file))) low ∙ ap (piece_of rest (from + len - length (take (start + len) file))) high
+    ∙ sym (piece_back (take (start + len) file) rest (from + len) (to + len) (omega (arith, a, two)) (omega (arith, b)))
+    ∙ ap (λ (x : List ℕ). piece_of x (from + len) (to + len)) (take-append-drop (start + len) file)
+
+-- a piece of it is two of the file, one on each side of the range
+pub less_piece : (start len : ℕ) (file : List ℕ) (from to : ℕ) → start + len ≤ length file → from ≤ to
+    → piece_of file (min from start) (min to start) ++ piece_of file (max from start + len) (max to start + len) ≡ piece_of (taken_out start len file) from to
+less_piece start len file from to inside le = by (cases_lt start to) (cases_lt from start)
+  where
+    by : (start < to) ⊎ (to ≤ start) → (from < start) ⊎ (start ≤ from) → piece_of file (min from start) (min to start) ++ piece_of file (max from start + len) (max to start + len) ≡ piece_of (taken_out start len file) from to
+    by (inr a) c =
+        let one : min from start ≡ from = omega (arith, a, le) in
+        let two : min to start ≡ to = omega (arith, a) in
+        let three : max from start ≡ start = omega (arith, a, le) in
+        let four : max to start ≡ start = omega (arith, a) in
+        ap (λ (n : ℕ). piece_of file n (min to start) ++ piece_of file (max from start + len) (max to start + len)) one
+        ∙ ap (λ (n : ℕ). piece_of file from n ++ piece_of file (max from start + len) (max to start + len)) two
+        ∙ ap (λ (n : ℕ). piece_of file from to ++ piece_of file (n + len) (max to start + len)) three
+        ∙ ap (λ (n : ℕ). piece_of file from to ++ piece_of file (start + len) (n + len)) four
+        ∙ ap (λ (x : List ℕ). piece_of file from to ++ x) (piece_none file (start + len)) ∙ append-nil (piece_of file from to)
+        ∙ sym (less_front start len file from to inside le a)
+    by (inl a) (inr c) =
+        let one : min from start ≡ start = omega (arith, c) in
+        let two : min to start ≡ start = omega (arith, a) in
+        let three : max from start ≡ from = omega (arith, c) in
+        let four : max to start ≡ to = omega (arith, a) in
+        ap (λ (n : ℕ). piece_of file n (min to start) ++ piece_of file (max from start + len) (max to start + len)) one
+        ∙ ap (λ (n : ℕ). piece_of file start n ++ piece_of file (max from start + len) (max to start + len)) two
+        ∙ ap (λ (n : ℕ). piece_of file start start ++ piece_of file (n + len) (max to start + len)) three
+        ∙ ap (λ (n : ℕ). piece_of file start start ++ piece_of file (from + len) (n + len)) four
+        ∙ ap (λ (x : List ℕ). x ++ piece_of file (from + len) (to + len)) (piece_none file start)
+        ∙ sym (less_back start len file from to inside c le)
+    by (inl a) (inl c) =
+        let one : min from start ≡ from = omega (arith, c) in
+        let two : min to start ≡ start = omega (arith, a) in
+        let three : max from start ≡ start = omega (arith, c) in
+        let four : max to start ≡ to = omega (arith, a) in
+        ap (λ (n : ℕ). piece_of file n (min to start) ++ piece_of file (max from start + len) (max to start + len)) one
+        ∙ ap (λ (n : ℕ). piece_of file from n ++ piece_of file (max from start + len) (max to start + len)) two
+        ∙ ap (λ (n : ℕ). piece_of file from start ++ piece_of file (n + len) (max to start + len)) three
+        ∙ ap (λ (n : ℕ). piece_of file from start ++ piece_of file (start + len) (n + len)) four
+        ∙ ap (λ (x : List ℕ). x ++ piece_of file (start + len) (to + len)) (sym (less_front start len file from start inside (omega (arith, c)) (omega arith)))
+        ∙ ap (λ (x : List ℕ). piece_of (taken_out start len file) from start ++ x) (sym (less_back start len file start to inside (omega arith) (omega (arith, a))))
+        ∙ parts_join (taken_out start len file) from start to (omega (arith, c)) (omega (arith, a))
+
+-- so it is with the places of both pieces
+pub less_pieces : (start len : ℕ) (file : List ℕ) (from to f g h k : ℕ) → f ≡ min from start → g ≡ min to start → h ≡ max from start + len → k ≡ max to start + len → start + len ≤ length file → from ≤ to
+    → piece_of file f g ++ piece_of file h k ≡ piece_of (taken_out start len file) from to
+less_pieces start len file from to f g h k ef eg eh ek inside le =
+    ap (λ (n : ℕ). piece_of file n g ++ piece_of file h k) ef ∙ ap (λ (n : ℕ). piece_of file (min from start) n ++ piece_of file h k) eg
+    ∙ ap (λ (n : ℕ). piece_of file (min from start) (min to start) ++ piece_of file n k) eh ∙ ap (λ (n : ℕ). piece_of file (min from start) (min to start) ++ piece_of file (max from start + len) n) ek
+    ∙ less_piece start len file from to inside le
+
+-- the bytes before the range and those behind it are the file less it
+pub less_whole : (start len size : ℕ) (file front back : List ℕ) → size ≡ length file → start + len ≤ length file → front ≡ piece_of file 0 start → back ≡ piece_of file (start + len) size → front ++ back ≡ taken_out start len file
+less_whole start len size file front back same inside f b =
+    let none : start - 0 ≡ start = omega arith in
+    let rest : piece_of file (start + len) size ≡ drop (start + len) file = take_all (size - (start + len)) (drop (start + len) file) (omega (arith, length-drop (start + len) file, same)) in
+    ap (λ (x : List ℕ). x ++ back) (f ∙ ap (λ (n : ℕ). take n file) none) ∙ ap (λ (x : List ℕ). take start file ++ x) (b ∙ rest)
 
 -- ---- a new file
 

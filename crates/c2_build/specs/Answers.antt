@@ -1,4 +1,4 @@
--- What `plan` and `embed` promise of their answers and of what they leave. Both leave the judges as they were: none is asked.
+-- What `plan` and `embed` promise of their answers and of what they leave.
 use Rattle.std.specs.Prelude.{◌≡◌, ◌⊎◌, ℕ, ◌<◌, ⊤, Bool, true, List, [], length}
 use Rattle.std.specs.declared.option.Option.{Option}
 use Rattle.std.specs.declared.result.Result.{Result}
@@ -6,7 +6,11 @@ use Rattle.std.specs.declared.result.Result.TheVariants.{Ok, Err}
 use Rattle.std.specs.Option.{ForSome}
 use Rattle.c2_base.specs.Causes.{Rose}
 use Rattle.c2_base.specs.Sink.{Appends, HasWrittenPrefix}
+use Rattle.c2_base.specs.declared.values.Question.{Question}
+use Rattle.c2_spec.specs.Judges.Panel.{Judges, SomeRose}
 use Rattle.c2_spec.specs.declared.digest.Alg.{Alg}
+use Rattle.c2_spec.specs.declared.panel.Verdict.{Verdict}
+use Rattle.c2_rules.specs.Asking.{HaveAsked, HaveAskedPrefix, HaveFailed}
 use Rattle.c2_build.specs.Building.{Built, IsEmbedded}
 use Rattle.c2_build.specs.declared.error.BuildError.{BuildError}
 use Rattle.c2_build.specs.declared.error.BuildError.TheVariants.{BadSignature, ReserveTooSmall, ReadFault, JudgeFault, WriteFault, NoMemory}
@@ -35,16 +39,16 @@ pub record PlanFaults : Type 0 where
   pub media : ℕ
   pub definition : ℕ
 
--- The cause of an error of `plan`, by the counts before and after: a source failed. It looks at no signed message, asks no judge and
+-- The cause of an error of `plan`, by the counts before and after: a source failed, or a judge. It looks at no signed message and
 -- writes nothing; a refusal leaves the counts.
-abbrev pub IsPlanCause : PlanFaults → PlanFaults → BuildError → Type 0
-IsPlanCause before now (BadSignature test) = ⊥
-IsPlanCause before now (ReserveTooSmall n) = ⊥
-IsPlanCause before now ReadFault = Rose before.media now.media ⊎ Rose before.definition now.definition
-IsPlanCause before now JudgeFault = ⊥
-IsPlanCause before now WriteFault = ⊥
-IsPlanCause before now NoMemory = ⊤
-IsPlanCause before now e = now ≡ before
+abbrev pub IsPlanCause : PlanFaults → PlanFaults → List ℕ → List ℕ → BuildError → Type 0
+IsPlanCause before now judged judged' (BadSignature test) = ⊥
+IsPlanCause before now judged judged' (ReserveTooSmall n) = ⊥
+IsPlanCause before now judged judged' ReadFault = Rose before.media now.media ⊎ Rose before.definition now.definition
+IsPlanCause before now judged judged' JudgeFault = SomeRose judged judged'
+IsPlanCause before now judged judged' WriteFault = ⊥
+IsPlanCause before now judged judged' NoMemory = ⊤
+IsPlanCause before now judged judged' e = (now ≡ before) × (judged' ≡ judged)
 
 -- The counts of faults of what `embed` uses.
 pub record Faults : Type 0 where
@@ -53,15 +57,28 @@ pub record Faults : Type 0 where
   pub message : ℕ
   pub out : ℕ
 
--- The cause of an error of `embed`, by the counts before and after: a source failed, or the sink. No judge is asked, and a refusal leaves the
--- counts.
-abbrev pub IsBuildCause : Faults → Faults → BuildError → Type 0
-IsBuildCause before now ReadFault =
+-- The cause of an error of `embed`, by the counts before and after: a source failed, a judge, or the sink. A refusal leaves the counts.
+abbrev pub IsBuildCause : Faults → Faults → List ℕ → List ℕ → BuildError → Type 0
+IsBuildCause before now judged judged' ReadFault =
     Rose before.media now.media ⊎ (Rose before.definition now.definition ⊎ Rose before.message now.message)
-IsBuildCause before now JudgeFault = ⊥
-IsBuildCause before now WriteFault = Rose before.out now.out
-IsBuildCause before now NoMemory = ⊤
-IsBuildCause before now e = now ≡ before
+IsBuildCause before now judged judged' JudgeFault = SomeRose judged judged'
+IsBuildCause before now judged judged' WriteFault = Rose before.out now.out
+IsBuildCause before now judged judged' NoMemory = ⊤
+IsBuildCause before now judged judged' e = (now ≡ before) × (judged' ≡ judged)
+
+-- ---- judges
+
+-- The panel was asked these questions, by the answer of a call: all of them; those of a prefix where a source failed or memory ran
+-- out; or those before the one at which a judge failed.
+abbrev pub HasAskedAll : {T : Type 0} → List Question → Judges → Judges → Result T BuildError → Type 0
+HasAskedAll qs old new (Err ReadFault) = HaveAskedPrefix old.said qs old.asked new.asked
+HasAskedAll qs old new (Err JudgeFault) = HaveFailed old.said qs old.asked new.asked old.faults new.faults
+HasAskedAll qs old new (Err NoMemory) = HaveAskedPrefix old.said qs old.asked new.asked
+HasAskedAll qs old new r = HaveAsked old.said qs old.asked new.asked
+
+-- the panel was asked the questions of which this holds
+abbrev pub HasAskedThose : {T : Type 0} → (List Question → Type 0) → Judges → Judges → Result T BuildError → Type 0
+HasAskedThose AreAsked old new r = (qs : List Question) → AreAsked qs → HasAskedAll qs old new r
 
 -- ---- the sink
 
@@ -92,16 +109,16 @@ file_of (Err e) = []
 
 -- Over known inputs: the range and the file that they come to, or what is refused first; after a failure of a source or of the sink,
 -- a prefix of the file.
-abbrev pub IsEmbedding : (Alg → List ℕ → List ℕ) → List ℕ → List ℕ → List ℕ → SinkState → SinkState
+abbrev pub IsEmbedding : (Alg → List ℕ → List ℕ) → (Question → Verdict) → List ℕ → List ℕ → List ℕ → SinkState → SinkState
     → Result Embedded BuildError → Type 0
-IsEmbedding hash media definition message old new (Ok e) =
-    (b : Built) × IsEmbedded hash media definition message (Ok b) × HasRange b e × IsDelivered b.file old new
-IsEmbedding hash media definition message old new (Err ReadFault) =
-    (r : Result Built BuildError) → IsEmbedded hash media definition message r → IsBegun (file_of r) old new
-IsEmbedding hash media definition message old new (Err WriteFault) =
-    (r : Result Built BuildError) → IsEmbedded hash media definition message r → IsBegun (file_of r) old new
-IsEmbedding hash media definition message old new (Err e) =
-    WithoutFault e (IsEmbedded hash media definition message (Err e))
+IsEmbedding hash said media definition message old new (Ok e) =
+    (b : Built) × IsEmbedded hash said media definition message (Ok b) × HasRange b e × IsDelivered b.file old new
+IsEmbedding hash said media definition message old new (Err ReadFault) =
+    (r : Result Built BuildError) → IsEmbedded hash said media definition message r → IsBegun (file_of r) old new
+IsEmbedding hash said media definition message old new (Err WriteFault) =
+    (r : Result Built BuildError) → IsEmbedded hash said media definition message r → IsBegun (file_of r) old new
+IsEmbedding hash said media definition message old new (Err e) =
+    WithoutFault e (IsEmbedded hash said media definition message (Err e))
 
 -- the sink changes only by success, or where reading or writing failed
 abbrev pub LeavesSink : Result Embedded BuildError → Type 0 → Type 0
@@ -116,8 +133,8 @@ HasFinish before now (Ok e) = now ≡ true
 HasFinish before now (Err e) = now ≡ before
 
 -- the sink doesn't fail within a stated spare that holds what is appended: the whole file, or nothing where it is refused
-abbrev pub HasSpare : (Alg → List ℕ → List ℕ) → List ℕ → List ℕ → List ℕ → Option ℕ
+abbrev pub HasSpare : (Alg → List ℕ → List ℕ) → (Question → Verdict) → List ℕ → List ℕ → List ℕ → Option ℕ
     → Result Embedded BuildError → Type 0
-HasSpare hash media definition message spare (Err WriteFault) =
-    ForSome spare (λ s. (r : Result Built BuildError) → IsEmbedded hash media definition message r → s < length (file_of r))
-HasSpare hash media definition message spare r = ⊤
+HasSpare hash said media definition message spare (Err WriteFault) =
+    ForSome spare (λ s. (r : Result Built BuildError) → IsEmbedded hash said media definition message r → s < length (file_of r))
+HasSpare hash said media definition message spare r = ⊤

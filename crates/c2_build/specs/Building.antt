@@ -1,10 +1,11 @@
--- What the build of a new store into a JPEG file without an older one comes to: what is to be signed, the new file, or what is
--- refused first. Known inputs come to one thing: the order of the tests is this project's own choice.
-use Rattle.std.specs.Prelude.{◌≡◌, ℕ, List, length, if◌then◌else◌}
+-- What the build of a new store into a JPEG file comes to: what is to be signed, the new file, or what is refused first. Known inputs
+-- come to one thing: the order of the tests is this project's own choice.
+use Rattle.std.specs.Prelude.{◌≡◌, ℕ, ◌+◌, Bool, List, [], length, if◌then◌else◌}
 use Rattle.std.specs.declared.option.Option.{Option}
 use Rattle.std.specs.declared.option.Option.TheVariants.{Some, None}
 use Rattle.std.specs.declared.result.Result.{Result}
 use Rattle.std.specs.declared.result.Result.TheVariants.{Ok, Err}
+use Rattle.c2_base.specs.declared.values.Question.{Question}
 use Rattle.c2_spec.specs.C2pa.Sign1.{SignParts, SpellsMessage, sig_structure}
 use Rattle.c2_spec.specs.Cbor.Deterministic.{deterministic}
 use Rattle.c2_spec.specs.Container.{is_bmff}
@@ -13,9 +14,15 @@ use Rattle.c2_spec.specs.Jpeg.Segments.{Segment}
 use Rattle.c2_spec.specs.Jpeg.Writing.{IsNumberOf, insert_place}
 use Rattle.c2_spec.specs.Jumbf.Tree.{Tree}
 use Rattle.c2_spec.specs.Located.{Opening, refused, absent, here}
+use Rattle.c2_spec.specs.PutIn.{taken_out}
 use Rattle.c2_spec.specs.declared.digest.Alg.{Alg}
 use Rattle.c2_spec.specs.declared.digest.Alg.TheVariants.{Sha256}
+use Rattle.c2_spec.specs.declared.panel.Verdict.{Verdict}
+use Rattle.c2_rules.specs.CheckList.{StoreReading, check_list}
 use Rattle.c2_rules.specs.Opened.{IsOpened}
+use Rattle.c2_rules.specs.Readings.{Reading}
+use Rattle.c2_rules.specs.Tests.{first_failing}
+use Rattle.c2_rules.specs.Validated.{CheckAsks, IsFileReading}
 use Rattle.c2_definition.specs.DefinitionFile.{IsDefinition}
 use Rattle.c2_definition.specs.declared.types.Definition.{Definition}
 use Rattle.c2_definition.specs.declared.types.DefinitionField.{DefinitionField}
@@ -23,13 +30,12 @@ use Rattle.c2_message.specs.Message.{IsAccepted, IsRefused}
 use Rattle.c2_message.specs.Signed.{IsSigned}
 use Rattle.c2_message.specs.declared.error.SignaturePart.{SignaturePart}
 use Rattle.c2_layout.specs.Built.{built_file}
-use Rattle.c2_layout.specs.Store.{data_binding, new_claim}
+use Rattle.c2_layout.specs.Store.{Content, data_binding, new_claim}
 use Rattle.c2_layout.specs.Fresh.{fresh_content}
-use Rattle.c2_build.specs.Refusals.{early_tests, first_refusal, late_tests, new_range_len, number_tests}
+use Rattle.c2_carried.specs.Parents.{IsContentOver}
+use Rattle.c2_build.specs.Refusals.{Ground, first_refusal, ground_tests, late_tests, new_range_len, older_tests, redaction_tests}
 use Rattle.c2_build.specs.declared.error.BuildError.{BuildError}
-use Rattle.c2_build.specs.declared.error.BuildError.TheVariants.{MediaRefused, BadDefinition, BadSignature}
-use Rattle.c2_build.specs.declared.types.MediaKind.{MediaKind}
-use Rattle.c2_build.specs.declared.types.MediaKind.TheVariants.{Fresh, Waits}
+use Rattle.c2_build.specs.declared.error.BuildError.TheVariants.{MediaRefused, BadDefinition, BadSignature, Later}
 
 -- ---- one stage after the other
 
@@ -51,11 +57,22 @@ Unless (Some e) Next r = r ≡ Err e
 
 -- ---- the inputs
 
--- what a media file that is opened so is to a build: a BMFF file and one with a store have to wait
+-- What a media file that isn't refused is to a build: a JPEG file without a store; one with this store in this range; or a BMFF file,
+-- which has to wait for a later version.
+pub data MediaKind : Type 0 where
+  fresh : MediaKind
+  stored : ℕ → ℕ → Tree → MediaKind
+  waits : MediaKind
+
+-- what a JPEG or a BMFF file without a store, and one with a store, is to a build
+abbrev pub kind_in : Bool → MediaKind → MediaKind
+kind_in bmff kind = if bmff then waits else kind
+
+-- what a media file that is opened so is to a build
 abbrev pub media_stage : List ℕ → Opening Tree → Result MediaKind BuildError
 media_stage media (refused reason number) = Err (MediaRefused reason number)
-media_stage media absent = Ok (if is_bmff media then Waits else Fresh)
-media_stage media (here start len t) = Ok Waits
+media_stage media absent = Ok (kind_in (is_bmff media) fresh)
+media_stage media (here start len t) = Ok (kind_in (is_bmff media) (stored start len t))
 
 -- this is what the media file is: the tests of the container, of the boxes and of the store come first
 abbrev pub IsMediaStage : List ℕ → Result MediaKind BuildError → Type 0
@@ -92,28 +109,55 @@ message_stage (Err test) = Err (BadSignature test)
 abbrev pub IsMessageStage : List ℕ → List ℕ → Result SignParts BuildError → Type 0
 IsMessageStage protected bytes r = (m : Result SignParts SignaturePart) × IsMessageRead protected bytes m × (r ≡ message_stage m)
 
--- The segments of a media file, and the number that is free for packets among them, where one is.
+-- ---- the older store
+
+-- what is built over a JPEG file without a store: the file, with nothing carried
+abbrev pub fresh_ground : List ℕ → Definition → Ground
+fresh_ground media d = record { base = media; content = fresh_content d; manifests = 1 }
+
+-- what is built over a JPEG file with this store in this range: the file less the range. The boxes of the store are carried, less
+-- what the definition redacts
+abbrev pub IsGroundOver : List ℕ → Definition → ℕ → ℕ → Tree → List Reading → Result Ground BuildError → Type 0
+IsGroundOver media d start len t rs r =
+    (c : Content) × IsContentOver d t c
+    × (r ≡ Ok (record { base = taken_out start len media; content = c; manifests = length rs + 1 }))
+
+-- What is built over a media file of this kind, where judges say this; or what refuses it: the file has to wait; a rule of its
+-- store's check fails; a manifest has the new label; or a redaction can't be made.
+abbrev pub IsGroundStage : (Alg → List ℕ → List ℕ) → (Question → Verdict) → List ℕ → Definition → MediaKind
+    → Result Ground BuildError → Type 0
+IsGroundStage hash said media d waits r = r ≡ Err Later
+IsGroundStage hash said media d fresh r =
+    Unless (first_refusal (redaction_tests d [])) (λ r. r ≡ Ok (fresh_ground media d)) r
+IsGroundStage hash said media d (stored start len t) r =
+    (s : StoreReading) × IsFileReading media t s
+    × Unless (first_refusal (older_tests d s.readings (first_failing (check_list hash said s))))
+    (IsGroundOver media d start len t s.readings) r
+
+-- ---- the place
+
+-- The segments of a JPEG file, and the number that is free for packets among them, where one is.
 pub record Place : Type 0 where
   pub segments : List Segment
   pub number : Option ℕ
 
 -- these are a file's
-pub record IsPlace (media : List ℕ) (p : Place) : Type 0 where
-  pub is_of : IsOfSegments media p.segments
+pub record IsPlace (base : List ℕ) (p : Place) : Type 0 where
+  pub is_of : IsOfSegments base p.segments
   pub is_number : IsNumberOf p.segments p.number
 
 -- this is where the new store goes in a JPEG file
 abbrev pub IsPlaceStage : List ℕ → Result Place BuildError → Type 0
-IsPlaceStage media r = (p : Place) × IsPlace media p × (r ≡ Ok p)
+IsPlaceStage base r = (p : Place) × IsPlace base p × (r ≡ Ok p)
 
 -- ---- what is built
 
--- what is signed (RFC 9052, section 4.4): the definition's protected header and the new claim, which binds what the media has
--- outside the new range
-abbrev pub signed_bytes : (Alg → List ℕ → List ℕ) → List ℕ → Definition → Place → List ℕ
-signed_bytes hash media d p =
-    deterministic (sig_structure d.protected (new_claim (hash Sha256) (fresh_content d)
-    (data_binding (insert_place p.segments) (new_range_len d) (hash Sha256 media))))
+-- what is signed (RFC 9052, section 4.4): the definition's protected header and the new claim, which binds what the file has outside
+-- the new range
+abbrev pub signed_bytes : (Alg → List ℕ → List ℕ) → Ground → Place → List ℕ
+signed_bytes hash g p =
+    deterministic (sig_structure g.content.definition.protected (new_claim (hash Sha256) g.content
+    (data_binding (insert_place p.segments) (new_range_len g.content) (hash Sha256 g.base))))
 
 -- A new file, and the range of its store.
 pub record Built : Type 0 where
@@ -121,46 +165,90 @@ pub record Built : Type 0 where
   pub start : ℕ
   pub len : ℕ
 
--- the file with this message: the media of these segments, and the packets of the new store behind its APP0 segments, under this
+-- the file with this message: the base of these segments, and the packets of the new store behind its APP0 segments, under this
 -- number
-abbrev pub built_of : (Alg → List ℕ → List ℕ) → List ℕ → Definition → List Segment → ℕ → List ℕ → Built
-built_of hash media d segments en message = record {
-  file = built_file (hash Sha256) (fresh_content d) message media segments en;
+abbrev pub built_of : (Alg → List ℕ → List ℕ) → Ground → List Segment → ℕ → List ℕ → Built
+built_of hash g segments en message = record {
+  file = built_file (hash Sha256) g.content message g.base segments en;
   start = insert_place segments;
-  len = new_range_len d;
+  len = new_range_len g.content;
 }
 
 -- the new file under the number that is free, with a message of these parts, padded to the bytes that are reserved
-abbrev pub IsBuilt : (Alg → List ℕ → List ℕ) → List ℕ → Definition → Place → SignParts → Result Built BuildError → Type 0
-IsBuilt hash media d p parts r =
+abbrev pub IsBuilt : (Alg → List ℕ → List ℕ) → Ground → Place → SignParts → Result Built BuildError → Type 0
+IsBuilt hash g p parts r =
     (en : ℕ) × (p.number ≡ Some en)
-    × ((message : List ℕ) × IsSigned parts d.reserve message × (r ≡ Ok (built_of hash media d p.segments en message)))
+    × ((message : List ℕ) × IsSigned parts g.content.definition.reserve message
+    × (r ≡ Ok (built_of hash g p.segments en message)))
 
 -- ---- the two calls
 
--- what `plan` comes to over a media file of this kind, and a definition: the bytes to be signed
-abbrev pub IsPlannedOver : (Alg → List ℕ → List ℕ) → List ℕ → MediaKind → Definition → Result (List ℕ) BuildError → Type 0
-IsPlannedOver hash media kind d =
-    Unless (first_refusal (early_tests kind d))
-    (Then (IsPlaceStage media) (λ p.
-    Unless (first_refusal (number_tests (length media) d p.number)) (λ r. r ≡ Ok (signed_bytes hash media d p))))
+-- what `plan` comes to over this ground: the bytes to be signed
+abbrev pub IsPlannedOn : (Alg → List ℕ → List ℕ) → Ground → Result (List ℕ) BuildError → Type 0
+IsPlannedOn hash g =
+    Then (IsPlaceStage g.base) (λ p.
+    Unless (first_refusal (ground_tests g p.number)) (λ r. r ≡ Ok (signed_bytes hash g p)))
+
+-- over a media file of this kind, and a definition
+abbrev pub IsPlannedOver : (Alg → List ℕ → List ℕ) → (Question → Verdict) → List ℕ → MediaKind → Definition
+    → Result (List ℕ) BuildError → Type 0
+IsPlannedOver hash said media kind d = Then (IsGroundStage hash said media d kind) (IsPlannedOn hash)
 
 -- over this media file and this definition file
-abbrev pub IsPlanned : (Alg → List ℕ → List ℕ) → List ℕ → List ℕ → Result (List ℕ) BuildError → Type 0
-IsPlanned hash media definition =
+abbrev pub IsPlanned : (Alg → List ℕ → List ℕ) → (Question → Verdict) → List ℕ → List ℕ
+    → Result (List ℕ) BuildError → Type 0
+IsPlanned hash said media definition =
     Then (IsMediaStage media) (λ kind.
-    Then (IsDefinitionStage definition) (λ d. IsPlannedOver hash media kind d))
+    Then (IsDefinitionStage definition) (λ d. IsPlannedOver hash said media kind d))
 
--- what `embed` comes to over a media file of this kind, a definition, and a message with these parts: the new file
-abbrev pub IsEmbeddedOver : (Alg → List ℕ → List ℕ) → List ℕ → MediaKind → Definition → SignParts → Result Built BuildError → Type 0
-IsEmbeddedOver hash media kind d parts =
-    Unless (first_refusal (early_tests kind d))
-    (Then (IsPlaceStage media) (λ p.
-    Unless (first_refusal (late_tests (length media) d parts p.number)) (IsBuilt hash media d p parts)))
+-- what `embed` comes to over this ground, with a message with these parts: the new file
+abbrev pub IsEmbeddedOn : (Alg → List ℕ → List ℕ) → SignParts → Ground → Result Built BuildError → Type 0
+IsEmbeddedOn hash parts g =
+    Then (IsPlaceStage g.base) (λ p.
+    Unless (first_refusal (late_tests g parts p.number)) (IsBuilt hash g p parts))
+
+-- over a media file of this kind, a definition, and a message with these parts
+abbrev pub IsEmbeddedOver : (Alg → List ℕ → List ℕ) → (Question → Verdict) → List ℕ → MediaKind → Definition
+    → SignParts → Result Built BuildError → Type 0
+IsEmbeddedOver hash said media kind d parts =
+    Then (IsGroundStage hash said media d kind) (IsEmbeddedOn hash parts)
 
 -- over this media file, this definition file and this file of a signed message
-abbrev pub IsEmbedded : (Alg → List ℕ → List ℕ) → List ℕ → List ℕ → List ℕ → Result Built BuildError → Type 0
-IsEmbedded hash media definition message =
+abbrev pub IsEmbedded : (Alg → List ℕ → List ℕ) → (Question → Verdict) → List ℕ → List ℕ → List ℕ
+    → Result Built BuildError → Type 0
+IsEmbedded hash said media definition message =
     Then (IsMediaStage media) (λ kind.
     Then (IsDefinitionStage definition) (λ d.
-    Then (IsMessageStage d.protected message) (λ parts. IsEmbeddedOver hash media kind d parts)))
+    Then (IsMessageStage d.protected message) (IsEmbeddedOver hash said media kind d)))
+
+-- ---- what is asked
+
+-- what is asked of judges over a media file of this kind: of one with a store, what its check asks
+abbrev pub KindAsks : (Alg → List ℕ → List ℕ) → (Question → Verdict) → List ℕ → MediaKind → List Question → Type 0
+KindAsks hash said media waits qs = qs ≡ []
+KindAsks hash said media fresh qs = qs ≡ []
+KindAsks hash said media (stored start len t) qs = CheckAsks hash said media qs
+
+-- nothing is asked behind a stage that refuses
+abbrev pub AskedBehind : {A : Type 0} → Result A BuildError → (A → List Question → Type 0) → List Question → Type 0
+AskedBehind (Ok a) Asks qs = Asks a qs
+AskedBehind (Err e) Asks qs = qs ≡ []
+
+-- A stage comes to something, and what is asked behind it is this.
+pub record AsksThen {A : Type 0} (First : Result A BuildError → Type 0) (Asks : A → List Question → Type 0) (qs : List Question) : Type 0 where
+  pub first : Result A BuildError
+  pub is_first : First first
+  pub asks : AskedBehind first Asks qs
+
+-- what `plan` asks over this media file and this definition file
+abbrev pub PlanAsks : (Alg → List ℕ → List ℕ) → (Question → Verdict) → List ℕ → List ℕ → List Question → Type 0
+PlanAsks hash said media definition =
+    AsksThen (IsMediaStage media) (λ kind.
+    AsksThen (IsDefinitionStage definition) (λ d. KindAsks hash said media kind))
+
+-- what `embed` asks over these and this file of a signed message
+abbrev pub EmbedAsks : (Alg → List ℕ → List ℕ) → (Question → Verdict) → List ℕ → List ℕ → List ℕ → List Question → Type 0
+EmbedAsks hash said media definition message =
+    AsksThen (IsMediaStage media) (λ kind.
+    AsksThen (IsDefinitionStage definition) (λ d.
+    AsksThen (IsMessageStage d.protected message) (λ parts. KindAsks hash said media kind)))

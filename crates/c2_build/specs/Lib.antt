@@ -1,5 +1,6 @@
 pub mod Refusals
 pub mod Building
 pub mod Answers
+pub mod Asked
 pub mod Meeting
 pub mod Steps

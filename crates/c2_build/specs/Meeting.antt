@@ -1,5 +1,5 @@
--- What a file meets that is built into a JPEG file without a store.
-use Rattle.std.specs.Prelude.{◌≡◌, ℕ, ◌<◌, ◌^◌, ⊤, List, [], ◌∷◌, All}
+-- What a new JPEG file meets.
+use Rattle.std.specs.Prelude.{◌≡◌, ℕ, ◌<◌, ◌^◌, ⊤, List, ◌∷◌, All}
 use Rattle.std.specs.declared.result.Result.{Result}
 use Rattle.std.specs.declared.result.Result.TheVariants.{Ok, Err}
 use Rattle.std.specs.List.{AllByRecursion}
@@ -15,16 +15,17 @@ use Rattle.c2_spec.specs.declared.panel.Verdict.TheVariants.{Approved}
 use Rattle.c2_rules.specs.CheckList.{IsValid, StoreReading, questions, unjudged_list}
 use Rattle.c2_rules.specs.Readings.{AreReadings}
 use Rattle.c2_rules.specs.Tests.{AllHold}
-use Rattle.c2_rules.specs.Validated.{IsAnswer}
+use Rattle.c2_rules.specs.Validated.{AreQuestions, IsAnswer}
 use Rattle.c2_rules.specs.declared.answer.Answer.TheVariants as answer
 use Rattle.c2_rules.specs.declared.answer.Summary.{Summary}
 use Rattle.c2_definition.specs.DefinitionFile.{IsDefinition}
 use Rattle.c2_definition.specs.declared.types.Definition.{Definition}
 use Rattle.c2_message.specs.Signed.{IsSigned}
 use Rattle.c2_layout.specs.Built.{built_store}
-use Rattle.c2_layout.specs.Fresh.{GivesDigests, Meets, fresh_content}
+use Rattle.c2_layout.specs.Fresh.{GivesDigests, Meets}
 use Rattle.c2_layout.specs.Written.{HasTexts}
-use Rattle.c2_build.specs.Building.{Built, IsEmbedded, IsPlanned}
+use Rattle.c2_build.specs.Building.{Built, IsEmbedded, IsGroundStage, IsMediaStage, IsPlanned, MediaKind}
+use Rattle.c2_build.specs.Refusals.{Ground}
 use Rattle.c2_build.specs.declared.error.BuildError.{BuildError}
 use Rattle.c2_build.specs.declared.types.Embedded.{Embedded}
 
@@ -32,23 +33,23 @@ use Rattle.c2_build.specs.declared.types.Embedded.{Embedded}
 
 -- `plan` comes to one thing over the same inputs
 abbrev pub OnePlan : Type 0
-OnePlan = (hash : Alg → List ℕ → List ℕ) (media definition : List ℕ) (a b : Result (List ℕ) BuildError)
-    → IsPlanned hash media definition a → IsPlanned hash media definition b → a ≡ b
+OnePlan = (hash : Alg → List ℕ → List ℕ) (said : Question → Verdict) (media definition : List ℕ) (a b : Result (List ℕ) BuildError)
+    → IsPlanned hash said media definition a → IsPlanned hash said media definition b → a ≡ b
 
 -- and so does `embed`
 abbrev pub OneEmbedding : Type 0
-OneEmbedding = (hash : Alg → List ℕ → List ℕ) (media definition message : List ℕ) (a b : Result Built BuildError)
-    → IsEmbedded hash media definition message a → IsEmbedded hash media definition message b → a ≡ b
+OneEmbedding = (hash : Alg → List ℕ → List ℕ) (said : Question → Verdict) (media definition message : List ℕ) (a b : Result Built BuildError)
+    → IsEmbedded hash said media definition message a → IsEmbedded hash said media definition message b → a ≡ b
 
 -- `plan` comes to something over each media file and each definition file
 abbrev pub SomePlan : Type 0
-SomePlan = (hash : Alg → List ℕ → List ℕ) (media definition : List ℕ) → All (λ b. b < 2 ^ 8) media
-    → (r : Result (List ℕ) BuildError) × IsPlanned hash media definition r
+SomePlan = (hash : Alg → List ℕ → List ℕ) (said : Question → Verdict) (media definition : List ℕ) → All (λ b. b < 2 ^ 8) media
+    → (r : Result (List ℕ) BuildError) × IsPlanned hash said media definition r
 
 -- and `embed` over each message besides
 abbrev pub SomeEmbedding : Type 0
-SomeEmbedding = (hash : Alg → List ℕ → List ℕ) (media definition message : List ℕ) → All (λ b. b < 2 ^ 8) media
-    → All (λ b. b < 2 ^ 8) message → (r : Result Built BuildError) × IsEmbedded hash media definition message r
+SomeEmbedding = (hash : Alg → List ℕ → List ℕ) (said : Question → Verdict) (media definition message : List ℕ) → All (λ b. b < 2 ^ 8) media
+    → All (λ b. b < 2 ^ 8) message → (r : Result Built BuildError) × IsEmbedded hash said media definition message r
 
 -- ---- verdicts
 
@@ -68,44 +69,51 @@ ApprovedIsValid = (hash : Alg → List ℕ → List ℕ) (said : Question → Ve
 abbrev pub HasTextsIn : List ℕ → Type 0
 HasTextsIn file = (d : Definition) → IsDefinition file (Ok d) → HasTexts d
 
--- The store is that of the definition alone that a file is, at this place in this media file. Its message is the signed one, padded
--- to the bytes that the definition reserves.
-pub record IsNewStore (hash : Alg → List ℕ → List ℕ) (media definition message : List ℕ) (start : ℕ) (store : Tree) : Type 0 where
+-- The store is the new one of the definition that a file is, over the ground that this media file gives, at this place. Its message is
+-- the signed one, padded to the bytes that the definition reserves.
+pub record IsNewStore (hash : Alg → List ℕ → List ℕ) (said : Question → Verdict) (media definition message : List ℕ) (start : ℕ) (store : Tree) : Type 0 where
   pub new : Definition
   pub defined : IsDefinition definition (Ok new)
+  pub kind : MediaKind
+  pub opened : IsMediaStage media (Ok kind)
+  pub ground : Ground
+  pub grounded : IsGroundStage hash said media new kind (Ok ground)
   pub parts : SignParts
   pub spelled : SpellsMessage message parts
   pub padded : List ℕ
   pub filled : IsSigned parts new.reserve padded
-  pub is : store ≡ built_store (hash Sha256) (fresh_content new) padded media start
+  pub is : store ≡ built_store (hash Sha256) ground.content padded ground.base start
 
--- The file has its new store in the new range, and all rules hold of it apart from the verdict. It asks one question: that of the
--- new manifest, over the bytes that `plan` gives. Without the new range it is the media. A panel that approves the one question
--- finds it valid.
-pub record BuiltMeets (hash : Alg → List ℕ → List ℕ) (media definition message : List ℕ) (b : Built) : Type 0 where
+-- The file has its new store in the new range, and all rules hold of it apart from verdicts. It asks the question of the new manifest,
+-- over the bytes that `plan` gives, and then those of the media file, which the judges of the build approve. Without the new range it
+-- is the media less its older store. A panel that approves all its questions finds it valid.
+pub record BuiltMeets (hash : Alg → List ℕ → List ℕ) (said : Question → Verdict) (media definition message : List ℕ) (b : Built) : Type 0 where
   pub store : Tree
   pub question : Question
-  pub written : IsNewStore hash media definition message b.start store
-  pub meets : Meets hash b.file b.start b.len store (question ∷ [])
-  pub signed : IsPlanned hash media definition (Ok question.tbs)
-  pub base : taken_out b.start b.len b.file ≡ media
-  pub accepted : (said : Question → Verdict) → said question ≡ Approved
-      → (s : Summary) × IsAnswer hash said b.file (answer.Valid s)
+  pub older : List Question
+  pub written : IsNewStore hash said media definition message b.start store
+  pub meets : Meets hash b.file b.start b.len store (question ∷ older)
+  pub signed : IsPlanned hash said media definition (Ok question.tbs)
+  pub asked : AreQuestions media older
+  pub approved : AreApproved said older
+  pub base : taken_out b.start b.len b.file ≡ written.ground.base
+  pub accepted : (others : Question → Verdict) → AreApproved others (question ∷ older)
+      → (s : Summary) × IsAnswer hash others b.file (answer.Valid s)
 
 -- What `embed` writes meets this.
 abbrev pub BuiltFileMeets : Type 0
-BuiltFileMeets = (hash : Alg → List ℕ → List ℕ) (media definition message : List ℕ) (b : Built)
-    → GivesDigests hash → HasTextsIn definition → IsEmbedded hash media definition message (Ok b)
-    → BuiltMeets hash media definition message b
+BuiltFileMeets = (hash : Alg → List ℕ → List ℕ) (said : Question → Verdict) (media definition message : List ℕ) (b : Built)
+    → GivesDigests hash → HasTextsIn definition → IsEmbedded hash said media definition message (Ok b)
+    → BuiltMeets hash said media definition message b
 
 -- the new file that is answered meets this
-abbrev pub IsMet : (Alg → List ℕ → List ℕ) → List ℕ → List ℕ → List ℕ → Result Embedded BuildError → Type 0
-IsMet hash media definition message (Ok e) =
-    (b : Built) → IsEmbedded hash media definition message (Ok b) → BuiltMeets hash media definition message b
-IsMet hash media definition message (Err e) = ⊤
+abbrev pub IsMet : (Alg → List ℕ → List ℕ) → (Question → Verdict) → List ℕ → List ℕ → List ℕ → Result Embedded BuildError → Type 0
+IsMet hash said media definition message (Ok e) =
+    (b : Built) → IsEmbedded hash said media definition message (Ok b) → BuiltMeets hash said media definition message b
+IsMet hash said media definition message (Err e) = ⊤
 
 -- Some build succeeds, whatever the hash: what is said of new files is said of some.
 abbrev pub SomeBuildSucceeds : Type 0
-SomeBuildSucceeds = (hash : Alg → List ℕ → List ℕ)
+SomeBuildSucceeds = (hash : Alg → List ℕ → List ℕ) (said : Question → Verdict)
     → (media : List ℕ) × (definition : List ℕ) × (message : List ℕ) × (b : Built)
-    × HasTextsIn definition × IsEmbedded hash media definition message (Ok b)
+    × HasTextsIn definition × IsEmbedded hash said media definition message (Ok b)

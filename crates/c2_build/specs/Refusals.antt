@@ -1,27 +1,22 @@
--- What is refused of a build into a JPEG file without an older store, once its inputs are read: tests in their order, which is this
--- project's own choice.
-use Rattle.std.specs.Prelude.{◌≡◌, ℕ, ◌+◌, ◌<◌, nat_lt, nat_le, Bool, true, false, List, [], ◌∷◌, ◌++◌, length, map, codes, is_none, option_map, slice_get, if◌then◌else◌}
+-- What is refused of a build into a JPEG file, once its inputs are read: tests in their order, which is this project's own choice.
+use Rattle.std.specs.Prelude.{◌≡◌, ℕ, ◌+◌, ◌<◌, nat_lt, nat_le, Bool, true, false, List, [], ◌∷◌, ◌++◌, length, is_none, option_map, slice_get, if◌then◌else◌}
 use Rattle.std.specs.declared.option.Option.{Option}
 use Rattle.std.specs.declared.option.Option.TheVariants.{Some, None}
-use Rattle.std.specs.Option.{option_map_or, option_to_list}
-use Rattle.c2_base.specs.declared.limits.TheConstants.{MAX_STORE_LEN, FILE_LEN_LIMIT}
+use Rattle.std.specs.Option.{option_to_list}
+use Rattle.c2_base.specs.declared.limits.TheConstants.{MAX_MANIFESTS, MAX_STORE_LEN, FILE_LEN_LIMIT}
 use Rattle.c2_spec.specs.C2pa.Message.{bare_bytes}
 use Rattle.c2_spec.specs.C2pa.Sign1.{SignParts}
-use Rattle.c2_spec.specs.C2pa.Uri.{other}
 use Rattle.c2_spec.specs.declared.reason.Reason.TheVariants.{FileTooLarge}
-use Rattle.c2_rules.specs.Rules.{box_uri, redaction_tests}
-use Rattle.c2_rules.specs.Tests.{Test, first_failing}
+use Rattle.c2_rules.specs.Readings.{Reading}
 use Rattle.c2_rules.specs.declared.answer.Failing.{Failing}
-use Rattle.c2_rules.specs.declared.code.Code.{Code}
-use Rattle.c2_rules.specs.declared.code.Code.TheVariants.{ProfileRedactionTarget}
 use Rattle.c2_definition.specs.declared.types.Definition.{Definition}
 use Rattle.c2_message.specs.Refusals.{reserve_needed}
 use Rattle.c2_layout.specs.Built.{built_len, store_size}
-use Rattle.c2_layout.specs.Fresh.{fresh_content}
+use Rattle.c2_layout.specs.Store.{Content}
+use Rattle.c2_carried.specs.Refusing.{has_manifest, redaction_refusal}
+use Rattle.c2_carried.specs.declared.refused.RefusedRedaction.{RefusedRedaction}
 use Rattle.c2_build.specs.declared.error.BuildError.{BuildError}
-use Rattle.c2_build.specs.declared.error.BuildError.TheVariants.{MediaRefused, Later, RedactionRefused, NoInstance, StoreTooLarge, ReserveTooSmall}
-use Rattle.c2_build.specs.declared.types.MediaKind.{MediaKind}
-use Rattle.c2_build.specs.declared.types.MediaKind.TheVariants.{Fresh, Waits}
+use Rattle.c2_build.specs.declared.error.BuildError.TheVariants.{MediaRefused, ParentFails, LabelTaken, RedactionRefused, NoInstance, TooManyManifests, StoreTooLarge, ReserveTooSmall}
 
 -- A test of a build: whether it fails, and what is answered then.
 pub record BuildTest : Type 0 where
@@ -58,59 +53,60 @@ IsRefusalOf ts (Some refusal) = (place : ℕ) × RefusesFirst ts place refusal
 abbrev pub FirstRefusalIsLeast : Type 0
 FirstRefusalIsLeast = (ts : List BuildTest) → IsRefusalOf ts (first_refusal ts)
 
--- ---- what is to be written
+-- ---- what a new file is built over
+
+-- What a new JPEG file is built over: the media less its older store; what goes into the new store; and how many manifests this has
+-- then.
+pub record Ground : Type 0 where
+  pub base : List ℕ
+  pub content : Content
+  pub manifests : ℕ
 
 -- how many bytes the new store has
-abbrev pub new_store_len : Definition → ℕ
-new_store_len d = store_size (fresh_content d) d.reserve
+abbrev pub new_store_len : Content → ℕ
+new_store_len c = store_size c c.definition.reserve
 
 -- how many bytes its packets have
-abbrev pub new_range_len : Definition → ℕ
-new_range_len d = built_len (fresh_content d) d.reserve
+abbrev pub new_range_len : Content → ℕ
+new_range_len c = built_len c c.definition.reserve
 
--- how many bytes the new file has, where the media has so many
-abbrev pub new_file_len : ℕ → Definition → ℕ
-new_file_len size d = size + new_range_len d
+-- ---- the older store
 
--- ---- redactions
+-- the redaction that is refused first, where one is, of those of a definition over manifests that were read so; without an older
+-- store there are none
+abbrev pub redaction_tests : Definition → List Reading → List BuildTest
+redaction_tests d rs =
+    option_to_list (option_map (λ (r : RefusedRedaction). refuse_if true (RedactionRefused r.text r.code))
+    (redaction_refusal d.label rs d.redact))
 
--- the URI of the claim of a new manifest with this label
-abbrev pub new_claim_uri : List ℕ → List ℕ
-new_claim_uri own = box_uri own (other (codes "c2pa.claim.v2"))
+-- a rule of the check of the older store fails
+abbrev pub parent_tests : Option Failing → List BuildTest
+parent_tests found =
+    option_to_list (option_map (λ (f : Failing). refuse_if true (ParentFails f.code f.uri)) found)
 
--- the code of the first of these rules that fails; where none does, there is no assertion to take out, since there is no older
--- manifest
-abbrev pub code_of_first : List Test → Code
-code_of_first rules = option_map_or (λ (f : Failing). f.code) (first_failing rules) ProfileRedactionTarget
+-- a manifest of the older store has the new label
+abbrev pub label_tests : Definition → List Reading → List BuildTest
+label_tests d rs = refuse_if (has_manifest rs d.label) (LabelTaken d.label) ∷ []
 
--- why the manifest with this label can't redact what a text names, by the rules on redactions
-abbrev pub redaction_code : List ℕ → List ℕ → Code
-redaction_code own text = code_of_first (redaction_tests own (new_claim_uri own) text)
-
--- each redaction of a definition is refused, the first of them first
-abbrev pub redaction_refusals : Definition → List BuildTest
-redaction_refusals d =
-    map (λ (text : List ℕ). refuse_if true (RedactionRefused text (redaction_code d.label text))) d.redact
-
--- a media file of this kind has to wait for a later version
-abbrev pub kind_tests : MediaKind → List BuildTest
-kind_tests Fresh = []
-kind_tests Waits = refuse_if true Later ∷ []
-
--- the tests that come before the place: they need no byte of the media
-abbrev pub early_tests : MediaKind → Definition → List BuildTest
-early_tests kind d = kind_tests kind ++ redaction_refusals d
+-- what is tested of an older store that was read so, where its check found this
+abbrev pub older_tests : Definition → List Reading → Option Failing → List BuildTest
+older_tests d rs found = parent_tests found ++ (label_tests d rs ++ redaction_tests d rs)
 
 -- ---- numbers
 
--- by numbers that are known before anything is digested, where the media has so many bytes: whether a box instance number is free,
--- the store's length, the file's
-abbrev pub number_tests : ℕ → Definition → Option ℕ → List BuildTest
-number_tests size d number =
+-- by numbers that are known before anything is digested, where the base has so many bytes: whether a box instance number is free,
+-- how many manifests the new store has, its length, the file's
+abbrev pub number_tests : ℕ → ℕ → Content → Option ℕ → List BuildTest
+number_tests size manifests c number =
     refuse_if (is_none number) NoInstance
-    ∷ refuse_if (nat_lt MAX_STORE_LEN (new_store_len d)) (StoreTooLarge (new_store_len d))
-    ∷ refuse_if (nat_le FILE_LEN_LIMIT (new_file_len size d)) (MediaRefused FileTooLarge (new_file_len size d))
+    ∷ refuse_if (nat_lt MAX_MANIFESTS manifests) (TooManyManifests manifests)
+    ∷ refuse_if (nat_lt MAX_STORE_LEN (new_store_len c)) (StoreTooLarge (new_store_len c))
+    ∷ refuse_if (nat_le FILE_LEN_LIMIT (size + new_range_len c)) (MediaRefused FileTooLarge (size + new_range_len c))
     ∷ []
+
+-- those of a new file over this
+abbrev pub ground_tests : Ground → Option ℕ → List BuildTest
+ground_tests g number = number_tests (length g.base) g.manifests g.content number
 
 -- the reserve holds too few bytes for a message with these parts
 abbrev pub reserve_tests : Definition → SignParts → List BuildTest
@@ -118,6 +114,6 @@ reserve_tests d p =
     option_to_list (option_map (λ (needed : ℕ). refuse_if true (ReserveTooSmall needed))
     (reserve_needed d.reserve (length (bare_bytes p))))
 
--- the tests that come after the place, where a message has these parts
-abbrev pub late_tests : ℕ → Definition → SignParts → Option ℕ → List BuildTest
-late_tests size d p number = number_tests size d number ++ reserve_tests d p
+-- all tests at the place, where a message has these parts
+abbrev pub late_tests : Ground → SignParts → Option ℕ → List BuildTest
+late_tests g p number = ground_tests g number ++ reserve_tests g.content.definition p

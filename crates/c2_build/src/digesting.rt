@@ -1,35 +1,68 @@
-// The digest of a whole media file.
+// The digest of a media file less a range.
 ghost use Rattle.std.specs.Prelude.{◌≡◌, ◌+◌, ◌<◌, ◌≤◌, length, IfErr, IfOk, OnOk, Ok};
 ghost use Rattle.std.specs.Option.{ForSome};
 ghost use Rattle.c2_base.specs.Source.{FilledAt, StaysSource};
 ghost use Rattle.c2_base.specs.Causes.{HasCause};
-ghost use Rattle.c2_build.specs.Steps.{HasHashed};
+ghost use Rattle.c2_spec.specs.Digest.{digest_len};
+ghost use Rattle.c2_spec.specs.PutIn.{taken_out};
+ghost use Rattle.c2_build.specs.Steps.{HasTaken};
 
-use c2_base::{Failed, Source, fill_at};
+use c2_base::{Failed, Range, Source, fill_at};
 use c2_hash::{Alg, Digest, Hashing};
 
-/// The SHA-256 digest of a media file of this size, which is read in pieces.
-pub fn digest_media<S: Source, H: Hashing>(
+// Hashes the bytes of a source from one place to another, read in pieces through a buffer that isn't empty.
+fn hash_piece<S: Source, H: Hashing>(
+    hashing: &H,
+    state: &mut H::State,
+    source: &mut S,
+    from: u64,
+    to: u64,
+    buf: &mut [u8],
+) -> Result<(), Failed>
+    requires ordered { from ≤ to }
+    requires inside { to ≤ S.len source.old }
+    requires room { 0 < length buf.old }
+    ensures taken { OnOk result
+        (HasTaken H.holds (S.known source.old) from to state.old state.new) }
+    ensures stays { StaysSource S.len S.known S.faults source.old source.new }
+    ensures cause { HasCause (S.faults source.old) (S.faults source.new) result }
+{
+    let mut at = from;
+    'pieces: while at < to {
+        let len = (to - at).min(buf.len() as u64) as usize;
+        fill_at(source, at, &mut buf[..len])?;
+        hashing.update(state, &buf[..len]);
+        at += len as u64;
+    }
+    Ok(())
+}
+
+/// The SHA-256 digest of a media file of this size less a range in it.
+pub fn digest_base<S: Source, H: Hashing>(
     hashing: &H,
     media: &mut S,
+    skip: Range,
     size: u64,
     buf: &mut [u8],
 ) -> Result<Digest, Failed>
     requires size { size ≡ S.len media.old }
+    requires inside { skip.start + skip.length ≤ size }
     requires room { 0 < length buf.old }
     ensures digest { IfOk result (λ d. ForSome (S.known media.old) (λ file.
-        d ≡ H.digest_of Alg.Sha256 file)) }
-    ensures len { IfOk result (λ d. length d ≡ 32) }
+        d ≡ H.digest_of Alg.Sha256 (taken_out skip.start skip.length file))) }
+    ensures len { IfOk result (λ d. length d ≡ digest_len Alg.Sha256) }
     ensures stays { StaysSource S.len S.known S.faults media.old media.new }
     ensures cause { HasCause (S.faults media.old) (S.faults media.new) result }
 {
     let mut state = hashing.start(Alg::Sha256);
-    let mut at = 0;
-    'pieces: while at < size {
-        let len = (size - at).min(buf.len() as u64) as usize;
-        fill_at(media, at, &mut buf[..len])?;
-        hashing.update(&mut state, &buf[..len]);
-        at += len as u64;
-    }
+    hash_piece(hashing, &mut state, media, 0, skip.start, buf)?;
+    hash_piece(
+        hashing,
+        &mut state,
+        media,
+        skip.start + skip.length,
+        size,
+        buf,
+    )?;
     Ok(hashing.finish(state))
 }

@@ -20,15 +20,23 @@ pub enum BuildError {
     /// The test that the signed message fails first.
     BadSignature(SignaturePart),
 
-    /// The media file has a store already, or is a BMFF file. This version can't write into it yet. A refused one is
-    /// `MediaRefused`.
+    /// The media file is a BMFF file. This version can't write into it yet. A refused one is `MediaRefused`.
     Later,
+
+    /// The first rule that fails of the check of the media file's store, with the URI of what it fails at.
+    ParentFails(Code, Text),
+
+    /// A manifest of the media file's store has the label of the new one.
+    LabelTaken(Text),
 
     /// The first redaction, in the definition's own spelling, and why it can't be made.
     RedactionRefused(Text, Code),
 
-    /// Packets of the media file have taken each box instance number from `LEAST_NUMBER` on.
+    /// Packets of the media file outside its older store have taken each box instance number from `LEAST_NUMBER` on.
     NoInstance,
+
+    /// So many manifests are too many for a store: `MAX_MANIFESTS` is the most.
+    TooManyManifests(u64),
 
     /// So many bytes are too many for a store: `MAX_STORE_LEN` is the most.
     StoreTooLarge(u64),
@@ -39,7 +47,7 @@ pub enum BuildError {
     /// A source failed.
     ReadFault,
 
-    /// A judge failed. No judge is asked by this version.
+    /// A judge failed.
     JudgeFault,
 
     /// The sink failed.

@@ -3,14 +3,21 @@ ghost use Rattle.c2_build.specs.Meeting.{ApprovedIsValid, BuiltFileMeets, SomeBu
 ghost use Rattle.c2_build.specs.Meeting.{OneEmbedding, OnePlan, SomeEmbedding, SomePlan};
 ghost use Rattle.c2_build.specs.Refusals.{FirstRefusalIsLeast};
 
+use c2_bmff::a_file_has_one_list_of_roots;
+use c2_carried::{
+    a_base_has_no_store, a_valid_store_is_carried, redactions_that_pass_may_be_made,
+    what_is_taken_over_is_one,
+};
 use c2_cbor::one_item;
+use c2_chain::one_reading;
 use c2_definition::{definitions_are_well_formed, each_definition_is_read_one_way};
-use c2_jpegseg::{a_located_file_is_segments, place_and_number_are_one, segments_end_or_fail};
+use c2_jpegseg::{place_and_number_are_one, segments_end_or_fail};
 use c2_layout::{a_built_file_has_its_store, a_fresh_file_meets_the_rules};
 use c2_message::{
     a_message_fills_its_reserve_or_needs_more, each_message_is_accepted_or_refused_for_one_test,
 };
 use c2_rules::a_question_where_the_claim_rules_hold;
+use c2_succeeding::a_file_over_a_store_meets_the_rules;
 use c2_validate::{each_file_has_a_check, one_opening};
 
 /// What a list of tests answers is the refusal of the first test that fails, and there is none where every test passes.
@@ -31,6 +38,9 @@ pub fn a_build_comes_to_one_thing()
     place_and_number_are_one();
     each_message_is_accepted_or_refused_for_one_test();
     a_message_fills_its_reserve_or_needs_more();
+    a_file_has_one_list_of_roots();
+    one_reading();
+    what_is_taken_over_is_one();
 }
 
 /// Each list of inputs comes to something.
@@ -40,9 +50,11 @@ pub fn each_build_comes_to_something()
 {
     // Only the prover needs these laws.
     each_file_has_a_check();
+    one_opening();
     each_definition_is_read_one_way();
     definitions_are_well_formed();
-    a_located_file_is_segments();
+    a_base_has_no_store();
+    a_valid_store_is_carried();
     each_message_is_accepted_or_refused_for_one_test();
     a_message_fills_its_reserve_or_needs_more();
 }
@@ -55,7 +67,8 @@ pub fn approval_of_each_question_is_enough()
     a_question_where_the_claim_rules_hold();
 }
 
-/// A new file has its new store in the new range, where every rule holds of it apart from the verdict.
+/// A new file has its new store in the new range, where every rule holds of it apart from the verdict on the new message. It asks the
+/// new question and then those of the media's store, which the judges of the build approve.
 pub fn a_new_file_meets_the_rules()
     ensures { BuiltFileMeets }
 {
@@ -63,6 +76,9 @@ pub fn a_new_file_meets_the_rules()
     definitions_are_well_formed();
     segments_end_or_fail();
     a_fresh_file_meets_the_rules();
+    a_file_over_a_store_meets_the_rules();
+    a_base_has_no_store();
+    redactions_that_pass_may_be_made();
     a_built_file_has_its_store();
     approval_of_each_question_is_enough();
 }

@@ -4,20 +4,24 @@
 //! `specs/Meeting.antt`.
 #![tactic(auto)]
 
+mod asking;
 mod copying;
 mod digesting;
 mod draft;
 mod embedding;
 mod error;
+mod ground;
 mod laws;
 mod media;
+mod parts;
 mod place;
 mod planning;
 mod reading;
-mod redacting;
+mod ready;
 mod texts;
 mod types;
 
+pub use asking::{a_build_asks_one_list, each_build_asks_a_list};
 pub use embedding::embed;
 pub use error::BuildError;
 pub use laws::{
@@ -25,4 +29,4 @@ pub use laws::{
     each_build_comes_to_something, some_build_succeeds, the_first_refusal_is_the_least,
 };
 pub use planning::plan;
-pub use types::{Embedded, MediaKind};
+pub use types::Embedded;

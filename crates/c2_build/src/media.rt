@@ -1,37 +1,71 @@
 // Opening the media file.
-ghost use Rattle.std.specs.Prelude.{◌≡◌, ℕ, List, IfErr, OnOk};
+ghost use Rattle.std.specs.Prelude.{◌≡◌, ℕ, ◌+◌, ◌≤◌, List, IfErr, IfOk, Ok, OnOk};
 ghost use Rattle.std.specs.Option.{ForSome};
 ghost use Rattle.c2_base.specs.Source.{StaysSource};
-ghost use Rattle.c2_base.specs.declared.media.Found.{Found as AnyFound};
 ghost use Rattle.c2_spec.specs.Container.{IsLocated};
-ghost use Rattle.c2_spec.specs.Located.{here};
-ghost use Rattle.c2_build.specs.Answers.{ComesTo};
-ghost use Rattle.c2_build.specs.Building.{IsMediaStage};
-ghost use Rattle.c2_build.specs.Steps.{IsQuiet, IsReadCause};
+ghost use Rattle.c2_spec.specs.Located.{absent, here};
+ghost use Rattle.c2_media.specs.Opened.{IsContainerOf};
+ghost use Rattle.c2_build.specs.Building.{IsMediaStage, MediaKind};
+ghost use Rattle.c2_build.specs.Steps.{ComesAs, IsInside, IsKind, IsQuiet, IsReadCause};
 
-use crate::{BuildError, MediaKind};
+use crate::BuildError;
 use c2_base::{Found, NoMemory, Source};
 use c2_validate::types::StoreRead;
 use c2_validate::{Container, Opened, ValidateError, find_store, read_store};
 use std::alloc::Global;
 
-// What a file that has this store is to a build: it has to wait, unless the store is refused.
-fn store_kind(alloc: Global, found: &Found) -> Result<MediaKind, BuildError>
+/// What was found of a media file that isn't refused.
+#[derive(Drop)]
+pub enum MediaFile {
+    /// A JPEG file without a store.
+    Fresh,
+
+    /// A JPEG file with this store.
+    Stored(Found),
+
+    /// A BMFF file, which has to wait for a later version.
+    Waits,
+}
+
+// What a file in this container is that has this store, unless the store is refused.
+fn stored(alloc: Global, container: Container, found: Found) -> Result<MediaFile, BuildError>
     ensures stage { (file : List ℕ)
-        → IsLocated file (here found.now.start found.now.length found.now.store)
-        → ComesTo (IsMediaStage file) result }
+        → IsLocated file (here found.start found.length found.store)
+        → IsContainerOf file container
+        → ComesAs IsKind (IsMediaStage file) result }
+    ensures inside { (len : ℕ) → found.start + found.length ≤ len → IfOk result (IsInside len) }
     ensures quiet { IfErr result IsQuiet }
 {
-    match read_store(alloc, found) {
-        Ok(StoreRead::Here(_, _)) => Ok(MediaKind::Waits),
-        Ok(StoreRead::Refused(reason, number)) => Err(BuildError::MediaRefused(reason, number)),
-        Err(NoMemory) => Err(BuildError::NoMemory),
+    match read_store(alloc, &found) {
+        Ok(StoreRead::Here(_, _)) => {}
+        Ok(StoreRead::Refused(reason, number)) => {
+            return Err(BuildError::MediaRefused(reason, number));
+        }
+        Err(NoMemory) => return Err(BuildError::NoMemory),
+    }
+    match container {
+        Container::Jpeg => Ok(MediaFile::Stored(found)),
+        Container::Bmff(_) => Ok(MediaFile::Waits),
     }
 }
 
-/// What a media file is to a build.
-pub fn media_kind<A: Source>(alloc: Global, media: &mut A) -> Result<MediaKind, BuildError>
-    ensures stage { ForSome (A.known media.old) (λ file. ComesTo (IsMediaStage file) result) }
+// What a file in this container is that has no store.
+fn without_store(container: &Container) -> MediaFile
+    ensures stage { (file : List ℕ) → IsLocated file absent → IsContainerOf file container.now
+        → (kind : MediaKind) × IsMediaStage file (Ok kind) × IsKind result kind }
+    ensures inside { (len : ℕ) → IsInside len result }
+{
+    match container {
+        Container::Jpeg => MediaFile::Fresh,
+        Container::Bmff(_) => MediaFile::Waits,
+    }
+}
+
+/// Opens a media file.
+pub fn open_media<A: Source>(alloc: Global, media: &mut A) -> Result<MediaFile, BuildError>
+    ensures stage { ForSome (A.known media.old) (λ file.
+        ComesAs IsKind (IsMediaStage file) result) }
+    ensures inside { IfOk result (IsInside (A.len media.old)) }
     ensures cause { IfErr result (IsReadCause (A.faults media.old) (A.faults media.new)) }
     ensures count { OnOk result (A.faults media.new ≡ A.faults media.old) }
     ensures stays { StaysSource A.len A.known A.faults media.old media.new }
@@ -42,9 +76,8 @@ pub fn media_kind<A: Source>(alloc: Global, media: &mut A) -> Result<MediaKind, 
         Err(_) => return Err(BuildError::NoMemory),
     };
     match opened {
-        Opened::Here(media) => store_kind(alloc, &media.found),
-        Opened::NoStore(Container::Jpeg) => Ok(MediaKind::Fresh),
-        Opened::NoStore(Container::Bmff(_)) => Ok(MediaKind::Waits),
+        Opened::Here(media) => stored(alloc, media.container, media.found),
+        Opened::NoStore(container) => Ok(without_store(&container)),
         Opened::Refused(reason, number) => Err(BuildError::MediaRefused(reason, number)),
     }
 }

@@ -1,5 +1,5 @@
 // A worked build: what is signed, what is written, and that the file is accepted.
-use crate::inputs::{MEDIA, NONE, built, planned, worked};
+use crate::inputs::{MEDIA, NONE, built, changed, judged, once_built, planned, worked};
 use c2_base::{Blob, MemSink, MemSource};
 use c2_build::Embedded;
 use c2_hash::Sha;
@@ -64,5 +64,26 @@ fn a_picture_gets_a_store(rt: HostRuntime) -> Result<(), Fail> {
     other[19] = 1;
     let other = checked(alloc, other.as_slice())?;
     assert_eq!(rt; other.as_str(), "AssertionDataHashMismatch");
+    Ok(())
+}
+
+#[test]
+fn a_picture_with_a_store_gets_a_longer_one(rt: HostRuntime) -> Result<(), Fail> {
+    let alloc = rt.alloc();
+    let mut inputs = once_built(alloc)?;
+    inputs.definition = changed(alloc, "8000-000000000000", "8000-000000000001")?;
+    let mut out = MemSink::with_room(alloc, 6_000, 0)?;
+    let came = judged(alloc, &inputs, Verdict::Approved, &mut out)?;
+    assert!(rt; came.as_ref().is_ok_and(|e| e.start == 20));
+
+    // The picture stands as it was, without the older packets.
+    let len = came.map_or(0, |e| e.length as usize);
+    assert!(rt; 1_141 < len);
+    assert_eq!(rt; out.bytes().len(), 22 + len);
+    assert_eq!(rt; &out.bytes()[..20], &MEDIA[..20]);
+    assert_eq!(rt; &out.bytes()[20 + len..], &MEDIA[20..]);
+
+    // The older manifest is the parent of the new one, which has a binding, the definition's assertion and the ingredient.
+    assert_eq!(rt; checked(alloc, out.bytes())?.as_str(), "2 5 22 0");
     Ok(())
 }

@@ -1,18 +1,11 @@
 // What is refused first.
-use crate::inputs::{DEFINITION, Inputs, MEDIA, MESSAGE, NONE, built, planned, signed, worked};
+use crate::inputs::{Inputs, NONE, built, changed, judged, once_built, planned, signed, worked};
 use c2_base::MemSink;
+use c2_build::BuildError;
+use c2_judge::Verdict;
 use std::alloc::Global;
 use std::process::Abort;
 use std::test::Fail;
-
-// The definition with this text in place of another.
-fn changed(alloc: Global, old: &str, new: &str) -> Result<Vec<u8>, Fail> {
-    let (front, back) = DEFINITION.split_once(old).unwrap_or(("", ""));
-    let mut bytes = Vec::from_slice(alloc, front.as_bytes())?;
-    bytes.extend_from_slice(new.as_bytes())?;
-    bytes.extend_from_slice(back.as_bytes())?;
-    Ok(bytes)
-}
 
 // A build answers this, and so does the plan of it unless the message is what is refused.
 fn comes_to(
@@ -100,7 +93,7 @@ fn a_redaction_is_refused(rt: HostRuntime) -> Result<(), Fail> {
     let mut out = MemSink::with_room(alloc, 2_000, 0)?;
     let text = match built(alloc, &inputs, NONE, &mut out)? {
         Ok(_) => format!(in alloc; "written")?,
-        Err(c2_build::BuildError::RedactionRefused(text, code)) => {
+        Err(BuildError::RedactionRefused(text, code)) => {
             format!(in alloc; "{} {code:?}", text.as_str())?
         }
         Err(error) => format!(in alloc; "{error:?}")?,
@@ -110,22 +103,49 @@ fn a_redaction_is_refused(rt: HostRuntime) -> Result<(), Fail> {
     Ok(())
 }
 
+// What a build over a file with a store answers, where a judge says this of each question.
+fn answered(alloc: Global, inputs: &Inputs, verdict: Verdict) -> Result<String, Fail> {
+    let mut out = MemSink::with_room(alloc, 6_000, 0)?;
+    match judged(alloc, inputs, verdict, &mut out)? {
+        Ok(_) => Ok(format!(in alloc; "written")?),
+        Err(BuildError::ParentFails(code, _)) => Ok(format!(in alloc; "{code:?}")?),
+        Err(BuildError::LabelTaken(label)) => Ok(format!(in alloc; "taken: {}", label.as_str())?),
+        Err(error) => Ok(format!(in alloc; "{error:?}")?),
+    }
+}
+
 #[test]
-fn a_file_with_a_store_waits(rt: HostRuntime) -> Result<(), Fail> {
+fn an_older_store_is_checked_first(rt: HostRuntime) -> Result<(), Fail> {
+    let alloc = rt.alloc();
+    let mut inputs = once_built(alloc)?;
+    let text = answered(alloc, &inputs, Verdict::Silent)?;
+    assert_eq!(rt; text.as_str(), "ProfileVerdictMissing");
+    let text = answered(alloc, &inputs, Verdict::Untrusted)?;
+    assert_eq!(rt; text.as_str(), "SigningCredentialUntrusted");
+
+    // Where it is valid, its labels can't be taken.
+    let text = answered(alloc, &inputs, Verdict::Approved)?;
+    let want = "taken: urn:c2pa:00000000-0000-4000-8000-000000000000";
+    assert_eq!(rt; text.as_str(), want);
+
+    // Another byte of the picture is another file.
+    inputs.definition = changed(alloc, "8000-000000000000", "8000-000000000001")?;
+    let text = answered(alloc, &inputs, Verdict::Approved)?;
+    assert_eq!(rt; text.as_str(), "written");
+    inputs.media[19] = 1;
+    let text = answered(alloc, &inputs, Verdict::Approved)?;
+    assert_eq!(rt; text.as_str(), "AssertionDataHashMismatch");
+    Ok(())
+}
+
+#[test]
+fn a_bmff_file_waits(rt: HostRuntime) -> Result<(), Fail> {
     let alloc = rt.alloc();
     let mut inputs = worked(alloc)?;
-    let mut out = MemSink::with_room(alloc, 2_000, 0)?;
-    let came = built(alloc, &inputs, NONE, &mut out)?;
-    assert!(rt; came.is_ok());
-    inputs.media = Vec::from_slice(alloc, out.bytes())?;
-    comes_to(&rt, alloc, &inputs, false, "Later")?;
-
-    // So does a BMFF file.
     inputs.media = Vec::from_slice(alloc, b"\x00\x00\x00\x10ftypisom\x00\x00\x00\x00")?;
     comes_to(&rt, alloc, &inputs, false, "Later")?;
 
-    // The picture alone doesn't.
-    inputs.media = Vec::from_slice(alloc, MEDIA)?;
-    inputs.message = signed(alloc, MESSAGE)?;
+    // A JPEG file doesn't.
+    let inputs = worked(alloc)?;
     comes_to(&rt, alloc, &inputs, false, "written")
 }

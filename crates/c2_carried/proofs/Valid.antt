@@ -194,7 +194,7 @@ judged_chain hash said s h =
 
 -- it is carried less what is redacted
 pub carried_less : ValidStoreIsCarried
-carried_less hash said d old s c h is =
+carried_less hash said d old s c h room is =
     let rs : List Reading = s.readings in
     let k : IsKnown d old rs = known hash said d old s h in
     let vs : Trees = redacted_boxes d.redact (boxes_in old) in
@@ -204,7 +204,7 @@ carried_less hash said d old s c h is =
       distinct = subst AreDistinctLabels (sym k.less.labels) k.distinct;
       new = subst (λ os. IsNewLabel (Some d.label) os) (sym k.less.labels) k.new;
       manifests = k.less.stores;
-      few = omega (arith, left, h.few);
+      few = omega (arith, left, room);
     } in
     record {
       readings = k.less.ss;

@@ -96,8 +96,8 @@ pub record IsLast (p : Parent) (rs ss : List Reading) : Type 0 where
   pub label : IsLabel p.label
   pub names : is_manifest_label (Some p.label) ≡ true
 
--- An older store that a new one of this definition may stand over: a valid one, which judges who say this approve, without a
--- manifest of the new label, with room for one more, and with no redaction that is refused.
+-- An older store that a new one of this definition may stand over, as far as its number of manifests allows: a valid one, which
+-- judges who say this approve, without a manifest of the new label, and with no redaction that is refused.
 pub record CanStandOver (hash : Alg → List ℕ → List ℕ) (said : Question → Verdict) (d : Definition) (old : Tree) (s : StoreReading) : Type 0 where
   pub legal : IsLegalTree 1 old
   pub store : store_refusal old ≡ None
@@ -105,7 +105,6 @@ pub record CanStandOver (hash : Alg → List ℕ → List ℕ) (said : Question 
   pub valid : IsValid hash said s
   pub label : has_manifest s.readings d.label ≡ false
   pub redactions : redaction_refusal d.label s.readings d.redact ≡ None
-  pub few : length s.readings < MAX_MANIFESTS
 
 -- the boxes of an older store that was read as `rs` are taken over, and the last of them as the parent
 pub record IsCarried (hash : Alg → List ℕ → List ℕ) (c : Content) (rs : List Reading) : Type 0 where
@@ -113,12 +112,12 @@ pub record IsCarried (hash : Alg → List ℕ → List ℕ) (c : Content) (rs : 
   pub over : IsTakenOver hash c rs readings
   pub last : (p : Parent) → IsParentOf p (supers_in c.carried) → IsLast p rs readings
 
--- So it is with what goes into a new store over such an older one.
+-- So it is with what goes into a new store over such an older one, where there is room for one more manifest.
 abbrev pub ValidStoreIsCarried : Type 0
 ValidStoreIsCarried = (hash : Alg → List ℕ → List ℕ) (said : Question → Verdict) (d : Definition) (old : Tree) (s : StoreReading) (c : Content)
-    → CanStandOver hash said d old s → IsContentOver d old c → IsCarried hash c s.readings
+    → CanStandOver hash said d old s → length s.readings < MAX_MANIFESTS → IsContentOver d old c → IsCarried hash c s.readings
 
--- And there is such a content.
+-- And there is such a content, whether there is room or not.
 abbrev pub SomeContentOver : Type 0
 SomeContentOver = (hash : Alg → List ℕ → List ℕ) (said : Question → Verdict) (d : Definition) (old : Tree) (s : StoreReading)
     → CanStandOver hash said d old s → (c : Content) × IsContentOver d old c

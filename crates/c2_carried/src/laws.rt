@@ -30,7 +30,8 @@ pub fn a_base_has_no_store()
 {}
 
 /// A valid store is taken over by a new one whose label it doesn't have, where there is room for one more manifest and no redaction
-/// is refused: its boxes less the redacted ones can be carried, and its last manifest is the parent. Something goes into the new store.
+/// is refused: its boxes less the redacted ones can be carried, and its last manifest is the parent. Something goes into the new store,
+/// whether there is room or not.
 pub fn a_valid_store_is_carried()
     ensures carried { ValidStoreIsCarried }
     ensures some { SomeContentOver }

@@ -1,6 +1,6 @@
 -- What a call of `plan` or `embed` comes to, by its files; and that no other call writes a file.
 use Rattle.std.proofs.Common.{◌≡◌, refl, sym, ◌∙◌, ap, subst, inl, inr, ◌⊎◌, ℕ, true, false, List, [], Option, Some, None}
-use Rattle.std.specs.Prelude.{IfErr, IfOk}
+use Rattle.std.specs.Prelude.{IfOk}
 use Rattle.std.specs.Option.{ForSome}
 use Rattle.std.specs.declared.result.Result.{Result}
 use Rattle.std.specs.declared.result.Result.TheVariants.{Ok, Err}
@@ -8,7 +8,7 @@ use Rattle.std.proofs.lemmas.Bool.{false≢true}
 use Rattle.c2_base.specs.declared.values.Question.{Question}
 use Rattle.c2_binding.specs.declared.compared.Compared.{Compared}
 use Rattle.c2_binding.specs.declared.compared.Compared.TheVariants as compared
-use Rattle.c2_build.specs.Building.{Built, IsDefinitionRefused, IsEmbedded, IsMediaRefused}
+use Rattle.c2_build.specs.Building.{Built, EmbedAsks, IsDefinitionRefused, IsEmbedded, IsMediaRefused, PlanAsks}
 use Rattle.c2_build.specs.Meeting.{BuiltMeets}
 use Rattle.c2_build.specs.declared.error.BuildError.{BuildError}
 use Rattle.c2_rules.specs.declared.answer.Answer.{Answer as Checked}
@@ -16,15 +16,13 @@ use Rattle.c2_rules.specs.declared.answer.Answer.TheVariants as checked
 use Rattle.c2_spec.specs.Located.{Opening, refused, absent, here}
 use Rattle.c2_spec.specs.declared.digest.Alg.{Alg}
 use Rattle.c2_spec.specs.declared.panel.Verdict.{Verdict}
-use Rattle.c2_spec.specs.Judges.Panel.{Judges}
 use Rattle.c2_words.specs.CommandLine.{writes_file}
 use Rattle.c2_cmd.specs.Outcome.{Asks, CommandAsks, CommandMeets, Inputs, IsCommandOutcome, IsEmbedOutcome, IsOutcome, IsPlanOutcome, Meets, Outcome, Reports, answered, compare_outcome, inputs, pieces_in, plan_outcome, sample_outcome}
 use Rattle.c2_sample.specs.declared.types.Sampled.{Sampled}
 use Rattle.c2_sample.specs.declared.types.Sampled.TheVariants as sampled
-use Rattle.c2_cmd.specs.Reply.{AskedFor, Begins, IsFileCause, StandsFor, TakesFile, outcome_of}
+use Rattle.c2_cmd.specs.Reply.{Begins, StandsFor, TakesFile, outcome_of}
 use Rattle.c2_cmd.specs.Run.{IsKnownAs, IsOfCommand, SinkState}
 use Rattle.c2_cmd.specs.declared.reply.Fault.{Fault}
-use Rattle.c2_cmd.specs.declared.reply.Fault.TheVariants.{Input, Output, Judge, Memory}
 use Rattle.c2_cmd.specs.declared.reply.Reply.{Reply}
 use Rattle.c2_cmd.specs.declared.types.Answer.TheVariants as answer
 use Rattle.c2_words.specs.declared.types.Command.{Command}
@@ -104,7 +102,7 @@ unmet found roles c i is named none = subst (λ (x : Option Roles). Meets x i) (
 
 -- what a call of `plan` comes to is what its files come to
 as_plan : (said : Question → Verdict) (hash : Alg → List ℕ → List ℕ) (known other last : Option (List ℕ)) (found : Option Roles) (roles : Roles) (a b : List ℕ) (e : Outcome) → found ≡ Some roles → roles.command ≡ command.Plan → known ≡ Some a → other ≡ Some b
-    → IsOutcome found (inputs known other last said hash) e → IsPlanOutcome hash a b e
+    → IsOutcome found (inputs known other last said hash) e → IsPlanOutcome hash said a b e
 as_plan said hash known other last found roles a b e is named ka kb h =
     let i = inputs (Some a) (Some b) last said hash in
     let p = subst (λ (x : Option Roles). IsOutcome x (inputs known other last said hash) e) is h in
@@ -114,7 +112,7 @@ as_plan said hash known other last found roles a b e is named ka kb h =
 
 -- and the other way round
 of_plan : (said : Question → Verdict) (hash : Alg → List ℕ → List ℕ) (known other last : Option (List ℕ)) (found : Option Roles) (roles : Roles) (a b : List ℕ) (e : Outcome) → found ≡ Some roles → roles.command ≡ command.Plan → known ≡ Some a → other ≡ Some b
-    → IsPlanOutcome hash a b e → IsOutcome found (inputs known other last said hash) e
+    → IsPlanOutcome hash said a b e → IsOutcome found (inputs known other last said hash) e
 of_plan said hash known other last found roles a b e is named ka kb h =
     let i = inputs (Some a) (Some b) last said hash in
     let r = subst (λ (c : Command). IsCommandOutcome c roles i e) (sym named) h in
@@ -124,7 +122,7 @@ of_plan said hash known other last found roles a b e is named ka kb h =
 
 -- so the reply of the one is that of the other
 pub plan_begins : OneOutcome → (said : Question → Verdict) (hash : Alg → List ℕ → List ℕ) (known other last : Option (List ℕ)) (found : Option Roles) (roles : Roles) (a b : List ℕ) (w : Option (List ℕ)) (r : Result Reply Fault) → found ≡ Some roles → roles.command ≡ command.Plan → known ≡ Some a → other ≡ Some b
-    → IfOk r (λ reply. IsPlanOutcome hash a b (outcome_of reply)) → Begins (IsOutcome found (inputs known other last said hash)) w w r
+    → IfOk r (λ reply. IsPlanOutcome hash said a b (outcome_of reply)) → Begins (IsOutcome found (inputs known other last said hash)) w w r
 plan_begins one said hash known other last found roles a b w (Err f) is named ka kb h = no_reply (IsOutcome found (inputs known other last said hash)) w f
 plan_begins one said hash known other last found roles a b w (Ok reply) is named ka kb h =
     one_reply (IsOutcome found (inputs known other last said hash)) w reply (one found (inputs known other last said hash)) (of_plan said hash known other last found roles a b (outcome_of reply) is named ka kb h)
@@ -133,7 +131,7 @@ plan_begins one said hash known other last found roles a b w (Ok reply) is named
 
 -- what a call of `embed` comes to is what its files come to
 pub as_embed : (said : Question → Verdict) (hash : Alg → List ℕ → List ℕ) (known other last : Option (List ℕ)) (found : Option Roles) (roles : Roles) (a b m : List ℕ) (e : Outcome) → found ≡ Some roles → roles.command ≡ command.Embed → known ≡ Some a → other ≡ Some b → last ≡ Some m
-    → IsOutcome found (inputs known other last said hash) e → IsEmbedOutcome hash a b m e
+    → IsOutcome found (inputs known other last said hash) e → IsEmbedOutcome hash said a b m e
 as_embed said hash known other last found roles a b m e is named ka kb km h =
     let i = inputs (Some a) (Some b) (Some m) said hash in
     let p = subst (λ (x : Option Roles). IsOutcome x (inputs known other last said hash) e) is h in
@@ -144,7 +142,7 @@ as_embed said hash known other last found roles a b m e is named ka kb km h =
 
 -- so the reply of the one is that of the other
 pub embed_begins : (said : Question → Verdict) (hash : Alg → List ℕ → List ℕ) (known other last : Option (List ℕ)) (found : Option Roles) (roles : Roles) (a b m : List ℕ) (w : Option (List ℕ)) (r : Result Reply Fault) → found ≡ Some roles → roles.command ≡ command.Embed → known ≡ Some a → other ≡ Some b → last ≡ Some m
-    → ((expected : Outcome) → IsEmbedOutcome hash a b m expected → IfOk r (λ reply. StandsFor expected [] reply)) → Begins (IsOutcome found (inputs known other last said hash)) w w r
+    → ((expected : Outcome) → IsEmbedOutcome hash said a b m expected → IfOk r (λ reply. StandsFor expected [] reply)) → Begins (IsOutcome found (inputs known other last said hash)) w w r
 embed_begins said hash known other last found roles a b m w (Err f) is named ka kb km h = no_reply (IsOutcome found (inputs known other last said hash)) w f
 embed_begins said hash known other last found roles a b m w (Ok reply) is named ka kb km h = record {
   before = [];
@@ -154,7 +152,7 @@ embed_begins said hash known other last found roles a b m w (Ok reply) is named 
 
 -- and what the new file meets is what the call promises of it
 pub embed_met : (said : Question → Verdict) (hash : Alg → List ℕ → List ℕ) (known other last : Option (List ℕ)) (found : Option Roles) (roles : Roles) (a b m : List ℕ) → found ≡ Some roles → roles.command ≡ command.Embed → known ≡ Some a → other ≡ Some b → last ≡ Some m
-    → ((new : Built) → IsEmbedded hash a b m (Ok new) → BuiltMeets hash a b m new) → Meets found (inputs known other last said hash)
+    → ((new : Built) → IsEmbedded hash said a b m (Ok new) → BuiltMeets hash said a b m new) → Meets found (inputs known other last said hash)
 embed_met said hash known other last found roles a b m is named ka kb km h =
     let i = inputs (Some a) (Some b) (Some m) said hash in
     let s = subst (λ (c : Command). CommandMeets c i) (sym named) h in
@@ -174,38 +172,23 @@ pub message_left : (media second : Option (List ℕ)) (claim : Type 0) → ForSo
 message_left media second claim first other (inl k) = first k.file k.is_known k.holds
 message_left media second claim first other (inr k) = other k.file k.is_known k.holds
 
--- a build asks nothing
-asks_nothing : (found : Option Roles) (roles : Roles) (c : Command) (i : Inputs) (qs : List Question) → found ≡ Some roles → roles.command ≡ c → (c ≡ command.Plan) ⊎ (c ≡ command.Embed) → Asks found i qs → qs ≡ []
-asks_nothing found roles c i qs is named which asks = by c which (subst (λ (x : Command). CommandAsks x roles i qs) named (subst (λ (x : Option Roles). Asks x i qs) is asks))
-  where
-    by : (c : Command) → (c ≡ command.Plan) ⊎ (c ≡ command.Embed) → CommandAsks c roles i qs → qs ≡ []
-    by command.Plan which h = h
-    by command.Embed which h = h
-    by command.Digest which h = h
-    by command.List which h = h
-    by command.Show which h = h
-    by command.Questions (inl is) h = absurd (cc (is))
-    by command.Questions (inr is) h = absurd (cc (is))
-    by command.Validate (inl is) h = absurd (cc (is))
-    by command.Validate (inr is) h = absurd (cc (is))
-    by command.Compare (inl is) h = absurd (cc (is))
-    by command.Compare (inr is) h = absurd (cc (is))
-    by command.Sample (inl is) h = absurd (cc (is))
-    by command.Sample (inr is) h = absurd (cc (is))
+-- what a call of `plan` asks is what its build asks
+pub asks_plan : (said : Question → Verdict) (hash : Alg → List ℕ → List ℕ) (known other last : Option (List ℕ)) (found : Option Roles) (roles : Roles) (a b : List ℕ) (qs : List Question) → found ≡ Some roles → roles.command ≡ command.Plan → known ≡ Some a → other ≡ Some b
+    → Asks found (inputs known other last said hash) qs → PlanAsks hash said a b qs
+asks_plan said hash known other last found roles a b qs is named ka kb h =
+    let i = inputs (Some a) (Some b) last said hash in
+    let p = subst (λ (x : Option Roles). Asks x (inputs known other last said hash) qs) is h in
+    let q = subst (λ (x : Option (List ℕ)). CommandAsks roles.command roles (inputs x other last said hash) qs) ka p in
+    let r = subst (λ (x : Option (List ℕ)). CommandAsks roles.command roles (inputs (Some a) x last said hash) qs) kb q in
+    subst (λ (c : Command). CommandAsks c roles i qs) named r
 
--- and nobody was asked by one that left the judges
-pub asked_nobody : (found : Option Roles) (roles : Roles) (c : Command) (i : Inputs) (qs : List Question) (old new : Judges) (input output : Type 0) (r : Result Reply Fault) → found ≡ Some roles → roles.command ≡ c → (c ≡ command.Plan) ⊎ (c ≡ command.Embed) → new.asked ≡ old.asked → IfErr r (IsFileCause input output) → Asks found i qs → AskedFor qs old new r
-asked_nobody found roles c i qs old new input output r is named which same cause asks =
-    subst (λ (l : List Question). AskedFor l old new r) (sym (asks_nothing found roles c i qs is named which asks)) (by r cause)
-  where
-    by : (r : Result Reply Fault) → IfErr r (IsFileCause input output) → AskedFor [] old new r
-    by (Ok reply) cause = same
-    by (Err Input) cause = record { prefix = []; rest = []; split = refl; asked = same }
-    by (Err Output) cause = same
-    by (Err Judge) cause = absurd cause
-    by (Err Memory) cause = record { prefix = []; rest = []; split = refl; asked = same }
-
--- no judge failed in a call that asks none
-pub unjudged : (claim input output : Type 0) (r : Result Reply Fault) → IfErr r (IsFileCause input output) → IfErr r (λ e. e ≡ Judge → claim)
-unjudged claim input output (Ok reply) cause = tt
-unjudged claim input output (Err e) cause = λ judge. absurd (subst (λ (x : Fault). IsFileCause input output x) judge cause)
+-- and so it is for a call of `embed`
+pub asks_embed : (said : Question → Verdict) (hash : Alg → List ℕ → List ℕ) (known other last : Option (List ℕ)) (found : Option Roles) (roles : Roles) (a b m : List ℕ) (qs : List Question) → found ≡ Some roles → roles.command ≡ command.Embed → known ≡ Some a → other ≡ Some b → last ≡ Some m
+    → Asks found (inputs known other last said hash) qs → EmbedAsks hash said a b m qs
+asks_embed said hash known other last found roles a b m qs is named ka kb km h =
+    let i = inputs (Some a) (Some b) (Some m) said hash in
+    let p = subst (λ (x : Option Roles). Asks x (inputs known other last said hash) qs) is h in
+    let q = subst (λ (x : Option (List ℕ)). CommandAsks roles.command roles (inputs x other last said hash) qs) ka p in
+    let r = subst (λ (x : Option (List ℕ)). CommandAsks roles.command roles (inputs (Some a) x last said hash) qs) kb q in
+    let s = subst (λ (x : Option (List ℕ)). CommandAsks roles.command roles (inputs (Some a) (Some b) x said hash) qs) km r in
+    subst (λ (c : Command). CommandAsks c roles i qs) named s

@@ -20,7 +20,7 @@ use Rattle.c2_evidence.specs.declared.error.CompareError.TheVariants.{ReadFault,
 use Rattle.c2_texts.specs.Texts.{different_line, not_accepted_line, same_line}
 use Rattle.c2_words.specs.CommandLine.{comparing_roles, reads_media, reads_second, reads_third, writes_file}
 use Rattle.c2_cmd.specs.Outcome.{Outcome, Asks, CommandAsks, IsCommandOutcome, IsCompareOutcome, IsOutcome, compare_outcome, inputs, reports, uses_media, uses_out, uses_second, uses_third}
-use Rattle.c2_cmd.specs.Reply.{AskedFor, Begins, CausedBy, IsCause, IsFileCause, IsMediaCause, StandsFor, compare_fault, outcome_of}
+use Rattle.c2_cmd.specs.Reply.{AskedFor, Begins, CausedBy, IsCause, IsMediaCause, StandsFor, compare_fault, outcome_of}
 use Rattle.c2_cmd.specs.Run.{HasFailed}
 use Rattle.c2_cmd.specs.declared.reply.Fault.{Fault}
 use Rattle.c2_cmd.specs.declared.reply.Fault.TheVariants.{Input, Output, Judge, Memory}
@@ -157,26 +157,18 @@ pub both_caused : (found : Option Roles) (a b c d r s : ℕ) (third file : Type 
 both_caused found a b c d r s third file old new result used other h =
     caused_as _ _ _ _ old new result (two_used (uses_media found) (uses_second found) a b c d third used other) (λ rose. inl (refl, rose)) h
 
--- the fault of a call that asks no judge, by other words for its files and sinks
-filed_as : (input output input' output' : Type 0) (old new : Judges) (r : Result Reply Fault) → (input → input') → (output → output') → IfErr r (IsFileCause input output) → IfErr r (CausedBy input' output' old new)
-filed_as input output input' output' old new (Ok reply) files sinks h = tt
-filed_as input output input' output' old new (Err Input) files sinks h = files h
-filed_as input output input' output' old new (Err Output) files sinks h = sinks h
-filed_as input output input' output' old new (Err Judge) files sinks h = absurd h
-filed_as input output input' output' old new (Err Memory) files sinks h = tt
-
 -- of one that reads two and writes nothing itself
-pub planned_caused : (found : Option Roles) (a b c d : ℕ) (third output : Type 0) (old new : Judges) (result : Result Reply Fault) → uses_media found ≡ true → uses_second found ≡ true → IfErr result (IsFileCause (Rose a b ⊎ Rose c d) ⊥)
+pub planned_caused : (found : Option Roles) (a b c d : ℕ) (third output : Type 0) (old new : Judges) (result : Result Reply Fault) → uses_media found ≡ true → uses_second found ≡ true → IfErr result (CausedBy (Rose a b ⊎ Rose c d) ⊥ old new)
     → IfErr result (CausedBy (HasFailed (uses_media found) a b ⊎ (HasFailed (uses_second found) c d ⊎ third)) output old new)
 planned_caused found a b c d third output old new result used other h =
-    filed_as _ _ _ _ old new result (two_used (uses_media found) (uses_second found) a b c d third used other) (λ none. absurd none) h
+    caused_as _ _ _ _ old new result (two_used (uses_media found) (uses_second found) a b c d third used other) (λ none. absurd none) h
 
 -- and of one that reads three and writes a file
 pub embedded_caused : (found : Option Roles) (a b c d e f k l : ℕ) (told : Type 0) (old new : Judges) (result : Result Reply Fault) → uses_media found ≡ true → uses_second found ≡ true → uses_third found ≡ true → uses_out found ≡ true
-    → IfErr result (IsFileCause (Rose a b ⊎ (Rose c d ⊎ Rose e f)) (Rose k l))
+    → IfErr result (CausedBy (Rose a b ⊎ (Rose c d ⊎ Rose e f)) (Rose k l) old new)
     → IfErr result (CausedBy (HasFailed (uses_media found) a b ⊎ (HasFailed (uses_second found) c d ⊎ HasFailed (uses_third found) e f)) (told ⊎ HasFailed (uses_out found) k l) old new)
 embedded_caused found a b c d e f k l told old new result used other more file h =
-    filed_as _ _ _ _ old new result (three_used (uses_media found) (uses_second found) (uses_third found) a b c d e f used other more) (λ rose. inr (file, rose)) h
+    caused_as _ _ _ _ old new result (three_used (uses_media found) (uses_second found) (uses_third found) a b c d e f used other more) (λ rose. inr (file, rose)) h
 
 -- a command that reads media uses them
 pub media_used : (found : Option Roles) (roles : Roles) (c : Command) → found ≡ Some roles → is_some roles.media ≡ reads_media roles.command → roles.command ≡ c → reads_media c ≡ true → uses_media found ≡ true

@@ -18,6 +18,7 @@ use Rattle.c2_rules.specs.Validated.{CheckAsks, IsAnswer, IsOpenedAnswer, MediaA
 use Rattle.c2_rules.specs.declared.answer.Answer.{Answer}
 use Rattle.c2_binding.specs.Comparison.{IsComparison, CompareAsks}
 use Rattle.c2_binding.specs.declared.compared.Compared.{Compared}
+use Rattle.c2_build.specs.Asked.{SomeEmbedAsks, SomePlanAsks}
 use Rattle.c2_build.specs.Meeting.{SomeEmbedding, SomePlan}
 use Rattle.c2_texts.specs.Texts.{refused_line, none_line, usage_line, listing, digest_line}
 use Rattle.c2_spec.specs.PutIn.{taken_out}
@@ -38,6 +39,8 @@ pub record Laws : Type 0 where
   pub compared : (hash : Alg → List ℕ → List ℕ) (said : Question → Verdict) (first second : List ℕ) (a b : Answer) → IsAnswer hash said first a → IsAnswer hash said second b → (what : Compared) × (text : List ℕ) × IsComparison hash said first second what text
   pub planned : SomePlan
   pub embedded : SomeEmbedding
+  pub plan_asks : SomePlanAsks
+  pub embed_asks : SomeEmbedAsks
   pub sampled : EachSample
   pub sample_asks : EachSampleAsks
   pub compare_asks : (hash : Alg → List ℕ → List ℕ) (said : Question → Verdict) (first second : List ℕ) (a : Answer) (ps qs : List Question) → IsAnswer hash said first a → CheckAsks hash said first ps → CheckAsks hash said second qs → (all : List Question) × CompareAsks hash said first second all
@@ -121,8 +124,8 @@ each_command laws command.Compare roles i held other more gives =
     let b = laws.answer i.hash i.said i.second other in
     let e = laws.compared i.hash i.said i.media i.second a.0 b.0 a.1 b.1 in
     (compare_outcome e.0 e.1, (e.0, e.1, e.2, refl))
-each_command laws command.Plan roles i held other more gives = let r = laws.planned i.hash i.media i.second held in (plan_outcome r.0, (r.0, r.1, refl))
-each_command laws command.Embed roles i held other more gives = let r = laws.embedded i.hash i.media i.second i.third held more in (embed_outcome r.0, (r.0, r.1, refl))
+each_command laws command.Plan roles i held other more gives = let r = laws.planned i.hash i.said i.media i.second held in (plan_outcome r.0, (r.0, r.1, refl))
+each_command laws command.Embed roles i held other more gives = let r = laws.embedded i.hash i.said i.media i.second i.third held more in (embed_outcome r.0, (r.0, r.1, refl))
 each_command laws command.Sample roles i held other more gives =
     let s = laws.sampled i.hash i.said (pieces_in roles) (gives refl) in
     (sample_outcome (pieces_in roles) s.0, (s.0, s.1, refl))
@@ -155,8 +158,8 @@ each_asks laws command.Compare roles i held other more gives =
     let ps = laws.asks i.hash i.said i.media held in
     let qs = laws.asks i.hash i.said i.second other in
     laws.compare_asks i.hash i.said i.media i.second a.0 ps.0 qs.0 a.1 ps.1 qs.1
-each_asks laws command.Plan roles i held other more gives = ([], refl)
-each_asks laws command.Embed roles i held other more gives = ([], refl)
+each_asks laws command.Plan roles i held other more gives = laws.plan_asks i.hash i.said i.media i.second held
+each_asks laws command.Embed roles i held other more gives = laws.embed_asks i.hash i.said i.media i.second i.third held more
 each_asks laws command.Sample roles i held other more gives = laws.sample_asks i.hash i.said (pieces_in roles) (gives refl)
 
 -- a call whose files are bytes has a list of questions: an empty one where its words fit no command

@@ -8,17 +8,20 @@ use Rattle.c2_base.specs.Causes.{Rose}
 use Rattle.c2_base.specs.Sink.{HasWrittenPrefix}
 use Rattle.c2_base.specs.declared.values.Question.{Question}
 use Rattle.c2_spec.specs.declared.digest.Alg.{Alg}
-use Rattle.c2_spec.specs.declared.panel.Verdict.TheVariants.{Silent}
-use Rattle.c2_build.specs.Answers.{ComesTo, Faults, IsBegun, IsBuildCause, IsDelivered, IsEmbedding, IsPlanCause, LeavesSink, PlanFaults, WithoutFault, file_of}
+use Rattle.c2_spec.specs.declared.panel.Verdict.{Verdict}
+use Rattle.c2_spec.specs.Judges.Panel.{Judges, SomeRose}
+use Rattle.c2_rules.specs.Asking.{HaveAsked}
+use Rattle.c2_rules.proofs.AskingLemmas.{front_all}
+use Rattle.c2_build.specs.Answers.{ComesTo, Faults, HasAskedAll, IsBegun, IsBuildCause, IsDelivered, IsEmbedding, IsPlanCause, LeavesSink, PlanFaults, WithoutFault, file_of}
 use Rattle.c2_build.specs.Answers.{SinkState as BuildSink}
 use Rattle.c2_build.specs.Building.{Built, IsEmbedded, IsPlanned}
 use Rattle.c2_build.specs.declared.error.BuildError.{BuildError}
-use Rattle.c2_build.specs.declared.error.BuildError.TheVariants.{MediaRefused, BadDefinition, BadSignature, Later, RedactionRefused, NoInstance, StoreTooLarge, ReserveTooSmall, ReadFault, JudgeFault, WriteFault, NoMemory}
+use Rattle.c2_build.specs.declared.error.BuildError.TheVariants.{MediaRefused, BadDefinition, BadSignature, Later, ParentFails, LabelTaken, RedactionRefused, NoInstance, TooManyManifests, StoreTooLarge, ReserveTooSmall, ReadFault, JudgeFault, WriteFault, NoMemory}
 use Rattle.c2_build.specs.declared.types.Embedded.{Embedded}
 use Rattle.c2_texts.specs.Builds.{embedded_line, tbs_line}
 use Rattle.c2_words.specs.CommandLine.{writing_roles}
 use Rattle.c2_cmd.specs.Outcome.{Outcome, IsEmbedOutcome, IsPlanOutcome, embed_outcome, refused_build, reports}
-use Rattle.c2_cmd.specs.Reply.{HasWhole, IsFaultOf, IsFileCause, RepliesTo, StandsFor, TakesFile, build_fault, outcome_of}
+use Rattle.c2_cmd.specs.Reply.{AskedFor, CausedBy, HasWhole, IsFaultOf, RepliesTo, StandsFor, TakesFile, build_fault, outcome_of}
 use Rattle.c2_cmd.specs.Run.{SinkState, Delivers, state_of}
 use Rattle.c2_cmd.specs.declared.reply.Fault.{Fault}
 use Rattle.c2_cmd.specs.declared.reply.Fault.TheVariants.{Input, Output, Judge, Memory}
@@ -35,8 +38,11 @@ refused_comes (MediaRefused reason number) claim none h = h
 refused_comes (BadDefinition field) claim none h = h
 refused_comes (BadSignature part) claim none h = h
 refused_comes Later claim none h = h
+refused_comes (ParentFails code uri) claim none h = h
+refused_comes (LabelTaken label) claim none h = h
 refused_comes (RedactionRefused text code) claim none h = h
 refused_comes NoInstance claim none h = h
+refused_comes (TooManyManifests count) claim none h = h
 refused_comes (StoreTooLarge len) claim none h = h
 refused_comes (ReserveTooSmall needed) claim none h = h
 refused_comes ReadFault claim none h = absurd (cc (none))
@@ -45,19 +51,22 @@ refused_comes WriteFault claim none h = absurd (cc (none))
 refused_comes NoMemory claim none h = absurd (cc (none))
 
 -- a refusal leaves all counts
-refused_counts : (before now : Faults) (e : BuildError) → build_fault e ≡ None → IsBuildCause before now e → now ≡ before
-refused_counts before now (MediaRefused reason number) none h = h
-refused_counts before now (BadDefinition field) none h = h
-refused_counts before now (BadSignature part) none h = h
-refused_counts before now Later none h = h
-refused_counts before now (RedactionRefused text code) none h = h
-refused_counts before now NoInstance none h = h
-refused_counts before now (StoreTooLarge len) none h = h
-refused_counts before now (ReserveTooSmall needed) none h = h
-refused_counts before now ReadFault none h = absurd (cc (none))
-refused_counts before now JudgeFault none h = absurd (cc (none))
-refused_counts before now WriteFault none h = absurd (cc (none))
-refused_counts before now NoMemory none h = absurd (cc (none))
+refused_counts : (before now : Faults) (old new : List ℕ) (e : BuildError) → build_fault e ≡ None → IsBuildCause before now old new e → (now ≡ before) × (new ≡ old)
+refused_counts before now old new (MediaRefused reason number) none h = h
+refused_counts before now old new (BadDefinition field) none h = h
+refused_counts before now old new (BadSignature part) none h = h
+refused_counts before now old new Later none h = h
+refused_counts before now old new (ParentFails code uri) none h = h
+refused_counts before now old new (LabelTaken label) none h = h
+refused_counts before now old new (RedactionRefused text code) none h = h
+refused_counts before now old new NoInstance none h = h
+refused_counts before now old new (TooManyManifests count) none h = h
+refused_counts before now old new (StoreTooLarge len) none h = h
+refused_counts before now old new (ReserveTooSmall needed) none h = h
+refused_counts before now old new ReadFault none h = absurd (cc (none))
+refused_counts before now old new JudgeFault none h = absurd (cc (none))
+refused_counts before now old new WriteFault none h = absurd (cc (none))
+refused_counts before now old new NoMemory none h = absurd (cc (none))
 
 -- and the sink
 refused_sink : (e : BuildError) (claim : Type 0) → build_fault e ≡ None → LeavesSink (Err e) claim → claim
@@ -65,8 +74,11 @@ refused_sink (MediaRefused reason number) claim none h = h
 refused_sink (BadDefinition field) claim none h = h
 refused_sink (BadSignature part) claim none h = h
 refused_sink Later claim none h = h
+refused_sink (ParentFails code uri) claim none h = h
+refused_sink (LabelTaken label) claim none h = h
 refused_sink (RedactionRefused text code) claim none h = h
 refused_sink NoInstance claim none h = h
+refused_sink (TooManyManifests count) claim none h = h
 refused_sink (StoreTooLarge len) claim none h = h
 refused_sink (ReserveTooSmall needed) claim none h = h
 refused_sink ReadFault claim none h = absurd (cc (none))
@@ -75,19 +87,22 @@ refused_sink WriteFault claim none h = absurd (cc (none))
 refused_sink NoMemory claim none h = absurd (cc (none))
 
 -- what an embedding comes to where it is refused
-pub refused_embedding : (hash : Alg → List ℕ → List ℕ) (a b c : List ℕ) (before now : BuildSink) (e : BuildError) → build_fault e ≡ None → IsEmbedding hash a b c before now (Err e) → IsEmbedded hash a b c (Err e)
-refused_embedding hash a b c before now (MediaRefused reason number) none h = h
-refused_embedding hash a b c before now (BadDefinition field) none h = h
-refused_embedding hash a b c before now (BadSignature part) none h = h
-refused_embedding hash a b c before now Later none h = h
-refused_embedding hash a b c before now (RedactionRefused text code) none h = h
-refused_embedding hash a b c before now NoInstance none h = h
-refused_embedding hash a b c before now (StoreTooLarge len) none h = h
-refused_embedding hash a b c before now (ReserveTooSmall needed) none h = h
-refused_embedding hash a b c before now ReadFault none h = absurd (cc (none))
-refused_embedding hash a b c before now JudgeFault none h = absurd (cc (none))
-refused_embedding hash a b c before now WriteFault none h = absurd (cc (none))
-refused_embedding hash a b c before now NoMemory none h = absurd (cc (none))
+pub refused_embedding : (hash : Alg → List ℕ → List ℕ) (said : Question → Verdict) (a b c : List ℕ) (before now : BuildSink) (e : BuildError) → build_fault e ≡ None → IsEmbedding hash said a b c before now (Err e) → IsEmbedded hash said a b c (Err e)
+refused_embedding hash said a b c before now (MediaRefused reason number) none h = h
+refused_embedding hash said a b c before now (BadDefinition field) none h = h
+refused_embedding hash said a b c before now (BadSignature part) none h = h
+refused_embedding hash said a b c before now Later none h = h
+refused_embedding hash said a b c before now (ParentFails code uri) none h = h
+refused_embedding hash said a b c before now (LabelTaken label) none h = h
+refused_embedding hash said a b c before now (RedactionRefused text code) none h = h
+refused_embedding hash said a b c before now NoInstance none h = h
+refused_embedding hash said a b c before now (TooManyManifests count) none h = h
+refused_embedding hash said a b c before now (StoreTooLarge len) none h = h
+refused_embedding hash said a b c before now (ReserveTooSmall needed) none h = h
+refused_embedding hash said a b c before now ReadFault none h = absurd (cc (none))
+refused_embedding hash said a b c before now JudgeFault none h = absurd (cc (none))
+refused_embedding hash said a b c before now WriteFault none h = absurd (cc (none))
+refused_embedding hash said a b c before now NoMemory none h = absurd (cc (none))
 
 -- where there is a reply to an error, the build was refused
 pub on_refused : (claim : Type 0) (e : BuildError) (r : Result Reply Fault) → IfOk r (RepliesTo e) → (build_fault e ≡ None → claim) → OnOk r claim
@@ -117,18 +132,18 @@ not_whole e (Err f) claim old new same h whole = absurd (false≢true (sym whole
 -- ---- `plan`
 
 -- the line of the bytes to be signed is the outcome of `plan`
-pub plan_replied : (hash : Alg → List ℕ → List ℕ) (a b bytes : List ℕ) (r : Result Reply Fault) → IsPlanned hash a b (Ok bytes) → IfOk r (λ reply. outcome_of reply ≡ reports answer.Done (tbs_line bytes)) → IfOk r (λ reply. IsPlanOutcome hash a b (outcome_of reply))
-plan_replied hash a b bytes (Ok reply) is out = (Ok bytes, is, out)
-plan_replied hash a b bytes (Err f) is out = tt
+pub plan_replied : (hash : Alg → List ℕ → List ℕ) (said : Question → Verdict) (a b bytes : List ℕ) (r : Result Reply Fault) → IsPlanned hash said a b (Ok bytes) → IfOk r (λ reply. outcome_of reply ≡ reports answer.Done (tbs_line bytes)) → IfOk r (λ reply. IsPlanOutcome hash said a b (outcome_of reply))
+plan_replied hash said a b bytes (Ok reply) is out = (Ok bytes, is, out)
+plan_replied hash said a b bytes (Err f) is out = tt
 
 -- the bytes that a line tells are those that were made
 pub tbs_of : (bytes copy : List ℕ) (r : Result Reply Fault) → copy ≡ bytes → IfOk r (λ reply. outcome_of reply ≡ reports answer.Done (tbs_line copy)) → IfOk r (λ reply. outcome_of reply ≡ reports answer.Done (tbs_line bytes))
 tbs_of bytes copy r same h = subst (λ (x : List ℕ). IfOk r (λ reply. outcome_of reply ≡ reports answer.Done (tbs_line x))) same h
 
 -- and so is that of a refusal
-pub plan_refused : (hash : Alg → List ℕ → List ℕ) (a b : List ℕ) (e : BuildError) (r : Result Reply Fault) → ComesTo (IsPlanned hash a b) (Err e) → IfOk r (RepliesTo e) → IfOk r (λ reply. IsPlanOutcome hash a b (outcome_of reply))
-plan_refused hash a b e (Ok reply) comes h = (Err e, refused_comes e (IsPlanned hash a b (Err e)) h.0 comes, h.1)
-plan_refused hash a b e (Err f) comes h = tt
+pub plan_refused : (hash : Alg → List ℕ → List ℕ) (said : Question → Verdict) (a b : List ℕ) (e : BuildError) (r : Result Reply Fault) → ComesTo (IsPlanned hash said a b) (Err e) → IfOk r (RepliesTo e) → IfOk r (λ reply. IsPlanOutcome hash said a b (outcome_of reply))
+plan_refused hash said a b e (Ok reply) comes h = (Err e, refused_comes e (IsPlanned hash said a b (Err e)) h.0 comes, h.1)
+plan_refused hash said a b e (Err f) comes h = tt
 
 -- ---- faults
 
@@ -136,60 +151,66 @@ plan_refused hash a b e (Err f) comes h = tt
 unrisen : Rose 0 0 → ⊥
 unrisen h = omega (arith, h)
 
--- the cause of an error of a build that is a fault of the run, over three sources and a sink
-fault_caused : (a b c d e f k l : ℕ) (error : BuildError) (fault : Fault) → build_fault error ≡ Some fault
-    → IsBuildCause (record { media = a; definition = c; message = e; out = k }) (record { media = b; definition = d; message = f; out = l }) error
-    → IsFileCause (Rose a b ⊎ (Rose c d ⊎ Rose e f)) (Rose k l) fault
-fault_caused a b c d e f k l ReadFault fault is h = let same : Input ≡ fault = cc (is) in subst (λ (x : Fault). IsFileCause (Rose a b ⊎ (Rose c d ⊎ Rose e f)) (Rose k l) x) same h
-fault_caused a b c d e f k l JudgeFault fault is h = absurd h
-fault_caused a b c d e f k l WriteFault fault is h = let same : Output ≡ fault = cc (is) in subst (λ (x : Fault). IsFileCause (Rose a b ⊎ (Rose c d ⊎ Rose e f)) (Rose k l) x) same h
-fault_caused a b c d e f k l NoMemory fault is h = let same : Memory ≡ fault = cc (is) in subst (λ (x : Fault). IsFileCause (Rose a b ⊎ (Rose c d ⊎ Rose e f)) (Rose k l) x) same tt
-fault_caused a b c d e f k l (MediaRefused reason number) fault is h = absurd (cc (is))
-fault_caused a b c d e f k l (BadDefinition field) fault is h = absurd (cc (is))
-fault_caused a b c d e f k l (BadSignature part) fault is h = absurd (cc (is))
-fault_caused a b c d e f k l Later fault is h = absurd (cc (is))
-fault_caused a b c d e f k l (RedactionRefused text code) fault is h = absurd (cc (is))
-fault_caused a b c d e f k l NoInstance fault is h = absurd (cc (is))
-fault_caused a b c d e f k l (StoreTooLarge len) fault is h = absurd (cc (is))
-fault_caused a b c d e f k l (ReserveTooSmall needed) fault is h = absurd (cc (is))
+-- the cause of an error of a build that is a fault of the run, over three sources, a sink and the judges
+fault_caused : (a b c d e f k l : ℕ) (old new : Judges) (error : BuildError) (fault : Fault) → build_fault error ≡ Some fault
+    → IsBuildCause (record { media = a; definition = c; message = e; out = k }) (record { media = b; definition = d; message = f; out = l }) old.faults new.faults error
+    → CausedBy (Rose a b ⊎ (Rose c d ⊎ Rose e f)) (Rose k l) old new fault
+fault_caused a b c d e f k l old new ReadFault fault is h = let same : Input ≡ fault = cc (is) in subst (λ (x : Fault). CausedBy (Rose a b ⊎ (Rose c d ⊎ Rose e f)) (Rose k l) old new x) same h
+fault_caused a b c d e f k l old new JudgeFault fault is h = let same : Judge ≡ fault = cc (is) in subst (λ (x : Fault). CausedBy (Rose a b ⊎ (Rose c d ⊎ Rose e f)) (Rose k l) old new x) same h
+fault_caused a b c d e f k l old new WriteFault fault is h = let same : Output ≡ fault = cc (is) in subst (λ (x : Fault). CausedBy (Rose a b ⊎ (Rose c d ⊎ Rose e f)) (Rose k l) old new x) same h
+fault_caused a b c d e f k l old new NoMemory fault is h = let same : Memory ≡ fault = cc (is) in subst (λ (x : Fault). CausedBy (Rose a b ⊎ (Rose c d ⊎ Rose e f)) (Rose k l) old new x) same tt
+fault_caused a b c d e f k l old new (MediaRefused reason number) fault is h = absurd (cc (is))
+fault_caused a b c d e f k l old new (BadDefinition field) fault is h = absurd (cc (is))
+fault_caused a b c d e f k l old new (BadSignature part) fault is h = absurd (cc (is))
+fault_caused a b c d e f k l old new Later fault is h = absurd (cc (is))
+fault_caused a b c d e f k l old new (ParentFails code uri) fault is h = absurd (cc (is))
+fault_caused a b c d e f k l old new (LabelTaken label) fault is h = absurd (cc (is))
+fault_caused a b c d e f k l old new (RedactionRefused text code) fault is h = absurd (cc (is))
+fault_caused a b c d e f k l old new NoInstance fault is h = absurd (cc (is))
+fault_caused a b c d e f k l old new (TooManyManifests count) fault is h = absurd (cc (is))
+fault_caused a b c d e f k l old new (StoreTooLarge len) fault is h = absurd (cc (is))
+fault_caused a b c d e f k l old new (ReserveTooSmall needed) fault is h = absurd (cc (is))
 
--- so each fault of `embed` has its cause
-pub embed_caused : (a b c d e f k l : ℕ) (error : BuildError) (r : Result Reply Fault)
-    → IsBuildCause (record { media = a; definition = c; message = e; out = k }) (record { media = b; definition = d; message = f; out = l }) error
-    → IfErr r (IsFaultOf error) → IfErr r (IsFileCause (Rose a b ⊎ (Rose c d ⊎ Rose e f)) (Rose k l))
-embed_caused a b c d e f k l error (Ok reply) cause h = tt
-embed_caused a b c d e f k l error (Err fault) cause (inl is) = fault_caused a b c d e f k l error fault is cause
-embed_caused a b c d e f k l error (Err fault) cause (inr is) = subst (λ (x : Fault). IsFileCause (Rose a b ⊎ (Rose c d ⊎ Rose e f)) (Rose k l) x) (sym is.1) tt
+-- each fault of `embed` has its cause
+pub embed_caused : (a b c d e f k l : ℕ) (old new : Judges) (error : BuildError) (r : Result Reply Fault)
+    → IsBuildCause (record { media = a; definition = c; message = e; out = k }) (record { media = b; definition = d; message = f; out = l }) old.faults new.faults error
+    → IfErr r (IsFaultOf error) → IfErr r (CausedBy (Rose a b ⊎ (Rose c d ⊎ Rose e f)) (Rose k l) old new)
+embed_caused a b c d e f k l old new error (Ok reply) cause h = tt
+embed_caused a b c d e f k l old new error (Err fault) cause (inl is) = fault_caused a b c d e f k l old new error fault is cause
+embed_caused a b c d e f k l old new error (Err fault) cause (inr is) = subst (λ (x : Fault). CausedBy (Rose a b ⊎ (Rose c d ⊎ Rose e f)) (Rose k l) old new x) (sym is.1) tt
 
 -- the counts of a plan, with no message and no sink
 abbrev as_faults : PlanFaults → Faults
 as_faults f = record { media = f.media; definition = f.definition; message = 0; out = 0 }
 
 -- the cause of an error of `plan` is one of `embed` with no message and no sink
-plan_as : (a b c d : ℕ) (e : BuildError) → IsPlanCause (record { media = a; definition = c }) (record { media = b; definition = d }) e
-    → IsBuildCause (record { media = a; definition = c; message = 0; out = 0 }) (record { media = b; definition = d; message = 0; out = 0 }) e
-plan_as a b c d (MediaRefused reason number) h = ap as_faults h
-plan_as a b c d (BadDefinition field) h = ap as_faults h
-plan_as a b c d (BadSignature part) h = absurd h
-plan_as a b c d Later h = ap as_faults h
-plan_as a b c d (RedactionRefused text code) h = ap as_faults h
-plan_as a b c d NoInstance h = ap as_faults h
-plan_as a b c d (StoreTooLarge len) h = ap as_faults h
-plan_as a b c d (ReserveTooSmall needed) h = absurd h
-plan_as a b c d ReadFault (inl h) = inl h
-plan_as a b c d ReadFault (inr h) = inr (inl h)
-plan_as a b c d JudgeFault h = absurd h
-plan_as a b c d WriteFault h = absurd h
-plan_as a b c d NoMemory h = tt
+plan_as : (a b c d : ℕ) (old new : List ℕ) (e : BuildError) → IsPlanCause (record { media = a; definition = c }) (record { media = b; definition = d }) old new e
+    → IsBuildCause (record { media = a; definition = c; message = 0; out = 0 }) (record { media = b; definition = d; message = 0; out = 0 }) old new e
+plan_as a b c d old new (MediaRefused reason number) h = (ap as_faults h.0, h.1)
+plan_as a b c d old new (BadDefinition field) h = (ap as_faults h.0, h.1)
+plan_as a b c d old new (BadSignature part) h = absurd h
+plan_as a b c d old new Later h = (ap as_faults h.0, h.1)
+plan_as a b c d old new (ParentFails code uri) h = (ap as_faults h.0, h.1)
+plan_as a b c d old new (LabelTaken label) h = (ap as_faults h.0, h.1)
+plan_as a b c d old new (RedactionRefused text code) h = (ap as_faults h.0, h.1)
+plan_as a b c d old new NoInstance h = (ap as_faults h.0, h.1)
+plan_as a b c d old new (TooManyManifests count) h = (ap as_faults h.0, h.1)
+plan_as a b c d old new (StoreTooLarge len) h = (ap as_faults h.0, h.1)
+plan_as a b c d old new (ReserveTooSmall needed) h = absurd h
+plan_as a b c d old new ReadFault (inl h) = inl h
+plan_as a b c d old new ReadFault (inr h) = inr (inl h)
+plan_as a b c d old new JudgeFault h = h
+plan_as a b c d old new WriteFault h = absurd h
+plan_as a b c d old new NoMemory h = tt
 
 -- and each of `plan`, which has no message and writes no file
-pub plan_caused : (a b c d : ℕ) (error : BuildError) (r : Result Reply Fault)
-    → IsPlanCause (record { media = a; definition = c }) (record { media = b; definition = d }) error
-    → IfErr r (IsFaultOf error) → IfErr r (IsFileCause (Rose a b ⊎ Rose c d) ⊥)
-plan_caused a b c d error (Ok reply) cause h = tt
-plan_caused a b c d error (Err fault) cause h = fewer fault (embed_caused a b c d 0 0 0 0 error (Err fault) (plan_as a b c d error cause) h)
+pub plan_caused : (a b c d : ℕ) (old new : Judges) (error : BuildError) (r : Result Reply Fault)
+    → IsPlanCause (record { media = a; definition = c }) (record { media = b; definition = d }) old.faults new.faults error
+    → IfErr r (IsFaultOf error) → IfErr r (CausedBy (Rose a b ⊎ Rose c d) ⊥ old new)
+plan_caused a b c d old new error (Ok reply) cause h = tt
+plan_caused a b c d old new error (Err fault) cause h = fewer fault (embed_caused a b c d 0 0 0 0 old new error (Err fault) (plan_as a b c d old.faults new.faults error cause) h)
   where
-    fewer : (fault : Fault) → IsFileCause (Rose a b ⊎ (Rose c d ⊎ Rose 0 0)) (Rose 0 0) fault → IsFileCause (Rose a b ⊎ Rose c d) ⊥ fault
+    fewer : (fault : Fault) → CausedBy (Rose a b ⊎ (Rose c d ⊎ Rose 0 0)) (Rose 0 0) old new fault → CausedBy (Rose a b ⊎ Rose c d) ⊥ old new fault
     fewer Input (inl h) = inl h
     fewer Input (inr (inl h)) = inr h
     fewer Input (inr (inr h)) = absurd (unrisen h)
@@ -197,12 +218,60 @@ plan_caused a b c d error (Err fault) cause h = fewer fault (embed_caused a b c 
     fewer Judge h = h
     fewer Memory h = tt
 
--- where only memory can be missing, that is the cause
-pub memory_filed : (input output : Type 0) (r : Result Reply Fault) → IfErr r (λ e. e ≡ Memory) → IfErr r (IsFileCause input output)
-memory_filed input output (Ok reply) h = tt
-memory_filed input output (Err e) h = subst (λ (x : Fault). IsFileCause input output x) (sym h) tt
+-- a reply to a refusal leaves the judges' counts of faults
+pub refused_judges : (before now : Faults) (old new : List ℕ) (e : BuildError) (r : Result Reply Fault) → IsBuildCause before now old new e → IfOk r (RepliesTo e) → OnOk r (new ≡ old)
+refused_judges before now old new e r cause h = on_refused (new ≡ old) e r h (λ none. (refused_counts before now old new e none cause).1)
 
--- and no other fault is answered
+-- so does one of `plan`
+pub unplanned_judges : (a b c d : ℕ) (old new : List ℕ) (e : BuildError) (r : Result Reply Fault) → IsPlanCause (record { media = a; definition = c }) (record { media = b; definition = d }) old new e → IfOk r (RepliesTo e) → OnOk r (new ≡ old)
+unplanned_judges a b c d old new e r cause h = refused_judges _ _ old new e r (plan_as a b c d old new e cause) h
+
+-- ---- who was asked
+
+-- all was asked that is asked, where something is refused
+refused_asked : (T : Type 0) (qs : List Question) (old new : Judges) (e : BuildError) → build_fault e ≡ None → HasAskedAll {T = T} qs old new (Err e) → HaveAsked old.said qs old.asked new.asked
+refused_asked T qs old new (MediaRefused reason number) none h = h
+refused_asked T qs old new (BadDefinition field) none h = h
+refused_asked T qs old new (BadSignature part) none h = h
+refused_asked T qs old new Later none h = h
+refused_asked T qs old new (ParentFails code uri) none h = h
+refused_asked T qs old new (LabelTaken label) none h = h
+refused_asked T qs old new (RedactionRefused text code) none h = h
+refused_asked T qs old new NoInstance none h = h
+refused_asked T qs old new (TooManyManifests count) none h = h
+refused_asked T qs old new (StoreTooLarge len) none h = h
+refused_asked T qs old new (ReserveTooSmall needed) none h = h
+refused_asked T qs old new ReadFault none h = absurd (cc (none))
+refused_asked T qs old new JudgeFault none h = absurd (cc (none))
+refused_asked T qs old new WriteFault none h = absurd (cc (none))
+refused_asked T qs old new NoMemory none h = absurd (cc (none))
+
+-- who was asked until a fault of a build is who was asked until that of the run
+fault_asked : (T : Type 0) (qs : List Question) (old new : Judges) (e : BuildError) (f : Fault) → build_fault e ≡ Some f → HasAskedAll {T = T} qs old new (Err e) → AskedFor {T = Reply} qs old new (Err f)
+fault_asked T qs old new ReadFault f is h = let same : Input ≡ f = cc (is) in subst (λ (x : Fault). AskedFor {T = Reply} qs old new (Err x)) same h
+fault_asked T qs old new JudgeFault f is h = let same : Judge ≡ f = cc (is) in subst (λ (x : Fault). AskedFor {T = Reply} qs old new (Err x)) same h
+fault_asked T qs old new WriteFault f is h = let same : Output ≡ f = cc (is) in subst (λ (x : Fault). AskedFor {T = Reply} qs old new (Err x)) same h
+fault_asked T qs old new NoMemory f is h = let same : Memory ≡ f = cc (is) in subst (λ (x : Fault). AskedFor {T = Reply} qs old new (Err x)) same h
+fault_asked T qs old new (MediaRefused reason number) f is h = absurd (cc (is))
+fault_asked T qs old new (BadDefinition field) f is h = absurd (cc (is))
+fault_asked T qs old new (BadSignature part) f is h = absurd (cc (is))
+fault_asked T qs old new Later f is h = absurd (cc (is))
+fault_asked T qs old new (ParentFails code uri) f is h = absurd (cc (is))
+fault_asked T qs old new (LabelTaken label) f is h = absurd (cc (is))
+fault_asked T qs old new (RedactionRefused text code) f is h = absurd (cc (is))
+fault_asked T qs old new NoInstance f is h = absurd (cc (is))
+fault_asked T qs old new (TooManyManifests count) f is h = absurd (cc (is))
+fault_asked T qs old new (StoreTooLarge len) f is h = absurd (cc (is))
+fault_asked T qs old new (ReserveTooSmall needed) f is h = absurd (cc (is))
+
+-- and who was asked by a build that ends in an error is who was asked by the run
+pub error_asked : (T : Type 0) (qs : List Question) (old new : Judges) (e : BuildError) (r : Result Reply Fault) → IfOk r (RepliesTo e) → IfErr r (IsFaultOf e) → HasAskedAll {T = T} qs old new (Err e) → AskedFor qs old new r
+error_asked T qs old new e (Ok reply) replies fault h = refused_asked T qs old new e replies.0 h
+error_asked T qs old new e (Err f) replies (inl is) h = fault_asked T qs old new e f is h
+error_asked T qs old new e (Err f) replies (inr is) h =
+    subst (λ (x : Fault). AskedFor {T = Reply} qs old new (Err x)) (sym is.1) (front_all old.said qs old.asked new.asked (refused_asked T qs old new e is.0 h))
+
+-- where only memory can be missing no other fault is answered
 pub only_memory : (f : Fault) (claim : Type 0) (r : Result Reply Fault) → f ≢ Memory → IfErr r (λ e. e ≡ Memory) → IfErr r (λ e. e ≡ f → claim)
 only_memory f claim (Ok reply) other h = tt
 only_memory f claim (Err e) other h = λ is. absurd (other (sym is ∙ h))
@@ -215,8 +284,8 @@ after_fault f claim (Err e) h = λ is. h
 -- ---- `embed`: the report
 
 -- a call of `embed` has one outcome
-one_embedding : OneOutcome → (hash : Alg → List ℕ → List ℕ) (a b c : List ℕ) (x y : Outcome) → IsEmbedOutcome hash a b c x → IsEmbedOutcome hash a b c y → x ≡ y
-one_embedding one hash a b c x y h k = one (Some (writing_roles command.Embed)) (record { media = a; second = b; third = c; said = λ (q : Question). Silent; hash = hash }) x y h k
+one_embedding : OneOutcome → (hash : Alg → List ℕ → List ℕ) (said : Question → Verdict) (a b c : List ℕ) (x y : Outcome) → IsEmbedOutcome hash said a b c x → IsEmbedOutcome hash said a b c y → x ≡ y
+one_embedding one hash said a b c x y h k = one (Some (writing_roles command.Embed)) (record { media = a; second = b; third = c; said = said; hash = hash }) x y h k
 
 -- a reply that tells an outcome's range stands for it
 stands_embedded : (e : Outcome) (start len : ℕ) (reply : Reply) → e.answer ≡ answer.Done → e.report ≡ embedded_line start len → outcome_of reply ≡ reports answer.Done (embedded_line start len) → StandsFor e [] reply
@@ -226,19 +295,19 @@ stands_embedded e start len reply done line out = record {
 }
 
 -- the line of the new range stands for the outcome of `embed`
-pub embed_replied : OneOutcome → (hash : Alg → List ℕ → List ℕ) (a b c : List ℕ) (x : Embedded) (new : Built) (r : Result Reply Fault) (expected : Outcome) → IsEmbedded hash a b c (Ok new) → x.start ≡ new.start → x.length ≡ new.len
-    → IfOk r (λ reply. outcome_of reply ≡ reports answer.Done (embedded_line x.start x.length)) → IsEmbedOutcome hash a b c expected → IfOk r (λ reply. StandsFor expected [] reply)
-embed_replied one hash a b c x new (Err f) expected is start len out h = tt
-embed_replied one hash a b c x new (Ok reply) expected is start len out h =
-    let same : expected ≡ embed_outcome (Ok new) = one_embedding one hash a b c expected (embed_outcome (Ok new)) h (Ok new, is, refl) in
+pub embed_replied : OneOutcome → (hash : Alg → List ℕ → List ℕ) (said : Question → Verdict) (a b c : List ℕ) (x : Embedded) (new : Built) (r : Result Reply Fault) (expected : Outcome) → IsEmbedded hash said a b c (Ok new) → x.start ≡ new.start → x.length ≡ new.len
+    → IfOk r (λ reply. outcome_of reply ≡ reports answer.Done (embedded_line x.start x.length)) → IsEmbedOutcome hash said a b c expected → IfOk r (λ reply. StandsFor expected [] reply)
+embed_replied one hash said a b c x new (Err f) expected is start len out h = tt
+embed_replied one hash said a b c x new (Ok reply) expected is start len out h =
+    let same : expected ≡ embed_outcome (Ok new) = one_embedding one hash said a b c expected (embed_outcome (Ok new)) h (Ok new, is, refl) in
     let line : embedded_line new.start new.len ≡ embedded_line x.start x.length = ap (λ (n : ℕ). embedded_line n new.len) (sym start) ∙ ap (embedded_line x.start) (sym len) in
     stands_embedded expected x.start x.length reply (ap (λ (o : Outcome). o.answer) same) (ap (λ (o : Outcome). o.report) same ∙ line) out
 
 -- and so does that of a refusal
-pub embed_refused : OneOutcome → (hash : Alg → List ℕ → List ℕ) (a b c : List ℕ) (e : BuildError) (r : Result Reply Fault) (expected : Outcome) → (build_fault e ≡ None → IsEmbedded hash a b c (Err e)) → IfOk r (RepliesTo e) → IsEmbedOutcome hash a b c expected → IfOk r (λ reply. StandsFor expected [] reply)
-embed_refused one hash a b c e (Err f) expected is h k = tt
-embed_refused one hash a b c e (Ok reply) expected is h k =
-    let same : expected ≡ refused_build e = one_embedding one hash a b c expected (refused_build e) k (Err e, is h.0, refl) in
+pub embed_refused : OneOutcome → (hash : Alg → List ℕ → List ℕ) (said : Question → Verdict) (a b c : List ℕ) (e : BuildError) (r : Result Reply Fault) (expected : Outcome) → (build_fault e ≡ None → IsEmbedded hash said a b c (Err e)) → IfOk r (RepliesTo e) → IsEmbedOutcome hash said a b c expected → IfOk r (λ reply. StandsFor expected [] reply)
+embed_refused one hash said a b c e (Err f) expected is h k = tt
+embed_refused one hash said a b c e (Ok reply) expected is h k =
+    let same : expected ≡ refused_build e = one_embedding one hash said a b c expected (refused_build e) k (Err e, is h.0, refl) in
     record { answer = ap (λ (o : Outcome). o.answer) (same ∙ sym h.1); report = ap (λ (o : Outcome). o.report) (same ∙ sym h.1) }
 
 -- ---- `embed`: the new file
@@ -248,9 +317,9 @@ pub delivered : {K : Type 0} (file : List ℕ) (written : K → Option (List ℕ
 delivered file written finished old new h = record { written = h.whole; is_finished = h.finished }
 
 -- the file is the whole new file, whether or not the reply finds memory
-pub embed_filed : OneOutcome → (hash : Alg → List ℕ → List ℕ) (a b c : List ℕ) (new : Built) (r : Result Reply Fault) (expected : Outcome) (before now : SinkState) → IsEmbedded hash a b c (Ok new) → Delivers new.file before now → IfErr r (λ e. e ≡ Memory) → IsEmbedOutcome hash a b c expected → TakesFile expected.file before now r
-embed_filed one hash a b c new r expected before now is all memory h =
-    let same : expected ≡ embed_outcome (Ok new) = one_embedding one hash a b c expected (embed_outcome (Ok new)) h (Ok new, is, refl) in
+pub embed_filed : OneOutcome → (hash : Alg → List ℕ → List ℕ) (said : Question → Verdict) (a b c : List ℕ) (new : Built) (r : Result Reply Fault) (expected : Outcome) (before now : SinkState) → IsEmbedded hash said a b c (Ok new) → Delivers new.file before now → IfErr r (λ e. e ≡ Memory) → IsEmbedOutcome hash said a b c expected → TakesFile expected.file before now r
+embed_filed one hash said a b c new r expected before now is all memory h =
+    let same : expected ≡ embed_outcome (Ok new) = one_embedding one hash said a b c expected (embed_outcome (Ok new)) h (Ok new, is, refl) in
     subst (λ (o : Outcome). TakesFile o.file before now r) (sym same) (by r memory)
   where
     by : (r : Result Reply Fault) → IfErr r (λ e. e ≡ Memory) → TakesFile (Some new.file) before now r
@@ -287,23 +356,23 @@ begun_file (Ok b) before now fault (inr is) h = subst (λ (x : Fault). TakesFile
 begun_file (Err e) before now fault is h = same_state before now (nothing before.written now.written h.prefix) h.unfinished
 
 -- after an error the new file has what its fault leaves, and nothing where the build is refused
-pub embed_unfiled : {K : Type 0} → OneOutcome → (hash : Alg → List ℕ → List ℕ) (a b c : List ℕ) (written : K → Option (List ℕ)) (finished : K → Bool) (old new : K) (e : BuildError) (r : Result Reply Fault) (expected : Outcome)
-    → IsEmbedding hash a b c (record { written = written old; finished = finished old }) (record { written = written new; finished = finished new }) (Err e) → LeavesSink (Err e) (new ≡ old)
-    → IfOk r (RepliesTo e) → IfErr r (IsFaultOf e) → IsEmbedOutcome hash a b c expected → TakesFile expected.file (state_of written finished old) (state_of written finished new) r
-embed_unfiled {K} one hash a b c written finished old new e (Ok reply) expected comes left replies fault k =
-    let is = refused_embedding hash a b c _ _ e replies.0 comes in
-    let same : expected ≡ refused_build e = one_embedding one hash a b c expected (refused_build e) k (Err e, is, refl) in
+pub embed_unfiled : {K : Type 0} → OneOutcome → (hash : Alg → List ℕ → List ℕ) (said : Question → Verdict) (a b c : List ℕ) (written : K → Option (List ℕ)) (finished : K → Bool) (old new : K) (e : BuildError) (r : Result Reply Fault) (expected : Outcome)
+    → IsEmbedding hash said a b c (record { written = written old; finished = finished old }) (record { written = written new; finished = finished new }) (Err e) → LeavesSink (Err e) (new ≡ old)
+    → IfOk r (RepliesTo e) → IfErr r (IsFaultOf e) → IsEmbedOutcome hash said a b c expected → TakesFile expected.file (state_of written finished old) (state_of written finished new) r
+embed_unfiled {K} one hash said a b c written finished old new e (Ok reply) expected comes left replies fault k =
+    let is = refused_embedding hash said a b c _ _ e replies.0 comes in
+    let same : expected ≡ refused_build e = one_embedding one hash said a b c expected (refused_build e) k (Err e, is, refl) in
     let kept : new ≡ old = refused_sink e (new ≡ old) replies.0 left in
     subst (λ (o : Outcome). TakesFile o.file (state_of written finished old) (state_of written finished new) (Ok reply)) (sym same) (ap (λ (x : K). state_of written finished x) kept)
-embed_unfiled {K} one hash a b c written finished old new e (Err f) expected comes left replies (inr is) k =
+embed_unfiled {K} one hash said a b c written finished old new e (Err f) expected comes left replies (inr is) k =
     let kept : new ≡ old = refused_sink e (new ≡ old) is.0 left in
     subst (λ (x : Fault). TakesFile expected.file (state_of written finished old) (state_of written finished new) (Err x)) (sym is.1) (untaken expected.file _ _ (ap (λ (x : K). state_of written finished x) kept))
-embed_unfiled {K} one hash a b c written finished old new e (Err f) expected comes left replies (inl is) k = by e is comes left
+embed_unfiled {K} one hash said a b c written finished old new e (Err f) expected comes left replies (inl is) k = by e is comes left
   where
     stopped : BuildError → Type 0
-    stopped e = build_fault e ≡ Some f → IsEmbedding hash a b c (record { written = written old; finished = finished old }) (record { written = written new; finished = finished new }) (Err e) → LeavesSink (Err e) (new ≡ old) → TakesFile expected.file (state_of written finished old) (state_of written finished new) (Err f)
+    stopped e = build_fault e ≡ Some f → IsEmbedding hash said a b c (record { written = written old; finished = finished old }) (record { written = written new; finished = finished new }) (Err e) → LeavesSink (Err e) (new ≡ old) → TakesFile expected.file (state_of written finished old) (state_of written finished new) (Err f)
 
-    begun : (fault : Fault) → (fault ≡ Input) ⊎ (fault ≡ Output) → ((r : Result Built BuildError) → IsEmbedded hash a b c r → IsBegun (file_of r) (record { written = written old; finished = finished old }) (record { written = written new; finished = finished new })) → TakesFile expected.file (state_of written finished old) (state_of written finished new) (Err fault)
+    begun : (fault : Fault) → (fault ≡ Input) ⊎ (fault ≡ Output) → ((r : Result Built BuildError) → IsEmbedded hash said a b c r → IsBegun (file_of r) (record { written = written old; finished = finished old }) (record { written = written new; finished = finished new })) → TakesFile expected.file (state_of written finished old) (state_of written finished new) (Err fault)
     begun fault which h = subst (λ (o : Outcome). TakesFile o.file (state_of written finished old) (state_of written finished new) (Err fault)) (sym k.2) (begun_file k.0 (state_of written finished old) (state_of written finished new) fault which (h k.0 k.1))
 
     by : (e : BuildError) → stopped e
@@ -315,8 +384,11 @@ embed_unfiled {K} one hash a b c written finished old new e (Err f) expected com
     by (BadDefinition field) is h left = absurd (cc (is))
     by (BadSignature part) is h left = absurd (cc (is))
     by Later is h left = absurd (cc (is))
+    by (ParentFails code uri) is h left = absurd (cc (is))
+    by (LabelTaken label) is h left = absurd (cc (is))
     by (RedactionRefused text code) is h left = absurd (cc (is))
     by NoInstance is h left = absurd (cc (is))
+    by (TooManyManifests count) is h left = absurd (cc (is))
     by (StoreTooLarge len) is h left = absurd (cc (is))
     by (ReserveTooSmall needed) is h left = absurd (cc (is))
 
@@ -335,8 +407,34 @@ memory_leaves left whole e (Err x) (inl is) k = λ memory. inl (by e (is ∙ ap 
     by (BadDefinition field) is k = k
     by (BadSignature part) is k = k
     by Later is k = k
+    by (ParentFails code uri) is k = k
+    by (LabelTaken label) is k = k
     by (RedactionRefused text code) is k = k
     by NoInstance is k = k
+    by (TooManyManifests count) is k = k
+    by (StoreTooLarge len) is k = k
+    by (ReserveTooSmall needed) is k = k
+
+-- so does a judge that fails
+pub judge_leaves : (left : Type 0) (e : BuildError) (r : Result Reply Fault) → IfErr r (IsFaultOf e) → LeavesSink (Err e) left → IfErr r (λ x. x ≡ Judge → left)
+judge_leaves left e (Ok reply) h k = tt
+judge_leaves left e (Err x) (inr is) k = λ judge. let both = sym is.1 ∙ judge in absurd (cc (both))
+judge_leaves left e (Err x) (inl is) k = λ judge. by e (is ∙ ap Some judge) k
+  where
+    by : (e : BuildError) → build_fault e ≡ Some Judge → LeavesSink (Err e) left → left
+    by ReadFault is k = absurd (cc (is))
+    by WriteFault is k = absurd (cc (is))
+    by JudgeFault is k = k
+    by NoMemory is k = k
+    by (MediaRefused reason number) is k = k
+    by (BadDefinition field) is k = k
+    by (BadSignature part) is k = k
+    by Later is k = k
+    by (ParentFails code uri) is k = k
+    by (LabelTaken label) is k = k
+    by (RedactionRefused text code) is k = k
+    by NoInstance is k = k
+    by (TooManyManifests count) is k = k
     by (StoreTooLarge len) is k = k
     by (ReserveTooSmall needed) is k = k
 

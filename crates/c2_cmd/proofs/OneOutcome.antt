@@ -20,6 +20,7 @@ use Rattle.c2_rules.specs.Validated.{AreQuestions, CheckAsks, IsAnswer}
 use Rattle.c2_rules.specs.declared.answer.Answer.{Answer as Checked}
 use Rattle.c2_binding.specs.Comparison.{IsComparison, CompareAsks}
 use Rattle.c2_binding.specs.declared.compared.Compared.{Compared}
+use Rattle.c2_build.specs.Asked.{OneEmbedAsks, OnePlanAsks}
 use Rattle.c2_build.specs.Building.{IsEmbedded, IsPlanned}
 use Rattle.c2_build.specs.Meeting.{OneEmbedding, OnePlan}
 use Rattle.c2_cmd.specs.Outcome.{Outcome, Inputs, Reports, IsOutcome, IsCommandOutcome, IsDigested, IsListing, IsShown, IsQuestioned, Asks, CommandAsks, answered, compare_outcome, embed_outcome, pieces_in, plan_outcome, sample_outcome, shown, questioned}
@@ -43,6 +44,8 @@ pub record Laws : Type 0 where
   pub compared : (hash : Alg → List ℕ → List ℕ) (said : Question → Verdict) (first second : List ℕ) (a b : Compared) (t u : List ℕ) → IsComparison hash said first second a t → IsComparison hash said first second b u → (a ≡ b) × (t ≡ u)
   pub planned : OnePlan
   pub embedded : OneEmbedding
+  pub plan_asks : OnePlanAsks
+  pub embed_asks : OneEmbedAsks
   pub sampled : OneSample
   pub sample_asks : OneSampleAsks
   pub compare_asks : (hash : Alg → List ℕ → List ℕ) (said : Question → Verdict) (first second : List ℕ) (ps qs : List Question) → CompareAsks hash said first second ps → CompareAsks hash said first second qs → ps ≡ qs
@@ -109,8 +112,8 @@ one_command laws command.Validate roles i x y h k = one_after (IsAnswer i.hash i
 one_command laws command.Compare roles i x y h k =
     let one = laws.compared i.hash i.said i.media i.second h.0 k.0 h.1 k.1 h.2 k.2 in
     h.3 ∙ ap (λ (what : Compared). compare_outcome what h.1) one.0 ∙ ap (compare_outcome k.0) one.1 ∙ sym k.3
-one_command laws command.Plan roles i x y h k = one_after (IsPlanned i.hash i.media i.second) (λ r e. e ≡ plan_outcome r) (laws.planned i.hash i.media i.second) (λ r a b p q. p ∙ sym q) x y h k
-one_command laws command.Embed roles i x y h k = one_after (IsEmbedded i.hash i.media i.second i.third) (λ r e. e ≡ embed_outcome r) (laws.embedded i.hash i.media i.second i.third) (λ r a b p q. p ∙ sym q) x y h k
+one_command laws command.Plan roles i x y h k = one_after (IsPlanned i.hash i.said i.media i.second) (λ r e. e ≡ plan_outcome r) (laws.planned i.hash i.said i.media i.second) (λ r a b p q. p ∙ sym q) x y h k
+one_command laws command.Embed roles i x y h k = one_after (IsEmbedded i.hash i.said i.media i.second i.third) (λ r e. e ≡ embed_outcome r) (laws.embedded i.hash i.said i.media i.second i.third) (λ r a b p q. p ∙ sym q) x y h k
 one_command laws command.Sample roles i x y h k = one_after (IsSampled i.hash i.said (pieces_in roles)) (λ s e. e ≡ sample_outcome (pieces_in roles) s) (laws.sampled i.hash i.said (pieces_in roles)) (λ s a b p q. p ∙ sym q) x y h k
 
 -- a call has one outcome at most, whether its words fit a command or none
@@ -128,8 +131,8 @@ one_asks laws command.Show roles i ps qs h k = h ∙ sym k
 one_asks laws command.Questions roles i ps qs h k = laws.questions i.media ps qs h k
 one_asks laws command.Validate roles i ps qs h k = laws.asks i.hash i.said i.media ps qs h k
 one_asks laws command.Compare roles i ps qs h k = laws.compare_asks i.hash i.said i.media i.second ps qs h k
-one_asks laws command.Plan roles i ps qs h k = h ∙ sym k
-one_asks laws command.Embed roles i ps qs h k = h ∙ sym k
+one_asks laws command.Plan roles i ps qs h k = laws.plan_asks i.hash i.said i.media i.second ps qs h k
+one_asks laws command.Embed roles i ps qs h k = laws.embed_asks i.hash i.said i.media i.second i.third ps qs h k
 one_asks laws command.Sample roles i ps qs h k = laws.sample_asks i.hash i.said (pieces_in roles) ps qs h k
 
 -- a call has one list of questions at most, whether its words fit a command or none

@@ -27,7 +27,7 @@ use Rattle.c2_rules.specs.declared.code.Code.{Code}
 use Rattle.c2_binding.specs.Comparison.{IsComparison, CompareAsks}
 use Rattle.c2_binding.specs.declared.compared.Compared.{Compared}
 use Rattle.c2_binding.specs.declared.compared.Compared.TheVariants as compared
-use Rattle.c2_build.specs.Building.{Built, IsEmbedded, IsPlanned}
+use Rattle.c2_build.specs.Building.{Built, EmbedAsks, IsEmbedded, IsPlanned, PlanAsks}
 use Rattle.c2_build.specs.Meeting.{BuiltMeets}
 use Rattle.c2_build.specs.declared.error.BuildError.{BuildError}
 use Rattle.c2_build.specs.declared.error.BuildError.TheVariants as build
@@ -35,7 +35,7 @@ use Rattle.c2_layout.specs.Fresh.{GivesDigests}
 use Rattle.c2_sample.specs.Sample.{IsSampled, SampleAsks, sample_line}
 use Rattle.c2_sample.specs.declared.types.Sampled.{Sampled}
 use Rattle.c2_sample.specs.declared.types.Sampled.TheVariants as sampled
-use Rattle.c2_texts.specs.Builds.{bad_definition_line, bad_signature_line, embedded_line, later_line, media_refused_line, no_instance_line, redaction_refused_line, reserve_too_small_line, store_too_large_line, tbs_line}
+use Rattle.c2_texts.specs.Builds.{bad_definition_line, bad_signature_line, embedded_line, label_taken_line, later_line, media_refused_line, no_instance_line, parent_fails_line, redaction_refused_line, reserve_too_small_line, store_too_large_line, tbs_line, too_many_manifests_line}
 use Rattle.c2_texts.specs.Show.{show_line}
 use Rattle.c2_texts.specs.Texts.{usage_line, refused_line, none_line, digest_line, listing, question_line, no_question_line, valid_line, failing_line, same_line, different_line, not_accepted_line}
 use Rattle.c2_cmd.specs.declared.types.Answer.{Answer}
@@ -154,8 +154,11 @@ refusal_line (build.MediaRefused reason number) = media_refused_line reason numb
 refusal_line (build.BadDefinition field) = bad_definition_line field
 refusal_line (build.BadSignature part) = bad_signature_line part
 refusal_line build.Later = later_line
+refusal_line (build.ParentFails code uri) = parent_fails_line code uri
+refusal_line (build.LabelTaken label) = label_taken_line label
 refusal_line (build.RedactionRefused text code) = redaction_refused_line text code
 refusal_line build.NoInstance = no_instance_line
+refusal_line (build.TooManyManifests count) = too_many_manifests_line count
 refusal_line (build.StoreTooLarge len) = store_too_large_line len
 refusal_line (build.ReserveTooSmall needed) = reserve_too_small_line needed
 refusal_line build.ReadFault = []
@@ -173,9 +176,9 @@ plan_outcome (Ok bytes) = reports answer.Done (tbs_line bytes)
 plan_outcome (Err e) = refused_build e
 
 -- the outcome of `plan` over a media file and a definition file
-abbrev pub IsPlanOutcome : (Alg → List ℕ → List ℕ) → List ℕ → List ℕ → Outcome → Type 0
-IsPlanOutcome hash media definition expected =
-    (r : Result (List ℕ) BuildError) × IsPlanned hash media definition r × (expected ≡ plan_outcome r)
+abbrev pub IsPlanOutcome : (Alg → List ℕ → List ℕ) → (Question → Verdict) → List ℕ → List ℕ → Outcome → Type 0
+IsPlanOutcome hash said media definition expected =
+    (r : Result (List ℕ) BuildError) × IsPlanned hash said media definition r × (expected ≡ plan_outcome r)
 
 -- what is reported where `embed` comes to this, and the new file: there is none where the build is refused
 abbrev pub embed_outcome : Result Built BuildError → Outcome
@@ -183,9 +186,9 @@ embed_outcome (Ok b) = record { answer = answer.Done; report = embedded_line b.s
 embed_outcome (Err e) = refused_build e
 
 -- the outcome of `embed` over a media file, a definition file and a signed message
-abbrev pub IsEmbedOutcome : (Alg → List ℕ → List ℕ) → List ℕ → List ℕ → List ℕ → Outcome → Type 0
-IsEmbedOutcome hash media definition message expected =
-    (r : Result Built BuildError) × IsEmbedded hash media definition message r × (expected ≡ embed_outcome r)
+abbrev pub IsEmbedOutcome : (Alg → List ℕ → List ℕ) → (Question → Verdict) → List ℕ → List ℕ → List ℕ → Outcome → Type 0
+IsEmbedOutcome hash said media definition message expected =
+    (r : Result Built BuildError) × IsEmbedded hash said media definition message r × (expected ≡ embed_outcome r)
 
 -- what is reported where so many pieces come to this: the line of their files, and that of the check; or what is refused
 abbrev pub sample_outcome : ℕ → Sampled → Outcome
@@ -208,8 +211,8 @@ IsCommandOutcome command.Show roles i expected = IsMediaOutcome IsShown i.media 
 IsCommandOutcome command.Questions roles i expected = IsMediaOutcome (IsQuestioned i.said) i.media expected
 IsCommandOutcome command.Validate roles i expected = IsValidated i.hash i.said i.media expected
 IsCommandOutcome command.Compare roles i expected = IsCompareOutcome i.hash i.said i.media i.second expected
-IsCommandOutcome command.Plan roles i expected = IsPlanOutcome i.hash i.media i.second expected
-IsCommandOutcome command.Embed roles i expected = IsEmbedOutcome i.hash i.media i.second i.third expected
+IsCommandOutcome command.Plan roles i expected = IsPlanOutcome i.hash i.said i.media i.second expected
+IsCommandOutcome command.Embed roles i expected = IsEmbedOutcome i.hash i.said i.media i.second i.third expected
 IsCommandOutcome command.Sample roles i expected = IsSampleOutcome i.hash i.said (pieces_in roles) expected
 
 -- the outcome of words with these roles, or with none
@@ -252,8 +255,7 @@ abbrev pub has_whole_report : Option Roles → Bool
 has_whole_report None = true
 has_whole_report (Some roles) = reports_whole roles.command
 
--- the judges are asked these questions, in this order, by a command: none by a build, since only media without a store are built
--- into
+-- the judges are asked these questions, in this order, by a command
 abbrev pub CommandAsks : Command → Roles → Inputs → List Question → Type 0
 CommandAsks command.Digest roles i qs = qs ≡ []
 CommandAsks command.List roles i qs = qs ≡ []
@@ -261,8 +263,8 @@ CommandAsks command.Show roles i qs = qs ≡ []
 CommandAsks command.Questions roles i qs = AreQuestions i.media qs
 CommandAsks command.Validate roles i qs = CheckAsks i.hash i.said i.media qs
 CommandAsks command.Compare roles i qs = CompareAsks i.hash i.said i.media i.second qs
-CommandAsks command.Plan roles i qs = qs ≡ []
-CommandAsks command.Embed roles i qs = qs ≡ []
+CommandAsks command.Plan roles i qs = PlanAsks i.hash i.said i.media i.second qs
+CommandAsks command.Embed roles i qs = EmbedAsks i.hash i.said i.media i.second i.third qs
 CommandAsks command.Sample roles i qs = SampleAsks i.hash i.said (pieces_in roles) qs
 
 -- the judges are asked these questions, in order, by words with these roles; words without roles ask none
@@ -270,11 +272,11 @@ abbrev pub Asks : Option Roles → Inputs → List Question → Type 0
 Asks None i qs = qs ≡ []
 Asks (Some roles) i qs = CommandAsks roles.command roles i qs
 
--- The new file of a command, where it builds one, meets what is promised of it: all rules hold but for the verdict on it, what it asks
--- is what `plan` gives to be signed, and without the new range it is the media.
+-- The new file of a command, where it builds one, meets what is promised of it: all rules hold but for the verdict on it, it asks over
+-- what `plan` gives to be signed and then what the media's store asks, and without the new range it is the media less its older store.
 abbrev pub CommandMeets : Command → Inputs → Type 0
 CommandMeets command.Embed i =
-    (b : Built) → IsEmbedded i.hash i.media i.second i.third (Ok b) → BuiltMeets i.hash i.media i.second i.third b
+    (b : Built) → IsEmbedded i.hash i.said i.media i.second i.third (Ok b) → BuiltMeets i.hash i.said i.media i.second i.third b
 CommandMeets c i = ⊤
 
 -- so does the new file of words with these roles

@@ -122,13 +122,6 @@ CausedBy input output old new Output = output
 CausedBy input output old new Judge = SomeRose old.faults new.faults
 CausedBy input output old new Memory = ⊤
 
--- the cause of a fault of a call that asks no judge: that a file failed, or that a sink did
-abbrev pub IsFileCause : Type 0 → Type 0 → Fault → Type 0
-IsFileCause input output Input = input
-IsFileCause input output Output = output
-IsFileCause input output Judge = ⊥
-IsFileCause input output Memory = ⊤
-
 -- the fault that an error of a build stands for: none for what is refused
 abbrev pub build_fault : BuildError → Option Fault
 build_fault build_error.ReadFault = Some Input

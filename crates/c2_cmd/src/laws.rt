@@ -5,7 +5,10 @@ ghost use Rattle.c2_cmd.specs.Outcome.{Asks, HasDigests, Inputs, IsOutcome, Outc
 ghost use Rattle.c2_words.specs.declared.types.Roles.{Roles as AnyRoles};
 
 use c2_binding::{each_comparison, one_comparison};
-use c2_build::{a_build_comes_to_one_thing, each_build_comes_to_something};
+use c2_build::{
+    a_build_asks_one_list, a_build_comes_to_one_thing, each_build_asks_a_list,
+    each_build_comes_to_something,
+};
 use c2_chain::{a_reading_is_the_claim_and_the_question, one_list_of_claims, one_reading};
 use c2_jumbf::each_list_is_a_tree_or_not;
 use c2_sample::{a_sample_comes_to_one_thing, each_sample_comes_to_something};
@@ -26,6 +29,7 @@ pub fn one_outcome()
     one_check();
     one_comparison();
     a_build_comes_to_one_thing();
+    a_build_asks_one_list();
     a_sample_comes_to_one_thing();
 }
 
@@ -41,6 +45,7 @@ pub fn each_run_has_an_outcome()
     each_file_has_a_check();
     each_comparison();
     each_build_comes_to_something();
+    each_build_asks_a_list();
     each_sample_comes_to_something();
     a_reading_is_the_claim_and_the_question();
 }

@@ -95,8 +95,11 @@ pub fn build_fault(error: &BuildError) -> Option<Fault>
         | BuildError::BadDefinition(_)
         | BuildError::BadSignature(_)
         | BuildError::Later
+        | BuildError::ParentFails(_, _)
+        | BuildError::LabelTaken(_)
         | BuildError::RedactionRefused(_, _)
         | BuildError::NoInstance
+        | BuildError::TooManyManifests(_)
         | BuildError::StoreTooLarge(_)
         | BuildError::ReserveTooSmall(_) => None,
     }

@@ -41,6 +41,9 @@ use std::alloc::Global;
 /// fault the file may hold a prefix. Whatever the files hold: a file that failed isn't finished by the call, nor is one after a source
 /// that failed; out of memory it is as it was, or finished; a refused build, a failed judge and every other command leave it as it was.
 ///
+/// Where these bytes are known and the new file is whole, it meets every rule but the verdict on its own message, asks over what `plan`
+/// gives and then what the media's store asks, and without the new range it is the media less its older store.
+///
 /// A file that isn't due is left as it was, where the bytes that tell so are known: `second` under `compare` where the media isn't
 /// accepted, under `plan` and `embed` where it is refused, and `third` where the media or the definition is.
 // The condition always holds. A public function without one that changes boxed judges can't be called from another crate

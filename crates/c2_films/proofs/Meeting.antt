@@ -149,8 +149,8 @@ film_over laws bases carries succeeding hash said media start len old s d c mess
     let digest : List ℕ = h (built_text roots) in
     let plain = bases media base roots is_base in
     let o : IsOld old = old_is media start len old can.opened in
-    let over : CanStandOver hash said d old s = record { legal = o.legal; store = o.accepted; reads = can.reads.reads.each; valid = can.valid; label = can.label; redactions = can.redactions; few = can.few } in
-    let carried : IsCarried hash c s.readings = carries hash said d old s c over is in
+    let over : CanStandOver hash said d old s = record { legal = o.legal; store = o.accepted; reads = can.reads.reads.each; valid = can.valid; label = can.label; redactions = can.redactions } in
+    let carried : IsCarried hash c s.readings = carries hash said d old s c over can.few is in
     film_meets laws hash c message base roots (film_question h c roots p ∷ questions s.readings) g (base_media media base roots is_base plain.0 can.bmff) build plain.1
     (succeeding hash c is.parent (film_binding digest) message p s.readings carried.readings is.has_parent (subst CanBeWritten (sym is.definition) w) (film_known digest) (film_small laws h c message base roots g build) spells carried.over
     (carried.last is.parent is.is_parent))

@@ -1,20 +1,32 @@
 -- How many bytes a new store has, by its parts; and that the boxes of assertions can be written where the store isn't too large.
-use Rattle.std.proofs.Common.{◌≡◌, ℕ, ◌+◌, ◌≤◌, true, min, take, List, [], ◌∷◌, ◌++◌, length, replicate, refl, sym, ap, ◌∙◌, arith, length-append}
-use Rattle.std.specs.Prelude.{sum_by, All, Result, Ok, Err, IfOk}
+use Rattle.std.proofs.Common.{◌≡◌, ℕ, ◌+◌, ◌≤◌, true, min, take, List, [], ◌∷◌, ◌++◌, length, map, replicate, Option, Some, None, refl, sym, ap, ◌∙◌, subst, arith, codes, length-append, lit<}
+use Rattle.std.specs.Prelude.{sum_by, All, Result, Ok, Err, IfOk, option_map}
 use Rattle.std.specs.List.{AllByRecursion}
 use Rattle.std.proofs.lemmas.List.{length-replicate, take_all}
 use Rattle.std.proofs.lemmas.List.Sums.{sum_by-cons}
 use Rattle.std.proofs.lemmas.Result.{IfOk-at_ok}
 use Rattle.std.proofs.lemmas.List.Elements.{All-nil, All-cons}
 use Rattle.c2_base.specs.declared.limits.TheConstants.{MAX_STORE_LEN}
-use Rattle.c2_spec.specs.Jumbf.Tree.{tree_bytes, trees_bytes, none}
+use Rattle.c2_spec.specs.C2pa.Uri.{signature, whole}
+use Rattle.c2_spec.specs.Cbor.Deterministic.{deterministic}
+use Rattle.c2_spec.specs.Cbor.Item.{Item}
+use Rattle.c2_spec.specs.declared.assertion.Relationship.TheVariants.{ParentOf}
+use Rattle.c2_spec.specs.declared.cbor.Ref.{Ref}
+use Rattle.c2_spec.specs.Jumbf.Tree.{tree_bytes, trees_bytes}
+use Rattle.c2_spec.specs.Jumbf.Writing.{IsWrittenLabel}
+use Rattle.c2_assertion.specs.Written.{ingredient_item}
+use Rattle.c2_claim.specs.Written.{claim_item}
 use Rattle.c2_definition.specs.DefinitionFile.{is_new_label, IsWellFormed}
 use Rattle.c2_definition.specs.declared.types.Definition.{Definition}
 use Rattle.c2_definition.specs.declared.types.NewAssertion.{NewAssertion}
+use Rattle.c2_definition.specs.declared.types.Payload.{Payload}
+use Rattle.c2_definition.specs.declared.types.Payload.TheVariants as payload
 use Rattle.c2_layout.specs.Built.{no_digest, zero_digest, store_size, HasDigestLen, StoreSizeIsFixed}
-use Rattle.c2_layout.specs.Fresh.{fresh_content}
-use Rattle.c2_layout.specs.Parts.{CanBeBoxed}
-use Rattle.c2_layout.specs.Store.{assertion_box, assertion_boxes, data_binding, new_claim, new_manifest, new_store}
+use Rattle.c2_layout.specs.Parts.{AreParts, CanBeBoxed, HasRefs, IsContent, blank_parent, parts_size, told, told_parent}
+use Rattle.c2_layout.specs.Store.{Content, Parent, assertion_box, assertion_boxes, claim_with, data_binding, entry_of, new_assertions, new_claim, new_manifest, new_store, parent_assertions, parent_ingredient, parent_ref}
+use Rattle.c2_layout.specs.declared.carried.Carried.{Carried}
+use Rattle.c2_layout.specs.declared.carried.ParentRefs.{ParentRefs}
+use Rattle.c2_layout.specs.declared.parts.NewParts.{NewParts}
 use Rattle.c2_layout.proofs.Labels.{new_label, written_label}
 use Rattle.c2_layout.proofs.StoreSize.{assertion_len, manifest_len, store_len}
 
@@ -39,39 +51,40 @@ both_boxes [] ys = omega arith
 both_boxes (x ∷ xs) ys =
     omega (arith, both_boxes xs ys, length-append (tree_bytes (assertion_box x)) (trees_bytes (assertion_boxes (xs ++ ys))), length-append (tree_bytes (assertion_box x)) (trees_bytes (assertion_boxes xs)))
 
--- ---- a store of a definition alone
+-- ---- a store
 
 -- how long it is
-pub fresh_size : (hash : List ℕ → List ℕ) (d : Definition) (b : NewAssertion) (message : List ℕ)
-    → length (tree_bytes (new_store hash (fresh_content d) b message)) ≡ 232 + length d.label + length (trees_bytes (assertion_boxes (d.assertions ++ b ∷ []))) + length (new_claim hash (fresh_content d) b) + length message
-fresh_size hash d b message =
-    omega (arith, store_len none (new_manifest hash (fresh_content d) b message), manifest_len d.label (d.assertions ++ b ∷ []) (new_claim hash (fresh_content d) b) message)
+pub content_size : (hash : List ℕ → List ℕ) (c : Content) (b : NewAssertion) (message : List ℕ)
+    → length (tree_bytes (new_store hash c b message)) ≡ length (trees_bytes c.carried) + (232 + length c.definition.label + length (trees_bytes (assertion_boxes (new_assertions hash c b))) + length (new_claim hash c b) + length message)
+content_size hash c b message =
+    omega (arith, store_len c.carried (new_manifest hash c b message), manifest_len c.definition.label (new_assertions hash c b) (new_claim hash c b) message)
 
 -- the binding that stands for one that isn't known yet
 abbrev pub blank : NewAssertion
 blank = data_binding 0 0 zero_digest
 
--- what it is reckoned as
-pub reckoned_size : (d : Definition) (reserve : ℕ)
-    → store_size (fresh_content d) reserve ≡ 232 + length d.label + (length (trees_bytes (assertion_boxes d.assertions)) + length (trees_bytes (assertion_boxes (blank ∷ [])))) + length (new_claim no_digest (fresh_content d) blank) + reserve
-reckoned_size d reserve = omega (arith, fresh_size no_digest d blank (replicate reserve 0), length-replicate {A = ℕ} reserve 0, both_boxes d.assertions (blank ∷ []))
+-- the assertions that a new manifest has beside those of its definition, while no digest is known
+abbrev pub blank_own : Option Parent → List NewAssertion
+blank_own p = parent_assertions no_digest p ++ blank ∷ []
+
+-- what its length is reckoned as
+pub reckoned_size : (c : Content) (reserve : ℕ)
+    → store_size c reserve ≡ length (trees_bytes c.carried) + (232 + length c.definition.label + (length (trees_bytes (assertion_boxes c.definition.assertions)) + length (trees_bytes (assertion_boxes (blank_own c.parent)))) + length (new_claim no_digest c blank) + reserve)
+reckoned_size c reserve = omega (arith, content_size no_digest c blank (replicate reserve 0), length-replicate {A = ℕ} reserve 0, both_boxes c.definition.assertions (blank_own c.parent))
 
 -- numbers added up to a greatest one
-pub saturated : (most a b c d e a1 b1 a2 c1 a3 a4 out : ℕ) → a1 ≡ min (a + 232) most → b1 ≡ min b most → a2 ≡ min (a1 + b1) most → c1 ≡ min c most → a3 ≡ min (a2 + c1) most → a4 ≡ min (a3 + d) most → out ≡ min (a4 + e) most
-    → out ≡ min (232 + a + (b + c) + d + e) most
-saturated most a b c d e a1 b1 a2 c1 a3 a4 out h1 h2 h3 h4 h5 h6 h7 = omega arith
+pub saturated : (most a b c d e f a1 b1 a2 c1 a3 a4 a5 out : ℕ) → a1 ≡ min (a + 232) most → b1 ≡ min b most → a2 ≡ min (a1 + b1) most → c1 ≡ min c most → a3 ≡ min (a2 + c1) most → a4 ≡ min (a3 + d) most → a5 ≡ min (a4 + e) most → out ≡ min (a5 + f) most
+    → out ≡ min (f + (232 + a + (b + c) + d + e)) most
+saturated most a b c d e f a1 b1 a2 c1 a3 a4 a5 out h1 h2 h3 h4 h5 h6 h7 h8 = omega arith
 
--- its parts are as long together
-pub parts_are : StoreSizeIsFixed → (hash : List ℕ → List ℕ) (d : Definition) (start len reserve : ℕ) (digest boxes claim : List ℕ) → HasDigestLen hash → length digest ≡ 32
-    → boxes ≡ trees_bytes (assertion_boxes (d.assertions ++ data_binding start len digest ∷ [])) → claim ≡ new_claim hash (fresh_content d) (data_binding start len digest)
-    → 232 + length d.label + length boxes + length claim + reserve ≡ store_size (fresh_content d) reserve
-parts_are fixed hash d start len reserve digest boxes claim digests short b k =
-    let size = fixed hash (fresh_content d) start len digest (replicate reserve 0) digests short in
+-- with digests its parts are as long together
+pub sized_with : StoreSizeIsFixed → (hash : List ℕ → List ℕ) (c : Content) (start len reserve : ℕ) (digest : List ℕ) → HasDigestLen hash → length digest ≡ 32
+    → store_size c reserve ≡ length (trees_bytes c.carried) + (232 + length c.definition.label + length (trees_bytes (assertion_boxes (new_assertions hash c (data_binding start len digest)))) + length (new_claim hash c (data_binding start len digest)) + reserve)
+sized_with fixed hash c start len reserve digest digests short =
+    let size = fixed hash c start len digest (replicate reserve 0) digests short in
     let many : length (replicate {A = ℕ} reserve 0) ≡ reserve = length-replicate {A = ℕ} reserve 0 in
-    let same : store_size (fresh_content d) (length (replicate {A = ℕ} reserve 0)) ≡ store_size (fresh_content d) reserve = ap (store_size (fresh_content d)) many in
-    let boxes_len : length boxes ≡ length (trees_bytes (assertion_boxes (d.assertions ++ data_binding start len digest ∷ []))) = ap length b in
-    let claim_len : length claim ≡ length (new_claim hash (fresh_content d) (data_binding start len digest)) = ap length k in
-    omega (arith, size, same, many, boxes_len, claim_len, fresh_size hash d (data_binding start len digest) (replicate reserve 0))
+    let same : store_size c (length (replicate {A = ℕ} reserve 0)) ≡ store_size c reserve = ap (store_size c) many in
+    omega (arith, size, same, many, content_size hash c (data_binding start len digest) (replicate reserve 0))
 
 -- ---- what can be boxed
 
@@ -82,9 +95,95 @@ all_boxed (a ∷ others) h small =
     let both : length (trees_bytes (assertion_boxes (a ∷ others))) ≡ length (tree_bytes (assertion_box a)) + length (trees_bytes (assertion_boxes others)) = length-append (tree_bytes (assertion_box a)) (trees_bytes (assertion_boxes others)) in
     All-cons CanBeBoxed a others (record { label = written_label a.label (new_label a.label h.0).text; small = omega (arith, both, small) }) (all_boxed others h.1 (omega (arith, both, small)))
 
--- those of a definition, where a store of it isn't too large
-pub defined_boxed : (d : Definition) (reserve : ℕ) → IsWellFormed d → store_size (fresh_content d) reserve ≤ MAX_STORE_LEN → All CanBeBoxed d.assertions
-defined_boxed d reserve formed small = all_boxed d.assertions formed.labels (omega (arith, reckoned_size d reserve, small))
+-- the assertion of a parent
+abbrev pub parent_assertion : (List ℕ → List ℕ) → Parent → NewAssertion
+parent_assertion hash p = record { label = codes "c2pa.ingredient.v3"; kind = payload.Cbor; bytes = deterministic (ingredient_item (parent_ingredient hash p)) }
+
+-- the label of a binding and that of an ingredient can be written
+pub binding_label : IsWrittenLabel (codes "c2pa.hash.data")
+binding_label = written_label (codes "c2pa.hash.data") (record { some = lit< tt; named = grind arith })
+
+pub ingredient_label : IsWrittenLabel (codes "c2pa.ingredient.v3")
+ingredient_label = written_label (codes "c2pa.ingredient.v3") (record { some = lit< tt; named = grind arith })
+
+-- so a binding can, whose box isn't too large
+one_boxed : (b : NewAssertion) → b.label ≡ codes "c2pa.hash.data" → length (trees_bytes (assertion_boxes (b ∷ []))) ≤ MAX_STORE_LEN → All CanBeBoxed (b ∷ [])
+one_boxed b l small =
+    let one : length (trees_bytes (assertion_boxes (b ∷ []))) ≡ length (tree_bytes (assertion_box b)) + 0 = length-append (tree_bytes (assertion_box b)) [] in
+    All-cons CanBeBoxed b [] (record { label = subst IsWrittenLabel (sym l) binding_label; small = omega (arith, one, small) }) (All-nil CanBeBoxed)
+
+-- and so can the assertions that a new manifest has beside those of its definition
+pub own_boxed : (hash : List ℕ → List ℕ) (p : Option Parent) (b : NewAssertion) → b.label ≡ codes "c2pa.hash.data"
+    → length (trees_bytes (assertion_boxes (parent_assertions hash p ++ b ∷ []))) ≤ MAX_STORE_LEN → All CanBeBoxed (parent_assertions hash p ++ b ∷ [])
+own_boxed hash None b l small = one_boxed b l small
+own_boxed hash (Some p) b l small =
+    let a : NewAssertion = parent_assertion hash p in
+    let two : length (trees_bytes (assertion_boxes (a ∷ b ∷ []))) ≡ length (tree_bytes (assertion_box a)) + length (trees_bytes (assertion_boxes (b ∷ []))) = length-append (tree_bytes (assertion_box a)) (trees_bytes (assertion_boxes (b ∷ []))) in
+    All-cons CanBeBoxed a (b ∷ []) (record { label = ingredient_label; small = omega (arith, two, small) }) (one_boxed b l (omega (arith, two, small)))
+
+-- a store that isn't too large has room for those of its definition, and for these
+pub stored_boxed : StoreSizeIsFixed → (hash : List ℕ → List ℕ) (c : Content) (start len reserve : ℕ) (digest : List ℕ) → HasDigestLen hash → length digest ≡ 32 → IsWellFormed c.definition → store_size c reserve ≤ MAX_STORE_LEN
+    → All CanBeBoxed c.definition.assertions × All CanBeBoxed (parent_assertions hash c.parent ++ data_binding start len digest ∷ [])
+stored_boxed fixed hash c start len reserve digest digests short formed small =
+    let size = sized_with fixed hash c start len reserve digest digests short in
+    let both = both_boxes c.definition.assertions (parent_assertions hash c.parent ++ data_binding start len digest ∷ []) in (
+      all_boxed c.definition.assertions formed.labels (omega (arith, size, both, small)),
+      own_boxed hash c.parent (data_binding start len digest) refl (omega (arith, size, both, small)),
+    )
+
+-- ---- the parent by its references
+
+-- an assertion of these
+abbrev pub new_assertion : List ℕ → Payload → List ℕ → NewAssertion
+new_assertion label kind bytes = record { label = label; kind = kind; bytes = bytes }
+
+-- its assertion is made of them
+pub refs_give : (hash : List ℕ → List ℕ) (p : Option Parent) (refs : Option ParentRefs) → HasRefs hash p refs → parent_assertions told (option_map told_parent refs) ≡ parent_assertions hash p
+refs_give hash None None h = refl
+refs_give hash None (Some refs) h = absurd h
+refs_give hash (Some p) None h = absurd h
+refs_give hash (Some p) (Some refs) h =
+    ap (λ (l : List ℕ). parent_assertions told (Some (record { label = l; contents = refs.contents; signed = refs.signed }))) h.label
+    ∙ ap (λ (x : List ℕ). parent_assertions told (Some (record { label = p.label; contents = x; signed = refs.signed }))) h.contents
+    ∙ ap (λ (x : List ℕ). parent_assertions told (Some (record { label = p.label; contents = hash p.contents; signed = x }))) h.signed
+
+-- an assertion that was made of two references to the parent
+pub made_assertion : (label made : List ℕ) (p : Parent) (v : Item) (m s : Ref) → label ≡ codes "c2pa.ingredient.v3" → made ≡ deterministic v → v ≡ ingredient_item (record { relationship = ParentOf; manifest = Some m; signature = Some s })
+    → m ≡ parent_ref told p.label whole p.contents → s ≡ parent_ref told p.label signature p.signed → new_assertion label payload.Cbor made ∷ [] ≡ parent_assertions told (Some p)
+made_assertion label made p v m s el eb ev em es =
+    ap (λ (l : List ℕ). new_assertion l payload.Cbor made ∷ []) el
+    ∙ ap (λ (x : List ℕ). new_assertion (codes "c2pa.ingredient.v3") payload.Cbor x ∷ []) (eb ∙ ap deterministic (ev ∙ ap (λ (r : Ref). ingredient_item (record { relationship = ParentOf; manifest = Some r; signature = Some s })) em
+    ∙ ap (λ (r : Ref). ingredient_item (record { relationship = ParentOf; manifest = Some (parent_ref told p.label whole p.contents); signature = Some r })) es))
+
+-- and with digests of zero bytes of the same without digests
+pub blanks_give : (hash : List ℕ → List ℕ) (p : Option Parent) (refs : Option ParentRefs) → HasRefs hash p refs → parent_assertions told (option_map blank_parent refs) ≡ parent_assertions no_digest p
+blanks_give hash None None h = refl
+blanks_give hash None (Some refs) h = absurd h
+blanks_give hash (Some p) None h = absurd h
+blanks_give hash (Some p) (Some refs) h = ap (λ (l : List ℕ). parent_assertions told (Some (record { label = l; contents = zero_digest; signed = zero_digest }))) h.label
+
+-- ---- parts
+
+-- what was made of a definition and of what is carried are the parts of a new store
+pub are_parts : (hash : List ℕ → List ℕ) (d : Definition) (k : Carried) (c : Content) → IsContent hash d k c → (own : List NewAssertion) (made b : NewAssertion) (p : NewParts)
+    → own ≡ parent_assertions told (option_map told_parent k.parent) ++ made ∷ [] → made ≡ b → p.boxes ≡ trees_bytes (assertion_boxes (d.assertions ++ own)) → p.claim ≡ deterministic (claim_item (claim_with d (map (entry_of hash) (d.assertions ++ own))))
+    → AreParts hash c b p
+are_parts hash d k c is own made b p owns bound boxes claim =
+    let all : d.assertions ++ own ≡ new_assertions hash c b =
+    ap (λ (os : List NewAssertion). d.assertions ++ os) (owns ∙ ap (λ (os : List NewAssertion). os ++ made ∷ []) (refs_give hash c.parent k.parent is.parent) ∙ ap (λ (x : NewAssertion). parent_assertions hash c.parent ++ x ∷ []) bound)
+    ∙ ap (λ (e : Definition). e.assertions ++ (parent_assertions hash c.parent ++ b ∷ [])) (sym is.definition) in
+    record {
+      boxes = boxes ∙ ap (λ (as_ : List NewAssertion). trees_bytes (assertion_boxes as_)) all;
+      claim = claim ∙ ap (λ (as_ : List NewAssertion). deterministic (claim_item (claim_with d (map (entry_of hash) as_)))) all ∙ ap (λ (e : Definition). deterministic (claim_item (claim_with e (map (entry_of hash) (new_assertions hash c b))))) (sym is.definition);
+    }
+
+-- and they are as long as was reckoned
+pub parts_are : StoreSizeIsFixed → (hash : List ℕ → List ℕ) (d : Definition) (k : Carried) (c : Content) → IsContent hash d k c → (start len : ℕ) (digest : List ℕ) (p : NewParts) → HasDigestLen hash → length digest ≡ 32
+    → AreParts hash c (data_binding start len digest) p → length k.boxes + parts_size d.label p d.reserve ≡ store_size c d.reserve
+parts_are fixed hash d k c is start len digest p digests short are =
+    let size = sized_with fixed hash c start len d.reserve digest digests short in
+    let label : length c.definition.label ≡ length d.label = ap (λ (e : Definition). length e.label) is.definition in
+    omega (arith, size, label, ap length is.boxes, ap length are.boxes, ap length are.claim)
 
 -- ---- answers
 

@@ -1,16 +1,18 @@
 -- The bytes of the boxes of a manifest and of a store are those of their parts, and how many they are.
 use Rattle.std.proofs.Common.{◌≡◌, ◌⊎◌, inl, inr, ℕ, ◌+◌, ◌<◌, List, [], ◌++◌, length, refl, sym, ap, ◌∙◌, append-nil, append_assoc, length-append, arith, codes}
+use Rattle.std.specs.Int.{w32, to_be_bytes}
 use Rattle.c2_base.specs.declared.limits.TheConstants.{MAX_STORE_LEN}
 use Rattle.c2_spec.specs.C2pa.Manifest.{type_uuid}
 use Rattle.c2_spec.specs.Jumbf.Tree.{Tree, Trees, none, more, tree_bytes, trees_bytes, description_bytes}
 use Rattle.c2_spec.specs.Jumbf.Writing.{IsWrittenLabel, fresh_description, fresh_super, super_size, SuperRefused, bad_label, too_large}
 use Rattle.c2_spec.specs.declared.jumbf.WriteError.{WriteError}
+use Rattle.c2_spec.specs.declared.kinds.TheConstants.{JUMB}
 use Rattle.c2_spec.specs.declared.jumbf.WriteError.TheVariants.{NoMemory}
 use Rattle.c2_definition.specs.declared.types.NewAssertion.{NewAssertion}
 use Rattle.c2_layout.specs.FreshBoxes.{fresh_box, item_box, store_box, trees_then}
 use Rattle.c2_layout.specs.Store.{assertion_boxes, manifest_box}
 use Rattle.c2_layout.proofs.BoxLemmas.{payload_len}
-use Rattle.c2_layout.proofs.StoreSize.{one_box_len}
+use Rattle.c2_layout.proofs.StoreSize.{one_box_len, store_len}
 
 -- the assertion store, the claim and the signature, one after the other, are the contents of the manifest's box
 pub manifest_bytes : (label boxes claim message a b s : List ℕ) (assertions : List NewAssertion) → boxes ≡ trees_bytes (assertion_boxes assertions)
@@ -50,9 +52,20 @@ then_bytes : (boxes : Trees) (t : Tree) → trees_bytes boxes ++ tree_bytes t �
 then_bytes none t = sym (append-nil (tree_bytes t))
 then_bytes (more s ss) t = append_assoc (tree_bytes s) (trees_bytes ss) (tree_bytes t) ∙ ap (λ (x : List ℕ). tree_bytes s ++ x) (then_bytes ss t)
 
--- the boxes that are carried and the manifest are the contents of the store's box
-pub store_bytes : (carried manifest all b uuid : List ℕ) (old : Trees) (last : Tree) → uuid ≡ type_uuid (codes "c2pa") → all ≡ carried ++ manifest → b ≡ fresh_super uuid (codes "c2pa") all
-    → carried ≡ trees_bytes old → manifest ≡ tree_bytes last → b ≡ tree_bytes (store_box old last)
-store_bytes carried manifest all b uuid old last u e is c m =
-    is ∙ ap (λ (x : List ℕ). fresh_super x (codes "c2pa") all) u
-    ∙ ap (fresh_super (type_uuid (codes "c2pa")) (codes "c2pa")) (e ∙ ap (λ (x : List ℕ). x ++ manifest) c ∙ ap (λ (x : List ℕ). trees_bytes old ++ x) m ∙ then_bytes old last)
+-- a store of these boxes and this manifest, put together of its length, what stands behind that, the boxes and the manifest
+pub store_bytes : (carried manifest word front all : List ℕ) (n : ℕ) (old : Trees) (last : Tree) → word ≡ to_be_bytes w32 n → n ≡ 38 + length carried + length manifest
+    → front ≡ to_be_bytes w32 JUMB ++ description_bytes (fresh_description (type_uuid (codes "c2pa")) (codes "c2pa"))
+    → all ≡ ((word ++ front) ++ carried) ++ manifest → carried ≡ trees_bytes old → manifest ≡ tree_bytes last → all ≡ tree_bytes (store_box old last)
+store_bytes carried manifest word front all n old last w is f e c m =
+    let d : List ℕ = description_bytes (fresh_description (type_uuid (codes "c2pa")) (codes "c2pa")) in
+    let boxes : List ℕ = trees_bytes (trees_then old last) in
+    let lc : length carried ≡ length (trees_bytes old) = ap length c in
+    let lm : length manifest ≡ length (tree_bytes last) = ap length m in
+    let len : n ≡ 8 + length (d ++ boxes) = omega (arith, is, lc, lm, store_len old last) in
+    let joined : carried ++ manifest ≡ boxes = ap (λ (x : List ℕ). x ++ manifest) c ∙ ap (λ (x : List ℕ). trees_bytes old ++ x) m ∙ then_bytes old last in
+    let front_is : front ++ (carried ++ manifest) ≡ to_be_bytes w32 JUMB ++ (d ++ boxes) =
+    ap (λ (x : List ℕ). front ++ x) joined ∙ ap (λ (x : List ℕ). x ++ boxes) f ∙ append_assoc (to_be_bytes w32 JUMB) d boxes in
+    e ∙ append_assoc (word ++ front) carried manifest ∙ append_assoc word front (carried ++ manifest)
+    ∙ ap (λ (x : List ℕ). word ++ x) front_is
+    ∙ ap (λ (x : List ℕ). x ++ (to_be_bytes w32 JUMB ++ (d ++ boxes))) (w ∙ ap (to_be_bytes w32) len)
+    ∙ sym (append_assoc (to_be_bytes w32 (8 + length (d ++ boxes))) (to_be_bytes w32 JUMB) (d ++ boxes))

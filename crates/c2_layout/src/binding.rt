@@ -11,8 +11,8 @@ use c2_cbor::{Cbor, EncodeError, encode};
 use c2_definition::{NewAssertion, Payload};
 use std::alloc::Global;
 
-// The bytes of a legal item.
-fn item_bytes(alloc: Global, item: &Cbor) -> Result<Blob, NoMemory>
+/// The bytes of a legal item.
+pub(crate) fn item_bytes(alloc: Global, item: &Cbor) -> Result<Blob, NoMemory>
     requires { IsLegal (view item.now) }
     ensures { IfOk result (λ b. b ≡ deterministic (view item.now)) }
 {

@@ -7,16 +7,19 @@
 mod assertions;
 mod binding;
 mod boxes;
+mod carried;
 mod claims;
 mod entries;
 mod laws;
 mod manifest;
+mod parent;
 mod parts;
 mod size;
 mod store;
 
 pub use binding::data_binding;
 pub use boxes::write_assertion;
+pub use carried::{Carried, ParentRefs};
 pub use entries::own_ref;
 pub use laws::{
     a_bound_file_meets_the_rules, a_built_file_has_its_store, a_built_file_is_one,

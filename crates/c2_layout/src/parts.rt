@@ -1,18 +1,19 @@
 // The parts of a new store that don't depend on its message.
-ghost use Rattle.std.specs.Prelude.{◌≡◌, ◌≤◌, ◌++◌, ◌∷◌, [], All, IfOk, length, map};
-ghost use Rattle.c2_base.specs.declared.limits.TheConstants.{MAX_STORE_LEN};
+ghost use Rattle.std.specs.Prelude.{◌≡◌, ◌+◌, ◌++◌, All, IfOk, length, map};
 ghost use Rattle.c2_spec.specs.Cbor.Deterministic.{deterministic};
 ghost use Rattle.c2_spec.specs.Jumbf.Tree.{trees_bytes};
 ghost use Rattle.c2_claim.specs.Written.{claim_item};
 ghost use Rattle.c2_definition.specs.DefinitionFile.{IsWellFormed};
 ghost use Rattle.c2_layout.specs.Built.{store_size};
-ghost use Rattle.c2_layout.specs.Fresh.{fresh_content};
-ghost use Rattle.c2_layout.specs.Parts.{AreParts, CanBeBoxed, parts_size};
+ghost use Rattle.c2_layout.specs.Parts.{AreParts, CanBeBoxed, CanBeStored, IsContent, parts_size};
 ghost use Rattle.c2_layout.specs.Store as store;
+ghost use Rattle.c2_layout.specs.Store.{Content};
 
 use crate::assertions::push_all;
 use crate::binding::data_binding;
+use crate::carried::Carried;
 use crate::claims::claim_of;
+use crate::parent::own_assertions;
 use c2_base::{Blob, NoMemory, Range};
 use c2_definition::{Definition, NewAssertion};
 use c2_hash::{Alg, Digest, Hashing};
@@ -56,8 +57,8 @@ fn parts_over<H: Hashing>(
     })
 }
 
-/// The parts of the store that is built of a definition alone, whose binding has this range and this digest of what the file has
-/// outside it. Each assertion is digested once.
+/// The parts of the store that is built of a definition and of what is carried of an older store, whose binding has this range and this
+/// digest of what the file has outside it. Each assertion is digested once.
 ///
 /// Nothing but memory fails where the store isn't too large with what the definition reserves for its message, which `store_size`
 /// tells before.
@@ -65,24 +66,28 @@ pub fn new_parts<H: Hashing>(
     alloc: Global,
     hashing: &H,
     definition: &Definition,
+    carried: &Carried,
     range: Range,
     digest: &Digest,
 ) -> Result<NewParts, NoMemory>
     requires formed { IsWellFormed definition.now }
-    requires small { store_size (fresh_content definition.now) definition.now.reserve
-        ≤ MAX_STORE_LEN }
+    requires small { CanBeStored (H.digest_of Alg.Sha256) definition.now carried.now }
     requires digest { length digest.now ≡ 32 }
-    ensures parts { IfOk result (AreParts (H.digest_of Alg.Sha256) (fresh_content definition.now)
-        (store.data_binding range.start range.length digest.now)) }
+    ensures parts { IfOk result (λ p. (c : Content)
+        → IsContent (H.digest_of Alg.Sha256) definition.now carried.now c
+        → AreParts (H.digest_of Alg.Sha256) c
+        (store.data_binding range.start range.length digest.now) p) }
 
     // So the store has the length that was told before.
-    ensures size { IfOk result (λ p. parts_size definition.now.label p definition.now.reserve
-        ≡ store_size (fresh_content definition.now) definition.now.reserve) }
+    ensures size { IfOk result (λ p. (c : Content)
+        → IsContent (H.digest_of Alg.Sha256) definition.now carried.now c
+        → length carried.now.boxes + parts_size definition.now.label p definition.now.reserve
+        ≡ store_size c definition.now.reserve) }
 {
     // Only the prover needs these laws.
     c2_cbor::sorting_keeps_the_length();
     c2_assertion::a_written_data_hash_has_one_length();
     let binding = data_binding(alloc, range, digest.as_slice())?;
-    let own = vec![in alloc; binding]?;
+    let own = own_assertions(alloc, &carried.parent, binding)?;
     parts_over(alloc, hashing, definition, own.as_slice())
 }

@@ -1,16 +1,19 @@
 // How long the new store is, before anything of that size is made.
-ghost use Rattle.std.specs.Prelude.{◌≡◌, ◌-◌, ◌^◌, ◌++◌, IfOk, OnOk, length, map, min};
+ghost use Rattle.std.specs.Prelude.{◌≡◌, ℕ, ◌-◌, ◌^◌, ◌++◌, IfOk, List, OnOk, length, map, min};
 ghost use Rattle.c2_spec.specs.Cbor.Deterministic.{deterministic};
 ghost use Rattle.c2_spec.specs.Jumbf.Tree.{trees_bytes};
 ghost use Rattle.c2_claim.specs.Written.{claim_item};
 ghost use Rattle.c2_layout.specs.Built as built;
 ghost use Rattle.c2_layout.specs.Built.{no_digest};
-ghost use Rattle.c2_layout.specs.Fresh.{fresh_content};
+ghost use Rattle.c2_layout.specs.Parts.{IsContent};
 ghost use Rattle.c2_layout.specs.Store as store;
+ghost use Rattle.c2_layout.specs.Store.{Content};
 
 use crate::binding::data_binding;
+use crate::carried::Carried;
 use crate::claims::claim_of;
 use crate::entries::own_ref;
+use crate::parent::{blank_refs, own_assertions};
 use c2_base::{NoMemory, Range};
 use c2_cbor::Ref;
 use c2_definition::{Definition, NewAssertion};
@@ -25,7 +28,7 @@ const NO_RANGE: Range = Range {
     length: 0,
 };
 
-// How many bytes a store that carries nothing has beside its label, its assertions' boxes, its claim and its message.
+// How many bytes a store has beside what is carried, its label, its assertions' boxes, its claim and its message.
 const STORE_FRAME: u64 = 232;
 
 // How many bytes the box of an assertion has beside its label and its payload.
@@ -68,20 +71,27 @@ fn claim_len(alloc: Global, definition: &Definition, own: &[NewAssertion]) -> Re
     Ok(claim.as_slice().len() as u64)
 }
 
-/// The length in bytes of the store that is built of a definition alone, with the bytes that it reserves for the signed message;
-/// 2^64 - 1 where 64 bits can't hold it. It depends neither on the media nor on the message, and nothing of that size is made
-/// for it.
-pub fn store_size(alloc: Global, definition: &Definition) -> Result<u64, NoMemory>
-    ensures { IfOk result (λ n. n
-        ≡ min (built.store_size (fresh_content definition.now) definition.now.reserve)
-        (2 ^ 64 - 1)) }
+/// The length in bytes of the store that is built of a definition and of what is carried of an older store, with the bytes that the
+/// definition reserves for the signed message; 2^64 - 1 where 64 bits can't hold it. It depends neither on the media nor on the
+/// message nor on digests, and no copy of what is carried is made for it.
+pub fn store_size(
+    alloc: Global,
+    definition: &Definition,
+    carried: &Carried,
+) -> Result<u64, NoMemory>
+    ensures { IfOk result (λ n. (hash : List ℕ → List ℕ) (c : Content)
+        → IsContent hash definition.now carried.now c
+        → n ≡ min (built.store_size c definition.now.reserve) (2 ^ 64 - 1)) }
 {
-    let own = vec![in alloc; data_binding(alloc, NO_RANGE, &NO_DIGEST)?]?;
+    let binding = data_binding(alloc, NO_RANGE, &NO_DIGEST)?;
+    let parent = blank_refs(alloc, &carried.parent)?;
+    let own = own_assertions(alloc, &parent, binding)?;
     let claim = claim_len(alloc, definition, own.as_slice())?;
     let label = definition.label.as_str().len() as u64;
     let boxes = boxes_len(definition.assertions.as_slice());
     let framed = label.saturating_add(STORE_FRAME).saturating_add(boxes);
     let bound = framed.saturating_add(boxes_len(own.as_slice()));
     let claimed = bound.saturating_add(claim);
-    Ok(claimed.saturating_add(definition.reserve as u64))
+    let filled = claimed.saturating_add(definition.reserve as u64);
+    Ok(filled.saturating_add(carried.boxes.as_slice().len() as u64))
 }

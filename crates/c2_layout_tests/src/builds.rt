@@ -5,7 +5,7 @@ ghost use Rattle.c2_definition.specs.DefinitionFile.{IsWellFormed};
 use c2_base::{NoMemory, Range};
 use c2_definition::{Definition, read_definition};
 use c2_hash::{Alg, Sha, digest_of};
-use c2_layout::{new_parts, new_store, store_size};
+use c2_layout::{Carried, new_parts, new_store, store_size};
 use std::alloc::{AllocError, Global};
 use std::test::Fail;
 
@@ -58,10 +58,11 @@ fn digest_text(alloc: Global, bytes: &[u8]) -> Result<String, AllocError> {
 fn the_store_is_that_of_another_program(rt: HostRuntime) -> Result<(), Fail> {
     let alloc = rt.alloc();
     let definition = worked_definition(alloc)?;
-    let size = store_size(alloc, &definition)?;
+    let nothing = Carried::nothing(alloc);
+    let size = store_size(alloc, &definition, &nothing)?;
     assert_eq!(rt; size, 1129);
     let digest = digest_of(&Sha, Alg::Sha256, MEDIA);
-    let parts = new_parts(alloc, &Sha, &definition, NEW_RANGE, &digest)?;
+    let parts = new_parts(alloc, &Sha, &definition, &nothing, NEW_RANGE, &digest)?;
     assert_eq!(rt; parts.claim.as_slice().len(), 352);
     assert_eq!(rt;
         digest_text(alloc, parts.claim.as_slice())?.as_str(),
@@ -69,7 +70,7 @@ fn the_store_is_that_of_another_program(rt: HostRuntime) -> Result<(), Fail> {
     );
     let message = worked_message(alloc)?;
     assert_eq!(rt; message.len(), definition.reserve as usize);
-    let store = new_store(alloc, &definition, &parts, message.as_slice())?;
+    let store = new_store(alloc, &definition, &nothing, &parts, message.as_slice())?;
     assert_eq!(rt; store.as_slice().len(), 1129);
     assert_eq!(rt;
         digest_text(alloc, store.as_slice())?.as_str(),

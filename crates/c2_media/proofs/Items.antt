@@ -1,5 +1,5 @@
 -- The item of a binding, and the media that it binds.
-use Rattle.std.proofs.Common.{◌≡◌, ℕ, true, false, List, length, Option, Some, None, Result, option_and_then, sym, ap, ◌∙◌, subst}
+use Rattle.std.proofs.Common.{◌≡◌, ℕ, true, false, List, length, Option, Some, None, Result, option_and_then, refl, sym, ap, ◌∙◌, subst}
 use Rattle.c2_spec.specs.C2pa.Assertion.{data_hash_of}
 use Rattle.c2_spec.specs.Cbor.Item.{Item}
 use Rattle.c2_spec.specs.Cbor.Spelling.{Spells}

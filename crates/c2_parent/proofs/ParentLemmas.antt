@@ -184,6 +184,15 @@ last_is redacts t store p last whole sign is end at signs h =
     supers_same (leaf b) = refl
     supers_same (super wide d us) = refl
 
+-- a parent of these parts
+abbrev pub made_parent : List ℕ → List ℕ → List ℕ → Parent
+made_parent label contents signed = record { label = label; contents = contents; signed = signed }
+
+-- it is the one that has them
+pub same_parent : (a b c : List ℕ) (p : Parent) → a ≡ p.label → b ≡ p.contents → c ≡ p.signed → p ≡ made_parent a b c
+same_parent a b c p l m n =
+    sym (ap (λ (x : List ℕ). made_parent x b c) l ∙ ap (λ (x : List ℕ). made_parent p.label x c) m ∙ ap (λ (x : List ℕ). made_parent p.label p.contents x) n)
+
 -- a signature box that is there is a box of the tree
 pub sign_inside : (t : Tree) (s : List ManifestBoxes) (i : ℕ) (o : Option ℕ) → IsStoreOf t s → Some o ≡ option_map (λ (m : ManifestBoxes). m.signature) (slice_get s i) → IfSome o (λ j. j < tree_count t)
 sign_inside t s i None is e = tt

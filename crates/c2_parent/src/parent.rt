@@ -6,11 +6,9 @@ ghost use Rattle.c2_spec.specs.Jumbf.Boxes.{tree_count, box_at, any_contents};
 ghost use Rattle.c2_spec.specs.declared.digest.Alg.TheVariants as algs;
 ghost use Rattle.c2_spec.specs.declared.store.ManifestBoxes.{ManifestBoxes as Boxes};
 ghost use Rattle.c2_layout.specs.Manifests.{supers_in};
-ghost use Rattle.c2_layout.specs.Store.{Parent};
-ghost use Rattle.c2_carried.specs.Parents.{IsParentOf};
 ghost use Rattle.c2_carried.specs.Redacting.{boxes_in, redacted_boxes};
 ghost use Rattle.c2_parent.specs.Boxes.{redacted_any};
-ghost use Rattle.c2_parent.specs.Parents.{AreDigests};
+ghost use Rattle.c2_parent.specs.Parents.{HasParent};
 
 use crate::carried::{Redactions, append_redacted_contents};
 use crate::manifests::name_of;
@@ -59,7 +57,7 @@ fn signature_digest<H: Hashing>(hashing: &H, tree: &Tree<'_>, sign: Option<usize
 }
 
 /// The parent of a new manifest over this store: its last manifest, as it stands in the new store, less what is redacted of it.
-/// Where it has no signature box, `signed` is the digest of nothing.
+/// Where it has no signature box, `signed` is the digest of nothing. Whatever the store, these are the digests of some parent.
 pub fn parent_digests<'u, H: Hashing>(
     alloc: Global,
     hashing: &H,
@@ -68,9 +66,8 @@ pub fn parent_digests<'u, H: Hashing>(
     redactions: &Redactions<'u>,
 ) -> Result<ParentDigests<'u>, NoMemory>
     requires { IsStoreOf tree.now store.now }
-    ensures { IfOk result (λ found. (p : Parent)
-        → IsParentOf p (supers_in (redacted_boxes redactions.now (boxes_in tree.now)))
-        → AreDigests (H.digest_of algs.Sha256) p found) }
+    ensures { IfOk result (HasParent (H.digest_of algs.Sha256)
+        (supers_in (redacted_boxes redactions.now (boxes_in tree.now)))) }
 {
     let last = manifest_count(store) - 1;
     let at = whole(store, last);

@@ -11,7 +11,7 @@ use Rattle.c2_layout.specs.Fresh.{GivesDigests}
 use Rattle.c2_build.specs.Building.{Built}
 use Rattle.c2_build.specs.Meeting.{BuiltFileMeets, SomeEmbedding}
 use Rattle.c2_build.specs.declared.error.BuildError.{BuildError}
-use Rattle.c2_sample.specs.Sample.{EachSample, EachSampleAsks, IsSampleBuilt, IsSampled, SampleAsks, lengths_of, sample_definition, sample_media, sample_message}
+use Rattle.c2_sample.specs.Sample.{EachSample, EachSampleAsks, IsSampleBuilt, IsSampled, SampleAsks, lengths_of, no_judges, sample_definition, sample_media, sample_message}
 use Rattle.c2_sample.specs.declared.types.Sampled.{Sampled}
 use Rattle.c2_sample.specs.declared.types.Sampled.TheVariants.{Checked, Refused}
 use Rattle.c2_sample.proofs.MadeBytes.{media_bytes, message_bytes}
@@ -25,7 +25,7 @@ pub record Laws : Type 0 where
 -- a build comes to something
 some_build : Laws → (hash : Alg → List ℕ → List ℕ) (said : Question → Verdict) (n : ℕ) → GivesDigests hash → (r : Result Built BuildError) → IsSampleBuilt hash n r → (s : Sampled) × IsSampled hash said n s
 some_build laws hash said n gives (Ok b) is =
-    let new = laws.meets hash (sample_media n) sample_definition sample_message b gives texts_in is in
+    let new = laws.meets hash no_judges (sample_media n) sample_definition sample_message b gives texts_in is in
     let found = new.meets.opened in
     let told = store_answer hash said (length b.file) b.start b.len new.meets.reading in (
       Checked (lengths_of (length (sample_media n)) b.file found.0) told,
@@ -46,13 +46,13 @@ some_build laws hash said n gives (Err e) is = (Refused e, (Err e, is, refl))
 -- so many pieces come to something
 pub each_sample : Laws → EachSample
 each_sample laws hash said n gives =
-    let r = laws.embedding hash (sample_media n) sample_definition sample_message (media_bytes n) message_bytes in
+    let r = laws.embedding hash no_judges (sample_media n) sample_definition sample_message (media_bytes n) message_bytes in
     some_build laws hash said n gives r.0 r.1
 
 -- a build asks a list of questions
 some_asks : Laws → (hash : Alg → List ℕ → List ℕ) (said : Question → Verdict) (n : ℕ) → GivesDigests hash → (r : Result Built BuildError) → IsSampleBuilt hash n r → (qs : List Question) × SampleAsks hash said n qs
 some_asks laws hash said n gives (Ok b) is =
-    let new = laws.meets hash (sample_media n) sample_definition sample_message b gives texts_in is in
+    let new = laws.meets hash no_judges (sample_media n) sample_definition sample_message b gives texts_in is in
     let rs = new.meets.reading.readings in
     (check_asks hash said rs, (Ok b, is, (here b.start b.len new.store, new.meets.opened, (rs, new.meets.reads.reads.each, refl))))
 some_asks laws hash said n gives (Err e) is = ([], (Err e, is, refl))
@@ -60,5 +60,5 @@ some_asks laws hash said n gives (Err e) is = ([], (Err e, is, refl))
 -- so many pieces ask a list of questions
 pub each_sample_asks : Laws → EachSampleAsks
 each_sample_asks laws hash said n gives =
-    let r = laws.embedding hash (sample_media n) sample_definition sample_message (media_bytes n) message_bytes in
+    let r = laws.embedding hash no_judges (sample_media n) sample_definition sample_message (media_bytes n) message_bytes in
     some_asks laws hash said n gives r.0 r.1

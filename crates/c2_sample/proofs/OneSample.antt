@@ -12,7 +12,7 @@ use Rattle.c2_rules.specs.declared.answer.Answer.{Answer}
 use Rattle.c2_build.specs.Building.{Built}
 use Rattle.c2_build.specs.Meeting.{OneEmbedding}
 use Rattle.c2_build.specs.declared.error.BuildError.{BuildError}
-use Rattle.c2_sample.specs.Sample.{BuildAsks, IsBuildSampled, IsFileSampled, OneSample, OneSampleAsks, lengths_of, sample_definition, sample_media, sample_message}
+use Rattle.c2_sample.specs.Sample.{BuildAsks, IsBuildSampled, IsFileSampled, OneSample, OneSampleAsks, lengths_of, no_judges, sample_definition, sample_media, sample_message}
 use Rattle.c2_sample.specs.declared.types.Sampled.{Sampled}
 use Rattle.c2_sample.specs.declared.types.Sampled.TheVariants.{Checked}
 
@@ -38,7 +38,7 @@ one_build laws hash said media (Err e) s t h k = h ∙ sym k
 -- and so do so many pieces
 pub one_sample : Laws → OneSample
 one_sample laws hash said n s t h k =
-    let same = laws.embedding hash (sample_media n) sample_definition sample_message h.0 k.0 h.1 k.1 in
+    let same = laws.embedding hash no_judges (sample_media n) sample_definition sample_message h.0 k.0 h.1 k.1 in
     one_build laws hash said (length (sample_media n)) k.0 s t (subst (λ (r : Result Built BuildError). IsBuildSampled hash said (length (sample_media n)) r s) same h.2) k.2
 
 -- a build asks one list of questions
@@ -49,5 +49,5 @@ one_build_asks laws hash said (Err e) ps qs h k = h ∙ sym k
 -- and so do so many pieces
 pub one_sample_asks : Laws → OneSampleAsks
 one_sample_asks laws hash said n ps qs h k =
-    let same = laws.embedding hash (sample_media n) sample_definition sample_message h.0 k.0 h.1 k.1 in
+    let same = laws.embedding hash no_judges (sample_media n) sample_definition sample_message h.0 k.0 h.1 k.1 in
     one_build_asks laws hash said k.0 ps qs (subst (λ (r : Result Built BuildError). BuildAsks hash said r ps) same h.2) k.2

@@ -4,7 +4,7 @@ use Rattle.std.specs.declared.result.Result.{Result}
 use Rattle.std.specs.declared.result.Result.TheVariants.{Ok, Err}
 use Rattle.c2_base.specs.declared.values.Question.{Question}
 use Rattle.c2_spec.specs.Container.{IsLocated}
-use Rattle.c2_spec.specs.Judges.Panel.{Judges, SomeRose}
+use Rattle.c2_spec.specs.Judges.Panel.{Judges, SomeRose, panel_says}
 use Rattle.c2_spec.specs.Located.{Located, refused, absent, here}
 use Rattle.c2_spec.specs.declared.digest.Alg.{Alg}
 use Rattle.c2_spec.specs.declared.panel.Verdict.{Verdict}
@@ -60,9 +60,13 @@ sample_message = 0xD2 ∷ (0x84 ∷ (0x43 ∷ (0xA1 ∷ (0x01 ∷ (0x26 ∷ (0xA
 
 -- ---- what it comes to
 
+-- what a panel without judges says, as nobody is asked while the file is built
+abbrev pub no_judges : Question → Verdict
+no_judges = panel_says []
+
 -- what is built of them
 abbrev pub IsSampleBuilt : (Alg → List ℕ → List ℕ) → ℕ → Result Built BuildError → Type 0
-IsSampleBuilt hash n r = IsEmbedded hash (sample_media n) sample_definition sample_message r
+IsSampleBuilt hash n r = IsEmbedded hash no_judges (sample_media n) sample_definition sample_message r
 
 -- how many bytes the store has that a file is found to have
 abbrev pub store_len : Located → ℕ
@@ -158,8 +162,8 @@ is_refusal e = true
 
 -- what is built of this media, or what is refused
 abbrev pub IsNewFile : (Alg → List ℕ → List ℕ) → List ℕ → NewFile → Type 0
-IsNewFile hash media (new.Built file) = (b : Built) × IsEmbedded hash media sample_definition sample_message (Ok b) × (file ≡ b.file)
-IsNewFile hash media (new.Refused e) = IsEmbedded hash media sample_definition sample_message (Err e)
+IsNewFile hash media (new.Built file) = (b : Built) × IsEmbedded hash no_judges media sample_definition sample_message (Ok b) × (file ≡ b.file)
+IsNewFile hash media (new.Refused e) = IsEmbedded hash no_judges media sample_definition sample_message (Err e)
 
 -- this is the length of the store that a file is found to have
 abbrev pub IsLength : List ℕ → ℕ → Type 0

@@ -72,8 +72,11 @@ fn is_refusal(error: &BuildError) -> bool
         | BuildError::BadDefinition(_)
         | BuildError::BadSignature(_)
         | BuildError::Later
+        | BuildError::ParentFails(_, _)
+        | BuildError::LabelTaken(_)
         | BuildError::RedactionRefused(_, _)
         | BuildError::NoInstance
+        | BuildError::TooManyManifests(_)
         | BuildError::StoreTooLarge(_)
         | BuildError::ReserveTooSmall(_) => true,
     }

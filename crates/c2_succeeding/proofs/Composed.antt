@@ -37,11 +37,11 @@ use Rattle.c2_succeeding.proofs.Whole.{AllLaws, succeeding_meets}
 -- ---- the older store
 
 -- what a file is that is opened as a store in a range
-record IsOld (media : List ℕ) (start len : ℕ) (old : Tree) : Type 0 where
-  store : List ℕ
-  has : HasJpegStore media start len store
-  spells : SpellsTree store old
-  accepted : store_refusal old ≡ None
+pub record IsOld (media : List ℕ) (start len : ℕ) (old : Tree) : Type 0 where
+  pub store : List ℕ
+  pub has : HasJpegStore media start len store
+  pub spells : SpellsTree store old
+  pub accepted : store_refusal old ≡ None
 
 -- one store in one range
 record SameHere (a n b m : ℕ) (t u : Tree) : Type 0 where
@@ -54,7 +54,7 @@ here_parts : (a n b m : ℕ) (t u : Tree) → ◌≡◌ {A = Opening Tree} (loca
 here_parts a n b m t u e = record { place = cc (e); count = cc (e); tree = cc (e) }
 
 -- the store that a file is opened as
-old_is : (media : List ℕ) (start len : ℕ) (old : Tree) → is_bmff media ≡ false → IsOpened media (located.here start len old) → IsOld media start len old
+pub old_is : (media : List ℕ) (start len : ℕ) (old : Tree) → is_bmff media ≡ false → IsOpened media (located.here start len old) → IsOld media start len old
 old_is media start len old jpeg h = by_place h.0 h.1 h.2
   where
     by_tree : (at n : ℕ) (store : List ℕ) (what : Opening Tree) → HasJpegStore media at n store → IsBoxTree at n store what → Opens IsManifestTree what (located.here start len old) → IsOld media start len old
@@ -80,8 +80,8 @@ pub file_over : AllLaws → Laws → ValidStoreIsCarried → BaseHasNoStore → 
 file_over all_laws laws carries frees lists hash said media start len old s d c message segments en p digests can w is build fits spells =
     let base : List ℕ = taken_out start len media in
     let o : IsOld media start len old = old_is media start len old can.jpeg can.opened in
-    let over : CanStandOver hash said d old s = record { legal = o.spells.legal; store = o.accepted; reads = can.reads.reads.each; valid = can.valid; label = can.label; redactions = can.redactions; few = can.few } in
-    let carried : IsCarried hash c s.readings = carries hash said d old s c over is in
+    let over : CanStandOver hash said d old s = record { legal = o.spells.legal; store = o.accepted; reads = can.reads.reads.each; valid = can.valid; label = can.label; redactions = can.redactions } in
+    let carried : IsCarried hash c s.readings = carries hash said d old s c over can.few is in
     let free : IsFreeBase base = frees media start len o.store o.has in
     let none : NoneBegins segments = subst NoneBegins (lists base free.segments segments free.is_of build.is_of) free.none in
     succeeding_meets all_laws laws hash c is.parent message base segments en p s.readings carried.readings digests is.has_parent (subst CanBeWritten (sym is.definition) w) build (record { none = none; fits = fits }) spells carried.over

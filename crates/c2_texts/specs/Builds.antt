@@ -71,6 +71,14 @@ bad_signature_line p = build_line (codes "BadSignature") (spaced (part_name p))
 abbrev pub later_line : List ℕ
 later_line = build_line (codes "Later") []
 
+-- the older store, for a rule by its code and the URI of what it fails at
+abbrev pub parent_fails_line : Code → List ℕ → List ℕ
+parent_fails_line code uri = build_line (codes "ParentFails") (spaced (code_name code) ++ spaced (printed uri))
+
+-- a label that a manifest of it has
+abbrev pub label_taken_line : List ℕ → List ℕ
+label_taken_line label = build_line (codes "LabelTaken") (spaced (printed label))
+
 -- a redaction by its text, for a reason by its code
 abbrev pub redaction_refused_line : List ℕ → Code → List ℕ
 redaction_refused_line text code = build_line (codes "RedactionRefused") (spaced (printed text) ++ spaced (code_name code))
@@ -78,6 +86,10 @@ redaction_refused_line text code = build_line (codes "RedactionRefused") (spaced
 -- no box instance number is free
 abbrev pub no_instance_line : List ℕ
 no_instance_line = build_line (codes "NoInstance") []
+
+-- a store of so many manifests
+abbrev pub too_many_manifests_line : ℕ → List ℕ
+too_many_manifests_line count = build_line (codes "TooManyManifests") (spaced (decimal count))
 
 -- a store of so many bytes
 abbrev pub store_too_large_line : ℕ → List ℕ

@@ -61,6 +61,26 @@ pub fn later_line(alloc: Global) -> Result<String, AllocError>
     String::from_str(alloc, "build Later\n")
 }
 
+/// The line of a rule that the check of the older store fails at: its code, and the URI of what it fails at, with `?` for control bytes.
+pub fn parent_fails_line(alloc: Global, code: Code, uri: &str) -> Result<String, AllocError>
+    ensures { IfOk result
+        (λ text. string_bytes text ≡ form.parent_fails_line code uri.now) }
+{
+    let name = code_name(code);
+    let uri = printable(alloc, uri)?;
+    let text = format!(in alloc; "build ParentFails {name} {uri}\n")?;
+    Ok(text)
+}
+
+/// The line of a label that a manifest of the older store has, with `?` for control bytes.
+pub fn label_taken_line(alloc: Global, label: &str) -> Result<String, AllocError>
+    ensures { IfOk result (λ text. string_bytes text ≡ form.label_taken_line label.now) }
+{
+    let label = printable(alloc, label)?;
+    let text = format!(in alloc; "build LabelTaken {label}\n")?;
+    Ok(text)
+}
+
 /// The line of a redaction that is refused: its text, with `?` for control bytes, and the code of the rule that forbids it.
 pub fn redaction_refused_line(
     alloc: Global,
@@ -81,6 +101,14 @@ pub fn no_instance_line(alloc: Global) -> Result<String, AllocError>
     ensures { IfOk result (λ text. string_bytes text ≡ form.no_instance_line) }
 {
     String::from_str(alloc, "build NoInstance\n")
+}
+
+/// The line of a new store that would have too many manifests: how many.
+pub fn too_many_manifests_line(alloc: Global, count: u64) -> Result<String, AllocError>
+    ensures { IfOk result (λ text. string_bytes text ≡ form.too_many_manifests_line count) }
+{
+    let text = format!(in alloc; "build TooManyManifests {count}\n")?;
+    Ok(text)
 }
 
 /// The line of a new store that would have too many bytes: how many.

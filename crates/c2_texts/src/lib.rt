@@ -15,9 +15,9 @@ mod show;
 mod tree;
 
 pub use builds::{
-    bad_definition_line, bad_signature_line, embedded_line, later_line, media_refused_line,
-    no_instance_line, redaction_refused_line, reserve_too_small_line, store_too_large_line,
-    tbs_line,
+    bad_definition_line, bad_signature_line, embedded_line, label_taken_line, later_line,
+    media_refused_line, no_instance_line, parent_fails_line, redaction_refused_line,
+    reserve_too_small_line, store_too_large_line, tbs_line, too_many_manifests_line,
 };
 pub use lines::{
     different_line, digest_line, failing_line, no_question_line, none_line, not_accepted_line,

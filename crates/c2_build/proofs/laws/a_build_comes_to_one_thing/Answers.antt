@@ -1,4 +1,4 @@
-use Rattle.c2_build.proofs.OneBuild.{OneLaws, one_embedding, one_plan}
+use Rattle.c2_build.proofs.OneBuild.{OneLaws, one_embedding, one_plan, one_store_reading}
 use Rattle.c2_build.proofs.laws.a_build_comes_to_one_thing.Goals as goal
 
 -- each stage comes to one thing: those of a plan
@@ -12,6 +12,8 @@ returns-clause-plan c =
       number = c.place_and_number_are_one.ensures.number;
       refused = c.each_message_is_accepted_or_refused_for_one_test.ensures;
       fills = c.a_message_fills_its_reserve_or_needs_more.ensures;
+      reading = one_store_reading c.a_file_has_one_list_of_roots.ensures.once c.one_reading.ensures.store;
+      content = c.what_is_taken_over_is_one.ensures.content;
     } in one_plan laws
 
 -- and those of a new file
@@ -25,4 +27,6 @@ returns-clause-embedding c =
       number = c.place_and_number_are_one.ensures.number;
       refused = c.each_message_is_accepted_or_refused_for_one_test.ensures;
       fills = c.a_message_fills_its_reserve_or_needs_more.ensures;
+      reading = one_store_reading c.a_file_has_one_list_of_roots.ensures.once c.one_reading.ensures.store;
+      content = c.what_is_taken_over_is_one.ensures.content;
     } in one_embedding laws

@@ -6,9 +6,11 @@ pub returns-clause-plan : goal.returns-clause-plan
 returns-clause-plan c =
     let laws : SomeLaws = record {
       answer = c.each_file_has_a_check.ensures.answer;
+      opened = c.one_opening.ensures.file;
       definition = c.each_definition_is_read_one_way.ensures.some;
       formed = c.definitions_are_well_formed.ensures;
-      list = c.a_located_file_is_segments.ensures.none;
+      base = c.a_base_has_no_store.ensures;
+      content = c.a_valid_store_is_carried.ensures.some;
       refused = c.each_message_is_accepted_or_refused_for_one_test.ensures;
       fills = c.a_message_fills_its_reserve_or_needs_more.ensures;
     } in some_plan laws
@@ -18,9 +20,11 @@ pub returns-clause-embedding : goal.returns-clause-embedding
 returns-clause-embedding c =
     let laws : SomeLaws = record {
       answer = c.each_file_has_a_check.ensures.answer;
+      opened = c.one_opening.ensures.file;
       definition = c.each_definition_is_read_one_way.ensures.some;
       formed = c.definitions_are_well_formed.ensures;
-      list = c.a_located_file_is_segments.ensures.none;
+      base = c.a_base_has_no_store.ensures;
+      content = c.a_valid_store_is_carried.ensures.some;
       refused = c.each_message_is_accepted_or_refused_for_one_test.ensures;
       fills = c.a_message_fills_its_reserve_or_needs_more.ensures;
     } in some_embedding laws

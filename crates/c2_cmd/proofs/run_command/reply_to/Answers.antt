@@ -1,7 +1,7 @@
-use Rattle.std.proofs.Common.{map, [], refl, ap, inl, inr}
+use Rattle.std.proofs.Common.{map, [], refl}
 use Rattle.c2_spec.specs.Judges.Panel.{judges_of, panel_says}
 use Rattle.c2_cmd.proofs.Asking.{checked_file, known_file}
-use Rattle.c2_cmd.proofs.Calling.{as_embed, asked_nobody, embed_begins, embed_met, message_left, of_command, plan_begins, unfiled, unjudged, unmet}
+use Rattle.c2_cmd.proofs.Calling.{as_embed, asks_embed, asks_plan, embed_begins, embed_met, message_left, of_command, plan_begins, unfiled, unmet}
 use Rattle.c2_cmd.proofs.Comparing.{asks_compare, both_caused, compare_begins, embedded_caused, judged_caused, media_caused, media_used, out_used, planned_caused, second_used, there, third_used}
 use Rattle.c2_cmd.proofs.Replying.{replied, replied_usage}
 use Rattle.c2_cmd.proofs.Sampling.{asks_sample, sample_begins, sample_caused}
@@ -289,14 +289,21 @@ returns-in-Plan-clause-met g c known whole =
     let i = inputs (g.A.Source.known c.args.media.now) (g.B.Source.known c.args.second.now) (g.C.Source.known c.args.third.now) said g.H.Hashing.digest_of in
     unmet _ c.in-Ok.found command.Plan i c.in-Ok.ensures.roles c.in-Plan.is refl
 
--- nobody is asked by `plan`
+-- by `plan` the judges are asked what the call puts to them, or after a fault what comes up to it
 pub returns-in-Plan-clause-asked : goal.returns-in-Plan-clause-asked
 returns-in-Plan-clause-asked g c known qs asks =
     let said = panel_says (map (λ j. (goal.Judge-dyn g (j.vtable, j.value)).says j.value) c.args.judges.now.items) in
-    let old = judges_of (λ j. (goal.Judge-dyn g (j.vtable, j.value)).says j.value) (λ j. (goal.Judge-dyn g (j.vtable, j.value)).asked_times j.value) (λ j. (goal.Judge-dyn g (j.vtable, j.value)).judge_faults j.value) c.args.judges.now.items in
-    let new = judges_of (λ j. (goal.Judge-dyn g (j.vtable, j.value)).says j.value) (λ j. (goal.Judge-dyn g (j.vtable, j.value)).asked_times j.value) (λ j. (goal.Judge-dyn g (j.vtable, j.value)).judge_faults j.value) c.reply_to_plan.new.judges.items in
-    let i = inputs (g.A.Source.known c.args.media.now) (g.B.Source.known c.args.second.now) (g.C.Source.known c.args.third.now) said g.H.Hashing.digest_of in
-    asked_nobody _ c.in-Ok.found command.Plan i qs old new _ _ c.reply_to_plan.result c.in-Ok.ensures.roles c.in-Plan.is (inl refl) (ap (λ v. map (λ j. (goal.Judge-dyn g (j.vtable, j.value)).asked_times j.value) v.items) c.reply_to_plan.ensures.judges) c.reply_to_plan.ensures.fault asks
+    let a = there (g.A.Source.known c.args.media.now) (known.media_known (media_used _ c.in-Ok.found command.Plan c.in-Ok.ensures.roles c.in-Ok.ensures.media c.in-Plan.is refl)) in
+    let b = there (g.B.Source.known c.args.second.now) (known.second_known (second_used _ c.in-Ok.found command.Plan c.in-Ok.ensures.roles c.in-Ok.ensures.second c.in-Plan.is refl)) in
+    c.reply_to_plan.ensures.asked a.0 a.1 b.0 b.1 qs (asks_plan said g.H.Hashing.digest_of (g.A.Source.known c.args.media.now) (g.B.Source.known c.args.second.now) (g.C.Source.known c.args.third.now) _ c.in-Ok.found a.0 b.0 qs c.in-Ok.ensures.roles c.in-Plan.is a.1 b.1 asks)
+
+-- nobody is asked by `plan` where there is no question
+pub returns-in-Plan-clause-judges_unasked : goal.returns-in-Plan-clause-judges_unasked
+returns-in-Plan-clause-judges_unasked g c known asks =
+    let said = panel_says (map (λ j. (goal.Judge-dyn g (j.vtable, j.value)).says j.value) c.args.judges.now.items) in
+    let a = there (g.A.Source.known c.args.media.now) (known.media_known (media_used _ c.in-Ok.found command.Plan c.in-Ok.ensures.roles c.in-Ok.ensures.media c.in-Plan.is refl)) in
+    let b = there (g.B.Source.known c.args.second.now) (known.second_known (second_used _ c.in-Ok.found command.Plan c.in-Ok.ensures.roles c.in-Ok.ensures.second c.in-Plan.is refl)) in
+    c.reply_to_plan.ensures.unasked a.0 a.1 b.0 b.1 (asks_plan said g.H.Hashing.digest_of (g.A.Source.known c.args.media.now) (g.B.Source.known c.args.second.now) (g.C.Source.known c.args.third.now) _ c.in-Ok.found a.0 b.0 [] c.in-Ok.ensures.roles c.in-Plan.is a.1 b.1 asks)
 
 -- its definition isn't read where the media is refused
 pub returns-in-Plan-clause-second_unread : goal.returns-in-Plan-clause-second_unread
@@ -306,14 +313,23 @@ returns-in-Plan-clause-second_unread g c due =
     let known = of_command (HasSecondNotDue call) _ c.in-Ok.found command.Plan c.in-Ok.ensures.roles c.in-Plan.is due in
     c.reply_to_plan.ensures.unread known.file known.is_known known.holds
 
--- nobody is asked by `embed`
+-- by `embed` the judges are asked what the call puts to them, or after a fault what comes up to it
 pub returns-in-Embed-clause-asked : goal.returns-in-Embed-clause-asked
 returns-in-Embed-clause-asked g c known qs asks =
     let said = panel_says (map (λ j. (goal.Judge-dyn g (j.vtable, j.value)).says j.value) c.args.judges.now.items) in
-    let old = judges_of (λ j. (goal.Judge-dyn g (j.vtable, j.value)).says j.value) (λ j. (goal.Judge-dyn g (j.vtable, j.value)).asked_times j.value) (λ j. (goal.Judge-dyn g (j.vtable, j.value)).judge_faults j.value) c.args.judges.now.items in
-    let new = judges_of (λ j. (goal.Judge-dyn g (j.vtable, j.value)).says j.value) (λ j. (goal.Judge-dyn g (j.vtable, j.value)).asked_times j.value) (λ j. (goal.Judge-dyn g (j.vtable, j.value)).judge_faults j.value) c.reply_to_embed.new.judges.items in
-    let i = inputs (g.A.Source.known c.args.media.now) (g.B.Source.known c.args.second.now) (g.C.Source.known c.args.third.now) said g.H.Hashing.digest_of in
-    asked_nobody _ c.in-Ok.found command.Embed i qs old new _ _ c.reply_to_embed.result c.in-Ok.ensures.roles c.in-Embed.is (inr refl) (ap (λ v. map (λ j. (goal.Judge-dyn g (j.vtable, j.value)).asked_times j.value) v.items) c.reply_to_embed.ensures.judges) c.reply_to_embed.ensures.fault asks
+    let a = there (g.A.Source.known c.args.media.now) (known.media_known (media_used _ c.in-Ok.found command.Embed c.in-Ok.ensures.roles c.in-Ok.ensures.media c.in-Embed.is refl)) in
+    let b = there (g.B.Source.known c.args.second.now) (known.second_known (second_used _ c.in-Ok.found command.Embed c.in-Ok.ensures.roles c.in-Ok.ensures.second c.in-Embed.is refl)) in
+    let m = there (g.C.Source.known c.args.third.now) (known.third_known (third_used _ c.in-Ok.found command.Embed c.in-Ok.ensures.roles c.in-Ok.ensures.third c.in-Embed.is refl)) in
+    c.reply_to_embed.ensures.asked a.0 a.1 b.0 b.1 m.0 m.1 qs (asks_embed said g.H.Hashing.digest_of (g.A.Source.known c.args.media.now) (g.B.Source.known c.args.second.now) (g.C.Source.known c.args.third.now) _ c.in-Ok.found a.0 b.0 m.0 qs c.in-Ok.ensures.roles c.in-Embed.is a.1 b.1 m.1 asks)
+
+-- nobody is asked by `embed` where there is no question
+pub returns-in-Embed-clause-judges_unasked : goal.returns-in-Embed-clause-judges_unasked
+returns-in-Embed-clause-judges_unasked g c known asks =
+    let said = panel_says (map (λ j. (goal.Judge-dyn g (j.vtable, j.value)).says j.value) c.args.judges.now.items) in
+    let a = there (g.A.Source.known c.args.media.now) (known.media_known (media_used _ c.in-Ok.found command.Embed c.in-Ok.ensures.roles c.in-Ok.ensures.media c.in-Embed.is refl)) in
+    let b = there (g.B.Source.known c.args.second.now) (known.second_known (second_used _ c.in-Ok.found command.Embed c.in-Ok.ensures.roles c.in-Ok.ensures.second c.in-Embed.is refl)) in
+    let m = there (g.C.Source.known c.args.third.now) (known.third_known (third_used _ c.in-Ok.found command.Embed c.in-Ok.ensures.roles c.in-Ok.ensures.third c.in-Embed.is refl)) in
+    c.reply_to_embed.ensures.unasked a.0 a.1 b.0 b.1 m.0 m.1 (asks_embed said g.H.Hashing.digest_of (g.A.Source.known c.args.media.now) (g.B.Source.known c.args.second.now) (g.C.Source.known c.args.third.now) _ c.in-Ok.found a.0 b.0 m.0 [] c.in-Ok.ensures.roles c.in-Embed.is a.1 b.1 m.1 asks)
 
 -- its definition isn't read where the media is refused
 pub returns-in-Embed-clause-second_unread : goal.returns-in-Embed-clause-second_unread
@@ -330,10 +346,6 @@ returns-in-Embed-clause-third_unread g c due =
     let call = call_of c.args.words.now.items (g.A.Source.known c.args.media.now) (g.B.Source.known c.args.second.now) (g.C.Source.known c.args.third.now) said g.H.Hashing.digest_of in
     let known = of_command (HasThirdNotDue call) _ c.in-Ok.found command.Embed c.in-Ok.ensures.roles c.in-Embed.is due in
     message_left _ _ _ c.reply_to_embed.ensures.message_unread_first c.reply_to_embed.ensures.message_unread known
-
--- no judge fails under `embed`
-pub returns-in-Embed-clause-judged : goal.returns-in-Embed-clause-judged
-returns-in-Embed-clause-judged g c = unjudged _ _ _ c.reply_to_embed.result c.reply_to_embed.ensures.fault
 
 -- the reply to words that fit no command is the usage line
 pub returns-in-Err-Usage-clause-reply : goal.returns-in-Err-Usage-clause-reply

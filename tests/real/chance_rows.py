@@ -1,0 +1,120 @@
+#!/usr/bin/env python3
+"""Tables of rows for crates/c2_rows, of builds that are drawn as chance_builds.py draws them, with what builder.py says of each.
+
+    chance_rows.py FOLDER COUNT [SEED [KIND]]      writes FOLDER/1.rows, FOLDER/2.rows and so on for COUNT builds
+
+KIND is `fresh` or `signed` as for chance_builds.py, or `all` (the default) for both by turns. A row has what `embed` says and the new
+file's length and digest, and how often each judge was asked; the next has what `plan` says. Each new file must be as chance_builds.py
+wants it, or it is told. Prints how often each answer of `embed` came. In the folder of that crate `rt try` runs the tables:
+
+    rt try --data 1.rows=FOLDER/1.rows --data 2.rows=FOLDER/2.rows -- 1.rows 2.rows
+"""
+
+import pathlib
+import random
+import sys
+from collections import Counter
+
+from builder import embed, line_of, plan
+from build_rows import judge_named
+from build_tables import Lines, new_file, told
+from chance_builds import DRAWN, drawn_definition, drawn_message, kind_of, manifests_in, questions_in, wrong_in
+from chance_stores import verdict_files
+from store import JUDGE_FAULT, JudgeFault, verdicts_in
+from told import tell
+
+KINDS = "fresh", "signed"
+# The most bytes of a table, less what a row may have.
+LONGEST_TABLE = 3_000_000
+
+
+class Listed(dict):
+    """A verdict file as a judge who counts what he is asked."""
+
+    asked = 0
+
+    def __contains__(self, identity):
+        self.asked += 1
+        return super().__contains__(identity)
+
+
+def judge_of(rows):
+    """A judge by the contents of a verdict file; one that can't be read fails at each question."""
+    verdicts = None if rows is None else verdicts_in(rows)
+    return judge_named("broken") if verdicts is None else Listed(verdicts)
+
+
+def judge_text(rows):
+    return "broken" if rows is None or verdicts_in(rows) is None else f"list:{rows.hex()}"
+
+
+class Call:
+    """What a call of the independent program comes to under judges."""
+
+    def __init__(self, call, files, rows):
+        judges = [judge_of(each) for each in rows]
+        try:
+            self.made = call(*files, judges)
+            line, status = line_of(self.made)
+        except JudgeFault:
+            self.made, line, status = ("a judge's fault",), "", JUDGE_FAULT
+        self.file = self.made[0] if isinstance(self.made[0], bytes) else None
+        self.text = told((status, line), [judge.asked for judge in judges])
+        self.text += new_file(self.file) if self.file is not None else ""
+
+
+def put(lines, chance, files, rows):
+    """Appends a row for `embed` and one for `plan`, and gives what both come to."""
+    built, planned = Call(embed, files, rows), Call(plan, files[:2], rows)
+    names = " V" * len(rows)
+    lines.set(judges=" ".join(map(judge_text, rows)), out=len(built.file or b"") or "none", pieces=chance.choice(("65536", "65536/7", "1009")))
+    lines.set(words="embed J X G OUT" + names)
+    lines.row(built.text, *(file.hex() for file in files))
+    lines.set(words="plan J X" + names)
+    lines.row(planned.text, *(file.hex() for file in files[:2]))
+    return built, planned
+
+
+class Tables:
+    """The tables of a folder, one after the other."""
+
+    def __init__(self, folder):
+        self.folder, self.count, self.lines = pathlib.Path(folder), 0, None
+        self.begin()
+
+    def begin(self):
+        self.lines = Lines("Builds that are drawn at random.")
+        self.lines.set(room=1_000_000)
+
+    def end(self):
+        self.count += 1
+        self.folder.mkdir(parents=True, exist_ok=True)
+        (self.folder / f"{self.count}.rows").write_text(self.lines.text)
+        self.begin()
+
+
+def main():
+    folder, count, *more = sys.argv[1:]
+    chance = random.Random(int(more[0]) if more else 1)
+    kinds = KINDS if more[1:] in ([], ["all"]) else more[1:]
+    written, answers, wrong, chain = Tables(folder), Counter(), 0, None
+    for number in range(int(count)):
+        kind = kinds[number % len(kinds)]
+        # now and then the file that was built last is signed again
+        media = chain if chain and kind != "fresh" and chance.random() < 0.3 else DRAWN[kind](chance)
+        message, said = drawn_message(chance)
+        definition = drawn_definition(chance, manifests_in(media), said)
+        built, planned = put(written.lines, chance, (media, definition, message), verdict_files(chance, questions_in(media)))
+        answers[kind_of(built.made)] += 1
+        for each in wrong_in(media, built.made, planned.made) if built.file is not None else ():
+            print(f"build {number}: {each}")
+            wrong += 1
+        chain = built.file if built.file is not None and len(built.file) < 20_000 else None
+        if len(written.lines.text) > LONGEST_TABLE:
+            written.end()
+    written.end()
+    tell(answers, f"{count} builds in {written.count} tables, {wrong} differences", wrong)
+
+
+if __name__ == "__main__":
+    main()
