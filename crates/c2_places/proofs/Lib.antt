@@ -1,0 +1,4 @@
+mod Meeting
+mod Ones
+mod Sizes
+mod Somes

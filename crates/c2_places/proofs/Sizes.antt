@@ -1,0 +1,17 @@
+-- The size of a new store in its place, and its binding.
+use Rattle.std.proofs.Common.{ℕ, List, inl, inr, refl}
+use Rattle.c2_layout.specs.Built.{StoreSizeIsFixed}
+use Rattle.c2_films.specs.Films.{FilmSizeIsFixed}
+use Rattle.c2_spec.specs.Jpeg.Writing as jpeg
+use Rattle.c2_places.specs.Laws.{BindingsAreKnown, PlaceSizeIsFixed}
+use Rattle.c2_places.specs.Places.{in_boxes, in_segments}
+
+-- the size of a store depends neither on its range nor on digests
+pub place_size : StoreSizeIsFixed → FilmSizeIsFixed → PlaceSizeIsFixed
+place_size file film hash c (in_segments segments number) len digest message sized long = file hash c (jpeg.insert_place segments) len digest message sized long
+place_size file film hash c (in_boxes roots) len digest message sized long = film hash c digest message sized long
+
+-- its binding is of a kind that is known
+pub known_binding : BindingsAreKnown
+known_binding (in_segments segments number) len digest = record { label = inl refl; item = refl }
+known_binding (in_boxes roots) len digest = record { label = inr refl; item = refl }

@@ -1,0 +1,14 @@
+use Rattle.c2_places.proofs.Somes.{fresh_place, left_place, some_left}
+use Rattle.c2_places.proofs.laws.each_media_has_a_place.Goals as goal
+
+-- a file without a store is what is built over
+pub returns-clause-fresh : goal.returns-clause-fresh
+returns-clause-fresh c = fresh_place
+
+-- a store is taken away by its container
+pub returns-clause-left : goal.returns-clause-left
+returns-clause-left c = some_left
+
+-- and what is left has a place
+pub returns-clause-place : goal.returns-clause-place
+returns-clause-place c = left_place c.a_base_has_no_store-2.ensures.none c.a_base_has_no_store.ensures

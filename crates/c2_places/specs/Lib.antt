@@ -1,0 +1,4 @@
+pub mod Places
+pub mod Bases
+pub mod Laws
+pub mod Meeting
