@@ -22,7 +22,7 @@ use Rattle.c2_carried.specs.Carrying.{BaseHasNoStore}
 use Rattle.c2_films.specs.Films.{AreOthers}
 use Rattle.c2_films.proofs.Media.{base_media}
 use Rattle.c2_places.specs.Bases.{IsLeft, IsLeftOfBoxes}
-use Rattle.c2_places.specs.Laws.{FreshHasPlace, LeftHasPlace, SomeLeft}
+use Rattle.c2_places.specs.Laws.{FreshHasPlace, LeftHasContainer, LeftHasPlace, SomeLeft}
 use Rattle.c2_places.specs.Places.{IsFreePlace, Place, in_boxes, in_segments}
 
 -- ---- a number
@@ -113,7 +113,7 @@ some_left media start len t o = go (is_bmff media) (is_stored media start len t 
     go false h = (taken_out start len media, refl)
 
 -- what is left has the container that the file had
-pub left_container : boxed.BaseHasNoStore → BaseHasNoStore → (media : List ℕ) (start len : ℕ) (t : Tree) (base : List ℕ) → IsOpened media (here start len t) → IsLeft media start len base → is_bmff base ≡ is_bmff media
+pub left_container : boxed.BaseHasNoStore → BaseHasNoStore → LeftHasContainer
 left_container boxes segments media start len t base o left = go (is_bmff media) refl (is_stored media start len t o) left
   where
     go : (b : Bool) → is_bmff media ≡ b → ((store : List ℕ) × MatchBool b (HasBmffStore media start len store) (jpeg.HasJpegStore media start len store)) → MatchBool b (IsLeftOfBoxes media base) (base ≡ taken_out start len media)

@@ -1,5 +1,6 @@
 -- What holds of places, as statements.
 use Rattle.std.specs.Prelude.{◌≡◌, ℕ, List, length}
+use Rattle.c2_spec.specs.Container.{is_bmff}
 use Rattle.c2_spec.specs.Digest.{digest_len}
 use Rattle.c2_spec.specs.Jumbf.Tree.{Tree, tree_bytes}
 use Rattle.c2_spec.specs.Located.{absent, here}
@@ -31,6 +32,11 @@ SomeLeft = (media : List ℕ) (start len : ℕ) (t : Tree) → IsOpened media (h
 abbrev pub LeftHasPlace : Type 0
 LeftHasPlace = (media : List ℕ) (start len : ℕ) (t : Tree) (base : List ℕ) → IsOpened media (here start len t) → IsLeft media start len base
     → (p : Place) × IsFreePlace base p
+
+-- what is left has the container that the file had
+abbrev pub LeftHasContainer : Type 0
+LeftHasContainer = (media : List ℕ) (start len : ℕ) (t : Tree) (base : List ℕ) → IsOpened media (here start len t) → IsLeft media start len base
+    → is_bmff base ≡ is_bmff media
 
 -- A new store's length depends neither on its range nor on digests.
 abbrev pub PlaceSizeIsFixed : Type 0

@@ -1,6 +1,6 @@
 //! Laws of places.
 
-ghost use Rattle.c2_places.specs.Laws.{BindingsAreKnown, FreshHasPlace, LeftHasPlace, OneLeft, OnePlace, PlaceSizeIsFixed, SomeLeft};
+ghost use Rattle.c2_places.specs.Laws.{BindingsAreKnown, FreshHasPlace, LeftHasContainer, LeftHasPlace, OneLeft, OnePlace, PlaceSizeIsFixed, SomeLeft};
 ghost use Rattle.c2_places.specs.Meeting.{BaseStays, FreshPlaceMeets, OverPlaceMeets};
 
 use c2_boxed::a_base_has_no_store;
@@ -47,10 +47,12 @@ pub fn bindings_are_known()
     ensures { BindingsAreKnown }
 {}
 
-/// A media file without a store has a place for one. Something is left of a media file with a store, and that has a place for another.
+/// A media file without a store has a place for one. Something is left of a media file with a store; it has the container that the file
+/// had, and a place for another store.
 pub fn each_media_has_a_place()
     ensures fresh { FreshHasPlace }
     ensures left { SomeLeft }
+    ensures container { LeftHasContainer }
     ensures place { LeftHasPlace }
 {
     // Only the prover needs these laws.

@@ -1,4 +1,4 @@
-use Rattle.c2_places.proofs.Somes.{fresh_place, left_place, some_left}
+use Rattle.c2_places.proofs.Somes.{fresh_place, left_container, left_place, some_left}
 use Rattle.c2_places.proofs.laws.each_media_has_a_place.Goals as goal
 
 -- a file without a store is what is built over
@@ -8,6 +8,10 @@ returns-clause-fresh c = fresh_place
 -- a store is taken away by its container
 pub returns-clause-left : goal.returns-clause-left
 returns-clause-left c = some_left
+
+-- which leaves the container
+pub returns-clause-container : goal.returns-clause-container
+returns-clause-container c = left_container c.a_base_has_no_store-2.ensures.none c.a_base_has_no_store.ensures
 
 -- and what is left has a place
 pub returns-clause-place : goal.returns-clause-place
