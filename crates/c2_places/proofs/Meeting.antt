@@ -33,6 +33,7 @@ use Rattle.c2_films.specs.Over.{FilmOverStoreMeets}
 use Rattle.c2_places.specs.Bases.{IsLeft, IsLeftOfBoxes}
 use Rattle.c2_places.specs.Meeting.{BaseStays, CanSucceedAt, FreshPlaceMeets, OverPlaceMeets}
 use Rattle.c2_places.specs.Places.{CanPut, Place, in_boxes, in_segments, place_file, place_question, place_start, place_store, put_bytes, range_len}
+use Rattle.c2_places.proofs.Ones.{not_both}
 use Rattle.c2_places.proofs.Somes.{left_container}
 
 -- ---- what can be built
@@ -75,10 +76,6 @@ pub record OverLaws : Type 0 where
   pub roots : (file : List ℕ) (xs ys : List Box) → HasRoots file xs → HasRoots file ys → xs ≡ ys
   pub boxes : boxed.BaseHasNoStore
   pub segments : BaseHasNoStore
-
--- no file has both containers
-not_both : {P : Type 0} (base : List ℕ) → is_bmff base ≡ false → is_bmff base ≡ true → P
-not_both {P} base one other = absurd (let bad : false ≡ true = sym one ∙ other in cc (bad))
 
 -- it meets the rules behind segments
 over_segments : OverLaws → (hash : Alg → List ℕ → List ℕ) (said : Question → Verdict) (media : List ℕ) (start len : ℕ) (old : Tree) (s : StoreReading) (d : Definition) (c : Content) (message base bytes : List ℕ) (segments : List Segment) (number : Option ℕ) (parts : SignParts)

@@ -18,7 +18,7 @@ pub record OneLaws : Type 0 where
   pub roots : (file : List ℕ) (xs ys : List Box) → HasRoots file xs → HasRoots file ys → xs ≡ ys
 
 -- no file has both containers
-not_both : {P : Type 0} (base : List ℕ) → is_bmff base ≡ false → is_bmff base ≡ true → P
+pub not_both : {P : Type 0} (base : List ℕ) → is_bmff base ≡ false → is_bmff base ≡ true → P
 not_both {P} base one other = absurd (let bad : false ≡ true = sym one ∙ other in cc (bad))
 
 -- so a file has one place
