@@ -1,5 +1,5 @@
 -- A file that a store is put into in its place meets the rules, by the laws of its container.
-use Rattle.std.proofs.Common.{◌≡◌, ℕ, ◌+◌, ◌<◌, Bool, true, false, List, [], ◌∷◌, length, Option, Some, None, refl, sym, ap, ◌∙◌, subst}
+use Rattle.std.proofs.Common.{◌≡◌, ℕ, ◌+◌, ◌<◌, Bool, true, false, List, [], ◌∷◌, length, Option, Some, refl, sym, ap, ◌∙◌, subst}
 use Rattle.std.specs.Bool.{MatchBool}
 use Rattle.std.specs.Option.{option_map}
 use Rattle.std.proofs.lemmas.Option.{same_Some}
@@ -30,9 +30,9 @@ use Rattle.c2_succeeding.specs.Over.{FileOverStoreMeets}
 use Rattle.c2_films.specs.Films.{CanBuildFilm, FilmBaseIsLeft, film_len, film_store}
 use Rattle.c2_films.specs.Fresh.{FreshFilmMeets, film_question}
 use Rattle.c2_films.specs.Over.{FilmOverStoreMeets}
-use Rattle.c2_places.specs.Bases.{IsLeft, IsLeftOfBoxes}
+use Rattle.c2_places.specs.Bases.{IsLeftOfBoxes}
 use Rattle.c2_places.specs.Meeting.{BaseStays, CanSucceedAt, FreshPlaceMeets, OverPlaceMeets}
-use Rattle.c2_places.specs.Places.{CanPut, Place, in_boxes, in_segments, place_file, place_question, place_start, place_store, put_bytes, range_len}
+use Rattle.c2_places.specs.Places.{CanPut, in_boxes, in_segments}
 use Rattle.c2_places.proofs.Ones.{not_both}
 use Rattle.c2_places.proofs.Somes.{left_container}
 

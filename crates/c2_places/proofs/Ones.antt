@@ -7,9 +7,9 @@ use Rattle.c2_spec.specs.Jpeg.Places.{HasNumber, IsOfSegments}
 use Rattle.c2_spec.specs.Jpeg.Segments.{Segment}
 use Rattle.c2_spec.specs.PutIn.{taken_out}
 use Rattle.c2_boxed.specs.Laws.{BaseIsOne}
-use Rattle.c2_places.specs.Bases.{IsLeft, IsLeftOfBoxes}
+use Rattle.c2_places.specs.Bases.{IsLeftOfBoxes}
 use Rattle.c2_places.specs.Laws.{OneLeft, OnePlace}
-use Rattle.c2_places.specs.Places.{IsPlace, Place, in_boxes, in_segments}
+use Rattle.c2_places.specs.Places.{in_boxes, in_segments}
 
 -- What laws of other crates say: a file is one list of segments, one number is free in it or none, and it has one list of root boxes.
 pub record OneLaws : Type 0 where

@@ -3,8 +3,8 @@ use Rattle.std.proofs.Common.{◌≡◌, ℕ, zero, suc, ◌+◌, ◌-◌, ◌^�
 use Rattle.std.specs.Bool.{MatchBool}
 use Rattle.std.specs.List.{flat_map}
 use Rattle.c2_spec.specs.Bmff.Boxes.{Box, HasRoots, box_bytes}
-use Rattle.c2_spec.specs.Bmff.Store.{HasBmffStore, HasNoBmffStore, IsBmffLocated}
-use Rattle.c2_spec.specs.Bmff.Writing.{IsBmffBase, base_roots, without}
+use Rattle.c2_spec.specs.Bmff.Store.{HasBmffStore, HasNoBmffStore}
+use Rattle.c2_spec.specs.Bmff.Writing.{base_roots, without}
 use Rattle.c2_spec.specs.Container.{IsLocated, is_bmff}
 use Rattle.c2_spec.specs.Jpeg.Places.{IsOfSegments}
 use Rattle.c2_spec.specs.Jpeg.Segments.{Segment}
@@ -21,7 +21,7 @@ use Rattle.c2_boxed.specs.Laws as boxed
 use Rattle.c2_carried.specs.Carrying.{BaseHasNoStore}
 use Rattle.c2_films.specs.Films.{AreOthers}
 use Rattle.c2_films.proofs.Media.{base_media}
-use Rattle.c2_places.specs.Bases.{IsLeft, IsLeftOfBoxes}
+use Rattle.c2_places.specs.Bases.{IsLeftOfBoxes}
 use Rattle.c2_places.specs.Laws.{FreshHasPlace, LeftHasContainer, LeftHasPlace, SomeLeft}
 use Rattle.c2_places.specs.Places.{IsFreePlace, Place, in_boxes, in_segments}
 

@@ -14,7 +14,7 @@ use Rattle.c2_spec.specs.Jpeg.Places.{IsOfSegments}
 use Rattle.c2_spec.specs.Jpeg.Segments.{Segment}
 use Rattle.c2_spec.specs.Jpeg.Store.{NoneBegins}
 use Rattle.c2_spec.specs.Jpeg.Writing as jpeg
-use Rattle.c2_spec.specs.Jumbf.Tree.{Tree, tree_bytes}
+use Rattle.c2_spec.specs.Jumbf.Tree.{Tree}
 use Rattle.c2_spec.specs.PutIn.{put_in}
 use Rattle.c2_definition.specs.declared.types.NewAssertion.{NewAssertion}
 use Rattle.c2_layout.specs.Built.{built_len, store_size}
