@@ -74,14 +74,17 @@ fn a_picture_with_a_store_gets_a_longer_one(rt: HostRuntime) -> Result<(), Fail>
     inputs.definition = changed(alloc, "8000-000000000000", "8000-000000000001")?;
     let mut out = MemSink::with_room(alloc, 6_000, 0)?;
     let came = judged(alloc, &inputs, Verdict::Approved, &mut out)?;
-    assert!(rt; came.as_ref().is_ok_and(|e| e.start == 20));
 
     // The picture stands as it was, without the older packets.
-    let len = came.map_or(0, |e| e.length as usize);
-    assert!(rt; 1_141 < len);
-    assert_eq!(rt; out.bytes().len(), 22 + len);
-    assert_eq!(rt; &out.bytes()[..20], &MEDIA[..20]);
-    assert_eq!(rt; &out.bytes()[20 + len..], &MEDIA[20..]);
+    let all = out.bytes();
+    assert!(rt; 1_163 < all.len());
+    let range = Embedded {
+        start: 20,
+        length: (all.len() - 22) as u64,
+    };
+    assert!(rt; came.is_ok_and(|e| e == range));
+    assert_eq!(rt; &all[..20], &MEDIA[..20]);
+    assert_eq!(rt; &all[all.len() - 2..], &MEDIA[20..]);
 
     // The older manifest is the parent of the new one, which has a binding, the definition's assertion and the ingredient.
     assert_eq!(rt; checked(alloc, out.bytes())?.as_str(), "2 5 22 0");

@@ -132,7 +132,10 @@ fn an_older_store_is_checked_first(rt: HostRuntime) -> Result<(), Fail> {
     inputs.definition = changed(alloc, "8000-000000000000", "8000-000000000001")?;
     let text = answered(alloc, &inputs, Verdict::Approved)?;
     assert_eq!(rt; text.as_str(), "written");
-    inputs.media[19] = 1;
+    let mut media = Vec::from_slice(alloc, inputs.media.as_slice())?;
+    assert!(rt; 19 < media.len());
+    media[19] = 1;
+    inputs.media = media;
     let text = answered(alloc, &inputs, Verdict::Approved)?;
     assert_eq!(rt; text.as_str(), "AssertionDataHashMismatch");
     Ok(())

@@ -1,8 +1,6 @@
-//! Worked assertions and a worked store, as they are written: tests of the public calls of `c2_layout`, which is proved once without
-//! them.
+//! Worked assertions, as they are written: tests of the public calls of `c2_layout`, which is proved once without them. A whole store is
+//! compared by the rows of builds.
 #![tactic(auto)]
 
 #[cfg(test)]
 mod assertions;
-#[cfg(test)]
-mod builds;
