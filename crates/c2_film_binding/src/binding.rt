@@ -1,0 +1,44 @@
+// The binding of a new BMFF file.
+ghost use Rattle.std.specs.Prelude.{◌≡◌, IfOk};
+ghost use Rattle.c2_films.specs.Films as films;
+ghost use Rattle.c2_spec.specs.Cbor.Deterministic.{deterministic};
+ghost use Rattle.c2_spec.specs.Cbor.Legal.{IsLegal};
+ghost use Rattle.c2_spec.specs.Cbor.View.{view};
+
+use c2_assertion::{BmffHash, write_bmff_hash};
+use c2_base::{Blob, NoMemory, Text};
+use c2_cbor::{Cbor, EncodeError, encode};
+use c2_definition::{NewAssertion, Payload};
+use c2_exclusions::new_exclusions;
+use std::alloc::Global;
+
+// The bytes of a legal item.
+fn item_bytes(alloc: Global, item: &Cbor) -> Result<Blob, NoMemory>
+    requires { IsLegal (view item.now) }
+    ensures { IfOk result (λ b. b ≡ deterministic (view item.now)) }
+{
+    match encode(alloc, item) {
+        Ok(bytes) => Ok(bytes),
+        Err(EncodeError::NoMemory) => Err(NoMemory),
+        Err(_) => unreachable!(),
+    }
+}
+
+/// The assertion that binds a BMFF file by this SHA-256 digest of what the exclusions of a new hash leave of it.
+pub fn film_binding(alloc: Global, digest: &[u8]) -> Result<NewAssertion, NoMemory>
+    ensures { IfOk result (λ a. a ≡ films.film_binding digest.now) }
+{
+    let hash = BmffHash {
+        exclusions: new_exclusions(alloc)?,
+        alg: Some(Text::copied(alloc, "sha256")?),
+        hash: Blob::copied(alloc, digest)?,
+    };
+    let item = write_bmff_hash(alloc, &hash)?;
+    let bytes = item_bytes(alloc, &item)?;
+    let label = Text::copied(alloc, "c2pa.hash.bmff.v2")?;
+    Ok(NewAssertion {
+        label,
+        kind: Payload::Cbor,
+        bytes,
+    })
+}

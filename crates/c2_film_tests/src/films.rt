@@ -1,0 +1,56 @@
+// The digest of a film of two boxes and the binding by it. Both were reckoned by a program of its own.
+use c2_base::{Blob, MemSource};
+use c2_boxes::roots;
+use c2_definition::Payload;
+use c2_film_binding::film_binding;
+use c2_film_hash::{FilmError, film_digest};
+use c2_hash::Sha;
+use std::test::Fail;
+
+// A box `ftyp` of 16 bytes and a box `mdat` with one byte.
+const FILM: &[u8] = b"\x00\x00\x00\x10ftypisom\x00\x00\x00\x00\x00\x00\x00\x09mdatA";
+
+// The digest of the place of the second box in 8 bytes, and the box.
+const DIGEST: &str = "85a5da1ae93716efd70e0786acb03fa44217dbbe5f4877dec8e5b774a3d7540e";
+
+// The item that binds a film by this digest.
+const BINDING: &str =
+    "a363616c67667368613235366468617368582085a5da1ae93716efd70e0786acb03fa44217dbbe5f4877dec8e5b774a3d7540e6a6578636c7573696f6e7383a2646461746181a26576616c756550d8fec3d61b0e483c92975828877ec481666f666673657408657870617468652f75756964a1657870617468652f66747970a1657870617468652f6d667261";
+
+#[test]
+fn a_film_has_this_binding(rt: HostRuntime) -> Result<(), Fail> {
+    let alloc = rt.alloc();
+    let mut source = MemSource::new(Blob::copied(alloc, FILM)?, 3, 0);
+    let mut buf = [0; 5];
+    let Ok(boxes) = roots(alloc, &mut source) else {
+        return Ok(assert!(rt; false));
+    };
+    match film_digest(alloc, &Sha, &mut source, &boxes, &mut buf) {
+        Ok(digest) => {
+            assert_eq!(rt; hex::encode(alloc, digest.as_slice())?.as_str(), DIGEST);
+            let binding = film_binding(alloc, digest.as_slice())?;
+            let item = hex::encode(alloc, binding.bytes.as_slice())?;
+            assert_eq!(rt; item.as_str(), BINDING);
+            assert_eq!(rt; binding.label.as_str(), "c2pa.hash.bmff.v2");
+            assert_eq!(rt; binding.kind, Payload::Cbor);
+        }
+        Err(error) => assert!(rt; false, "{error}"),
+    }
+    Ok(())
+}
+
+// The first four calls of the source are those of the root boxes. Each of the next three fails in turn, the last in the middle of the text.
+#[test]
+fn each_failed_call_is_told(rt: HostRuntime) -> Result<(), Fail> {
+    let alloc = rt.alloc();
+    let mut buf = [0; 5];
+    for fail_at in 5..8 {
+        let mut source = MemSource::new(Blob::copied(alloc, FILM)?, 65_536, fail_at);
+        let Ok(boxes) = roots(alloc, &mut source) else {
+            return Ok(assert!(rt; false));
+        };
+        let found = film_digest(alloc, &Sha, &mut source, &boxes, &mut buf);
+        assert!(rt; found.err() == Some(FilmError::ReadFault));
+    }
+    Ok(())
+}
