@@ -19,11 +19,7 @@ use c2_hash::{Alg, Digest, Hashing};
 use std::alloc::Global;
 
 // What the exclusions of a new hash leave of the file with these root boxes.
-fn film_cover<S: Source>(
-    alloc: Global,
-    source: &mut S,
-    roots: &Roots,
-) -> Result<Cover, FilmError>
+fn film_cover<S: Source>(alloc: Global, source: &mut S, roots: &Roots) -> Result<Cover, FilmError>
     requires inside { All (IsBoxWithin (S.len source.old)) roots.now }
     ensures cover { IfOk result (λ c. ForSome (S.known source.old) (λ file.
         IsBmffCoverOf file roots.now built_exclusions c)) }
