@@ -1,5 +1,6 @@
 // The binding of a new BMFF file.
 ghost use Rattle.std.specs.Prelude.{◌≡◌, IfOk};
+ghost use Rattle.c2_assertion.specs.Written.{bmff_hash_item};
 ghost use Rattle.c2_films.specs.Films as films;
 ghost use Rattle.c2_spec.specs.Cbor.Deterministic.{deterministic};
 ghost use Rattle.c2_spec.specs.Cbor.Legal.{IsLegal};
@@ -24,9 +25,9 @@ fn item_bytes(alloc: Global, item: &Cbor) -> Result<Blob, NoMemory>
     }
 }
 
-/// The assertion that binds a BMFF file by this SHA-256 digest of what the exclusions of a new hash leave of it.
-pub fn film_binding(alloc: Global, digest: &[u8]) -> Result<NewAssertion, NoMemory>
-    ensures { IfOk result (λ a. a ≡ films.film_binding digest.now) }
+// The item of the BMFF hash of a new file with this digest.
+fn film_item(alloc: Global, digest: &[u8]) -> Result<Cbor, NoMemory>
+    ensures { IfOk result (λ v. view v ≡ bmff_hash_item (films.film_hash digest.now)) }
 {
     let hash = BmffHash {
         exclusions: new_exclusions(alloc)?,
@@ -34,6 +35,14 @@ pub fn film_binding(alloc: Global, digest: &[u8]) -> Result<NewAssertion, NoMemo
         hash: Blob::copied(alloc, digest)?,
     };
     let item = write_bmff_hash(alloc, &hash)?;
+    Ok(item)
+}
+
+/// The assertion that binds a BMFF file by this SHA-256 digest of what the exclusions of a new hash leave of it.
+pub fn film_binding(alloc: Global, digest: &[u8]) -> Result<NewAssertion, NoMemory>
+    ensures { IfOk result (λ a. a ≡ films.film_binding digest.now) }
+{
+    let item = film_item(alloc, digest)?;
     let bytes = item_bytes(alloc, &item)?;
     let label = Text::copied(alloc, "c2pa.hash.bmff.v2")?;
     Ok(NewAssertion {
