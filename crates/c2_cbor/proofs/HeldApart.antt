@@ -1,12 +1,12 @@
 -- Texts that are held apart, while the pairs of their map are read.
-use Rattle.std.proofs.Common.{◌≡◌, ℕ, bytes_eq, Bool, true, false, cond, List, [], ◌∷◌, ◌++◌, map, ◌-◌, ◌<◌, suc, length, Option, Some, None, Result, Ok, Err, refl, sym, ap, subst, ◌∙◌}
-use Rattle.std.specs.Option.{option_or, option_and_then}
-use Rattle.std.proofs.lemmas.Slice.Eq.{bytes_eq-Decides}
-use Rattle.c2_spec.specs.Cbor.Item.{Item, uint, nint, bytes, text, list, dict, tag, simple, half, single, double, Pairs, no_pairs, pair}
+use Rattle.std.proofs.Common.{◌≡◌, ℕ, Bool, true, false, cond, List, [], ◌∷◌, ◌++◌, map, ◌-◌, ◌<◌, suc, length, Option, Some, None, Result, Ok, Err, refl, sym, ap, subst, ◌∙◌}
+use Rattle.std.specs.Option.{option_or}
+use Rattle.c2_spec.specs.Cbor.Item.{Item, text, list, dict, pair}
 use Rattle.c2_spec.specs.Cbor.View.{view, items_of, pairs_of}
-use Rattle.c2_spec.specs.Cbor.Lookup.{is_text, first_value, field_of, unless_null}
+use Rattle.c2_spec.specs.Cbor.Lookup.{is_text}
 use Rattle.c2_spec.specs.Cbor.Deterministic.{preferred}
 use Rattle.c2_spec.specs.declared.cbor.Cbor.{Cbor}
+use Rattle.c2_spec.proofs.TextKeys.{text_is}
 use Rattle.c2_cbor.specs.Apart.{texts_list, with_value, with_texts, whole_value, put_in, pairs_with, wants, OnlyIf, GivesSome}
 use Rattle.c2_cbor.specs.declared.fault.Fault.{Fault}
 use Rattle.c2_cbor.specs.declared.fault.ReadError.{ReadError}
@@ -64,20 +64,6 @@ put_last key v k w (p ∷ ps) e f =
     ] e
 
 -- ---- a new key isn't there
-
--- what is this text
-text_is : (key : List ℕ) (v : Item) → is_text key v ≡ true → v ≡ text key
-text_is key (text t) e = ap text ((bytes_eq-Decides t key).0 e)
-text_is key (uint n) e = absurd cc
-text_is key (nint n) e = absurd cc
-text_is key (bytes b) e = absurd cc
-text_is key (list vs) e = absurd cc
-text_is key (dict ps) e = absurd cc
-text_is key (tag n v) e = absurd cc
-text_is key (simple a) e = absurd cc
-text_is key (half n) e = absurd cc
-text_is key (single n) e = absurd cc
-text_is key (double n) e = absurd cc
 
 -- what is known stays known
 stays_after : (x : List ℕ) (seen ks : List (List ℕ)) → is_known x seen ≡ true → is_known x (known_after seen ks) ≡ true
@@ -167,35 +153,3 @@ module _ (levels : ℕ) (s r : List ℕ) (c : Count) (left : 0 < levels) where
   -- a fault of theirs is that of the item
   pub fields_wrong : (e : ReadError) → head_at s ≡ Ok (heads.Map c, r) → Fails e (pairs is_known (item_at is_known (levels - 1)) (suc (length r)) c [] r) → Fails e (item_at is_known levels s)
   fields_wrong e is h = subst (Fails e) (sym (item_at-step is_known levels s r (heads.Map c) left is)) (goes_wrong e _ (λ p. Ok (dict (pairs_of p.0), p.1)) h)
-
--- ---- looking up
-
--- the value that is put in is found
-first_own : (key : List ℕ) (v : Item) (ps : Pairs) → first_value key (with_value key v ps) ≡ Some v
-first_own key v no_pairs = ap (λ b. cond b (Some v) None) ((bytes_eq-Decides key key).1 refl)
-first_own key v (pair k w ps) =
-    elim (is_text key k) as (λ b. is_text key k ≡ b → first_value key (cond b (pair k v ps) (pair k w (with_value key v ps))) ≡ Some v) [
-      | true ↦ λ f. ap (λ b. cond b (Some v) (first_value key ps)) f
-      | false ↦ λ f. ap (λ b. cond b (Some w) (first_value key (with_value key v ps))) f ∙ first_own key v ps
-    ] refl
-
--- a key is another text
-not_other : (key name : List ℕ) (k : Item) → bytes_eq key name ≡ false → is_text key k ≡ true → is_text name k ≡ false
-not_other key name k e f = ap (is_text name) (text_is key k f) ∙ e
-
--- what is found under another key
-first_other : (key name : List ℕ) (v : Item) (ps : Pairs) → bytes_eq key name ≡ false → first_value name (with_value key v ps) ≡ first_value name ps
-first_other key name v no_pairs e = ap (λ b. cond b (Some v) None) e
-first_other key name v (pair k w ps) e =
-    elim (is_text key k) as (λ b. is_text key k ≡ b → first_value name (cond b (pair k v ps) (pair k w (with_value key v ps))) ≡ first_value name (pair k w ps)) [
-      | true ↦ λ f. let other = not_other key name k e f in ap (λ b. cond b (Some v) (first_value name ps)) other ∙ sym (ap (λ b. cond b (Some w) (first_value name ps)) other)
-      | false ↦ λ _. ap (λ x. cond (is_text name k) (Some w) x) (first_other key name v ps e)
-    ] refl
-
--- the field of texts that are held apart
-pub field_own : (key : List ℕ) (ts : List (List ℕ)) (ps : Pairs) → field_of key (with_texts key (dict ps) (Some ts)) ≡ Some (texts_list ts)
-field_own key ts ps = ap (option_and_then unless_null) (first_own key (texts_list ts) ps)
-
--- another field
-pub field_other : (key name : List ℕ) (ts : List (List ℕ)) (ps : Pairs) → bytes_eq key name ≡ false → field_of name (with_texts key (dict ps) (Some ts)) ≡ field_of name (dict ps)
-field_other key name ts ps e = ap (option_and_then unless_null) (first_other key name (texts_list ts) ps e)

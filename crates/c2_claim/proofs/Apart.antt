@@ -9,7 +9,7 @@ use Rattle.c2_spec.specs.declared.cbor.Ref.{Ref}
 use Rattle.c2_spec.specs.declared.claim.Claim.{Claim}
 use Rattle.c2_spec.specs.declared.claim.ClaimError.{ClaimError}
 use Rattle.c2_cbor.specs.Apart.{with_texts}
-use Rattle.c2_cbor.proofs.HeldApart.{field_own, field_other}
+use Rattle.c2_claim.proofs.PutIn.{field_own, field_other}
 use Rattle.c2_claim.specs.Apart.{redactions_of, claim_by, claim_apart}
 
 -- each text of a list is one

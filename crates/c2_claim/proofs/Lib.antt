@@ -1,4 +1,5 @@
 pub mod Telling
 pub mod Absent
 pub mod Written
+mod PutIn
 pub mod Apart

@@ -5,27 +5,14 @@ use Rattle.std.specs.declared.alloc.Global.{Global}
 use Rattle.std.proofs.lemmas.Slice.Eq.{bytes_eq-Decides}
 use Rattle.c2_base.specs.declared.limits.TheConstants.{MAX_HEADER_ENTRIES}
 use Rattle.c2_spec.specs.C2pa.Message.{HasNoText}
-use Rattle.c2_spec.specs.Cbor.Item.{Item, uint, nint, bytes, text, list, dict, tag, simple, half, single, double, Pairs, no_pairs, pair, pairs_len}
+use Rattle.c2_spec.specs.Cbor.Item.{Item, text, dict, Pairs, no_pairs, pair, pairs_len}
 use Rattle.c2_spec.specs.Cbor.Lookup.{is_text, first_value}
 use Rattle.c2_spec.specs.Cbor.View.{view, pairs_view}
 use Rattle.c2_spec.specs.declared.cbor.Cbor.{Cbor, Map, the_lemmas}
+use Rattle.c2_spec.proofs.TextKeys.{text_is}
 use Rattle.c2_message.specs.Message.{AreFew, HasNoPadding}
 
--- the item is this text where the test says so
-same_text : (key : List ℕ) (k : Item) → is_text key k ≡ true → k ≡ text key
-same_text key (uint n) e = absurd (cc e)
-same_text key (nint n) e = absurd (cc e)
-same_text key (bytes b) e = absurd (cc e)
-same_text key (text t) e = ap text ((bytes_eq-Decides t key).0 e)
-same_text key (list vs) e = absurd (cc e)
-same_text key (dict ps) e = absurd (cc e)
-same_text key (tag n v) e = absurd (cc e)
-same_text key (simple a) e = absurd (cc e)
-same_text key (half n) e = absurd (cc e)
-same_text key (single n) e = absurd (cc e)
-same_text key (double n) e = absurd (cc e)
-
--- and the test says so of this text
+-- the test says so of this text
 is_same : (key : List ℕ) (k : Item) → k ≡ text key → is_text key k ≡ true
 is_same key k e = ap (is_text key) e ∙ (bytes_eq-Decides key key).1 refl
 
@@ -50,7 +37,7 @@ found_in false v behind h = inr h
 pub one_has : (key : List ℕ) (ps : Pairs) → is_some (first_value key ps) ≡ true → HasNoText key ps → ⊥
 one_has key no_pairs h none = cc h
 one_has key (pair k v ps) h none =
-    elim (found_in (is_text key k) v (first_value key ps) h) as (λ _. ⊥) [ inl e ↦ none.0 (same_text key k e) | inr e ↦ one_has key ps e none.1 ]
+    elim (found_in (is_text key k) v (first_value key ps) h) as (λ _. ⊥) [ inl e ↦ none.0 (text_is key k e) | inr e ↦ one_has key ps e none.1 ]
 
 -- how many pairs are seen of a list
 pub pairs_count : (ps : List (Cbor × Cbor)) → pairs_len (pairs_view ps) ≡ length ps

@@ -9,6 +9,7 @@ mod PanelRows
 mod Sign1Rows
 mod StoreRows
 mod UriRows
+pub mod TextKeys
 pub mod JumbfHeads
 pub mod JumbfParts
 pub mod JumbfOneTree
