@@ -3,7 +3,7 @@ ghost use Rattle.std.specs.Prelude.{◌≤◌, IfOk, length, take};
 ghost use Rattle.std.specs.Option.{ForSome};
 ghost use Rattle.c2_base.specs.Causes.{HasCause};
 ghost use Rattle.c2_base.specs.Source.{StaysSource};
-ghost use Rattle.c2_boxes.specs.Children.{IsRowWithin};
+ghost use Rattle.c2_box_rows.specs.Rows.{IsRowWithin};
 ghost use Rattle.c2_marks.specs.Marks.{IsFront};
 
 use c2_base::limits::PIECE_LEN;

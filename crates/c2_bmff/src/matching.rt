@@ -5,7 +5,7 @@ ghost use Rattle.c2_base.specs.Source.{StaysSource};
 ghost use Rattle.c2_boxes.specs.Causes.{IsCaused, OrOutside};
 ghost use Rattle.c2_marks.specs.Marks.{IsRangeWithin};
 ghost use Rattle.c2_bmff.specs.Matched.{AreAllExcluded, AreExcluded};
-ghost use Rattle.c2_boxes.specs.Roots.{IsBoxWithin};
+ghost use Rattle.c2_box_rows.specs.Rows.{IsBoxWithin};
 
 use crate::walking::mark_all;
 use c2_base::{MediaError, Ranges, Source};

@@ -7,10 +7,11 @@ ghost use Rattle.c2_spec.specs.Bmff.Hash.{Exclusion as AnyExclusion};
 ghost use Rattle.c2_spec.specs.Bmff.Paths.{nth_of};
 ghost use Rattle.c2_spec.specs.Cover.{is_excluded};
 ghost use Rattle.c2_boxes.specs.Causes.{IsCaused, OrOutside};
-ghost use Rattle.c2_boxes.specs.Children.{IsRowWithin, kids};
+ghost use Rattle.c2_box_rows.specs.Rows.{IsRowWithin};
+ghost use Rattle.c2_box_rows.specs.Children.{kids};
 ghost use Rattle.c2_marks.specs.Marks.{IsFront, IsRangeWithin, SharedPath, excludes_any, excludes_row, marks};
 ghost use Rattle.c2_bmff.specs.Trails.{IsLevelWithin, ahead, arrives, found, from_step, has_step, level_ahead, level_left, levels_left, no_exclusion, picks, through};
-ghost use Rattle.c2_boxes.specs.declared.root_boxes.RootBox.{RootBox};
+ghost use Rattle.c2_box_rows.specs.declared.row.RootBox.{RootBox};
 
 use crate::fronts::{fill_front, room_for};
 use c2_base::{MediaError, NoMemory, Range, Source};

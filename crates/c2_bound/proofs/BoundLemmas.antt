@@ -14,8 +14,8 @@ use Rattle.c2_cover.specs.Covers.{Covered, IsCoverOf, excluded_of, text_of}
 use Rattle.c2_cover.specs.Refused.{IsCause}
 use Rattle.c2_cover.specs.declared.cover.CoverError.{CoverError}
 use Rattle.c2_cover.specs.declared.cover.CoverError.TheVariants as cover_error
-use Rattle.c2_boxes.specs.Roots.{rows_of}
-use Rattle.c2_boxes.specs.declared.root_boxes.RootBox.{RootBox}
+use Rattle.c2_box_rows.specs.Rows.{rows_of}
+use Rattle.c2_box_rows.specs.declared.row.RootBox.{RootBox}
 use Rattle.c2_spec.specs.Bmff.Boxes.{Box, HasRoots}
 use Rattle.c2_spec.specs.Bmff.Cover.{IsBmffCover}
 use Rattle.c2_spec.specs.Bmff.Hash.{BmffHash, bmff_hash_of}

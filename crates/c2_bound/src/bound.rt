@@ -2,7 +2,7 @@
 ghost use Rattle.std.specs.Prelude.{◌≡◌, [], ◌∷◌, List, All, length, not, bytes_eq, IfOk, IfErr, OnOk, IsErr, Ok, Some, Option as AnyOption, Result as AnyResult};
 ghost use Rattle.std.specs.Option.{ForSome};
 ghost use Rattle.c2_base.specs.Source.{StaysSource};
-ghost use Rattle.c2_boxes.specs.Roots.{IsBoxWithin, rows_of};
+ghost use Rattle.c2_box_rows.specs.Rows.{IsBoxWithin, rows_of};
 ghost use Rattle.c2_spec.specs.Bmff.Boxes.{Box as AnyBox, HasRoots};
 ghost use Rattle.c2_spec.specs.Bmff.Hash.{bmff_hash_of};
 ghost use Rattle.c2_spec.specs.Cbor.View.{view};

@@ -6,14 +6,16 @@ use Rattle.std.proofs.lemmas.List.{length-drop, length-take-le, drop-take, drop-
 use Rattle.c2_spec.specs.Bmff.Boxes.{box_fault, stated_size, stated_len, stated_kind, stated_header_len}
 use Rattle.c2_spec.specs.Bmff.Paths.{PathStep, is_entered}
 use Rattle.c2_spec.specs.Cbor.Fields.{joined}
-use Rattle.c2_boxes.specs.Children.{ChildWalk, child_row, child_rows, is_child, kids, or_none}
+use Rattle.c2_boxes.specs.Children.{ChildWalk}
+use Rattle.c2_box_rows.specs.Children.{child_row, child_rows, is_child, kids, or_none}
 use Rattle.c2_boxes.specs.Heads.{IsHead}
 use Rattle.c2_boxes.specs.Headers.{IsHeader, header_fault}
-use Rattle.c2_boxes.specs.Provenance.{payload_at}
+use Rattle.c2_box_rows.specs.Rows.{payload_at}
 use Rattle.c2_boxes.specs.Roots.{row_at}
 use Rattle.c2_boxes.specs.declared.header.BoxHead.{BoxHead}
 use Rattle.c2_boxes.specs.declared.header.HeadError.{HeadError}
-use Rattle.c2_boxes.specs.declared.root_boxes.RootBox.{RootBox}
+use Rattle.c2_box_rows.specs.declared.row.RootBox.{RootBox}
+use Rattle.c2_box_rows.proofs.StandLemmas.{child_end, child_here}
 use Rattle.c2_boxes.proofs.HeaderLemmas.{head_of, fault_of}
 
 -- a header that runs to the end is no child's
@@ -31,17 +33,6 @@ pub bad_head : (rest bytes : List ℕ) (left : ℕ) (e : HeadError) → bytes �
 bad_head rest bytes left e b l fails = ap (λ f. not (is_some f) && not (stated_size rest == 0)) (fault_of 0 rest bytes left e b l fails)
 
 -- ---- the walk
-
--- one box and those after it
-pub child_here : (n at : ℕ) (rest : List ℕ) → 0 < length rest → length rest ≤ n → child_rows n at rest ≡ cond (is_child rest) (joined (Some (child_row at rest)) (child_rows (n - 1) (at + stated_len rest) (drop (stated_len rest) rest))) None
-child_here n at [] some few = absurd (omega arith)
-child_here zero at (x ∷ xs) some few = absurd (omega arith)
-child_here (suc n) at (x ∷ xs) some few = let e : n ≡ suc n - 1 = omega arith in ap (λ (m : ℕ). cond (is_child (x ∷ xs)) (joined (Some (child_row at (x ∷ xs))) (child_rows m (at + stated_len (x ∷ xs)) (drop (stated_len (x ∷ xs)) (x ∷ xs)))) None) e
-
--- no more boxes
-pub child_end : (n at : ℕ) → child_rows n at [] ≡ Some []
-child_end zero at = refl
-child_end (suc n) at = refl
 
 -- one more row before the others
 onto : (rows : List RootBox) (r : RootBox) (more : Option (List RootBox)) → option_map (λ (xs : List RootBox). rows ++ xs) (joined (Some r) more) ≡ option_map (λ (xs : List RootBox). (rows ++ r ∷ []) ++ xs) more

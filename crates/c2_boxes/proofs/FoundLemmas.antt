@@ -13,7 +13,7 @@ use Rattle.c2_boxes.specs.Provenance.{payload_part}
 use Rattle.c2_boxes.specs.Search.{FailsBy, Finds, Searched, StepsBy}
 use Rattle.c2_boxes.specs.declared.provenance.Part.{Part}
 use Rattle.c2_boxes.specs.declared.provenance.Part.TheVariants as part
-use Rattle.c2_boxes.specs.declared.root_boxes.RootBox.{RootBox}
+use Rattle.c2_box_rows.specs.declared.row.RootBox.{RootBox}
 use Rattle.c2_boxes.proofs.SearchLemmas.{Holder, tests, faults, other_by, other_fault, holds_by, fails_by, pass_more, pass_none}
 
 -- the part of a `uuid` box, by its tests

@@ -1,5 +1,4 @@
 pub mod Appending
-pub mod BoxThere
 pub mod ChildLemmas
 pub mod FoundLemmas
 pub mod HeaderLemmas
@@ -8,6 +7,5 @@ pub mod PlaceLemmas
 pub mod RowLemmas
 pub mod SearchLemmas
 pub mod SomeOutcome
-pub mod StandLemmas
 pub mod StoreBytes
 pub mod WalkLemmas

@@ -6,6 +6,7 @@ use Rattle.std.proofs.lemmas.Slice.Eq.{bytes_eq-Decides}
 use Rattle.std.specs.Int.{w32, w64, from_be_bytes}
 use Rattle.std.specs.Str.{bytes_eq}
 use Rattle.c2_spec.specs.Bmff.Store.{c2pa_user_type, has_store_box, store_len, most_store_bytes}
+use Rattle.c2_box_rows.proofs.Lists.{piece_of}
 use Rattle.c2_boxes.specs.Provenance.{first_part, payload_part, sized_part, store_by}
 use Rattle.c2_boxes.specs.declared.provenance.Part.{Part}
 use Rattle.c2_boxes.specs.declared.provenance.Part.TheVariants as part
@@ -20,12 +21,6 @@ short_piece at bytes want some few = go (bytes_eq (take (length want) (drop at b
         let size : length (take (length want) (drop at bytes)) ≡ length want = ap length same in
         omega (arith, size, few, some, length-take (length want) (drop at bytes), length-drop at bytes))
     go false e = e
-
--- a piece of the first bytes
-pub piece_of : (most from count : ℕ) (xs : List ℕ) → from + count ≤ most → take count (drop from (take most xs)) ≡ take count (drop from xs)
-piece_of most from count xs h =
-    let m : most ≡ from + (most - from) = omega (arith, h) in
-    ap (λ n. take count (drop from (take n xs))) m ∙ ap (take count) (drop-take from (most - from) xs) ∙ take-take count (most - from) (drop from xs) (omega (arith, h))
 
 -- a piece of the first 53
 piece : (from count : ℕ) (xs : List ℕ) → from + count ≤ 53 → take count (drop from (take 53 xs)) ≡ take count (drop from xs)

@@ -11,9 +11,10 @@ use Rattle.c2_spec.specs.Bmff.Boxes.{AreBoxForms, Box, IsBox, box_bytes, box_len
 use Rattle.c2_spec.specs.Bmff.Paths.{PlacedBox, placed_from}
 use Rattle.c2_spec.proofs.BmffOneList.{first_box, other_boxes}
 use Rattle.c2_boxes.specs.Places.{HasRoom, place_at, place_behind}
-use Rattle.c2_boxes.specs.Roots.{FillSource, IsBoxWithin, row_of, rows_of, skipped_len}
+use Rattle.c2_boxes.specs.Roots.{FillSource, skipped_len}
+use Rattle.c2_box_rows.specs.Rows.{IsBoxWithin, row_of, rows_of}
 use Rattle.c2_spec.specs.Bmff.Writing.{before_mfra, insert_place, is_mfra, less, mfra_kind, open_end, place_or, place_without}
-use Rattle.c2_boxes.specs.declared.root_boxes.RootBox.{RootBox}
+use Rattle.c2_box_rows.specs.declared.row.RootBox.{RootBox}
 use Rattle.c2_spec.proofs.BmffSizes.{bytes_size}
 use Rattle.c2_boxes.proofs.WalkLemmas.{fill_end, fill_within_by}
 
@@ -142,11 +143,6 @@ pub inside_middle : (r : Result ℕ MediaError) (rows : List RootBox) (skip : Op
 inside_middle r rows skip i e s room = inside_by r (place_behind (skipped_len (Some i) rows) rows) rows skip (Some i) e s (ok_sizes (place_behind (skipped_len (Some i) rows) rows) rows (skipped_len (Some i) rows) (λ size f. behind_in size 0 (skipped_len (Some i) rows) rows f room))
 
 -- ---- the place is that of the definition
-
--- boxes in their forms are boxes
-pub form_boxes : (bs : List Box) → AreBoxForms bs → AllByRecursion IsBox bs
-form_boxes [] f = tt
-form_boxes (b ∷ bs) f = (first_box b bs f, form_boxes bs (other_boxes b bs f))
 
 -- the bytes of boxes with one more before them
 len_more : (b : Box) (bs : List Box) → IsBox b → boxes_len (b ∷ bs) ≡ box_len b + boxes_len bs

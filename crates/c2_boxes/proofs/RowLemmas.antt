@@ -8,14 +8,14 @@ use Rattle.c2_base.specs.declared.media.Found.{Found}
 use Rattle.c2_base.specs.declared.media.MediaError.{MediaError}
 use Rattle.c2_spec.specs.Bmff.Boxes.{Box, HasRoots, box_bytes, box_len, boxes_len, uuid_kind}
 use Rattle.c2_spec.specs.Bmff.Store.{ProvenanceFault}
-use Rattle.c2_boxes.specs.Provenance.{payload_at, payload_part}
-use Rattle.c2_boxes.specs.Children.{IsRowWithin}
-use Rattle.c2_boxes.specs.Roots.{AreRootsOf, HasHeader, IsBoxWithin, row_of, rows_of}
+use Rattle.c2_box_rows.specs.Rows.{payload_at, IsRowWithin, HasHeader, IsBoxWithin, row_of, rows_of}
+use Rattle.c2_boxes.specs.Provenance.{payload_part}
+use Rattle.c2_boxes.specs.Roots.{AreRootsOf}
 use Rattle.c2_boxes.specs.Search.{FailsBy, IsStoreOr, Searched, SearchedTo, StepsBy}
-use Rattle.c2_boxes.specs.declared.root_boxes.RootBox.{RootBox}
+use Rattle.c2_box_rows.specs.declared.row.RootBox.{RootBox}
 use Rattle.c2_boxes.proofs.FoundLemmas.{searched_fails, searched_none, searched_not, searched_uuid}
 use Rattle.c2_boxes.proofs.SearchLemmas.{BoxAt, box_at, payload_is}
-use Rattle.c2_boxes.proofs.WalkLemmas.{length-rows}
+use Rattle.c2_box_rows.proofs.Lists.{length-rows}
 
 -- A row, and its box in the file.
 record RowAt (file : List ℕ) (boxes : List Box) (n : ℕ) (r : RootBox) : Type 0 where
@@ -76,7 +76,3 @@ rows_end file rows n found done roots s =
     go : (found : Option Found) → Searched roots.boxes found → IsStoreOr file (Ok found)
     go None h = record { roots = roots.boxes; has_roots = roots.has_roots; none = h.finds }
     go (Some f) h = record { roots = roots.boxes; has_roots = roots.has_roots; holds = h.finds }
-
--- boxes that end in a source and have headers are rows inside it
-pub rows_within : (size : ℕ) (rows : List RootBox) → All (IsBoxWithin size) rows → All HasHeader rows → All (IsRowWithin size) rows
-rows_within size rows ends headed k d lt = let h : HasHeader (get_or rows k d) = headed k d lt in (ends k d lt, h.0, h.1)

@@ -10,12 +10,11 @@ use Rattle.c2_spec.specs.Bmff.Boxes.{Box, IsBox, AreBoxForms, box_bytes, box_len
 use Rattle.c2_spec.specs.Bmff.Paths.{placed_from}
 use Rattle.c2_spec.specs.Bmff.Store.{provenance_fault, AllRootsPass}
 use Rattle.c2_spec.proofs.BmffOneList.{first_box, other_boxes}
-use Rattle.c2_boxes.specs.Provenance.{payload_at}
-use Rattle.c2_boxes.specs.Roots.{row_of}
+use Rattle.c2_box_rows.specs.Rows.{payload_at, row_of}
 use Rattle.c2_boxes.specs.Search.{FailsBy}
 use Rattle.c2_boxes.specs.declared.provenance.Part.{Part}
 use Rattle.c2_boxes.specs.declared.provenance.Part.TheVariants as part
-use Rattle.c2_boxes.specs.declared.root_boxes.RootBox.{RootBox}
+use Rattle.c2_box_rows.specs.declared.row.RootBox.{RootBox}
 use Rattle.c2_spec.proofs.BmffSizes.{bytes_size, header_size}
 
 -- ---- the box of a row

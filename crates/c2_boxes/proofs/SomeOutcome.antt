@@ -15,12 +15,12 @@ use Rattle.c2_spec.specs.declared.reason.Reason.{Reason}
 use Rattle.c2_spec.specs.declared.reason.Reason.TheVariants as why
 use Rattle.c2_spec.proofs.BmffTests.{six, file_by, len_by}
 use Rattle.c2_boxes.specs.Provenance.{payload_part}
-use Rattle.c2_boxes.specs.Roots.{BeginsWith, row_of}
+use Rattle.c2_box_rows.specs.Rows.{BeginsWith, row_of}
 use Rattle.c2_boxes.specs.Search.{FailsBy, Searched, StepsBy}
 use Rattle.c2_boxes.specs.declared.provenance.Part.{Part}
 use Rattle.c2_boxes.specs.declared.provenance.Part.TheVariants as part
-use Rattle.c2_boxes.specs.declared.root_boxes.RootBox.{RootBox}
-use Rattle.c2_boxes.proofs.BoxThere.{AreBytes, bytes-drop, box_there}
+use Rattle.c2_box_rows.specs.declared.row.RootBox.{RootBox}
+use Rattle.c2_box_rows.proofs.BoxThere.{AreBytes, bytes-drop, box_there}
 use Rattle.c2_boxes.proofs.FoundLemmas.{searched_fails, searched_none, searched_not, searched_uuid}
 use Rattle.c2_boxes.proofs.WalkLemmas.{all_more, forms_more}
 use Rattle.c2_spec.proofs.BmffSizes.{bytes_size}

@@ -3,7 +3,7 @@ use Rattle.std.proofs.Common.{◌≡◌, ℕ, suc, ◌+◌, ◌-◌, ◌^◌, �
 use Rattle.std.proofs.lemmas.Bool.{le-ltb}
 use Rattle.std.proofs.lemmas.Bool.Decides.{Decides-ltb}
 use Rattle.std.proofs.lemmas.Grind.{flat_map-append}
-use Rattle.std.proofs.lemmas.List.{append-nil, append_assoc, map-append, length-map, drop_all, drop-drop, length-drop, length-take}
+use Rattle.std.proofs.lemmas.List.{append-nil, append_assoc, map-append, drop_all, drop-drop, length-drop, length-take}
 use Rattle.std.proofs.lemmas.Slice.Eq.{bytes_eq-Decides}
 use Rattle.std.specs.Prelude.{All}
 use Rattle.std.specs.List.{flat_map, AllByRecursion}
@@ -16,10 +16,12 @@ use Rattle.c2_spec.specs.Bmff.Paths.{PlacedBox, placed_from}
 use Rattle.c2_spec.proofs.BmffSizes.{bytes_size}
 use Rattle.c2_boxes.specs.Causes.{OrOutside}
 use Rattle.c2_boxes.specs.Heads.{IsHead}
-use Rattle.c2_boxes.specs.Roots.{AreRootsOf, BeginsWith, FillSource, HasHeader, IsBoxWithin, Walks, row_at, row_of, rows_of}
+use Rattle.c2_boxes.specs.Roots.{AreRootsOf, FillSource, Walks, row_at}
+use Rattle.c2_box_rows.specs.Rows.{BeginsWith, HasHeader, IsBoxWithin, row_of, rows_of}
 use Rattle.c2_boxes.specs.declared.header.BoxHead.{BoxHead}
-use Rattle.c2_boxes.specs.declared.root_boxes.RootBox.{RootBox}
-use Rattle.c2_boxes.proofs.BoxThere.{AreBytes, bytes-drop, box_there}
+use Rattle.c2_box_rows.specs.declared.row.RootBox.{RootBox}
+use Rattle.c2_box_rows.proofs.BoxThere.{AreBytes, bytes-drop, box_there}
+use Rattle.c2_box_rows.proofs.Lists.{length-rows}
 
 -- one more box that is one of them
 pub all_more : (bs : List Box) (b : Box) → AllByRecursion IsSizedBox bs → IsSizedBox b → AllByRecursion IsSizedBox (bs ++ b ∷ [])
@@ -39,15 +41,6 @@ placed_more p (c ∷ cs) b s =
     let size : boxes_len (c ∷ cs) ≡ box_len c + boxes_len cs = length-append (box_bytes c) (flat_map box_bytes cs) ∙ ap (λ n. n + boxes_len cs) (bytes_size c s.0.is_box) in
     let e : p + box_len c + boxes_len cs ≡ p + boxes_len (c ∷ cs) = omega (arith, size) in
     ap (λ (ys : List PlacedBox). record { at = p; box = c } ∷ ys) (placed_more (p + box_len c) cs b s.1 ∙ ap (λ (n : ℕ). placed_from (p + box_len c) cs ++ record { at = n; box = b } ∷ []) e)
-
--- as many places as boxes
-length-placed : (p : ℕ) (bs : List Box) → length (placed_from p bs) ≡ length bs
-length-placed p [] = refl
-length-placed p (b ∷ bs) = ap suc (length-placed (p + box_len b) bs)
-
--- and as many rows
-pub length-rows : (bs : List Box) → length (rows_of bs) ≡ length bs
-length-rows bs = length-map (placed_from 0 bs) row_of ∙ length-placed 0 bs
 
 -- the row of a header is the row of its box
 row_same : (at : ℕ) (h : BoxHead) (b : Box) → box_len b ≡ h.length → header_len b.form ≡ h.header → b.kind ≡ h.kind → is_to_end b.form ≡ h.to_end → row_at at h ≡ row_of (record { at = at; box = b })

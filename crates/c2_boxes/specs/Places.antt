@@ -5,7 +5,7 @@ use Rattle.std.specs.Str.{bytes_eq}
 use Rattle.c2_base.specs.declared.media.MediaError.{MediaError}
 use Rattle.c2_base.specs.declared.media.MediaError.TheVariants.{BadBox}
 use Rattle.c2_spec.specs.Bmff.Writing.{mfra_kind}
-use Rattle.c2_boxes.specs.declared.root_boxes.RootBox.{RootBox}
+use Rattle.c2_box_rows.specs.declared.row.RootBox.{RootBox}
 
 -- the place at a last box, where so many bytes before it are left out: before `mfra`, else behind the box, if it says its size
 abbrev pub place_at : RootBox → ℕ → Result ℕ MediaError

@@ -5,7 +5,7 @@ use Rattle.std.specs.Str.{bytes_eq}
 use Rattle.c2_spec.specs.Bmff.Store.{c2pa_user_type, is_version_zero, is_for_manifest, has_store_box, store_len, most_store_bytes}
 use Rattle.c2_boxes.specs.declared.provenance.Part.{Part}
 use Rattle.c2_boxes.specs.declared.provenance.Part.TheVariants as part
-use Rattle.c2_boxes.specs.declared.root_boxes.RootBox.{RootBox}
+use Rattle.c2_box_rows.specs.declared.row.RootBox.{RootBox}
 
 -- what a `uuid` box with this payload is, where a store was found before or not
 unfoldable pub payload_part : Bool → List ℕ → Part
@@ -18,10 +18,6 @@ payload_part found payload =
     else if nat_lt most_store_bytes (store_len (drop 16 payload))
     then part.TooLarge (store_len (drop 16 payload))
     else part.Holds (store_len (drop 16 payload))
-
--- the payload of a root box of a file
-abbrev pub payload_at : List ℕ → RootBox → List ℕ
-payload_at file r = take (r.length - r.header) (drop (r.start + r.header) file)
 
 -- the size in the header of the store's box, which begins at place 37
 abbrev pub store_size : List ℕ → ℕ

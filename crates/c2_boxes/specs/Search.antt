@@ -9,10 +9,10 @@ use Rattle.c2_base.specs.declared.media.MediaError.TheVariants.{TwoStores, BadPr
 use Rattle.c2_spec.specs.Bmff.Boxes.{Box, HasRoots}
 use Rattle.c2_spec.specs.Bmff.Store.{is_other_box, AllRootsPass, HoldsBmffStore, HasBmffStore, HasNoBmffStore, ProvenanceFault}
 use Rattle.c2_boxes.specs.Causes.{OrOutside}
-use Rattle.c2_boxes.specs.Roots.{rows_of}
+use Rattle.c2_box_rows.specs.Rows.{rows_of}
 use Rattle.c2_boxes.specs.declared.provenance.Part.{Part}
 use Rattle.c2_boxes.specs.declared.provenance.Part.TheVariants as part
-use Rattle.c2_boxes.specs.declared.root_boxes.RootBox.{RootBox}
+use Rattle.c2_box_rows.specs.declared.row.RootBox.{RootBox}
 
 -- the file's store in its range, none, or the first test of its C2PA boxes that fails, unless the source failed or memory ran out
 abbrev pub IsStoreOr : List ℕ → Result (Option Found) MediaError → Type 0

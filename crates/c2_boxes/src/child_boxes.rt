@@ -4,11 +4,14 @@ ghost use Rattle.std.specs.Option.{ForSome};
 ghost use Rattle.c2_base.specs.Causes.{HasCause};
 ghost use Rattle.c2_base.specs.Source.{StaysSource};
 ghost use Rattle.c2_boxes.specs.Causes.{IsCaused, OrOutside};
-ghost use Rattle.c2_boxes.specs.Children.{IsChildHead, IsHeadWithin, IsRowWithin, kids, rows_len};
+ghost use Rattle.c2_boxes.specs.Children.{IsChildHead, IsHeadWithin, rows_len};
+ghost use Rattle.c2_box_rows.specs.Rows.{IsRowWithin};
+ghost use Rattle.c2_box_rows.specs.Children.{kids};
 
 use crate::header::{BoxHead, box_head};
-use crate::root_boxes::{RootBox, fill_first, keep};
+use crate::root_boxes::{fill_first, keep};
 use c2_base::{Failed, MediaError, Source};
+use c2_box_rows::RootBox;
 use std::alloc::Global;
 
 // The header of the box that begins at `at`, where `left` bytes are left of what holds it; None where none stands there that says

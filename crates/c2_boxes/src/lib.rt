@@ -15,6 +15,7 @@ mod root_boxes;
 pub mod types;
 mod writing;
 
+pub use c2_box_rows::RootBox;
 pub use child_boxes::children;
 pub use header::{BoxHead, HeadError, head};
 pub use laws::{
@@ -24,5 +25,5 @@ pub use laws::{
 pub use placing::insert_place;
 pub use provenance::locate;
 pub use reading::roots;
-pub use root_boxes::{RootBox, fill_first};
+pub use root_boxes::fill_first;
 pub use writing::write_box;

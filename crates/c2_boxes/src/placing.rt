@@ -4,8 +4,9 @@ ghost use Rattle.c2_boxes.specs.Places.{HasRoom, place_at, place_behind};
 ghost use Rattle.c2_boxes.specs.Roots.{AreRootsOf, FillSource, skipped_len};
 ghost use Rattle.c2_spec.specs.Bmff.Writing.{place_without};
 
-use crate::root_boxes::{RootBox, Roots};
+use crate::root_boxes::Roots;
 use c2_base::MediaError;
+use c2_box_rows::RootBox;
 
 // The type of the box that tells where fragments are.
 const MFRA: [u8; 4] = *b"mfra";

@@ -4,16 +4,17 @@ ghost use Rattle.std.specs.Option.{ForSome};
 ghost use Rattle.c2_base.specs.Causes.{HasCause};
 ghost use Rattle.c2_base.specs.Source.{StaysSource};
 ghost use Rattle.c2_boxes.specs.Causes.{IsCaused, OrOutside};
-ghost use Rattle.c2_boxes.specs.Provenance.{first_part, payload_at, payload_part, store_by};
-ghost use Rattle.c2_boxes.specs.Children.{IsRowWithin};
-ghost use Rattle.c2_boxes.specs.Roots.{AreRootsOf, IsBoxWithin};
+ghost use Rattle.c2_boxes.specs.Provenance.{first_part, payload_part, store_by};
+ghost use Rattle.c2_box_rows.specs.Rows.{payload_at, IsRowWithin, IsBoxWithin};
+ghost use Rattle.c2_boxes.specs.Roots.{AreRootsOf};
 ghost use Rattle.c2_base.specs.declared.limits.TheConstants.{MAX_STORE_LEN};
 ghost use Rattle.c2_boxes.specs.Search.{FailsBy, IsFoundWithin, IsPartWithin, IsStoreOr, StepsBy, SearchedTo};
 
 use crate::header::{UUID, u32_at, u64_at};
-use crate::root_boxes::{RootBox, Roots, fill_first};
+use crate::root_boxes::{Roots, fill_first};
 use c2_base::limits::MAX_STORE_LEN;
 use c2_base::{Blob, Failed, Found, MediaError, Source, fill_at};
+use c2_box_rows::RootBox;
 use std::alloc::Global;
 
 // The user type of the boxes of C2PA.

@@ -3,8 +3,9 @@ ghost use Rattle.std.specs.Prelude.{◌≡◌, ◌^◌, ◌<◌, All, OnOk, IfOk
 ghost use Rattle.std.specs.Option.{ForSome};
 ghost use Rattle.c2_base.specs.Source.{StaysSource};
 ghost use Rattle.c2_boxes.specs.Causes.{IsCaused, OrOutside};
-ghost use Rattle.c2_boxes.specs.Roots.{AreRootsOf, FillSource, IsBoxWithin};
-ghost use Rattle.c2_spec.specs.Bmff.Store.{FirstBmffFault};
+ghost use Rattle.c2_boxes.specs.Roots.{AreRootsOf, FillSource};
+ghost use Rattle.c2_box_rows.specs.Rows.{IsBoxWithin};
+ghost use Rattle.c2_box_rows.specs.Faults.{FirstRootsFault};
 
 use crate::root_boxes::{Roots, is_bmff, walk};
 use c2_base::limits::FILE_LEN_LIMIT;
@@ -20,7 +21,7 @@ pub fn roots<S: Source>(alloc: Global, source: &mut S) -> Result<Roots, MediaErr
     ensures found { IfOk result
         (λ roots. ForSome (S.known source.old) (λ file. AreRootsOf file roots)) }
     ensures refused { IfErr result
-        (λ e. ForSome (S.known source.old) (λ file. OrOutside e (FirstBmffFault file e))) }
+        (λ e. ForSome (S.known source.old) (λ file. OrOutside e (FirstRootsFault file e))) }
     ensures inside { IfOk result (All (IsBoxWithin (S.len source.old))) }
     ensures fill { IfOk result (FillSource (S.len source.old) 0) }
     ensures small { OnOk result (S.len source.old < 2 ^ 62) }

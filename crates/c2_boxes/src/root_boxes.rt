@@ -5,33 +5,19 @@ ghost use Rattle.c2_base.specs.Causes.{HasCause};
 ghost use Rattle.c2_base.specs.Source.{StaysSource};
 ghost use Rattle.c2_boxes.specs.Causes.{IsCaused, OrOutside};
 ghost use Rattle.c2_boxes.specs.Heads.{IsHeadOr};
-ghost use Rattle.c2_boxes.specs.Roots.{AreRootsOf, FillFile, FillSource, HasHeader, row_at};
+ghost use Rattle.c2_boxes.specs.Roots.{AreRootsOf, FillFile, FillSource, row_at};
+ghost use Rattle.c2_box_rows.specs.Rows.{HasHeader};
 ghost use Rattle.c2_spec.specs.Bmff.Boxes.{RootFault, begins_bmff};
-ghost use Rattle.c2_spec.specs.Bmff.Store.{FirstBmffFault};
 
 use crate::header::{BoxHead, HeadError, box_head};
 use c2_base::limits::{FILE_LEN_LIMIT, MAX_ROOT_BOXES};
 use c2_base::{Failed, MediaError, NoMemory, Source, fill_at};
+use c2_box_rows::RootBox;
 use std::alloc::Global;
 use std::marker::Model;
 
 // The type of the first box.
 const FTYP: [u8; 4] = *b"ftyp";
-
-/// A root box of a BMFF file.
-#[derive(Clone, Copy, Debug, PartialEq, Eq)]
-pub struct RootBox {
-    /// The place in the file where the box begins, in bytes.
-    pub start: u64,
-    /// The box's length in bytes, with its header.
-    pub length: u64,
-    /// The header's length in bytes.
-    pub header: u64,
-    /// The box's type.
-    pub kind: [u8; 4],
-    /// The box states no size and runs to the end of the file.
-    pub to_end: bool,
-}
 
 /// The root boxes of a BMFF file, in order.
 #[derive(Debug, Drop)]
@@ -41,8 +27,9 @@ pub struct Roots {
 
 impl Model for Roots {
     ghost use Rattle.std.specs.Prelude.{List, All};
-    ghost use Rattle.c2_boxes.specs.Roots.{FillFile, HasHeader};
-    ghost use Rattle.c2_boxes.specs.declared.root_boxes.RootBox.{RootBox};
+    ghost use Rattle.c2_boxes.specs.Roots.{FillFile};
+    ghost use Rattle.c2_box_rows.specs.Rows.{HasHeader};
+    ghost use Rattle.c2_box_rows.specs.declared.row.RootBox.{RootBox};
 
     ghost Value = { List RootBox };
 

@@ -13,9 +13,10 @@ use Rattle.c2_spec.specs.Bmff.Writing.{base_roots, freed, is_file_end, same, wit
 use Rattle.c2_spec.specs.PutIn.{taken_out}
 use Rattle.c2_spec.proofs.BmffOneList.{roots_once}
 use Rattle.c2_spec.proofs.BmffSizes.{bytes_size}
-use Rattle.c2_boxes.specs.Roots.{AreRootsOf, row_of, rows_of}
-use Rattle.c2_boxes.specs.declared.root_boxes.RootBox.{RootBox}
-use Rattle.c2_boxes.proofs.PlaceLemmas.{form_boxes}
+use Rattle.c2_boxes.specs.Roots.{AreRootsOf}
+use Rattle.c2_box_rows.specs.Rows.{row_of, rows_of}
+use Rattle.c2_box_rows.specs.declared.row.RootBox.{RootBox}
+use Rattle.c2_box_rows.proofs.StandLemmas.{form_boxes}
 use Rattle.c2_cleared.specs.Clears.{ClearsTo, cleared, clearing_in, ends_file}
 use Rattle.c2_cleared.specs.declared.clearing.Clearing.{Clearing}
 use Rattle.c2_cleared.specs.declared.clearing.Clearing.TheVariants.{Cut, Freed}

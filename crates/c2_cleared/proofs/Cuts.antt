@@ -6,7 +6,7 @@ use Rattle.std.proofs.lemmas.List.{drop-append-le, drop-drop, drop_all, drop_at,
 use Rattle.c2_base.specs.Source.{ReadsAt}
 use Rattle.c2_base.specs.declared.values.Range.{Range}
 use Rattle.c2_spec.specs.PutIn.{taken_out}
-use Rattle.c2_boxes.proofs.PartLemmas.{piece_of}
+use Rattle.c2_box_rows.proofs.Lists.{piece_of}
 
 -- before the range a file stays
 cut_front : (start len pos n : ℕ) (file : List ℕ) → pos + n ≤ start → pos + n ≤ length file → take n (drop pos (taken_out start len file)) ≡ take n (drop pos file)

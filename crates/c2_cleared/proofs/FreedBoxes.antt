@@ -6,7 +6,7 @@ use Rattle.std.proofs.lemmas.List.{length-replicate}
 use Rattle.c2_spec.specs.Bmff.Boxes.{SizeForm, short, long, to_end, Box, IsBox, box_bytes, box_len, header_bytes, header_len}
 use Rattle.c2_spec.specs.Bmff.Writing.{freed}
 use Rattle.c2_spec.proofs.BmffSizes.{header_size}
-use Rattle.c2_boxes.specs.declared.root_boxes.RootBox.{RootBox}
+use Rattle.c2_box_rows.specs.declared.row.RootBox.{RootBox}
 use Rattle.c2_cleared.specs.Clears.{freed_in, written_at}
 use Rattle.c2_cleared.specs.Written.{put_over}
 

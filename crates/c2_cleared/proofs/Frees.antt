@@ -4,7 +4,7 @@ use Rattle.std.specs.Option.{ForSome}
 use Rattle.std.proofs.lemmas.List.{drop_at, length-drop, length-take, take_at}
 use Rattle.std.specs.Prelude.{codes, replicate}
 use Rattle.c2_base.specs.Source.{ReadsAt}
-use Rattle.c2_boxes.specs.declared.root_boxes.RootBox.{RootBox}
+use Rattle.c2_box_rows.specs.declared.row.RootBox.{RootBox}
 use Rattle.c2_cleared.specs.Clears.{freed_in, written_at, written_from}
 use Rattle.c2_cleared.specs.Written.{written_part}
 

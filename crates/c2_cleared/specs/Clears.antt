@@ -5,7 +5,7 @@ use Rattle.c2_base.specs.declared.values.Range.{Range}
 use Rattle.c2_spec.specs.Bmff.Boxes.{Box}
 use Rattle.c2_spec.specs.Bmff.Writing.{IsBmffBase, mfra_kind}
 use Rattle.c2_spec.specs.PutIn.{taken_out}
-use Rattle.c2_boxes.specs.declared.root_boxes.RootBox.{RootBox}
+use Rattle.c2_box_rows.specs.declared.row.RootBox.{RootBox}
 use Rattle.c2_cleared.specs.declared.clearing.Clearing.{Clearing}
 use Rattle.c2_cleared.specs.declared.clearing.Clearing.TheVariants.{Cut, Freed}
 

@@ -2,7 +2,7 @@
 ghost use Rattle.std.specs.Prelude.{◌≡◌, ◌≤◌, ◌∷◌, ℕ, List, Ok, length, if◌then◌else◌};
 ghost use Rattle.c2_boxes.specs.Roots.{AreRootsOf};
 ghost use Rattle.c2_boxes.specs.Search.{IsStoreOr};
-ghost use Rattle.c2_boxes.specs.declared.root_boxes.RootBox.{RootBox};
+ghost use Rattle.c2_box_rows.specs.declared.row.RootBox.{RootBox};
 ghost use Rattle.c2_cleared.specs.Clears.{ClearsTo, clearing_in, ends_file};
 ghost use Rattle.c2_cleared.specs.declared.clearing.Clearing.TheVariants.{Cut, Freed};
 

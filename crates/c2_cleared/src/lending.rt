@@ -5,7 +5,7 @@ ghost use Rattle.c2_base.specs.Source.{StaysSource};
 ghost use Rattle.c2_boxes.specs.Causes.{IsCaused, OrOutside};
 ghost use Rattle.c2_boxes.specs.Roots.{AreRootsOf, FillSource};
 ghost use Rattle.c2_cleared.specs.Clears.{cleared, cleared_len};
-ghost use Rattle.c2_spec.specs.Bmff.Store.{FirstBmffFault};
+ghost use Rattle.c2_box_rows.specs.Faults.{FirstRootsFault};
 
 use crate::clearing::Clearing;
 use crate::source::{Cleared, Named};
@@ -30,7 +30,7 @@ fn roots_left<'m, S: Source, K: Named>(
     ensures found { IfOk found.new (λ roots. ForSome (S.known media.old) (λ file.
         AreRootsOf (cleared clearing file) roots)) }
     ensures refused { IfErr found.new (λ e. ForSome (S.known media.old) (λ file.
-        OrOutside e (FirstBmffFault (cleared clearing file) e))) }
+        OrOutside e (FirstRootsFault (cleared clearing file) e))) }
     ensures fill { IfOk found.new (FillSource (cleared_len clearing (S.len media.old)) 0) }
     ensures small { OnOk found.new (cleared_len clearing (S.len media.old) < 2 ^ 62) }
     ensures stays { StaysSource S.len S.known S.faults media.old result.now }
@@ -53,7 +53,7 @@ pub fn left_roots<S: Source>(
     ensures found { IfOk result (λ roots. ForSome (S.known media.old) (λ file.
         AreRootsOf (cleared clearing file) roots)) }
     ensures refused { IfErr result (λ e. ForSome (S.known media.old) (λ file.
-        OrOutside e (FirstBmffFault (cleared clearing file) e))) }
+        OrOutside e (FirstRootsFault (cleared clearing file) e))) }
     ensures fill { IfOk result (FillSource (cleared_len clearing (S.len media.old)) 0) }
     ensures small { OnOk result (cleared_len clearing (S.len media.old) < 2 ^ 62) }
     ensures stays { StaysSource S.len S.known S.faults media.old media.new }

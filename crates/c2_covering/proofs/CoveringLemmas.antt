@@ -1,8 +1,8 @@
 -- The text that a binding covers.
 use Rattle.std.proofs.Common.{◌≡◌, ◌⊎◌, inl, inr, ℕ, List, length, Bool, true, false, Option, Some, None, Result, Ok, Err, IfOk, IfSome, option_map, refl, sym, ap, ◌∙◌, subst}
 use Rattle.c2_base.specs.declared.values.Range.{Range}
-use Rattle.c2_boxes.specs.Roots.{rows_of}
-use Rattle.c2_boxes.specs.declared.root_boxes.RootBox.{RootBox}
+use Rattle.c2_box_rows.specs.Rows.{rows_of}
+use Rattle.c2_box_rows.specs.declared.row.RootBox.{RootBox}
 use Rattle.c2_cover.specs.Covers.{Covered, IsCoverOf, excluded_of, text_of}
 use Rattle.c2_rules.proofs.BindingLaws.{one_cover}
 use Rattle.c2_rules.specs.Binding.{Binding, Media, IsBinding, IsBoxBinding, IsLabelledBinding, IsRead, IsItemOf, HasBinding, binding_label, data_binding}

@@ -1,8 +1,8 @@
 -- What is left of a file.
 use Rattle.std.proofs.Common.{◌≡◌, ℕ, List, length}
 use Rattle.c2_boxed.specs.Laws.{CoverIsBuiltText}
-use Rattle.c2_boxes.specs.Roots.{rows_of}
-use Rattle.c2_boxes.specs.declared.root_boxes.RootBox.{RootBox}
+use Rattle.c2_box_rows.specs.Rows.{rows_of}
+use Rattle.c2_box_rows.specs.declared.row.RootBox.{RootBox}
 use Rattle.c2_cover.specs.BmffCovers.{IsBmffCoverOf}
 use Rattle.c2_cover.specs.Covers.{Covered, excluded_of, text_of}
 use Rattle.c2_spec.specs.Bmff.Boxes.{Box, HasRoots}

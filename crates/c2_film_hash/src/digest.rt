@@ -2,7 +2,7 @@
 ghost use Rattle.std.specs.Prelude.{◌≡◌, ◌<◌, List, All, IfErr, IfOk, OnOk, length};
 ghost use Rattle.std.specs.Option.{ForSome};
 ghost use Rattle.c2_base.specs.Source.{StaysSource};
-ghost use Rattle.c2_boxes.specs.Roots.{IsBoxWithin, rows_of};
+ghost use Rattle.c2_box_rows.specs.Rows.{IsBoxWithin, rows_of};
 ghost use Rattle.c2_cover.specs.BmffCovers.{IsBmffCoverOf};
 ghost use Rattle.c2_film_hash.specs.Causes.{IsFilmCause};
 ghost use Rattle.c2_spec.specs.Bmff.Boxes.{Box, HasRoots};

@@ -5,7 +5,7 @@ use Rattle.std.specs.List.{list_any}
 use Rattle.std.proofs.lemmas.List.{length-drop, length-take-le, drop-drop, take-append-drop, take_more, take-take, drop-take}
 use Rattle.c2_base.specs.declared.values.Range.{Range}
 use Rattle.c2_marks.specs.Marks.{in_row, in_row_part, stands_at}
-use Rattle.c2_boxes.specs.declared.root_boxes.RootBox.{RootBox}
+use Rattle.c2_box_rows.specs.declared.row.RootBox.{RootBox}
 use Rattle.c2_spec.specs.Bmff.Hash.{in_part}
 
 -- three tests that must all hold may be joined either way
@@ -32,25 +32,6 @@ stands_split file at value n inside fits =
     (ap (λ (xs : List ℕ). bytes_eq xs (drop n value)) (ap (λ k. drop n (take k (drop at file))) rest ∙ drop-take n (length (drop n value)) (drop at file) ∙ ap (take (length (drop n value))) (drop-drop n at file)))
 
 -- ---- lists
-
--- three tests of which one must hold may be joined either way
-pub or_join : (a b c : Bool) → ((a || b) || c) ≡ (a || (b || c))
-or_join true b c = refl
-or_join false b c = refl
-
--- `false` adds nothing
-pub or_false : (b : Bool) → (b || false) ≡ b
-or_false true = refl
-or_false false = refl
-
--- some member of a list with one more at its end passes where one of the list or that one does
-pub any_append : {A : Type 0} (p : A → Bool) (xs : List A) (x : A) → list_any p (xs ++ x ∷ []) ≡ (list_any p xs || p x)
-any_append p [] x = or_false (p x)
-any_append p (y ∷ ys) x = ap (λ b. p y || b) (any_append p ys x) ∙ sym (or_join (p y) (list_any p ys) (p x))
-
--- one more member
-pub any_more : {A : Type 0} (p : A → Bool) (xs : List A) (i : ℕ) (d : A) (old : Bool) → i < length xs → (old || list_any p (take (i + 1) xs)) ≡ ((old || list_any p (take i xs)) || p (get_or xs i d))
-any_more p xs i d old inside = ap (λ b. old || b) (ap (list_any p) (take_more xs i d inside) ∙ any_append p (take i xs) (get_or xs i d)) ∙ sym (or_join old (list_any p (take i xs)) (p (get_or xs i d)))
 
 -- a test that doesn't hang on the member
 pub and_any : {A : Type 0} (b : Bool) (p : A → Bool) (xs : List A) → list_any (λ x. b && p x) xs ≡ (b && list_any p xs)

@@ -9,12 +9,12 @@ use Rattle.std.proofs.lemmas.List.Sorted.{IsNonDecreasingBy-push, IsNonDecreasin
 use Rattle.c2_base.specs.declared.values.Range.{Range}
 use Rattle.c2_spec.specs.Bmff.Hash.{ByteTest, Exclusion, in_subset}
 use Rattle.c2_spec.specs.Bmff.Paths.{PathStep}
-use Rattle.c2_paths.specs.PathRows.{on_rows}
+use Rattle.c2_box_rows.specs.Paths.{on_rows}
 use Rattle.c2_marks.specs.Marks.{excludes_any, excludes_row, has_length, holds_test, in_row, in_row_part, in_row_subset, marks, takes}
 use Rattle.c2_marks.specs.Parts.{AreRising, AskSame, MarkSame}
 use Rattle.c2_marks.specs.Runs.{MeetAlike}
-use Rattle.c2_boxes.specs.declared.root_boxes.RootBox.{RootBox}
-use Rattle.c2_marks.proofs.MarkLemmas.{any_append, or_false, or_join}
+use Rattle.c2_box_rows.specs.declared.row.RootBox.{RootBox}
+use Rattle.c2_box_rows.proofs.Lists.{any_append, or_false, or_join}
 
 -- ---- parts in order
 

@@ -13,11 +13,11 @@ use Rattle.c2_spec.specs.Bmff.Hash.{ByteTest}
 use Rattle.c2_paths.specs.Exclusions.{byte_test}
 use Rattle.c2_marks.specs.Marks.{holds_test, stands_at}
 use Rattle.c2_marks.specs.Runs.{Differ, IsKeyWithin, IsLastWithin, IsRunWithin, Join, holds_last, key_test, last_test, least_test, no_box, run_test}
-use Rattle.c2_boxes.specs.declared.root_boxes.RootBox.{RootBox}
+use Rattle.c2_box_rows.specs.declared.row.RootBox.{RootBox}
 use Rattle.c2_marks.specs.declared.runs.Key.{Key}
 use Rattle.c2_marks.specs.declared.runs.Last.{Last}
 use Rattle.c2_marks.specs.declared.runs.Run.{Run}
-use Rattle.c2_boxes.proofs.PartLemmas.{piece_of}
+use Rattle.c2_box_rows.proofs.Lists.{piece_of}
 
 -- ---- tests of which all must hold
 

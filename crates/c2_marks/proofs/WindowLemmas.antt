@@ -3,7 +3,7 @@ use Rattle.std.proofs.Common.{◌≡◌, ℕ, ◌+◌, ◌≤◌, List, take, dr
 use Rattle.std.proofs.lemmas.List.{drop-drop}
 use Rattle.c2_marks.specs.Windows.{IsWindow}
 use Rattle.c2_marks.specs.declared.far.Window.{Window}
-use Rattle.c2_boxes.proofs.PartLemmas.{piece_of}
+use Rattle.c2_box_rows.proofs.Lists.{piece_of}
 
 -- a piece of the window is the file's at its place
 pub window_piece : (file bytes : List ℕ) (w : Window) (at from n : ℕ) → IsWindow file bytes w → w.start + from ≡ at → from + n ≤ w.count → take n (drop from bytes) ≡ take n (drop at file)

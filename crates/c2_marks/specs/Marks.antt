@@ -5,8 +5,8 @@ use Rattle.std.specs.Str.{bytes_eq}
 use Rattle.c2_base.specs.declared.values.Range.{Range}
 use Rattle.c2_spec.specs.Bmff.Hash.{ByteTest, Exclusion, in_part, in_subset}
 use Rattle.c2_spec.specs.Bmff.Paths.{PathStep}
-use Rattle.c2_paths.specs.PathRows.{on_rows}
-use Rattle.c2_boxes.specs.declared.root_boxes.RootBox.{RootBox}
+use Rattle.c2_box_rows.specs.Paths.{on_rows}
+use Rattle.c2_box_rows.specs.declared.row.RootBox.{RootBox}
 
 -- these bytes stand at a place of the file
 abbrev pub stands_at : List ℕ → ℕ → List ℕ → Bool

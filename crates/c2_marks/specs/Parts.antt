@@ -5,7 +5,7 @@ use Rattle.std.specs.List.Sorted.{IsNonDecreasingBy}
 use Rattle.c2_base.specs.declared.values.Range.{Range}
 use Rattle.c2_spec.specs.Bmff.Hash.{Exclusion, in_part}
 use Rattle.c2_marks.specs.Marks.{SharedPath, excludes_any, excludes_row, marks}
-use Rattle.c2_boxes.specs.declared.root_boxes.RootBox.{RootBox}
+use Rattle.c2_box_rows.specs.declared.row.RootBox.{RootBox}
 
 -- a part begins no later than there
 abbrev pub StartsBy : ℕ → Range → Type 0

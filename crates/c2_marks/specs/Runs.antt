@@ -3,7 +3,7 @@ use Rattle.std.specs.Prelude.{◌≡◌, ℕ, ◌+◌, ◌-◌, ◌≤◌, Bool,
 use Rattle.std.specs.List.{list_all}
 use Rattle.c2_spec.specs.Bmff.Hash.{ByteTest}
 use Rattle.c2_marks.specs.Marks.{holds_test}
-use Rattle.c2_boxes.specs.declared.root_boxes.RootBox.{RootBox}
+use Rattle.c2_box_rows.specs.declared.row.RootBox.{RootBox}
 use Rattle.c2_marks.specs.declared.runs.Key.{Key}
 use Rattle.c2_marks.specs.declared.runs.Last.{Last}
 use Rattle.c2_marks.specs.declared.runs.Run.{Run}

@@ -6,7 +6,7 @@ ghost use Rattle.std.specs.List.Sorted.{IsPermutation};
 ghost use Rattle.c2_spec.specs.Bmff.Hash.{in_subset};
 ghost use Rattle.c2_marks.specs.Marks.{excludes_any, excludes_row};
 ghost use Rattle.c2_marks.specs.Parts.{AreRising, AskSame, ExcludeSame, MarkSame, ShareSame};
-ghost use Rattle.c2_boxes.specs.declared.root_boxes.RootBox.{RootBox};
+ghost use Rattle.c2_box_rows.specs.declared.row.RootBox.{RootBox};
 
 use crate::parts::merged;
 use crate::runs::{Runs, runs_of};

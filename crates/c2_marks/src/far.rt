@@ -4,7 +4,7 @@ ghost use Rattle.std.specs.List.{list_all};
 ghost use Rattle.std.specs.Option.{ForSome};
 ghost use Rattle.c2_base.specs.Causes.{HasCause};
 ghost use Rattle.c2_base.specs.Source.{StaysSource};
-ghost use Rattle.c2_boxes.specs.Children.{IsRowWithin};
+ghost use Rattle.c2_box_rows.specs.Rows.{IsRowWithin};
 ghost use Rattle.c2_marks.specs.Marks.{holds_test, stands_at};
 ghost use Rattle.c2_marks.specs.Runs.{IsRunWithin, run_test};
 ghost use Rattle.c2_marks.specs.Windows.{HasByte, IsWindow};

@@ -6,7 +6,7 @@ ghost use Rattle.c2_base.specs.Causes.{HasCause};
 ghost use Rattle.c2_base.specs.Source.{StaysSource};
 ghost use Rattle.c2_spec.specs.Cover.{holds, is_excluded};
 ghost use Rattle.c2_boxes.specs.Causes.{IsCaused, OrOutside};
-ghost use Rattle.c2_boxes.specs.Children.{IsRowWithin};
+ghost use Rattle.c2_box_rows.specs.Rows.{IsRowWithin};
 ghost use Rattle.c2_marks.specs.Parts.{AreRising};
 ghost use Rattle.c2_marks.specs.Marks.{IsFront, IsRangeWithin, has_length, holds_test, in_row, in_row_part, in_row_subset, marks, takes};
 ghost use Rattle.c2_marks.specs.Runs.{AreRunsWithin, IsRunWithin, asked, run_test};

@@ -3,7 +3,7 @@ ghost use Rattle.std.specs.Prelude.{◌≡◌, true, false, ◌&&◌, ◌+◌, �
 ghost use Rattle.c2_paths.specs.Exclusions.{byte_test};
 ghost use Rattle.c2_marks.specs.Marks.{holds_test};
 ghost use Rattle.c2_marks.specs.Runs.{AreRunsWithin, Differ, IsKeyWithin, IsLastWithin, IsRunWithin, Join, MeetAlike, asked, holds_last, holds_next, key_test};
-ghost use Rattle.c2_boxes.specs.declared.root_boxes.RootBox.{RootBox};
+ghost use Rattle.c2_box_rows.specs.declared.row.RootBox.{RootBox};
 
 use c2_base::{Blob, NoMemory};
 use std::alloc::Global;

@@ -14,7 +14,7 @@ use Rattle.c2_rules.specs.Binding as rules
 use Rattle.c2_rules.specs.Chains.{entry_label}
 use Rattle.c2_rules.specs.Readings.{ReadBox, Reading}
 use Rattle.c2_rules.specs.Rules.{label_kind, is_binding, box_with}
-use Rattle.c2_boxes.specs.Roots.{rows_of}
+use Rattle.c2_box_rows.specs.Rows.{rows_of}
 use Rattle.c2_media.specs.declared.types.Container as types
 use Rattle.c2_media.specs.declared.types.Container.TheVariants.{Jpeg, Bmff}
 

@@ -10,7 +10,8 @@ use Rattle.c2_spec.specs.Container.{IsLocated, begins_jpeg, is_bmff}
 use Rattle.c2_spec.specs.Jumbf.Tree.{Tree}
 use Rattle.c2_spec.specs.Located.{Opening, Located, refused, absent, here}
 use Rattle.c2_rules.specs.Opened.{IsManifestStore}
-use Rattle.c2_boxes.specs.Roots.{AreRootsOf, IsBoxWithin}
+use Rattle.c2_boxes.specs.Roots.{AreRootsOf}
+use Rattle.c2_box_rows.specs.Rows.{IsBoxWithin}
 use Rattle.c2_media.specs.declared.error.ValidateError.{ValidateError}
 use Rattle.c2_media.specs.declared.error.ValidateError.TheVariants.{ReadFault, JudgeFault, NoMemory}
 use Rattle.c2_media.specs.declared.types.Container.{Container}

@@ -9,9 +9,11 @@ use Rattle.c2_base.specs.declared.media.MediaError.TheVariants as media
 use Rattle.c2_boxes.specs.Causes.{OrOutside}
 use Rattle.c2_boxes.specs.Roots.{AreRootsOf}
 use Rattle.c2_boxes.specs.Search.{IsStoreOr}
-use Rattle.c2_boxes.specs.declared.root_boxes.RootBox.{RootBox}
+use Rattle.c2_box_rows.specs.declared.row.RootBox.{RootBox}
 use Rattle.c2_spec.specs.Bmff.Boxes.{begins_bmff, ftyp_kind}
 use Rattle.c2_spec.specs.Bmff.Store.{FirstBmffFault, IsBmffLocated, ProvenanceFault, provenance}
+use Rattle.c2_box_rows.specs.Faults.{FirstRootsFault}
+use Rattle.c2_box_rows.proofs.Faults.{first_of_all}
 use Rattle.c2_spec.specs.Container.{begins_jpeg, is_bmff}
 use Rattle.c2_spec.specs.Jpeg.Segments.{start_of_image}
 use Rattle.c2_spec.specs.Located.{Located, refused, absent, here, refusal, said}
@@ -117,6 +119,13 @@ store_refused one file rows e (Err x) is roots found says has = tt
 store_refused one file rows e (Ok o) is roots found says has =
     let fault : ProvenanceFault file e = refusal_says (ProvenanceFault file) e (located_of o) says (found roots) in
     bmff_found one file o is (refused_so file e (located_of o) (provenance e fault) says) (has file)
+
+-- the root boxes of a BMFF file are refused
+pub roots_refused : OneBmff → (file : List ℕ) (e : MediaError) (r : Result Opened ValidateError) → is_bmff file ≡ true → OrOutside e (FirstRootsFault file e) → IfOk r (λ o. refusal e ≡ Some (located_of o)) → IfOk r (λ o. (f : List ℕ) → HasContainer f o) → IfOk r (IsFound file)
+roots_refused one file e (Err x) is bad says has = tt
+roots_refused one file e (Ok o) is bad says has =
+    let fault : FirstRootsFault file e = refusal_says (FirstRootsFault file) e (located_of o) says bad in
+    bmff_found one file o is (refused_so file e (located_of o) (first_of_all file e fault) says) (has file)
 
 -- it has a store, or none
 pub store_found : OneBmff → (file : List ℕ) (rows : List RootBox) (found : Option Found) (o : Opened) → is_bmff file ≡ true → AreRootsOf file rows → (AreRootsOf file rows → IsStoreOr file (Ok found)) → said (Ok found) ≡ Some (located_of o)

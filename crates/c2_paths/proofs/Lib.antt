@@ -1,4 +1,3 @@
 pub mod PathLemmas
-pub mod PathRows
 pub mod PathWritten
 pub mod Pieces

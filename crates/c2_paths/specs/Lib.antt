@@ -1,3 +1,2 @@
 pub mod Exclusions
-pub mod PathRows
 pub mod PathTexts

@@ -4,11 +4,11 @@ use Rattle.std.specs.List.{list_any}
 use Rattle.c2_base.specs.declared.values.Range.{Range}
 use Rattle.c2_spec.specs.Cover.{is_excluded}
 use Rattle.c2_marks.specs.Marks.{excludes_row}
-use Rattle.c2_boxes.specs.Roots.{IsBoxWithin, rows_of}
-use Rattle.c2_boxes.specs.declared.root_boxes.RootBox.{RootBox}
-use Rattle.c2_boxes.proofs.BoxThere.{are_bytes}
+use Rattle.c2_box_rows.specs.Rows.{IsBoxWithin, rows_of}
+use Rattle.c2_box_rows.specs.declared.row.RootBox.{RootBox}
+use Rattle.c2_box_rows.proofs.BoxThere.{are_bytes}
 use Rattle.c2_bmff.proofs.MatchLemmas.{all_excluded_rows, all_rows_excluded}
-use Rattle.c2_boxes.proofs.RowLemmas.{rows_within}
+use Rattle.c2_box_rows.proofs.Lists.{rows_within}
 use Rattle.c2_bmff.proofs.matching.match_paths.Goals as goal
 
 -- root boxes that end in the source are rows inside it

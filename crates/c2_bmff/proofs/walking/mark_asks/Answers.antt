@@ -6,7 +6,7 @@ use Rattle.c2_spec.specs.Bmff.Hash.{Exclusion}
 use Rattle.c2_spec.specs.Cover.{is_excluded}
 use Rattle.c2_base.specs.declared.values.Range.{Range}
 use Rattle.c2_marks.specs.Marks.{IsRangeWithin, marks}
-use Rattle.c2_marks.proofs.MarkLemmas.{any_more}
+use Rattle.c2_box_rows.proofs.Lists.{any_more}
 use Rattle.c2_bmff.proofs.TrailLemmas.{whole_asks}
 use Rattle.c2_bmff.proofs.walking.mark_asks.Goals as goal
 

@@ -5,7 +5,7 @@ use Rattle.std.proofs.lemmas.List.{take_all}
 use Rattle.c2_spec.specs.Cover.{is_excluded}
 use Rattle.c2_marks.specs.Marks.{IsRangeWithin}
 use Rattle.c2_bmff.specs.Trails.{through}
-use Rattle.c2_marks.proofs.MarkLemmas.{any_more}
+use Rattle.c2_box_rows.proofs.Lists.{any_more}
 use Rattle.c2_bmff.proofs.walking.mark_each.Goals as goal
 
 -- with one exclusion more, the ranges hold also what it excludes

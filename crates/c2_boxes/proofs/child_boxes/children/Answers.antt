@@ -4,10 +4,10 @@ use Rattle.std.specs.declared.option.Option.{Option}
 use Rattle.c2_boxes.specs.declared.header.BoxHead.{BoxHead}
 use Rattle.std.proofs.lemmas.List.{length-drop}
 use Rattle.std.proofs.lemmas.List.Elements.{All-push}
-use Rattle.c2_boxes.specs.Children.{ChildWalk, IsChildHead, IsHeadWithin, IsRowWithin, rows_len}
-use Rattle.c2_boxes.specs.declared.root_boxes.RootBox.{RootBox}
+use Rattle.c2_boxes.specs.Children.{ChildWalk, IsChildHead, IsHeadWithin, rows_len}
+use Rattle.c2_box_rows.specs.Rows.{IsRowWithin, payload_at}
+use Rattle.c2_box_rows.specs.declared.row.RootBox.{RootBox}
 use Rattle.std.proofs.lemmas.List.Sums.{sum_by_push}
-use Rattle.c2_boxes.specs.Provenance.{payload_at}
 use Rattle.c2_boxes.specs.Roots.{row_at}
 use Rattle.c2_boxes.proofs.ChildLemmas.{payload_len, rest_is, walk_none, walk_more, walk_end}
 use Rattle.c2_boxes.proofs.child_boxes.children.Goals as goal

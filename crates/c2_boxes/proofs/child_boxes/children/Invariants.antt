@@ -2,7 +2,8 @@ use Rattle.std.proofs.Common.{◌≡◌, ◌-◌, ◌≤◌}
 use Rattle.std.specs.Prelude.{All}
 use Rattle.std.specs.Option.{ForSome}
 use Rattle.c2_base.specs.Source.{StaysSource}
-use Rattle.c2_boxes.specs.Children.{ChildWalk, IsRowWithin, rows_len}
+use Rattle.c2_boxes.specs.Children.{ChildWalk, rows_len}
+use Rattle.c2_box_rows.specs.Rows.{IsRowWithin}
 use Rattle.c2_boxes.proofs.child_boxes.children.Given as goal
 
 -- the rows are those of the boxes in the first `done` bytes of the payload, and lie in the source

@@ -1,4 +1,4 @@
-use Rattle.c2_boxes.proofs.BoxThere.{are_bytes}
+use Rattle.c2_box_rows.proofs.BoxThere.{are_bytes}
 use Rattle.c2_boxes.proofs.SomeOutcome.{some_outcome}
 use Rattle.c2_boxes.proofs.laws.each_bmff_file_comes_to_something.Goals as goal
 

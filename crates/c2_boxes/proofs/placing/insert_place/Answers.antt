@@ -1,11 +1,13 @@
 use Rattle.std.proofs.Common.{◌≡◌, ◌∙◌, ◌+◌, ◌<◌, ℕ, List, length, take, Option, Some, false, [], sym, ap, subst, arith}
 use Rattle.std.specs.Prelude.{IfSome, slice_index_or}
 use Rattle.c2_boxes.specs.Places.{HasRoom, place_behind}
-use Rattle.c2_boxes.specs.Roots.{rows_of, skipped_len}
+use Rattle.c2_box_rows.specs.Rows.{rows_of}
+use Rattle.c2_boxes.specs.Roots.{skipped_len}
 use Rattle.c2_spec.specs.Bmff.Writing.{place_without}
-use Rattle.c2_boxes.specs.declared.root_boxes.RootBox.{RootBox}
-use Rattle.c2_boxes.proofs.PlaceLemmas.{form_boxes, front_is, inside_front, inside_middle, inside_whole, middle_is, room_front, room_skip, room_whole, skipped_at, whole_is}
-use Rattle.c2_boxes.proofs.WalkLemmas.{length-rows}
+use Rattle.c2_box_rows.specs.declared.row.RootBox.{RootBox}
+use Rattle.c2_box_rows.proofs.StandLemmas.{form_boxes}
+use Rattle.c2_boxes.proofs.PlaceLemmas.{front_is, inside_front, inside_middle, inside_whole, middle_is, room_front, room_skip, room_whole, skipped_at, whole_is}
+use Rattle.c2_box_rows.proofs.Lists.{length-rows}
 use Rattle.c2_boxes.proofs.placing.insert_place.Goals as goal
 
 -- a row of nothing, for indices after the last root box

@@ -1,7 +1,7 @@
 use Rattle.std.proofs.Common.{subst, sym}
 use Rattle.std.specs.Prelude.{All}
-use Rattle.c2_boxes.specs.Roots.{IsBoxWithin}
-use Rattle.c2_boxes.proofs.RowLemmas.{rows_within}
+use Rattle.c2_box_rows.specs.Rows.{IsBoxWithin}
+use Rattle.c2_box_rows.proofs.Lists.{rows_within}
 use Rattle.c2_boxes.proofs.provenance.locate.Goals as goal
 
 -- root boxes that end in the source are rows inside it

@@ -1,6 +1,7 @@
 use Rattle.std.proofs.Common.{◌≡◌, ◌+◌, ◌-◌, ◌∙◌, length, take, drop, sym, ap, ap₂, arith}
 use Rattle.std.proofs.lemmas.List.{length-drop, length-take-le}
-use Rattle.c2_boxes.specs.Provenance.{first_part, payload_at}
+use Rattle.c2_boxes.specs.Provenance.{first_part}
+use Rattle.c2_box_rows.specs.Rows.{payload_at}
 use Rattle.c2_boxes.proofs.PartLemmas.{part_same, take_first}
 use Rattle.c2_boxes.proofs.provenance.part_at.Goals as goal
 

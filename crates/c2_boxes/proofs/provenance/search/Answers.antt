@@ -2,7 +2,7 @@ use Rattle.std.proofs.Common.{◌≡◌, ◌∙◌, ℕ, suc, false, [], ◌∷�
 use Rattle.std.specs.Prelude.{IfSome, slice_index_or}
 use Rattle.std.proofs.Math.Seq.{drop-cons}
 use Rattle.c2_boxes.specs.Search.{IsFoundWithin}
-use Rattle.c2_boxes.specs.declared.root_boxes.RootBox.{RootBox}
+use Rattle.c2_box_rows.specs.declared.row.RootBox.{RootBox}
 use Rattle.c2_boxes.proofs.WalkLemmas.{outside_map}
 use Rattle.c2_boxes.proofs.RowLemmas.{row_fails, row_not, row_uuid, rows_end, rows_start}
 use Rattle.c2_boxes.proofs.provenance.search.Goals as goal

@@ -1,10 +1,11 @@
 use Rattle.std.proofs.Common.{◌≡◌, ◌∙◌, ◌+◌, ◌-◌, is_some, Some, List, ℕ, take, drop, sym, ap, subst}
 use Rattle.std.proofs.lemmas.List.{drop-drop}
-use Rattle.c2_boxes.specs.Provenance.{payload_at, payload_part}
+use Rattle.c2_box_rows.specs.Rows.{payload_at}
+use Rattle.c2_boxes.specs.Provenance.{payload_part}
 use Rattle.c2_boxes.specs.Search.{IsPartWithin, StepsBy}
 use Rattle.c2_boxes.specs.declared.provenance.Part.{Part}
 use Rattle.c2_boxes.specs.declared.provenance.Part.TheVariants as part
-use Rattle.c2_boxes.proofs.PartLemmas.{piece_of}
+use Rattle.c2_box_rows.proofs.Lists.{piece_of}
 use Rattle.c2_boxes.proofs.provenance.step.Goals as goal
 
 -- the store that was read is that of the box: the bytes of its payload from place 37 on

@@ -1,8 +1,8 @@
 use Rattle.std.proofs.Common.{◌≡◌, ◌∙◌, ℕ, length, subst, sym, arith}
 use Rattle.std.specs.Prelude.{All}
 use Rattle.c2_base.specs.declared.media.MediaError.TheVariants.{FileTooLarge}
-use Rattle.c2_spec.specs.Bmff.Store.{FirstBmffFault, too_large, not_media, root}
-use Rattle.c2_boxes.specs.Roots.{IsBoxWithin}
+use Rattle.c2_box_rows.specs.Faults.{FirstRootsFault, too_large, not_media, root}
+use Rattle.c2_box_rows.specs.Rows.{IsBoxWithin}
 use Rattle.c2_boxes.proofs.WalkLemmas.{fill_headed, fill_within, outside_map}
 use Rattle.c2_boxes.proofs.reading.roots.Goals as goal
 
@@ -10,7 +10,7 @@ use Rattle.c2_boxes.proofs.reading.roots.Goals as goal
 pub returns-then-size-ge-FILE_LEN_LIMIT-clause-refused : goal.returns-then-size-ge-FILE_LEN_LIMIT-clause-refused
 returns-then-size-ge-FILE_LEN_LIMIT-clause-refused g c file known =
     let len : length file ≡ c.in_ok-size.size = g.met.S.Source.known_len c.args.source.now file known ∙ sym c.in_ok-size.ensures.length in
-    subst (λ n. FirstBmffFault file (FileTooLarge n)) len (too_large (omega (arith, len, c.if-size-ge-FILE_LEN_LIMIT.true)))
+    subst (λ n. FirstRootsFault file (FileTooLarge n)) len (too_large (omega (arith, len, c.if-size-ge-FILE_LEN_LIMIT.true)))
 
 -- in a smaller file that doesn't begin as BMFF, that is the first test to fail
 pub returns-then-not-branch-clause-refused : goal.returns-then-not-branch-clause-refused

@@ -2,7 +2,7 @@ use Rattle.std.proofs.Common.{◌≡◌, ◌∙◌, ◌+◌, ◌<◌, ◌≤◌,
 use Rattle.c2_base.specs.declared.media.MediaError.TheVariants.{TooManyBoxes}
 use Rattle.c2_spec.specs.Bmff.Boxes.{most_roots}
 use Rattle.c2_boxes.specs.Roots.{FillSource, Walks, row_at}
-use Rattle.c2_boxes.proofs.BoxThere.{are_bytes}
+use Rattle.c2_box_rows.proofs.BoxThere.{are_bytes}
 use Rattle.c2_boxes.proofs.WalkLemmas.{fill_more, many_fault, outside_map, room_fault, walks_end, walks_fault, walks_more, walks_start}
 use Rattle.c2_boxes.proofs.root_boxes.walk.Goals as goal
 

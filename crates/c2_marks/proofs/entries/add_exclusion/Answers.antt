@@ -5,7 +5,7 @@ use Rattle.std.specs.declared.option.Option.{Option}
 use Rattle.c2_base.specs.declared.values.Range.{Range}
 use Rattle.c2_spec.specs.Bmff.Hash.{Exclusion, in_subset}
 use Rattle.c2_marks.specs.Marks.{excludes_row}
-use Rattle.c2_marks.proofs.MarkLemmas.{any_append, or_join}
+use Rattle.c2_box_rows.proofs.Lists.{any_append, or_join}
 use Rattle.c2_marks.proofs.OrderLemmas.{united_same}
 use Rattle.c2_marks.proofs.entries.add_exclusion.Goals as goal
 

@@ -3,7 +3,7 @@ use Rattle.std.specs.List.{list_any}
 use Rattle.c2_spec.specs.Bmff.Hash.{Exclusion}
 use Rattle.c2_spec.specs.Bmff.Paths.{PathStep}
 use Rattle.c2_marks.specs.Marks.{SharedPath, excludes_any, excludes_row}
-use Rattle.c2_marks.proofs.MarkLemmas.{any_append, or_join}
+use Rattle.c2_box_rows.proofs.Lists.{any_append, or_join}
 use Rattle.c2_marks.proofs.OrderLemmas.{joins_path}
 use Rattle.c2_marks.proofs.entries.add_group.Goals as goal
 

@@ -3,7 +3,7 @@ use Rattle.std.specs.List.{list_any}
 use Rattle.c2_spec.specs.Bmff.Hash.{Exclusion}
 use Rattle.c2_spec.specs.Bmff.Paths.{PathStep}
 use Rattle.c2_marks.specs.Marks.{SharedPath, excludes_any}
-use Rattle.c2_marks.proofs.MarkLemmas.{any_append}
+use Rattle.c2_box_rows.proofs.Lists.{any_append}
 use Rattle.c2_marks.proofs.OrderLemmas.{begins_path}
 use Rattle.c2_marks.proofs.entries.begin_path.Goals as goal
 

@@ -1,6 +1,7 @@
 use Rattle.std.proofs.Common.{◌∙◌, ◌||◌, Bool, get_or, sym, ap}
 use Rattle.c2_spec.specs.Cover.{holds, is_excluded}
-use Rattle.c2_marks.proofs.MarkLemmas.{any_more, no_range}
+use Rattle.c2_box_rows.proofs.Lists.{any_more}
+use Rattle.c2_marks.proofs.MarkLemmas.{no_range}
 use Rattle.c2_marks.proofs.marking.add_each.Goals as goal
 
 -- with the next range, its positions are held too

@@ -2,7 +2,8 @@ use Rattle.std.proofs.Common.{◌∙◌, ◌||◌, sym, ap₂, arith}
 use Rattle.std.proofs.Common.{Bool}
 use Rattle.c2_spec.specs.Cover.{is_excluded}
 use Rattle.c2_marks.specs.Marks.{in_row_part}
-use Rattle.c2_marks.proofs.MarkLemmas.{any_more, no_range}
+use Rattle.c2_box_rows.proofs.Lists.{any_more}
+use Rattle.c2_marks.proofs.MarkLemmas.{no_range}
 use Rattle.c2_marks.proofs.OrderLemmas.{rest_adds_nothing}
 use Rattle.c2_marks.proofs.marking.add_parts.Goals as goal
 

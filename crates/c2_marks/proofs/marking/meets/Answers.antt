@@ -3,7 +3,7 @@ use Rattle.std.specs.Prelude.{bytes_eq}
 use Rattle.std.proofs.lemmas.Bool.{le-leb}
 use Rattle.std.proofs.lemmas.List.{drop-drop}
 use Rattle.c2_marks.specs.Marks.{stands_at}
-use Rattle.c2_boxes.proofs.PartLemmas.{piece_of}
+use Rattle.c2_box_rows.proofs.Lists.{piece_of}
 use Rattle.c2_marks.proofs.marking.meets.Goals as goal
 
 -- the first bytes of the box tell whether the value stands there

@@ -3,7 +3,7 @@ use Rattle.std.specs.Prelude.{All, nat_le}
 use Rattle.std.specs.List.{list_all}
 use Rattle.c2_marks.specs.Marks.{holds_test}
 use Rattle.c2_marks.specs.Runs.{IsLastWithin, IsRunWithin, holds_last, key_test}
-use Rattle.c2_boxes.specs.declared.root_boxes.RootBox.{RootBox}
+use Rattle.c2_box_rows.specs.declared.row.RootBox.{RootBox}
 use Rattle.c2_marks.proofs.runs.joined.Given as goal
 
 -- a box meets the byte tests so far just when it is long enough and meets the runs so far

@@ -2,26 +2,22 @@
 use Rattle.std.proofs.Common.{◌≡◌, ℕ, zero, suc, ◌+◌, ◌-◌, ◌^◌, ◌<◌, ◌≤◌, Bool, true, false, not, cond, ◌&&◌, ◌==◌, List, [], ◌∷◌, ◌++◌, length, take, drop, map, is_some, Option, Some, None, refl, sym, ap, ap₂, ◌∙◌, subst, arith, length-append, append_assoc}
 use Rattle.std.specs.List.{flat_map, AllByRecursion}
 use Rattle.std.proofs.lemmas.List.{length-drop, drop-drop, drop_all, take_at, drop_at, length-take}
-use Rattle.c2_spec.specs.Bmff.Boxes.{SizeForm, short, long, to_end, Box, IsBox, IsSizedBox, box_bytes, box_fault, box_len, header_bytes, header_len, is_to_end, stated_size, stated_len, stated_kind, stated_header_len}
+use Rattle.c2_spec.specs.Bmff.Boxes.{AreBoxForms, SizeForm, short, long, to_end, Box, IsBox, IsSizedBox, box_bytes, box_fault, box_len, header_bytes, header_len, is_to_end, stated_size, stated_len, stated_kind, stated_header_len}
 use Rattle.c2_spec.specs.Bmff.Paths.{HasChildren, filled, unfilled, PlacedBox, placed_from}
 use Rattle.c2_spec.specs.Cbor.Fields.{joined}
-use Rattle.c2_spec.proofs.BmffOneList.{box_once}
+use Rattle.c2_spec.proofs.BmffOneList.{box_once, first_box, other_boxes}
 use Rattle.c2_spec.proofs.BmffPassing.{box_passes}
-use Rattle.c2_boxes.specs.Children.{child_row, child_rows, is_child, kids, or_none}
-use Rattle.c2_boxes.specs.Provenance.{payload_at}
-use Rattle.c2_boxes.specs.Roots.{BeginsWith, row_of}
-use Rattle.c2_boxes.specs.declared.root_boxes.RootBox.{RootBox}
+use Rattle.c2_box_rows.specs.Children.{child_row, child_rows, is_child, kids, or_none}
+use Rattle.c2_box_rows.specs.Rows.{payload_at, BeginsWith, row_of, Stands}
+use Rattle.c2_box_rows.specs.declared.row.RootBox.{RootBox}
 use Rattle.c2_base.specs.declared.media.MediaError.{MediaError}
-use Rattle.c2_boxes.proofs.ChildLemmas.{child_end, child_here}
-use Rattle.c2_boxes.proofs.BoxThere.{AreBytes, bytes-drop, bytes-take, box_there}
+use Rattle.c2_box_rows.proofs.BoxThere.{AreBytes, bytes-drop, bytes-take, box_there}
 use Rattle.c2_spec.proofs.BmffSizes.{bytes_size, header_size}
 
--- a box stands in a file at its place
-pub record Stands (file : List ℕ) (p : PlacedBox) : Type 0 where
-  pub is_box : IsBox p.box
-  pub tail : List ℕ
-  pub bytes : drop p.at file ≡ box_bytes p.box ++ tail
-  pub inside : p.at + box_len p.box ≤ length file
+-- boxes in their forms are boxes
+pub form_boxes : (bs : List Box) → AreBoxForms bs → AllByRecursion IsBox bs
+form_boxes [] f = tt
+form_boxes (b ∷ bs) f = (first_box b bs f, form_boxes bs (other_boxes b bs f))
 
 -- boxes that stand one after the other in a file
 pub all_stand : (file : List ℕ) (at : ℕ) (boxes : List Box) (tail : List ℕ) → AllByRecursion IsBox boxes → at ≤ length file → drop at file ≡ flat_map box_bytes boxes ++ tail → AllByRecursion (Stands file) (placed_from at boxes)
@@ -34,6 +30,19 @@ all_stand file at (b ∷ bs) tail h inside e =
       record { is_box = h.0; tail = flat_map box_bytes bs ++ tail; bytes = here; inside = omega (arith, total, inside) },
       all_stand file (at + box_len b) bs tail h.1 (omega (arith, total, inside)) next,
     )
+
+-- ---- the rows of boxes inside another
+
+-- one box and those after it
+pub child_here : (n at : ℕ) (rest : List ℕ) → 0 < length rest → length rest ≤ n → child_rows n at rest ≡ cond (is_child rest) (joined (Some (child_row at rest)) (child_rows (n - 1) (at + stated_len rest) (drop (stated_len rest) rest))) None
+child_here n at [] some few = absurd (omega arith)
+child_here zero at (x ∷ xs) some few = absurd (omega arith)
+child_here (suc n) at (x ∷ xs) some few = let e : n ≡ suc n - 1 = omega arith in ap (λ (m : ℕ). cond (is_child (x ∷ xs)) (joined (Some (child_row at (x ∷ xs))) (child_rows m (at + stated_len (x ∷ xs)) (drop (stated_len (x ∷ xs)) (x ∷ xs)))) None) e
+
+-- no more boxes
+pub child_end : (n at : ℕ) → child_rows n at [] ≡ Some []
+child_end zero at = refl
+child_end (suc n) at = refl
 
 -- ---- the boxes at the front of bytes
 

@@ -13,7 +13,7 @@ use borrow.Author.Tests.{eqb-true, ltb-false}
 use Rattle.c2_base.specs.declared.media.MediaError.TheVariants.{Truncated, BadBox}
 use Rattle.c2_spec.specs.Bmff.Boxes.{SizeForm, short, long, to_end, box_fault, header_len, header_bytes, stated_size, stated_long_size, stated_len, stated_kind, stated_header_len, uuid_kind, size_fits, is_to_end}
 use Rattle.c2_spec.proofs.BmffTests.{six, len_by, file_by}
-use Rattle.c2_boxes.specs.Roots.{BeginsWith}
+use Rattle.c2_box_rows.specs.Rows.{BeginsWith}
 
 -- each of the list is a byte; past the end is 0
 abbrev pub AreBytes : List ℕ → Type 0

@@ -4,12 +4,12 @@ use Rattle.std.specs.Prelude.{Contains, filter, bytes_eq}
 use Rattle.std.specs.List.{flat_map, AllByRecursion, list_any}
 use Rattle.std.proofs.lemmas.List.{drop_all, drop_more}
 use Rattle.c2_spec.specs.Bmff.Paths.{PathStep, PlacedBox, OnPath, last, below, is_entered, matched, nth_of}
-use Rattle.c2_boxes.specs.Children.{kids}
-use Rattle.c2_boxes.specs.Roots.{row_of}
-use Rattle.c2_boxes.specs.declared.root_boxes.RootBox.{RootBox}
-use Rattle.c2_boxes.proofs.BoxThere.{AreBytes}
-use Rattle.c2_boxes.proofs.StandLemmas.{KidsAre, Stands, kids_are, some_children}
-use Rattle.c2_paths.specs.PathRows.{go_on, on_rows, row_matched}
+use Rattle.c2_box_rows.specs.Children.{kids}
+use Rattle.c2_box_rows.specs.Rows.{row_of, Stands}
+use Rattle.c2_box_rows.specs.declared.row.RootBox.{RootBox}
+use Rattle.c2_box_rows.proofs.BoxThere.{AreBytes}
+use Rattle.c2_box_rows.proofs.StandLemmas.{KidsAre, kids_are, some_children}
+use Rattle.c2_box_rows.specs.Paths.{HasBox, go_on, on_rows, row_matched}
 
 -- ---- steps
 
@@ -199,13 +199,6 @@ path_rows file bytes fits ps steps b (below _ step next more _ parent children e
           (member_flat (λ (p : RootBox). on_rows file (kids file p) (next ∷ more)) (row_matched step (map row_of ps)) (row_of parent) (row_of b) (subst (Member (row_of parent)) (sym (step_rows step ps)) (member_map row_of (matched step ps) parent m)) (subst (λ (rs : List RootBox). Member (row_of b) (on_rows file rs (next ∷ more))) (sym k.rows) rest.row));
       stands = rest.stands;
     }
-
--- a row on a path, and its box
-pub record HasBox (file : List ℕ) (ps : List PlacedBox) (steps : List PathStep) (r : RootBox) : Type 0 where
-  pub box : PlacedBox
-  pub on : OnPath ps steps box
-  pub is : r ≡ row_of box
-  pub stands : Stands file box
 
 -- each row on a path below boxes that stand in the file is that of a box on the path
 pub rows_path : (file : List ℕ) → AreBytes file → length file < 2 ^ 62 → (steps : List PathStep) (ps : List PlacedBox) (r : RootBox) → AllByRecursion (Stands file) ps → Member r (on_rows file (map row_of ps) steps) → HasBox file ps steps r

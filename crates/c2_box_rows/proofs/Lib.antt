@@ -1,0 +1,5 @@
+pub mod Lists
+pub mod Faults
+pub mod BoxThere
+pub mod StandLemmas
+pub mod PathRows
