@@ -4,4 +4,5 @@ pub mod Ones
 pub mod Stores
 pub mod Places
 pub mod Valid
+pub mod FirstRefused
 mod Rows

@@ -10,10 +10,10 @@ use Rattle.c2_spec.specs.Jpeg.Segments.{Segment, IsSegment, segment_bytes, place
 use Rattle.c2_spec.specs.Jumbf.Boxes.{node, any_label}
 use Rattle.c2_spec.specs.Jumbf.Tree.{Tree, Trees}
 use Rattle.c2_definition.specs.declared.types.Definition.{Definition}
-use Rattle.c2_layout.specs.FreshBoxes.{contents_of}
-use Rattle.c2_layout.specs.Manifests.{is_signature_box, supers_in, supers_of}
-use Rattle.c2_layout.specs.Store.{Parent}
-use Rattle.c2_layout.proofs.Lists.{each-append, each-back, each-front}
+use Rattle.c2_built.specs.FreshBoxes.{contents_of}
+use Rattle.c2_built.specs.Manifests.{is_signature_box, supers_in, supers_of}
+use Rattle.c2_built.specs.Store.{Parent}
+use Rattle.c2_built.proofs.Lists.{each-append, each-back, each-front}
 use Rattle.c2_carried.specs.Carrying.{BaseHasNoStore, ContentIsOne, ParentIsOne}
 use Rattle.c2_carried.specs.Parents.{IsParentOf}
 

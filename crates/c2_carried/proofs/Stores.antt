@@ -12,10 +12,10 @@ use Rattle.c2_spec.specs.Jumbf.Tree.{AreDistinctLabels, AreLegalTrees, IsLegalTr
 use Rattle.c2_rules.specs.Chains.{LabelsDiffer, label_in}
 use Rattle.c2_rules.specs.Ingredients.{label_text}
 use Rattle.c2_rules.specs.Readings.{AreReadings, IsReading, Reading}
-use Rattle.c2_layout.specs.Manifests.{manifest_of, supers_in, supers_of}
-use Rattle.c2_layout.specs.Written.{IsStoreBox}
-use Rattle.c2_layout.proofs.ByIndex.{Both, at_box, supers_any}
-use Rattle.c2_layout.proofs.Lists.{each-back, each-front}
+use Rattle.c2_built.specs.Manifests.{manifest_of, supers_in, supers_of}
+use Rattle.c2_built.specs.Written.{IsStoreBox}
+use Rattle.c2_built.proofs.ByIndex.{Both, at_box, supers_any}
+use Rattle.c2_built.proofs.Lists.{each-back, each-front}
 use Rattle.c2_carried.specs.Redacting.{boxes_in}
 use Rattle.c2_carried.specs.Refusing.{has_manifest}
 

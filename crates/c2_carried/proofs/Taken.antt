@@ -13,7 +13,7 @@ use Rattle.c2_rules.specs.Chains.{label_in, passes_some}
 use Rattle.c2_rules.specs.Ingredients.{label_text}
 use Rattle.c2_rules.specs.Readings.{ReadBox, Reading, IsReadBox, IsReading, IsParsed, IsMessageOf}
 use Rattle.c2_older.specs.Older.{is_kept, thinned}
-use Rattle.c2_layout.specs.Manifests.{is_super, supers_in, supers_of, superbox_of, supers_inside, is_claim_box, is_signature_box, is_assertion_store, manifest_of}
+use Rattle.c2_built.specs.Manifests.{is_super, supers_in, supers_of, superbox_of, supers_inside, is_claim_box, is_signature_box, is_assertion_store, manifest_of}
 use Rattle.c2_carried.specs.Less.{WholeStays, IsLess, RedactedStoreIsRead, AllAreCarried}
 use Rattle.c2_carried.specs.Redacting.{without, thin_store, thin_boxes, takes_out, redacted_box, redacted_boxes}
 use Rattle.c2_carried.specs.Refusing.{kept_boxes}

@@ -23,13 +23,13 @@ use Rattle.c2_rules.specs.declared.parsed.Parsed.TheVariants.{NoItem}
 use Rattle.c2_rules.proofs.ListLemmas.{both_true, or_left}
 use Rattle.c2_rules.proofs.ReachLemmas.{place_is}
 use Rattle.c2_definition.specs.declared.types.Definition.{Definition}
-use Rattle.c2_layout.specs.FreshBoxes.{contents_of}
-use Rattle.c2_layout.specs.Manifests.{is_signature_box, manifest_of, superbox_of, supers_in, supers_of}
-use Rattle.c2_layout.specs.Store.{Content, Parent}
-use Rattle.c2_layout.specs.Written.{CanBeCarried, IsStoreBox}
-use Rattle.c2_layout.proofs.ByIndex.{same_manifests}
-use Rattle.c2_layout.proofs.Lists.{each-append, each-back, each-front}
-use Rattle.c2_layout.proofs.NewRules.{Holds, all_hold}
+use Rattle.c2_built.specs.FreshBoxes.{contents_of}
+use Rattle.c2_built.specs.Manifests.{is_signature_box, manifest_of, superbox_of, supers_in, supers_of}
+use Rattle.c2_built.specs.Store.{Content, Parent}
+use Rattle.c2_built.specs.Written.{CanBeCarried, IsStoreBox}
+use Rattle.c2_built.proofs.ByIndex.{same_manifests}
+use Rattle.c2_built.proofs.Lists.{each-append, each-back, each-front}
+use Rattle.c2_built.proofs.NewRules.{Holds, all_hold}
 use Rattle.c2_carried.specs.Carrying.{AreAccepted, CanStandOver, IsLast, IsTakenOver, ReadsKinds, SomeContentOver, ValidStoreIsCarried}
 use Rattle.c2_carried.specs.Less.{AreLess, IsReadLess}
 use Rattle.c2_carried.specs.Parents.{IsContentOver, IsParentOf}

@@ -25,9 +25,9 @@ use Rattle.c2_rules.specs.declared.answer.Failing.{Failing}
 use Rattle.c2_rules.specs.declared.code.Code.{Code}
 use Rattle.c2_rules.specs.declared.code.Code.TheVariants.{ProfileRedactionTarget}
 use Rattle.c2_definition.specs.declared.types.Definition.{Definition}
-use Rattle.c2_layout.specs.Manifests.{manifest_of, supers_in}
-use Rattle.c2_layout.specs.Store.{Content, Parent}
-use Rattle.c2_layout.specs.Written.{CanBeCarried}
+use Rattle.c2_built.specs.Manifests.{manifest_of, supers_in}
+use Rattle.c2_built.specs.Store.{Content, Parent}
+use Rattle.c2_built.specs.Written.{CanBeCarried}
 use Rattle.c2_carried.specs.Less.{AreLess, CanRedact}
 use Rattle.c2_carried.specs.Parents.{IsContentOver, IsParentOf}
 use Rattle.c2_carried.specs.Refusing.{has_manifest, new_claim_uri, redaction_refusal}

@@ -11,8 +11,8 @@ use Rattle.c2_rules.specs.Ingredients.{is_ingredient}
 use Rattle.c2_rules.specs.Readings.{AreReadings, ReadBox, Reading, entries_in}
 use Rattle.c2_rules.specs.Rules.{lists_label}
 use Rattle.c2_older.specs.Older.{has_signature, is_kept, thinned}
-use Rattle.c2_layout.specs.Manifests.{is_assertion_store, manifest_of, supers_in, supers_inside, supers_of}
-use Rattle.c2_layout.specs.Written.{IsStoreBox}
+use Rattle.c2_built.specs.Manifests.{is_assertion_store, manifest_of, supers_in, supers_inside, supers_of}
+use Rattle.c2_built.specs.Written.{IsStoreBox}
 use Rattle.c2_carried.specs.Redacting.{redacted_box, redacted_boxes, takes_out}
 
 -- ---- what is read

@@ -1,6 +1,5 @@
 pub mod Redacting
 pub mod Refusing
 pub mod Parents
-pub mod Base
 pub mod Less
 pub mod Carrying

@@ -5,9 +5,9 @@ use Rattle.std.specs.declared.option.Option.TheVariants.{Some}
 use Rattle.c2_spec.specs.Jumbf.Boxes.{node, any_label}
 use Rattle.c2_spec.specs.Jumbf.Tree.{Tree}
 use Rattle.c2_definition.specs.declared.types.Definition.{Definition}
-use Rattle.c2_layout.specs.FreshBoxes.{contents_of}
-use Rattle.c2_layout.specs.Manifests.{is_signature_box, supers_in, supers_of}
-use Rattle.c2_layout.specs.Store.{Content, Parent}
+use Rattle.c2_built.specs.FreshBoxes.{contents_of}
+use Rattle.c2_built.specs.Manifests.{is_signature_box, supers_in, supers_of}
+use Rattle.c2_built.specs.Store.{Content, Parent}
 use Rattle.c2_carried.specs.Redacting.{boxes_in, redacted_boxes}
 
 -- The parent is the last of these manifests: its label, its contents, and those of its signature box.

@@ -7,7 +7,7 @@ use Rattle.c2_spec.specs.C2pa.Uri.{uri_of}
 use Rattle.c2_spec.specs.Jumbf.Boxes.{node, any_label}
 use Rattle.c2_spec.specs.Jumbf.Tree.{Tree, Trees, leaf, super, none, more}
 use Rattle.c2_rules.specs.Chains.{names_assertion, passes_some}
-use Rattle.c2_layout.specs.Manifests.{is_assertion_store}
+use Rattle.c2_built.specs.Manifests.{is_assertion_store}
 
 -- one of these redactions names the assertion with this label in the manifest with that one
 abbrev pub takes_out : List (List ℕ) → List ℕ → List ℕ → Bool

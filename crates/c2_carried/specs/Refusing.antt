@@ -1,7 +1,7 @@
 -- Which label a new manifest can't have, and which redactions of an older store are refused (C2PA Technical Specification 2.x,
 -- "Redaction of assertions"), over what the manifests of that store are read as; without an older store there are none. The order
 -- of the tests, and that an ingredient must name the signature of what loses a box, are this project's own choice.
-use Rattle.std.specs.Prelude.{ℕ, Bool, false, not, ◌&&◌, List, [], ◌∷◌, ◌++◌, length, filter, find, slice_get, is_some, codes, bytes_eq, option_map}
+use Rattle.std.specs.Prelude.{◌≡◌, ℕ, ◌<◌, Bool, false, not, ◌&&◌, List, [], ◌∷◌, ◌++◌, length, take, filter, find, slice_get, is_some, codes, bytes_eq, option_map}
 use Rattle.std.specs.declared.option.Option.{Option}
 use Rattle.std.specs.declared.option.Option.TheVariants.{Some, None}
 use Rattle.std.specs.List.{list_any}
@@ -89,3 +89,27 @@ refusal_after own rs before (text ∷ others) =
 -- the first of these redactions that is refused, and why
 abbrev pub redaction_refusal : List ℕ → List Reading → List (List ℕ) → Option RefusedRedaction
 redaction_refusal own rs redacts = refusal_after own rs [] redacts
+
+-- ---- which one is the first
+
+-- This redaction is refused so, of those at places in a list, where others stand before the list: by the first of its tests that
+-- fails, while those before it count as made; and of these none is refused.
+pub record IsRefusedAt (own : List ℕ) (rs : List Reading) (before redacts : List (List ℕ)) (place : ℕ) (r : RefusedRedaction) : Type 0 where
+  pub there : slice_get redacts place ≡ Some r.text
+  pub failing : Failing
+  pub first : first_failing (entry_tests own rs (before ++ take place redacts) r.text) ≡ Some failing
+  pub code : r.code ≡ failing.code
+  pub earlier : (i : ℕ) (text : List ℕ) → i < place → slice_get redacts i ≡ Some text
+      → first_failing (entry_tests own rs (before ++ take i redacts) text) ≡ None
+
+-- the first redaction of a list that is refused, in its order; nothing where none is
+abbrev pub IsFirstRefused : List ℕ → List Reading → List (List ℕ) → List (List ℕ) → Option RefusedRedaction → Type 0
+IsFirstRefused own rs before redacts None =
+    (i : ℕ) (text : List ℕ) → slice_get redacts i ≡ Some text
+    → first_failing (entry_tests own rs (before ++ take i redacts) text) ≡ None
+IsFirstRefused own rs before redacts (Some r) = (place : ℕ) × IsRefusedAt own rs before redacts place r
+
+-- What is answered is the first that is refused.
+abbrev pub FirstRedactionIsLeast : Type 0
+FirstRedactionIsLeast = (own : List ℕ) (rs : List Reading) (before redacts : List (List ℕ))
+    → IsFirstRefused own rs before redacts (refusal_after own rs before redacts)

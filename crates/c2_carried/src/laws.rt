@@ -1,6 +1,7 @@
 //! Laws of what is taken over.
 
 ghost use Rattle.c2_carried.specs.Carrying.{BaseHasNoStore, ContentIsOne, FirstIsRefused, ParentIsOne, RedactionsAreAccepted, SomeContentOver, ValidStoreIsCarried};
+ghost use Rattle.c2_carried.specs.Refusing.{FirstRedactionIsLeast};
 ghost use Rattle.c2_carried.specs.Less.{AllAreCarried, RedactedStoreIsRead, WholeStays};
 
 /// The boxes of a store are legal and have the same labels without the assertions that redactions name, and are read as before, less
@@ -35,4 +36,9 @@ pub fn a_base_has_no_store()
 pub fn a_valid_store_is_carried()
     ensures carried { ValidStoreIsCarried }
     ensures some { SomeContentOver }
+{}
+
+/// Of redactions the first that is refused is answered, in their order, and by the first of its tests that fails.
+pub fn the_first_redaction_refused_is_the_least()
+    ensures { FirstRedactionIsLeast }
 {}

@@ -18,10 +18,10 @@ use Rattle.c2_spec.proofs.BmffOneList.{roots_once}
 use Rattle.c2_spec.proofs.JumbfHeads.{IsHeaded, box_headed}
 use Rattle.c2_boxed.specs.Laws.{BuiltTextIsCovered, CanTake, CoverIsBuiltText, HasBuiltCover, HoldsNewStore, StoreIsNotCovered, StoreIsPutIn, file_with}
 use Rattle.c2_spec.specs.Bmff.Writing.{IsBoxStore, built_text, c2pa_box, c2pa_frame_len, insert_place, with_store}
-use Rattle.c2_layout.specs.Built.{HasDigestLen, StoreSizesAreSame, no_digest, zero_digest}
-use Rattle.c2_layout.specs.FreshBoxes.{store_box, trees_then}
-use Rattle.c2_layout.specs.Store.{Content, new_manifest, new_store}
-use Rattle.c2_layout.proofs.StoreSize.{KeepsLength}
+use Rattle.c2_built.specs.Built.{HasDigestLen, StoreSizesAreSame, no_digest, zero_digest}
+use Rattle.c2_built.specs.FreshBoxes.{store_box, trees_then}
+use Rattle.c2_built.specs.Store.{Content, new_manifest, new_store}
+use Rattle.c2_built.proofs.StoreSize.{KeepsLength}
 use Rattle.c2_films.specs.Films.{AreOthers, CanBuildFilm, FilmBaseIsItsBase, FilmBaseIsLeft, FilmHasItsStore, FilmIsBuilt, FilmIsOne, FilmSizeIsFixed, film_binding, film_file, film_store, film_store_size}
 use Rattle.c2_films.proofs.Items.{binding_len}
 

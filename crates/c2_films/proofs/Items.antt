@@ -15,10 +15,10 @@ use Rattle.c2_spec.specs.declared.digest.Alg.TheVariants.{Sha256}
 use Rattle.c2_spec.specs.Bmff.Writing.{all_of, built_exclusions, mfra_kind}
 use Rattle.c2_assertion.specs.ReadBack.{IsReadable}
 use Rattle.c2_assertion.specs.Written.{bmff_hash_item, exclusion_item, exclusions_item}
-use Rattle.c2_layout.proofs.GoodItems.{Good, RoundTrip, good_read}
-use Rattle.c2_layout.proofs.Spelled.{Fits}
-use Rattle.c2_layout.proofs.StoreSize.{KeepsLength}
-use Rattle.c2_layout.proofs.Uris.{plain_text}
+use Rattle.c2_built.proofs.GoodItems.{Good, RoundTrip, good_read}
+use Rattle.c2_built.proofs.Spelled.{Fits}
+use Rattle.c2_built.proofs.StoreSize.{KeepsLength}
+use Rattle.c2_built.proofs.Uris.{plain_text}
 use Rattle.c2_films.specs.Films.{BindingHasOneLength, film_hash}
 
 -- ---- how long it is

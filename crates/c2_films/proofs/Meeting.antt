@@ -27,12 +27,12 @@ use Rattle.c2_rules.specs.Opened.{IsBoxTree, IsManifestStore, IsManifestTree, Is
 use Rattle.c2_rules.specs.Rules as rule
 use Rattle.c2_boxed.specs.Laws.{BaseHasNoStore, HasBuiltCover, HoldsNewStore}
 use Rattle.c2_spec.specs.Bmff.Writing.{built_text, insert_place, with_store}
-use Rattle.c2_layout.specs.Built.{HasDigestLen}
-use Rattle.c2_layout.specs.Fresh.{Meets}
-use Rattle.c2_layout.specs.Store.{Content}
-use Rattle.c2_layout.specs.Unbound.{BoundFileMeets, FreshStoreMeets, IsKnownBinding, IsMet, MeetsUnbound}
-use Rattle.c2_layout.specs.Written.{CanBeWritten}
-use Rattle.c2_layout.proofs.NewRules.{all_hold, same_bytes}
+use Rattle.c2_built.specs.Built.{HasDigestLen}
+use Rattle.c2_built.specs.Fresh.{Meets}
+use Rattle.c2_built.specs.Store.{Content}
+use Rattle.c2_built.specs.Unbound.{BoundFileMeets, FreshStoreMeets, IsKnownBinding, IsMet, MeetsUnbound}
+use Rattle.c2_built.specs.Written.{CanBeWritten}
+use Rattle.c2_built.proofs.NewRules.{all_hold, same_bytes}
 use Rattle.c2_carried.specs.Carrying.{CanStandOver, IsCarried, ValidStoreIsCarried}
 use Rattle.c2_succeeding.specs.Over.{SucceedingStoreMeets}
 use Rattle.c2_films.specs.Films.{AreOthers, CanBuildFilm, film_binding, film_file, film_hash, film_len, film_store}

@@ -9,11 +9,11 @@ use Rattle.c2_spec.specs.Cbor.Deterministic.{shortest_head}
 use Rattle.c2_spec.specs.Jumbf.Tree.{Tree, tree_bytes}
 use Rattle.c2_spec.specs.Bmff.Writing.{base_roots, built_text, c2pa_box, freed, insert_place, place_without}
 use Rattle.c2_definition.specs.declared.types.Definition.{Definition}
-use Rattle.c2_layout.specs.Built.{no_digest, zero_digest}
-use Rattle.c2_layout.specs.Fresh.{fresh_content}
-use Rattle.c2_layout.specs.FreshBoxes.{contents_of, item_box}
-use Rattle.c2_layout.specs.Store.{Content, Parent, assertion_box, new_claim, new_manifest}
-use Rattle.c2_layout.proofs.BuildRows.{actions}
+use Rattle.c2_built.specs.Built.{no_digest, zero_digest}
+use Rattle.c2_built.specs.Fresh.{fresh_content}
+use Rattle.c2_built.specs.FreshBoxes.{contents_of, item_box}
+use Rattle.c2_built.specs.Store.{Content, Parent, assertion_box, new_claim, new_manifest}
+use Rattle.c2_built.proofs.BuildRows.{actions}
 use Rattle.c2_carried.specs.Parents.{IsContentOver}
 use Rattle.c2_carried.specs.Redacting.{boxes_in, redacted_boxes}
 use Rattle.c2_films.specs.Films.{film_binding, film_file, film_len, film_store, film_store_size}

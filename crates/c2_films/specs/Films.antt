@@ -18,8 +18,8 @@ use Rattle.c2_spec.specs.Bmff.Writing.{IsBmffBase, built_exclusions, built_text,
 use Rattle.c2_assertion.specs.Written.{bmff_hash_item}
 use Rattle.c2_definition.specs.declared.types.NewAssertion.{NewAssertion}
 use Rattle.c2_definition.specs.declared.types.Payload.TheVariants as payload
-use Rattle.c2_layout.specs.Built.{HasDigestLen, SameFile, no_digest, zero_digest}
-use Rattle.c2_layout.specs.Store.{Content, new_store}
+use Rattle.c2_built.specs.Built.{HasDigestLen, SameFile, no_digest, zero_digest}
+use Rattle.c2_built.specs.Store.{Content, new_store}
 
 -- ---- the binding
 

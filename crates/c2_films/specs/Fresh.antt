@@ -7,9 +7,9 @@ use Rattle.c2_spec.specs.Container.{is_bmff}
 use Rattle.c2_spec.specs.declared.digest.Alg.{Alg}
 use Rattle.c2_spec.specs.declared.digest.Alg.TheVariants.{Sha256}
 use Rattle.c2_spec.specs.Bmff.Writing.{built_text, insert_place}
-use Rattle.c2_layout.specs.Fresh.{GivesDigests, IsFresh, Meets}
-use Rattle.c2_layout.specs.Store.{Content, new_claim}
-use Rattle.c2_layout.specs.Written.{CanBeWritten}
+use Rattle.c2_built.specs.Fresh.{GivesDigests, IsFresh, Meets}
+use Rattle.c2_built.specs.Store.{Content, new_claim}
+use Rattle.c2_built.specs.Written.{CanBeWritten}
 use Rattle.c2_films.specs.Films.{AreOthers, CanBuildFilm, film_binding, film_file, film_len, film_store}
 
 -- the question of the new manifest, where its message has these parts

@@ -8,11 +8,11 @@ use c2_assertion::{
     a_written_bmff_hash_is_read, written_items_are_in_order, written_items_have_plain_keys,
 };
 use c2_boxed::{a_base_has_no_store, a_put_store_is_found, a_put_store_is_not_covered};
-use c2_carried::a_valid_store_is_carried;
-use c2_cbor::{round_trip, sorting_keeps_the_length};
-use c2_layout::{
+use c2_built::{
     a_bound_file_meets_the_rules, a_fresh_store_meets_the_rules, new_stores_have_one_length,
 };
+use c2_carried::a_valid_store_is_carried;
+use c2_cbor::{round_trip, sorting_keeps_the_length};
 use c2_succeeding::a_succeeding_store_meets_the_rules;
 
 /// The binding of a new BMFF file has 140 bytes, and so the length of the store depends on no digest.

@@ -7,7 +7,7 @@ use Rattle.c2_spec.specs.declared.cbor.Ref.{Ref}
 use Rattle.c2_claim.specs.Written.{claim_item}
 use Rattle.c2_claim.specs.declared.writing.ClaimParts.{ClaimParts}
 use Rattle.c2_definition.specs.declared.types.Definition.{Definition}
-use Rattle.c2_layout.specs.Store.{claim_with}
+use Rattle.c2_built.specs.Store.{claim_with}
 
 -- the parts of a claim
 abbrev parts : List ℕ → List ℕ → List ℕ → Option (List ℕ) → List Ref → List (List ℕ) → ClaimParts

@@ -1,6 +1,6 @@
 -- How many bytes a new store has, by its parts; and that the boxes of assertions can be written where the store isn't too large.
-use Rattle.std.proofs.Common.{◌≡◌, ℕ, ◌+◌, ◌≤◌, true, min, take, List, [], ◌∷◌, ◌++◌, length, map, replicate, Option, Some, None, refl, sym, ap, ◌∙◌, subst, arith, codes, length-append, lit<}
-use Rattle.std.specs.Prelude.{sum_by, All, Result, Ok, Err, IfOk, option_map}
+use Rattle.std.proofs.Common.{◌≡◌, ℕ, ◌+◌, ◌≤◌, true, inl, inr, min, take, List, [], ◌∷◌, ◌++◌, length, map, replicate, Option, Some, None, refl, sym, ap, ◌∙◌, subst, arith, codes, length-append, lit<}
+use Rattle.std.specs.Prelude.{◌⊎◌, sum_by, All, Result, Ok, Err, IfOk, option_map}
 use Rattle.std.specs.List.{AllByRecursion}
 use Rattle.std.proofs.lemmas.List.{length-replicate, take_all}
 use Rattle.std.proofs.lemmas.List.Sums.{sum_by-cons}
@@ -12,6 +12,8 @@ use Rattle.c2_spec.specs.Cbor.Deterministic.{deterministic}
 use Rattle.c2_spec.specs.Cbor.Item.{Item}
 use Rattle.c2_spec.specs.declared.assertion.Relationship.TheVariants.{ParentOf}
 use Rattle.c2_spec.specs.declared.cbor.Ref.{Ref}
+use Rattle.c2_spec.specs.Digest.{digest_len}
+use Rattle.c2_spec.specs.declared.digest.Alg.TheVariants.{Sha256}
 use Rattle.c2_spec.specs.Jumbf.Tree.{tree_bytes, trees_bytes}
 use Rattle.c2_spec.specs.Jumbf.Writing.{IsWrittenLabel}
 use Rattle.c2_assertion.specs.Written.{ingredient_item}
@@ -21,14 +23,15 @@ use Rattle.c2_definition.specs.declared.types.Definition.{Definition}
 use Rattle.c2_definition.specs.declared.types.NewAssertion.{NewAssertion}
 use Rattle.c2_definition.specs.declared.types.Payload.{Payload}
 use Rattle.c2_definition.specs.declared.types.Payload.TheVariants as payload
-use Rattle.c2_layout.specs.Built.{no_digest, zero_digest, store_size, HasDigestLen, StoreSizeIsFixed}
+use Rattle.c2_built.specs.Built.{bound_len, no_digest, zero_digest, store_size, HasDigestLen, StoreSizeIsFixed, StoreSizesAreSame}
 use Rattle.c2_layout.specs.Parts.{AreParts, CanBeBoxed, HasRefs, IsContent, blank_parent, parts_size, told, told_parent}
-use Rattle.c2_layout.specs.Store.{Content, Parent, assertion_box, assertion_boxes, claim_with, data_binding, entry_of, new_assertions, new_claim, new_manifest, new_store, parent_assertions, parent_ingredient, parent_ref}
+use Rattle.c2_built.specs.Store.{Content, Parent, assertion_box, assertion_boxes, claim_with, data_binding, entry_of, new_assertions, new_claim, new_manifest, new_store, parent_assertions, parent_ingredient, parent_ref}
+use Rattle.c2_built.specs.Unbound.{IsKnownLabel}
 use Rattle.c2_layout.specs.declared.carried.Carried.{Carried}
 use Rattle.c2_layout.specs.declared.carried.ParentRefs.{ParentRefs}
 use Rattle.c2_layout.specs.declared.parts.NewParts.{NewParts}
-use Rattle.c2_layout.proofs.Labels.{new_label, written_label}
-use Rattle.c2_layout.proofs.StoreSize.{assertion_len, manifest_len, store_len}
+use Rattle.c2_built.proofs.Labels.{new_label, written_label}
+use Rattle.c2_built.proofs.StoreSize.{assertion_len, manifest_len, store_len}
 
 -- ---- assertions
 
@@ -59,32 +62,30 @@ pub content_size : (hash : List ℕ → List ℕ) (c : Content) (b : NewAssertio
 content_size hash c b message =
     omega (arith, store_len c.carried (new_manifest hash c b message), manifest_len c.definition.label (new_assertions hash c b) (new_claim hash c b) message)
 
--- the binding that stands for one that isn't known yet
-abbrev pub blank : NewAssertion
-blank = data_binding 0 0 zero_digest
-
--- the assertions that a new manifest has beside those of its definition, while no digest is known
-abbrev pub blank_own : Option Parent → List NewAssertion
-blank_own p = parent_assertions no_digest p ++ blank ∷ []
+-- the assertions that a new manifest with this binding has beside those of its definition, while no other digest is known
+abbrev pub blank_own : Option Parent → NewAssertion → List NewAssertion
+blank_own p b = parent_assertions no_digest p ++ b ∷ []
 
 -- what its length is reckoned as
-pub reckoned_size : (c : Content) (reserve : ℕ)
-    → store_size c reserve ≡ length (trees_bytes c.carried) + (232 + length c.definition.label + (length (trees_bytes (assertion_boxes c.definition.assertions)) + length (trees_bytes (assertion_boxes (blank_own c.parent)))) + length (new_claim no_digest c blank) + reserve)
-reckoned_size c reserve = omega (arith, content_size no_digest c blank (replicate reserve 0), length-replicate {A = ℕ} reserve 0, both_boxes c.definition.assertions (blank_own c.parent))
+pub reckoned_size : (c : Content) (b : NewAssertion) (reserve : ℕ)
+    → bound_len c b reserve ≡ length (trees_bytes c.carried) + (232 + length c.definition.label + (length (trees_bytes (assertion_boxes c.definition.assertions)) + length (trees_bytes (assertion_boxes (blank_own c.parent b)))) + length (new_claim no_digest c b) + reserve)
+reckoned_size c b reserve = omega (arith, content_size no_digest c b (replicate reserve 0), length-replicate {A = ℕ} reserve 0, both_boxes c.definition.assertions (blank_own c.parent b))
 
 -- numbers added up to a greatest one
 pub saturated : (most a b c d e f a1 b1 a2 c1 a3 a4 a5 out : ℕ) → a1 ≡ min (a + 232) most → b1 ≡ min b most → a2 ≡ min (a1 + b1) most → c1 ≡ min c most → a3 ≡ min (a2 + c1) most → a4 ≡ min (a3 + d) most → a5 ≡ min (a4 + e) most → out ≡ min (a5 + f) most
     → out ≡ min (f + (232 + a + (b + c) + d + e)) most
 saturated most a b c d e f a1 b1 a2 c1 a3 a4 a5 out h1 h2 h3 h4 h5 h6 h7 h8 = omega arith
 
+-- each digest of zero bytes has its length
+blank_len : HasDigestLen no_digest
+blank_len text = length-replicate {A = ℕ} (digest_len Sha256) 0
+
 -- with digests its parts are as long together
-pub sized_with : StoreSizeIsFixed → (hash : List ℕ → List ℕ) (c : Content) (start len reserve : ℕ) (digest : List ℕ) → HasDigestLen hash → length digest ≡ 32
-    → store_size c reserve ≡ length (trees_bytes c.carried) + (232 + length c.definition.label + length (trees_bytes (assertion_boxes (new_assertions hash c (data_binding start len digest)))) + length (new_claim hash c (data_binding start len digest)) + reserve)
-sized_with fixed hash c start len reserve digest digests short =
-    let size = fixed hash c start len digest (replicate reserve 0) digests short in
-    let many : length (replicate {A = ℕ} reserve 0) ≡ reserve = length-replicate {A = ℕ} reserve 0 in
-    let same : store_size c (length (replicate {A = ℕ} reserve 0)) ≡ store_size c reserve = ap (store_size c) many in
-    omega (arith, size, same, many, content_size hash c (data_binding start len digest) (replicate reserve 0))
+pub sized_with : StoreSizesAreSame → (hash : List ℕ → List ℕ) (c : Content) (b : NewAssertion) (reserve : ℕ) → HasDigestLen hash
+    → bound_len c b reserve ≡ length (trees_bytes c.carried) + (232 + length c.definition.label + length (trees_bytes (assertion_boxes (new_assertions hash c b))) + length (new_claim hash c b) + reserve)
+sized_with same hash c b reserve digests =
+    same no_digest hash c b b (replicate reserve 0) (replicate reserve 0) blank_len digests refl refl refl ∙ content_size hash c b (replicate reserve 0)
+    ∙ ap (λ (n : ℕ). length (trees_bytes c.carried) + (232 + length c.definition.label + length (trees_bytes (assertion_boxes (new_assertions hash c b))) + length (new_claim hash c b) + n)) (length-replicate {A = ℕ} reserve 0)
 
 -- ---- what can be boxed
 
@@ -99,21 +100,29 @@ all_boxed (a ∷ others) h small =
 abbrev pub parent_assertion : (List ℕ → List ℕ) → Parent → NewAssertion
 parent_assertion hash p = record { label = codes "c2pa.ingredient.v3"; kind = payload.Cbor; bytes = deterministic (ingredient_item (parent_ingredient hash p)) }
 
--- the label of a binding and that of an ingredient can be written
-pub binding_label : IsWrittenLabel (codes "c2pa.hash.data")
-binding_label = written_label (codes "c2pa.hash.data") (record { some = lit< tt; named = grind arith })
+-- the label of a binding to ranges, of one to boxes, and that of an ingredient can be written
+data_label : IsWrittenLabel (codes "c2pa.hash.data")
+data_label = written_label (codes "c2pa.hash.data") (record { some = lit< tt; named = grind arith })
+
+film_label : IsWrittenLabel (codes "c2pa.hash.bmff.v2")
+film_label = written_label (codes "c2pa.hash.bmff.v2") (record { some = lit< tt; named = grind arith })
 
 pub ingredient_label : IsWrittenLabel (codes "c2pa.ingredient.v3")
 ingredient_label = written_label (codes "c2pa.ingredient.v3") (record { some = lit< tt; named = grind arith })
 
+-- so a label of a kind that is known can
+known_label : (l : List ℕ) → IsKnownLabel l → IsWrittenLabel l
+known_label l (inl e) = subst IsWrittenLabel (sym e) data_label
+known_label l (inr e) = subst IsWrittenLabel (sym e) film_label
+
 -- so a binding can, whose box isn't too large
-one_boxed : (b : NewAssertion) → b.label ≡ codes "c2pa.hash.data" → length (trees_bytes (assertion_boxes (b ∷ []))) ≤ MAX_STORE_LEN → All CanBeBoxed (b ∷ [])
+one_boxed : (b : NewAssertion) → IsKnownLabel b.label → length (trees_bytes (assertion_boxes (b ∷ []))) ≤ MAX_STORE_LEN → All CanBeBoxed (b ∷ [])
 one_boxed b l small =
     let one : length (trees_bytes (assertion_boxes (b ∷ []))) ≡ length (tree_bytes (assertion_box b)) + 0 = length-append (tree_bytes (assertion_box b)) [] in
-    All-cons CanBeBoxed b [] (record { label = subst IsWrittenLabel (sym l) binding_label; small = omega (arith, one, small) }) (All-nil CanBeBoxed)
+    All-cons CanBeBoxed b [] (record { label = known_label b.label l; small = omega (arith, one, small) }) (All-nil CanBeBoxed)
 
 -- and so can the assertions that a new manifest has beside those of its definition
-pub own_boxed : (hash : List ℕ → List ℕ) (p : Option Parent) (b : NewAssertion) → b.label ≡ codes "c2pa.hash.data"
+pub own_boxed : (hash : List ℕ → List ℕ) (p : Option Parent) (b : NewAssertion) → IsKnownLabel b.label
     → length (trees_bytes (assertion_boxes (parent_assertions hash p ++ b ∷ []))) ≤ MAX_STORE_LEN → All CanBeBoxed (parent_assertions hash p ++ b ∷ [])
 own_boxed hash None b l small = one_boxed b l small
 own_boxed hash (Some p) b l small =
@@ -122,13 +131,13 @@ own_boxed hash (Some p) b l small =
     All-cons CanBeBoxed a (b ∷ []) (record { label = ingredient_label; small = omega (arith, two, small) }) (one_boxed b l (omega (arith, two, small)))
 
 -- a store that isn't too large has room for those of its definition, and for these
-pub stored_boxed : StoreSizeIsFixed → (hash : List ℕ → List ℕ) (c : Content) (start len reserve : ℕ) (digest : List ℕ) → HasDigestLen hash → length digest ≡ 32 → IsWellFormed c.definition → store_size c reserve ≤ MAX_STORE_LEN
-    → All CanBeBoxed c.definition.assertions × All CanBeBoxed (parent_assertions hash c.parent ++ data_binding start len digest ∷ [])
-stored_boxed fixed hash c start len reserve digest digests short formed small =
-    let size = sized_with fixed hash c start len reserve digest digests short in
-    let both = both_boxes c.definition.assertions (parent_assertions hash c.parent ++ data_binding start len digest ∷ []) in (
+pub stored_boxed : StoreSizesAreSame → (hash : List ℕ → List ℕ) (c : Content) (b : NewAssertion) (reserve : ℕ) → HasDigestLen hash → IsKnownLabel b.label → IsWellFormed c.definition → bound_len c b reserve ≤ MAX_STORE_LEN
+    → All CanBeBoxed c.definition.assertions × All CanBeBoxed (parent_assertions hash c.parent ++ b ∷ [])
+stored_boxed same hash c b reserve digests known formed small =
+    let size = sized_with same hash c b reserve digests in
+    let both = both_boxes c.definition.assertions (parent_assertions hash c.parent ++ b ∷ []) in (
       all_boxed c.definition.assertions formed.labels (omega (arith, size, both, small)),
-      own_boxed hash c.parent (data_binding start len digest) refl (omega (arith, size, both, small)),
+      own_boxed hash c.parent b known (omega (arith, size, both, small)),
     )
 
 -- ---- the parent by its references
@@ -178,12 +187,19 @@ are_parts hash d k c is own made b p owns bound boxes claim =
     }
 
 -- and they are as long as was reckoned
-pub parts_are : StoreSizeIsFixed → (hash : List ℕ → List ℕ) (d : Definition) (k : Carried) (c : Content) → IsContent hash d k c → (start len : ℕ) (digest : List ℕ) (p : NewParts) → HasDigestLen hash → length digest ≡ 32
-    → AreParts hash c (data_binding start len digest) p → length k.boxes + parts_size d.label p d.reserve ≡ store_size c d.reserve
-parts_are fixed hash d k c is start len digest p digests short are =
-    let size = sized_with fixed hash c start len d.reserve digest digests short in
+pub parts_are : StoreSizesAreSame → (hash : List ℕ → List ℕ) (d : Definition) (k : Carried) (c : Content) → IsContent hash d k c → (b : NewAssertion) (p : NewParts) → HasDigestLen hash
+    → AreParts hash c b p → length k.boxes + parts_size d.label p d.reserve ≡ bound_len c b d.reserve
+parts_are same hash d k c is b p digests are =
+    let size = sized_with same hash c b d.reserve digests in
     let label : length c.definition.label ≡ length d.label = ap (λ (e : Definition). length e.label) is.definition in
     omega (arith, size, label, ap length is.boxes, ap length are.boxes, ap length are.claim)
+
+-- a store that can be stored can be bound to a range
+pub stored_bound : StoreSizeIsFixed → StoreSizesAreSame → (hash : List ℕ → List ℕ) (c : Content) (start len reserve : ℕ) (digest : List ℕ) → HasDigestLen hash → length digest ≡ 32
+    → bound_len c (data_binding start len digest) reserve ≡ store_size c reserve
+stored_bound fixed same hash c start len reserve digest digests short =
+    same no_digest hash c (data_binding start len digest) (data_binding start len digest) (replicate reserve 0) (replicate reserve 0) blank_len digests refl refl refl
+    ∙ fixed hash c start len digest (replicate reserve 0) digests short ∙ ap (store_size c) (length-replicate {A = ℕ} reserve 0)
 
 -- ---- answers
 

@@ -7,8 +7,8 @@ use Rattle.c2_spec.specs.Jumbf.Tree.{tree_bytes, trees_bytes}
 use Rattle.c2_spec.specs.Jumbf.Writing.{IsWrittenLabel}
 use Rattle.c2_definition.specs.declared.types.NewAssertion.{NewAssertion}
 use Rattle.c2_definition.specs.declared.types.Definition.{Definition}
-use Rattle.c2_layout.specs.Built.{store_size, zero_digest}
-use Rattle.c2_layout.specs.Store.{Content, Parent, assertion_box, assertion_boxes, new_assertions, new_claim}
+use Rattle.c2_built.specs.Built.{bound_len, store_size, zero_digest}
+use Rattle.c2_built.specs.Store.{Content, Parent, assertion_box, assertion_boxes, new_assertions, new_claim}
 use Rattle.c2_layout.specs.declared.carried.Carried.{Carried}
 use Rattle.c2_layout.specs.declared.carried.ParentRefs.{ParentRefs}
 use Rattle.c2_layout.specs.declared.parts.NewParts.{NewParts}
@@ -39,6 +39,12 @@ pub record CanBeStored (hash : List ℕ → List ℕ) (d : Definition) (k : Carr
   pub content : Content
   pub is : IsContent hash d k content
   pub small : store_size content d.reserve ≤ MAX_STORE_LEN
+
+-- a new store of these with this binding isn't too large with what the definition reserves for its message
+pub record CanBeBound (hash : List ℕ → List ℕ) (d : Definition) (k : Carried) (binding : NewAssertion) : Type 0 where
+  pub content : Content
+  pub is : IsContent hash d k content
+  pub small : bound_len content binding d.reserve ≤ MAX_STORE_LEN
 
 -- for private clauses: a digest that is told stands for itself
 abbrev pub told : List ℕ → List ℕ

@@ -4,8 +4,8 @@ ghost use Rattle.c2_base.specs.declared.limits.TheConstants.{MAX_STORE_LEN};
 ghost use Rattle.c2_spec.specs.C2pa.Manifest as manifest;
 ghost use Rattle.c2_spec.specs.Jumbf.Tree.{tree_bytes, more, none};
 ghost use Rattle.c2_spec.specs.Jumbf.Writing.{IsWrittenLabel};
-ghost use Rattle.c2_layout.specs.FreshBoxes.{fresh_box, fresh_leaf};
-ghost use Rattle.c2_layout.specs.Store as store;
+ghost use Rattle.c2_built.specs.FreshBoxes.{fresh_box, fresh_leaf};
+ghost use Rattle.c2_built.specs.Store as store;
 
 use c2_base::{Blob, NoMemory};
 use c2_definition::{NewAssertion, Payload};

@@ -2,7 +2,7 @@
 ghost use Rattle.std.specs.Prelude.{◌≡◌, ◌++◌, ◌∷◌, [], IfOk, Some, option_map};
 ghost use Rattle.c2_spec.specs.C2pa.Uri.{signature, whole};
 ghost use Rattle.c2_layout.specs.Parts.{blank_parent, told, told_parent};
-ghost use Rattle.c2_layout.specs.Store.{parent_assertions, parent_ref};
+ghost use Rattle.c2_built.specs.Store.{parent_assertions, parent_ref};
 
 use crate::binding::item_bytes;
 use crate::carried::ParentRefs;

@@ -4,10 +4,11 @@ ghost use Rattle.c2_spec.specs.Cbor.Deterministic.{deterministic};
 ghost use Rattle.c2_spec.specs.Jumbf.Tree.{trees_bytes};
 ghost use Rattle.c2_claim.specs.Written.{claim_item};
 ghost use Rattle.c2_definition.specs.DefinitionFile.{IsWellFormed};
-ghost use Rattle.c2_layout.specs.Built.{store_size};
-ghost use Rattle.c2_layout.specs.Parts.{AreParts, CanBeBoxed, CanBeStored, IsContent, parts_size};
-ghost use Rattle.c2_layout.specs.Store as store;
-ghost use Rattle.c2_layout.specs.Store.{Content};
+ghost use Rattle.c2_built.specs.Built.{bound_len, store_size};
+ghost use Rattle.c2_layout.specs.Parts.{AreParts, CanBeBound, CanBeBoxed, CanBeStored, IsContent, parts_size};
+ghost use Rattle.c2_built.specs.Store as store;
+ghost use Rattle.c2_built.specs.Store.{Content};
+ghost use Rattle.c2_built.specs.Unbound.{IsKnownBinding};
 
 use crate::assertions::push_all;
 use crate::binding::data_binding;
@@ -15,6 +16,7 @@ use crate::carried::Carried;
 use crate::claims::claim_of;
 use crate::parent::own_assertions;
 use c2_base::{Blob, NoMemory, Range};
+use c2_built::{a_new_store_has_one_length, new_stores_have_one_length};
 use c2_definition::{Definition, NewAssertion};
 use c2_hash::{Alg, Digest, Hashing};
 use std::alloc::Global;
@@ -57,6 +59,37 @@ fn parts_over<H: Hashing>(
     })
 }
 
+/// The parts of the store that is built of a definition and of what is carried of an older store, with this binding, which is of a kind
+/// that is known. Each assertion is digested once.
+///
+/// Nothing but memory fails where the store isn't too large with what the definition reserves for its message, which `bound_size`
+/// tells before.
+pub fn bound_parts<H: Hashing>(
+    alloc: Global,
+    hashing: &H,
+    definition: &Definition,
+    carried: &Carried,
+    binding: NewAssertion,
+) -> Result<NewParts, NoMemory>
+    requires formed { IsWellFormed definition.now }
+    requires known { IsKnownBinding binding }
+    requires small { CanBeBound (H.digest_of Alg.Sha256) definition.now carried.now binding }
+    ensures parts { IfOk result (λ p. (c : Content)
+        → IsContent (H.digest_of Alg.Sha256) definition.now carried.now c
+        → AreParts (H.digest_of Alg.Sha256) c binding p) }
+
+    // So the store has the length that was told before.
+    ensures size { IfOk result (λ p. (c : Content)
+        → IsContent (H.digest_of Alg.Sha256) definition.now carried.now c
+        → length carried.now.boxes + parts_size definition.now.label p definition.now.reserve
+        ≡ bound_len c binding definition.now.reserve) }
+{
+    // Only the prover needs this law.
+    new_stores_have_one_length();
+    let own = own_assertions(alloc, &carried.parent, binding)?;
+    parts_over(alloc, hashing, definition, own.as_slice())
+}
+
 /// The parts of the store that is built of a definition and of what is carried of an older store, whose binding has this range and this
 /// digest of what the file has outside it. Each assertion is digested once.
 ///
@@ -85,9 +118,8 @@ pub fn new_parts<H: Hashing>(
         ≡ store_size c definition.now.reserve) }
 {
     // Only the prover needs these laws.
-    c2_cbor::sorting_keeps_the_length();
-    c2_assertion::a_written_data_hash_has_one_length();
+    a_new_store_has_one_length();
+    new_stores_have_one_length();
     let binding = data_binding(alloc, range, digest.as_slice())?;
-    let own = own_assertions(alloc, &carried.parent, binding)?;
-    parts_over(alloc, hashing, definition, own.as_slice())
+    bound_parts(alloc, hashing, definition, carried, binding)
 }

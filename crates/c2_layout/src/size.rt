@@ -1,13 +1,14 @@
 // How long the new store is, before anything of that size is made.
-ghost use Rattle.std.specs.Prelude.{◌≡◌, ℕ, ◌-◌, ◌^◌, ◌++◌, IfOk, List, OnOk, length, map, min};
+ghost use Rattle.std.specs.Prelude.{◌≡◌, ℕ, ◌-◌, ◌^◌, ◌++◌, ◌≤◌, IfOk, List, OnOk, length, map, min};
+ghost use Rattle.c2_spec.specs.declared.packets.TheConstants.{LEAST_STORE_LEN};
 ghost use Rattle.c2_spec.specs.Cbor.Deterministic.{deterministic};
 ghost use Rattle.c2_spec.specs.Jumbf.Tree.{trees_bytes};
 ghost use Rattle.c2_claim.specs.Written.{claim_item};
-ghost use Rattle.c2_layout.specs.Built as built;
-ghost use Rattle.c2_layout.specs.Built.{no_digest};
+ghost use Rattle.c2_built.specs.Built as built;
+ghost use Rattle.c2_built.specs.Built.{no_digest};
 ghost use Rattle.c2_layout.specs.Parts.{IsContent};
-ghost use Rattle.c2_layout.specs.Store as store;
-ghost use Rattle.c2_layout.specs.Store.{Content};
+ghost use Rattle.c2_built.specs.Store as store;
+ghost use Rattle.c2_built.specs.Store.{Content};
 
 use crate::binding::data_binding;
 use crate::carried::Carried;
@@ -71,19 +72,20 @@ fn claim_len(alloc: Global, definition: &Definition, own: &[NewAssertion]) -> Re
     Ok(claim.as_slice().len() as u64)
 }
 
-/// The length in bytes of the store that is built of a definition and of what is carried of an older store, with the bytes that the
-/// definition reserves for the signed message; 2^64 - 1 where 64 bits can't hold it. It depends neither on the media nor on the
-/// message nor on digests, and no copy of what is carried is made for it.
-pub fn store_size(
+/// The length in bytes of the store that is built of a definition and of what is carried of an older store, with this binding and with
+/// the bytes that the definition reserves for the signed message; 2^64 - 1 where 64 bits can't hold it. It depends neither on the
+/// message nor on digests beside the binding's, and no copy of what is carried is made for it.
+pub fn bound_size(
     alloc: Global,
     definition: &Definition,
     carried: &Carried,
+    binding: NewAssertion,
 ) -> Result<u64, NoMemory>
-    ensures { IfOk result (λ n. (hash : List ℕ → List ℕ) (c : Content)
+    ensures len { IfOk result (λ n. (hash : List ℕ → List ℕ) (c : Content)
         → IsContent hash definition.now carried.now c
-        → n ≡ min (built.store_size c definition.now.reserve) (2 ^ 64 - 1)) }
+        → n ≡ min (built.bound_len c binding definition.now.reserve) (2 ^ 64 - 1)) }
+    ensures least { IfOk result (λ n. LEAST_STORE_LEN ≤ n) }
 {
-    let binding = data_binding(alloc, NO_RANGE, &NO_DIGEST)?;
     let parent = blank_refs(alloc, &carried.parent)?;
     let own = own_assertions(alloc, &parent, binding)?;
     let claim = claim_len(alloc, definition, own.as_slice())?;
@@ -94,4 +96,21 @@ pub fn store_size(
     let claimed = bound.saturating_add(claim);
     let filled = claimed.saturating_add(definition.reserve as u64);
     Ok(filled.saturating_add(carried.boxes.as_slice().len() as u64))
+}
+
+/// The length in bytes of the store that is built of a definition and of what is carried of an older store, which binds a range of a
+/// file, with the bytes that the definition reserves for the signed message; 2^64 - 1 where 64 bits can't hold it. It depends neither on
+/// the media nor on the message nor on digests.
+pub fn store_size(
+    alloc: Global,
+    definition: &Definition,
+    carried: &Carried,
+) -> Result<u64, NoMemory>
+    ensures len { IfOk result (λ n. (hash : List ℕ → List ℕ) (c : Content)
+        → IsContent hash definition.now carried.now c
+        → n ≡ min (built.store_size c definition.now.reserve) (2 ^ 64 - 1)) }
+    ensures least { IfOk result (λ n. LEAST_STORE_LEN ≤ n) }
+{
+    let binding = data_binding(alloc, NO_RANGE, &NO_DIGEST)?;
+    bound_size(alloc, definition, carried, binding)
 }

@@ -1,7 +1,7 @@
 -- The parent of a new manifest by its digests.
 use Rattle.std.specs.Prelude.{◌≡◌, ℕ, List}
 use Rattle.c2_spec.specs.Jumbf.Tree.{Tree}
-use Rattle.c2_layout.specs.Store.{Parent}
+use Rattle.c2_built.specs.Store.{Parent}
 use Rattle.c2_carried.specs.Parents.{IsParentOf}
 use Rattle.c2_parent.specs.declared.parent.ParentDigests.{ParentDigests}
 

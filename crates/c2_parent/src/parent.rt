@@ -5,7 +5,7 @@ ghost use Rattle.c2_spec.specs.C2pa.Manifest.{IsStoreOf};
 ghost use Rattle.c2_spec.specs.Jumbf.Boxes.{tree_count, box_at, any_contents};
 ghost use Rattle.c2_spec.specs.declared.digest.Alg.TheVariants as algs;
 ghost use Rattle.c2_spec.specs.declared.store.ManifestBoxes.{ManifestBoxes as Boxes};
-ghost use Rattle.c2_layout.specs.Manifests.{supers_in};
+ghost use Rattle.c2_built.specs.Manifests.{supers_in};
 ghost use Rattle.c2_carried.specs.Redacting.{boxes_in, redacted_boxes};
 ghost use Rattle.c2_parent.specs.Boxes.{redacted_any};
 ghost use Rattle.c2_parent.specs.Parents.{HasParent};

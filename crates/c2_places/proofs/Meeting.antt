@@ -20,10 +20,10 @@ use Rattle.c2_spec.specs.declared.panel.Verdict.{Verdict}
 use Rattle.c2_rules.specs.CheckList.{StoreReading, questions}
 use Rattle.c2_boxed.specs.Laws as boxed
 use Rattle.c2_definition.specs.declared.types.Definition.{Definition}
-use Rattle.c2_layout.specs.Built.{BaseIsLeft, CanBuild, built_file, built_len, built_store}
-use Rattle.c2_layout.specs.Fresh.{FreshFileMeets, GivesDigests, Meets, new_question}
-use Rattle.c2_layout.specs.Store.{Content}
-use Rattle.c2_layout.specs.Written.{CanBeWritten}
+use Rattle.c2_built.specs.Built.{BaseIsLeft, CanBuild, built_file, built_len, built_store}
+use Rattle.c2_built.specs.Fresh.{FreshFileMeets, GivesDigests, Meets, new_question}
+use Rattle.c2_built.specs.Store.{Content}
+use Rattle.c2_built.specs.Written.{CanBeWritten}
 use Rattle.c2_carried.specs.Carrying.{BaseHasNoStore}
 use Rattle.c2_carried.specs.Parents.{IsContentOver}
 use Rattle.c2_succeeding.specs.Over.{FileOverStoreMeets}

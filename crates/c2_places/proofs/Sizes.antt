@@ -1,6 +1,6 @@
 -- The size of a new store in its place, and its binding.
 use Rattle.std.proofs.Common.{inl, inr, refl}
-use Rattle.c2_layout.specs.Built.{StoreSizeIsFixed}
+use Rattle.c2_built.specs.Built.{StoreSizeIsFixed}
 use Rattle.c2_films.specs.Films.{FilmSizeIsFixed}
 use Rattle.c2_spec.specs.Jpeg.Writing as jpeg
 use Rattle.c2_places.specs.Laws.{BindingsAreKnown, PlaceSizeIsFixed}

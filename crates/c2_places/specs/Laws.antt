@@ -6,9 +6,9 @@ use Rattle.c2_spec.specs.Jumbf.Tree.{Tree, tree_bytes}
 use Rattle.c2_spec.specs.Located.{absent, here}
 use Rattle.c2_spec.specs.declared.digest.Alg.TheVariants.{Sha256}
 use Rattle.c2_rules.specs.Opened.{IsOpened}
-use Rattle.c2_layout.specs.Built.{HasDigestLen}
-use Rattle.c2_layout.specs.Store.{Content, new_store}
-use Rattle.c2_layout.specs.Unbound.{IsKnownBinding}
+use Rattle.c2_built.specs.Built.{HasDigestLen}
+use Rattle.c2_built.specs.Store.{Content, new_store}
+use Rattle.c2_built.specs.Unbound.{IsKnownBinding}
 use Rattle.c2_places.specs.Bases.{IsLeft}
 use Rattle.c2_places.specs.Places.{IsFreePlace, IsPlace, Place, binding_with, store_len}
 

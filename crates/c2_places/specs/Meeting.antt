@@ -13,10 +13,10 @@ use Rattle.c2_rules.specs.CheckList.{IsValid, StoreReading, questions}
 use Rattle.c2_rules.specs.Opened.{IsOpened}
 use Rattle.c2_rules.specs.Validated.{IsFileReading}
 use Rattle.c2_definition.specs.declared.types.Definition.{Definition}
-use Rattle.c2_layout.specs.Built.{HasDigestLen}
-use Rattle.c2_layout.specs.Fresh.{GivesDigests, IsFresh, Meets}
-use Rattle.c2_layout.specs.Store.{Content}
-use Rattle.c2_layout.specs.Written.{CanBeWritten}
+use Rattle.c2_built.specs.Built.{HasDigestLen}
+use Rattle.c2_built.specs.Fresh.{GivesDigests, IsFresh, Meets}
+use Rattle.c2_built.specs.Store.{Content}
+use Rattle.c2_built.specs.Written.{CanBeWritten}
 use Rattle.c2_carried.specs.Parents.{IsContentOver}
 use Rattle.c2_carried.specs.Refusing.{has_manifest, redaction_refusal}
 use Rattle.c2_places.specs.Bases.{IsLeft}

@@ -17,8 +17,8 @@ use Rattle.c2_spec.specs.Jpeg.Writing as jpeg
 use Rattle.c2_spec.specs.Jumbf.Tree.{Tree}
 use Rattle.c2_spec.specs.PutIn.{put_in}
 use Rattle.c2_definition.specs.declared.types.NewAssertion.{NewAssertion}
-use Rattle.c2_layout.specs.Built.{built_len, store_size}
-use Rattle.c2_layout.specs.Store.{Content, data_binding, new_claim, new_store}
+use Rattle.c2_built.specs.Built.{built_len, store_size}
+use Rattle.c2_built.specs.Store.{Content, data_binding, new_claim, new_store}
 use Rattle.c2_films.specs.Films.{AreOthers, film_binding, film_len, film_store_size}
 
 -- ---- the place

@@ -5,14 +5,14 @@ ghost use Rattle.c2_places.specs.Meeting.{BaseStays, FreshPlaceMeets, OverPlaceM
 
 use c2_boxed::a_base_has_no_store;
 use c2_boxes::a_file_has_one_list_of_roots;
+use c2_built::{
+    a_built_file_has_its_store, a_fresh_file_meets_the_rules, a_new_store_has_one_length,
+};
 use c2_films::{
     a_built_film_has_its_store, a_film_over_a_store_meets_the_rules, a_fresh_film_meets_the_rules,
     a_new_film_store_has_one_length,
 };
 use c2_jpegseg::{place_and_number_are_one, segments_end_or_fail};
-use c2_layout::{
-    a_built_file_has_its_store, a_fresh_file_meets_the_rules, a_new_store_has_one_length,
-};
 use c2_succeeding::a_file_over_a_store_meets_the_rules;
 
 /// A file has one place for a new store.

@@ -24,11 +24,11 @@ use Rattle.c2_rules.specs.Rules.{claim_tests, rest_tests, verdict_tests}
 use Rattle.c2_rules.specs.Seen.{seen_at}
 use Rattle.c2_rules.specs.Tests.{downward}
 use Rattle.c2_rules.proofs.JpegMedia.{of_jpeg}
-use Rattle.c2_layout.specs.Written.{CanBeWritten}
-use Rattle.c2_layout.proofs.BuiltLemmas.{OneList}
-use Rattle.c2_layout.proofs.FreshFile.{Laws}
-use Rattle.c2_layout.proofs.Lists.{each-append, each-back, each-front}
-use Rattle.c2_layout.proofs.NewRules.{Holds}
+use Rattle.c2_built.specs.Written.{CanBeWritten}
+use Rattle.c2_built.proofs.BuiltLemmas.{OneList}
+use Rattle.c2_built.proofs.FreshFile.{Laws}
+use Rattle.c2_built.proofs.Lists.{each-append, each-back, each-front}
+use Rattle.c2_built.proofs.NewRules.{Holds}
 use Rattle.c2_carried.specs.Carrying.{BaseHasNoStore, CanStandOver, IsCarried, IsFreeBase, ValidStoreIsCarried}
 use Rattle.c2_carried.proofs.Valid.{all_each}
 use Rattle.c2_succeeding.specs.Over.{FileOverStoreMeets, ValidIsApproved}

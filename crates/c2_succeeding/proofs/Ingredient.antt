@@ -18,13 +18,13 @@ use Rattle.c2_uri.specs.Writing.{IsLabel as IsUriLabel}
 use Rattle.c2_rules.specs.Chains.{named_by}
 use Rattle.c2_assertion.specs.Written.{ingredient_item}
 use Rattle.c2_definition.specs.declared.types.NewAssertion.{NewAssertion}
-use Rattle.c2_layout.specs.Store.{Parent, assertion_box, assertion_boxes, parent_ingredient, parent_ref}
-use Rattle.c2_layout.proofs.BoxLemmas.{is_plain_byte}
-use Rattle.c2_layout.proofs.GoodItems.{Good, IsGoodField, RoundTrip, good_bytes, good_field, good_map, good_read, good_text}
-use Rattle.c2_layout.proofs.Labels.{IsLabelText, IsNamed}
-use Rattle.c2_layout.proofs.NewRules.{same_bytes}
-use Rattle.c2_layout.proofs.StoreSize.{KeepsLength}
-use Rattle.c2_layout.proofs.Uris.{UrisAreRead, named_label, plain_text, signature_read, signature_utf8}
+use Rattle.c2_built.specs.Store.{Parent, assertion_box, assertion_boxes, parent_ingredient, parent_ref}
+use Rattle.c2_built.proofs.BoxLemmas.{is_plain_byte}
+use Rattle.c2_built.proofs.GoodItems.{Good, IsGoodField, RoundTrip, good_bytes, good_field, good_map, good_read, good_text}
+use Rattle.c2_built.proofs.Labels.{IsLabelText, IsNamed}
+use Rattle.c2_built.proofs.NewRules.{same_bytes}
+use Rattle.c2_built.proofs.StoreSize.{KeepsLength}
+use Rattle.c2_built.proofs.Uris.{UrisAreRead, named_label, plain_text, signature_read, signature_utf8}
 
 -- ---- the parent's label
 

@@ -29,14 +29,14 @@ use Rattle.c2_assertion.specs.Written.{ingredient_item}
 use Rattle.c2_definition.specs.declared.types.Definition.{Definition}
 use Rattle.c2_definition.specs.declared.types.NewAssertion.{NewAssertion}
 use Rattle.c2_definition.specs.declared.types.Payload.TheVariants as payload
-use Rattle.c2_layout.specs.Store.{Parent, parent_ingredient, parent_ref}
-use Rattle.c2_layout.specs.Unbound.{IsKnownLabel}
-use Rattle.c2_layout.specs.Written.{written_assertion}
-use Rattle.c2_layout.proofs.Labels.{IsLabelText, new_label}
-use Rattle.c2_layout.proofs.Lists.{each-append, each-back, each-front}
-use Rattle.c2_layout.proofs.NewRules.{Holds, IsListed, RestHolds, Said, bindings_of, new_box, new_boxes, new_reading, new_seen, same_bytes}
-use Rattle.c2_layout.proofs.Unbound.{by_label}
-use Rattle.c2_layout.proofs.Uris.{UrisAreRead}
+use Rattle.c2_built.specs.Store.{Parent, parent_ingredient, parent_ref}
+use Rattle.c2_built.specs.Unbound.{IsKnownLabel}
+use Rattle.c2_built.specs.Written.{written_assertion}
+use Rattle.c2_built.proofs.Labels.{IsLabelText, new_label}
+use Rattle.c2_built.proofs.Lists.{each-append, each-back, each-front}
+use Rattle.c2_built.proofs.NewRules.{Holds, IsListed, RestHolds, Said, bindings_of, new_box, new_boxes, new_reading, new_seen, same_bytes}
+use Rattle.c2_built.proofs.Unbound.{by_label}
+use Rattle.c2_built.proofs.Uris.{UrisAreRead}
 use Rattle.c2_carried.specs.Carrying.{IsLast}
 use Rattle.c2_carried.specs.Less.{AreLess}
 use Rattle.c2_carried.specs.Redacting.{takes_out}

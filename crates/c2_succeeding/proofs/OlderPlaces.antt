@@ -15,7 +15,7 @@ use Rattle.c2_rules.specs.Rules.{unjudged_tests, lists_label}
 use Rattle.c2_rules.specs.Seen.{Seen, later, whole, seen_at, standing_of, place_standing, earlier_standing, child_standing, signature_contents}
 use Rattle.c2_rules.specs.Tests.{AllHold}
 use Rattle.c2_older.specs.Older.{Alike, Loses, StaysAlike, has_signature, is_kept, thinned}
-use Rattle.c2_layout.proofs.NewRules.{Holds, all_hold}
+use Rattle.c2_built.proofs.NewRules.{Holds, all_hold}
 use Rattle.c2_carried.specs.Less.{CanRedact, SignsTaken}
 use Rattle.c2_carried.specs.Redacting.{takes_out}
 use Rattle.c2_carried.proofs.Places.{LessAt, less_at, less_len}

@@ -19,12 +19,12 @@ use Rattle.c2_rules.specs.declared.parsed.Parsed.{Parsed}
 use Rattle.c2_rules.specs.declared.parsed.Parsed.TheVariants.{NoItem}
 use Rattle.c2_definition.specs.DefinitionFile as file
 use Rattle.c2_definition.specs.declared.types.NewAssertion.{NewAssertion}
-use Rattle.c2_layout.specs.Written.{IsText}
-use Rattle.c2_layout.proofs.Labels.{new_label}
-use Rattle.c2_layout.proofs.Lists.{each-append}
-use Rattle.c2_layout.proofs.NewRules.{Holds, IsListed, entries_of, new_box, new_boxes}
-use Rattle.c2_layout.proofs.Uris.{assertion_utf8}
-use Rattle.c2_layout.proofs.WrittenItems.{IsGoodRef}
+use Rattle.c2_built.specs.Written.{IsText}
+use Rattle.c2_built.proofs.Labels.{new_label}
+use Rattle.c2_built.proofs.Lists.{each-append}
+use Rattle.c2_built.proofs.NewRules.{Holds, IsListed, entries_of, new_box, new_boxes}
+use Rattle.c2_built.proofs.Uris.{assertion_utf8}
+use Rattle.c2_built.proofs.WrittenItems.{IsGoodRef}
 
 -- what holds of Actions and Ordinary
 by_kind : (P : Kind → Type 0) → P kinds.Actions → P kinds.Ordinary → (k : Kind) → file.is_new_kind k ≡ true → P k

@@ -7,11 +7,11 @@ use Rattle.c2_assertion.specs.Written.{ingredient_item}
 use Rattle.c2_definition.specs.declared.types.Definition.{Definition}
 use Rattle.c2_definition.specs.declared.types.NewAssertion.{NewAssertion}
 use Rattle.c2_definition.specs.declared.types.Payload.TheVariants as payload
-use Rattle.c2_layout.specs.Built.{built_len, no_digest, store_size, zero_digest}
-use Rattle.c2_layout.specs.Fresh.{fresh_content}
-use Rattle.c2_layout.specs.FreshBoxes.{contents_of, item_box}
-use Rattle.c2_layout.specs.Store.{Content, Parent, data_binding, new_claim, new_manifest, new_store, parent_ingredient}
-use Rattle.c2_layout.proofs.BuildRows.{actions}
+use Rattle.c2_built.specs.Built.{built_len, no_digest, store_size, zero_digest}
+use Rattle.c2_built.specs.Fresh.{fresh_content}
+use Rattle.c2_built.specs.FreshBoxes.{contents_of, item_box}
+use Rattle.c2_built.specs.Store.{Content, Parent, data_binding, new_claim, new_manifest, new_store, parent_ingredient}
+use Rattle.c2_built.proofs.BuildRows.{actions}
 use Rattle.c2_carried.specs.Parents.{IsContentOver}
 use Rattle.c2_carried.specs.Redacting.{boxes_in, redacted_boxes}
 

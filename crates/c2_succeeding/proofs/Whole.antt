@@ -25,21 +25,21 @@ use Rattle.c2_rules.specs.Tests.{downward}
 use Rattle.c2_claim.specs.Written.{claim_from}
 use Rattle.c2_definition.specs.declared.types.Definition.{Definition}
 use Rattle.c2_definition.specs.declared.types.NewAssertion.{NewAssertion}
-use Rattle.c2_layout.specs.Built.{built_len}
-use Rattle.c2_layout.specs.Fresh.{new_question}
-use Rattle.c2_layout.specs.Manifests.{manifest_of, supers_in}
-use Rattle.c2_layout.specs.Store.{Content, Parent, claim_parts, data_binding, new_claim, new_manifest, new_store, parent_ingredient}
-use Rattle.c2_layout.specs.Unbound.{IsKnownBinding, MeetsUnbound}
-use Rattle.c2_layout.specs.Written.{CanBeWritten, IsNewBinding, IsRead, IsText, new_written, written_assertion, written_item}
-use Rattle.c2_layout.proofs.FreshFile.{Laws, built_meets, data_known, small_store}
-use Rattle.c2_layout.proofs.Labels.{IsLabelText, manifest_label}
-use Rattle.c2_layout.proofs.Lists.{each-append}
-use Rattle.c2_layout.proofs.NewRules.{Holds, IsListed, RestHolds, Said, all_hold, bindings_of, box_found, new_box, new_boxes, new_seen, own_bindings, own_names, own_rules}
-use Rattle.c2_layout.proofs.StoreSize.{assertion_len, manifest_len, store_len}
-use Rattle.c2_layout.proofs.Unbound.{IsBindingLabel, StoreLaws, all_each, by_label, known_label, known_new, payload_of}
-use Rattle.c2_layout.proofs.Uris.{plain_text, signature_utf8}
-use Rattle.c2_layout.proofs.WrittenItems.{AreGoodParts, claim_read}
-use Rattle.c2_layout.proofs.WrittenStore.{AreDifferent, all_different, store_read}
+use Rattle.c2_built.specs.Built.{built_len}
+use Rattle.c2_built.specs.Fresh.{new_question}
+use Rattle.c2_built.specs.Manifests.{manifest_of, supers_in}
+use Rattle.c2_built.specs.Store.{Content, Parent, claim_parts, data_binding, new_claim, new_manifest, new_store, parent_ingredient}
+use Rattle.c2_built.specs.Unbound.{IsKnownBinding, MeetsUnbound}
+use Rattle.c2_built.specs.Written.{CanBeWritten, IsNewBinding, IsRead, IsText, new_written, written_assertion, written_item}
+use Rattle.c2_built.proofs.FreshFile.{Laws, built_meets, data_known, small_store}
+use Rattle.c2_built.proofs.Labels.{IsLabelText, manifest_label}
+use Rattle.c2_built.proofs.Lists.{each-append}
+use Rattle.c2_built.proofs.NewRules.{Holds, IsListed, RestHolds, Said, all_hold, bindings_of, box_found, new_box, new_boxes, new_seen, own_bindings, own_names, own_rules}
+use Rattle.c2_built.proofs.StoreSize.{assertion_len, manifest_len, store_len}
+use Rattle.c2_built.proofs.Unbound.{IsBindingLabel, StoreLaws, all_each, by_label, known_label, known_new, payload_of}
+use Rattle.c2_built.proofs.Uris.{plain_text, signature_utf8}
+use Rattle.c2_built.proofs.WrittenItems.{AreGoodParts, claim_read}
+use Rattle.c2_built.proofs.WrittenStore.{AreDifferent, all_different, store_read}
 use Rattle.c2_carried.specs.Carrying.{IsLast, IsTakenOver, ReadsKinds}
 use Rattle.c2_carried.proofs.Places.{less_len}
 use Rattle.c2_succeeding.specs.Over.{SucceedingFileMeets, SucceedingStoreMeets}

@@ -21,11 +21,11 @@ use Rattle.c2_rules.specs.Readings.{Reading}
 use Rattle.c2_rules.specs.Validated.{IsFileReading}
 use Rattle.c2_definition.specs.declared.types.Definition.{Definition}
 use Rattle.c2_definition.specs.declared.types.NewAssertion.{NewAssertion}
-use Rattle.c2_layout.specs.Built.{CanBuild, built_file, built_len, built_store}
-use Rattle.c2_layout.specs.Fresh.{GivesDigests, IsFreshBase, Meets, new_question}
-use Rattle.c2_layout.specs.Store.{Content, Parent, new_claim, new_store}
-use Rattle.c2_layout.specs.Unbound.{IsKnownBinding, MeetsUnbound}
-use Rattle.c2_layout.specs.Written.{CanBeWritten}
+use Rattle.c2_built.specs.Built.{CanBuild, built_file, built_len, built_store}
+use Rattle.c2_built.specs.Fresh.{GivesDigests, IsFreshBase, Meets, new_question}
+use Rattle.c2_built.specs.Store.{Content, Parent, new_claim, new_store}
+use Rattle.c2_built.specs.Unbound.{IsKnownBinding, MeetsUnbound}
+use Rattle.c2_built.specs.Written.{CanBeWritten}
 use Rattle.c2_carried.specs.Carrying.{IsLast, IsTakenOver}
 use Rattle.c2_carried.specs.Parents.{IsContentOver}
 use Rattle.c2_carried.specs.Refusing.{has_manifest, redaction_refusal}

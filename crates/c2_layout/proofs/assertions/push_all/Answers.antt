@@ -1,5 +1,5 @@
 use Rattle.c2_spec.specs.declared.digest.Alg.TheVariants.{Sha256}
-use Rattle.c2_layout.specs.Store.{entry_of}
+use Rattle.c2_built.specs.Store.{entry_of}
 use Rattle.c2_layout.proofs.AllBoxed.{boxes_step, made_step, boxes_end, made_end}
 use Rattle.c2_layout.proofs.assertions.push_all.Goals as goal
 

@@ -1,7 +1,7 @@
 use Rattle.std.proofs.Common.{◌≡◌, ◌++◌, drop, map}
 use Rattle.c2_spec.specs.Jumbf.Tree.{trees_bytes}
 use Rattle.c2_spec.specs.declared.digest.Alg.TheVariants.{Sha256}
-use Rattle.c2_layout.specs.Store.{assertion_boxes, entry_of}
+use Rattle.c2_built.specs.Store.{assertion_boxes, entry_of}
 use Rattle.c2_layout.proofs.assertions.push_all.Given as goal
 
 -- with the boxes and the references that are left, there will be all

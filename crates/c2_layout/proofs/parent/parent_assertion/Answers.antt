@@ -1,7 +1,7 @@
 use Rattle.std.proofs.Common.{ap, ◌∙◌}
 use Rattle.c2_spec.specs.C2pa.Uri.{signature, whole}
 use Rattle.c2_layout.specs.Parts.{told, told_parent}
-use Rattle.c2_layout.specs.Store.{parent_ref}
+use Rattle.c2_built.specs.Store.{parent_ref}
 use Rattle.c2_layout.proofs.Sizes.{made_assertion}
 use Rattle.c2_layout.proofs.parent.parent_assertion.Goals as goal
 

@@ -1,43 +1,40 @@
-use Rattle.std.proofs.Common.{ℕ, List, [], ◌∷◌, ◌++◌, sym, ap, ◌∙◌, subst}
-use Rattle.std.specs.Prelude.{All}
+use Rattle.std.proofs.Common.{◌≡◌, ◌+◌, ◌≤◌, ℕ, List, length, refl, inl, sym, ap, ◌∙◌, subst}
+use Rattle.std.specs.Prelude.{IfOk}
+use Rattle.std.proofs.lemmas.Result.{IfOk-weaker}
+use Rattle.c2_base.specs.declared.limits.TheConstants.{MAX_STORE_LEN}
 use Rattle.c2_spec.specs.declared.digest.Alg.TheVariants.{Sha256}
-use Rattle.c2_definition.specs.DefinitionFile.{IsWellFormed}
-use Rattle.c2_definition.specs.declared.types.Definition.{Definition}
 use Rattle.c2_definition.specs.declared.types.NewAssertion.{NewAssertion}
-use Rattle.c2_layout.specs.Parts.{CanBeBoxed}
-use Rattle.c2_layout.specs.Store.{data_binding, parent_assertions}
-use Rattle.c2_layout.proofs.BuiltLemmas.{fixed_size}
-use Rattle.c2_layout.proofs.Sizes.{are_parts, both_ok, parts_are, refs_give, stored_boxed}
+use Rattle.c2_built.specs.Built.{bound_len}
+use Rattle.c2_layout.specs.Parts.{AreParts, CanBeBound, IsContent}
+use Rattle.c2_built.specs.Store.{Content, data_binding}
+use Rattle.c2_built.specs.Unbound.{IsKnownBinding}
+use Rattle.c2_layout.proofs.Sizes.{stored_bound}
 use Rattle.c2_layout.proofs.parts.new_parts.Goals as goal
 
-pub parts_over-requires-clause-defined : goal.parts_over-requires-clause-defined
-parts_over-requires-clause-defined g c =
-    let can = c.requires.small in
-    let formed : IsWellFormed can.content.definition = subst IsWellFormed (sym can.is.definition) c.requires.formed in
-    subst (λ (d : Definition). All CanBeBoxed d.assertions) can.is.definition
-    (stored_boxed (fixed_size c.sorting_keeps_the_length.ensures c.a_written_data_hash_has_one_length.ensures.any) (g.H.Hashing.digest_of Sha256) can.content c.args.range.start c.args.range.length c.args.definition.now.reserve c.args.digest.now
-    (λ text. (g.met.H.Hashing.is_digest Sha256 text).sized) c.requires.digest formed can.small).0
+-- the binding is the one of this range, by this digest
+pub bound_parts-requires-clause-known : goal.bound_parts-requires-clause-known
+bound_parts-requires-clause-known g c =
+    subst IsKnownBinding (sym (c.in_ok-binding.ensures ∙ ap (λ (h : List ℕ). data_binding c.args.range.start c.args.range.length h) c.as_slice.ensures)) (record { label = inl refl; item = refl })
 
-pub parts_over-requires-clause-own : goal.parts_over-requires-clause-own
-parts_over-requires-clause-own g c =
+-- which has the size of a store by its range
+pub bound_parts-requires-clause-small : goal.bound_parts-requires-clause-small
+bound_parts-requires-clause-small g c =
     let can = c.requires.small in
-    let formed : IsWellFormed can.content.definition = subst IsWellFormed (sym can.is.definition) c.requires.formed in
-    let own = c.as_slice-2.ensures.value ∙ c.in_ok-own.ensures ∙ ap (λ (os : List NewAssertion). os ++ c.in_ok-binding.binding ∷ []) (refs_give (g.H.Hashing.digest_of Sha256) can.content.parent c.args.carried.now.parent can.is.parent)
-    ∙ ap (λ (b : NewAssertion). parent_assertions (g.H.Hashing.digest_of Sha256) can.content.parent ++ b ∷ []) (c.in_ok-binding.ensures ∙ ap (λ (h : List ℕ). data_binding c.args.range.start c.args.range.length h) c.as_slice.ensures) in
-    subst (All CanBeBoxed) (sym own)
-    (stored_boxed (fixed_size c.sorting_keeps_the_length.ensures c.a_written_data_hash_has_one_length.ensures.any) (g.H.Hashing.digest_of Sha256) can.content c.args.range.start c.args.range.length c.args.definition.now.reserve c.args.digest.now
-    (λ text. (g.met.H.Hashing.is_digest Sha256 text).sized) c.requires.digest formed can.small).1
+    let binding = c.in_ok-binding.ensures ∙ ap (λ (h : List ℕ). data_binding c.args.range.start c.args.range.length h) c.as_slice.ensures in
+    let size = stored_bound c.a_new_store_has_one_length.ensures c.new_stores_have_one_length.ensures (g.H.Hashing.digest_of Sha256) can.content c.args.range.start c.args.range.length c.args.definition.now.reserve c.args.digest.now
+    (λ text. (g.met.H.Hashing.is_digest Sha256 text).sized) c.requires.digest in
+    subst (CanBeBound (g.H.Hashing.digest_of Sha256) c.args.definition.now c.args.carried.now) (sym binding)
+    (record { content = can.content; is = can.is; small = subst (λ (n : ℕ). n ≤ MAX_STORE_LEN) (sym size) can.small })
 
 pub returns-clause-parts : goal.returns-clause-parts
 returns-clause-parts g c =
-    let own = c.as_slice-2.ensures.value ∙ c.in_ok-own.ensures in
     let binding = c.in_ok-binding.ensures ∙ ap (λ (h : List ℕ). data_binding c.args.range.start c.args.range.length h) c.as_slice.ensures in
-    both_ok c.parts_over.result _ _ _ (λ p b k content is. are_parts (g.H.Hashing.digest_of Sha256) c.args.definition.now c.args.carried.now content is _ _ _ p own binding b k) c.parts_over.ensures.boxes c.parts_over.ensures.claim
+    subst (λ (b : NewAssertion). IfOk c.bound_parts.result (λ p. (content : Content) → IsContent (g.H.Hashing.digest_of Sha256) c.args.definition.now c.args.carried.now content
+    → AreParts (g.H.Hashing.digest_of Sha256) content b p)) binding c.bound_parts.ensures.parts
 
 pub returns-clause-size : goal.returns-clause-size
 returns-clause-size g c =
-    let own = c.as_slice-2.ensures.value ∙ c.in_ok-own.ensures in
     let binding = c.in_ok-binding.ensures ∙ ap (λ (h : List ℕ). data_binding c.args.range.start c.args.range.length h) c.as_slice.ensures in
-    both_ok c.parts_over.result _ _ _ (λ p b k content is. parts_are (fixed_size c.sorting_keeps_the_length.ensures c.a_written_data_hash_has_one_length.ensures.any) (g.H.Hashing.digest_of Sha256) c.args.definition.now c.args.carried.now content is c.args.range.start c.args.range.length c.args.digest.now p
-    (λ text. (g.met.H.Hashing.is_digest Sha256 text).sized) c.requires.digest
-    (are_parts (g.H.Hashing.digest_of Sha256) c.args.definition.now c.args.carried.now content is _ _ _ p own binding b k)) c.parts_over.ensures.boxes c.parts_over.ensures.claim
+    IfOk-weaker c.bound_parts.result _ _ (λ p said content is. said content is ∙ ap (λ (b : NewAssertion). bound_len content b c.args.definition.now.reserve) binding
+    ∙ stored_bound c.a_new_store_has_one_length.ensures c.new_stores_have_one_length.ensures (g.H.Hashing.digest_of Sha256) content c.args.range.start c.args.range.length c.args.definition.now.reserve c.args.digest.now
+    (λ text. (g.met.H.Hashing.is_digest Sha256 text).sized) c.requires.digest) c.bound_parts.ensures.size

@@ -1,29 +1,14 @@
-use Rattle.std.proofs.Common.{◌≡◌, ℕ, ◌+◌, ◌-◌, ◌^◌, min, List, [], ◌∷◌, ◌++◌, length, map, Option, option_map, sym, ap, ◌∙◌}
-use Rattle.c2_spec.specs.Cbor.Deterministic.{deterministic}
-use Rattle.c2_spec.specs.Jumbf.Tree.{trees_bytes}
-use Rattle.c2_claim.specs.Written.{claim_item}
-use Rattle.c2_definition.specs.declared.types.Definition.{Definition}
+use Rattle.std.proofs.Common.{◌≡◌, ◌-◌, ◌^◌, min, List, ℕ, subst}
+use Rattle.std.specs.Prelude.{IfOk}
 use Rattle.c2_definition.specs.declared.types.NewAssertion.{NewAssertion}
-use Rattle.c2_layout.specs.Built.{no_digest}
-use Rattle.c2_layout.specs.Parts.{told, told_parent}
-use Rattle.c2_layout.specs.Store.{Parent, assertion_boxes, claim_with, entry_of, parent_assertions}
-use Rattle.c2_layout.proofs.Sizes.{blank, blank_own, blanks_give, reckoned_size, saturated}
+use Rattle.c2_built.specs.Built.{bound_len}
+use Rattle.c2_layout.specs.Parts.{IsContent}
+use Rattle.c2_built.specs.Store.{Content}
 use Rattle.c2_layout.proofs.size.store_size.Goals as goal
 
--- the parts are added up to the greatest number
-pub returns : goal.returns
-returns c = λ hash content is.
-    let d = c.args.definition.now in
-    let most = 2 ^ 64 - 1 in
-    let own : c.in_ok-own.own.items ≡ blank_own content.parent = c.in_ok-own.ensures ∙ ap (λ (b : NewAssertion). parent_assertions told (option_map told_parent c.in_ok-parent.parent) ++ b ∷ []) c.in_ok-binding.ensures
-    ∙ ap (λ (p : Option Parent). parent_assertions told p ++ blank ∷ []) c.in_ok-parent.ensures ∙ ap (λ (os : List NewAssertion). os ++ blank ∷ []) (blanks_give hash content.parent c.args.carried.now.parent is.parent) in
-    let e : d ≡ content.definition = sym is.definition in
-    let claim = c.in_ok-claim.ensures ∙ ap (λ (os : List NewAssertion). length (deterministic (claim_item (claim_with d (map (entry_of no_digest) (d.assertions ++ os)))))) (c.as_slice.ensures.value ∙ own)
-    ∙ ap (λ (x : Definition). length (deterministic (claim_item (claim_with x (map (entry_of no_digest) (x.assertions ++ blank_own content.parent)))))) e in
-    let defined = c.boxes_len-boxes.ensures ∙ ap (λ (as_ : List NewAssertion). min (length (trees_bytes (assertion_boxes as_))) (2 ^ 64 - 1)) (c.as_slice-2.ensures ∙ ap (λ (x : Definition). x.assertions) e) in
-    let bound = c.boxes_len.ensures ∙ ap (λ (as_ : List NewAssertion). min (length (trees_bytes (assertion_boxes as_))) (2 ^ 64 - 1)) (c.as_slice-3.ensures.value ∙ own) in
-    let label = c.saturating_add.ensures ∙ ap (λ (l : List ℕ). min (length l + 232) (2 ^ 64 - 1)) (c.as_str.ensures.value ∙ ap (λ (x : Definition). x.label) e) in
-    saturated (2 ^ 64 - 1) (length content.definition.label) (length (trees_bytes (assertion_boxes content.definition.assertions))) (length (trees_bytes (assertion_boxes (blank_own content.parent)))) _ d.reserve _ _ _ _ _ _ _ _ _ label defined c.saturating_add-framed.ensures bound c.saturating_add-bound.ensures
-    (c.saturating_add-claimed.ensures ∙ ap (λ n. min (c.saturating_add-bound.result + n) (2 ^ 64 - 1)) claim) c.saturating_add-filled.ensures
-    (c.saturating_add-2.ensures ∙ ap (λ (x : List ℕ). min (c.saturating_add-filled.result + length x) (2 ^ 64 - 1)) (c.as_slice-4.ensures.value ∙ is.boxes))
-    ∙ ap (λ n. min n (2 ^ 64 - 1)) (sym (reckoned_size content d.reserve))
+-- the binding is that of no range and no digest
+pub returns-clause-len : goal.returns-clause-len
+returns-clause-len c =
+    subst (λ (b : NewAssertion). IfOk c.bound_size.result (λ n. (hash : List ℕ → List ℕ) (content : Content) → IsContent hash c.args.definition.now c.args.carried.now content
+    → n ≡ min (bound_len content b c.args.definition.now.reserve) (2 ^ 64 - 1)))
+    c.in_ok-binding.ensures c.bound_size.ensures.len

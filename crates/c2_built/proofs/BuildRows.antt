@@ -1,0 +1,134 @@
+-- Worked builds, computed: a definition with one assertion of actions, without a title, and 256 bytes reserved for the message.
+use Rattle.std.proofs.Common.{◌≡◌, ℕ, false, List, [], ◌∷◌, ◌++◌, length, replicate, Some, None, refl, codes}
+use Rattle.std.specs.Prelude.{take}
+use Rattle.c2_spec.specs.C2pa.Sign1.{sig_structure}
+use Rattle.c2_spec.specs.Cbor.Deterministic.{shortest_head, deterministic}
+use Rattle.c2_spec.specs.Jpeg.Writing.{insert_place}
+use Rattle.c2_spec.specs.Jumbf.Tree.{none, more, leaf, tree_bytes}
+use Rattle.c2_assertion.specs.Written.{ingredient_item}
+use Rattle.c2_definition.specs.declared.types.Definition.{Definition}
+use Rattle.c2_definition.specs.declared.types.NewAssertion.{NewAssertion}
+use Rattle.c2_definition.specs.declared.types.Payload.TheVariants as payload
+use Rattle.c2_built.specs.Built.{built_len, no_digest, store_size, zero_digest}
+use Rattle.c2_built.specs.FreshBoxes.{fresh_box, item_box}
+use Rattle.c2_built.specs.Store.{Content, Parent, assertion_box, assertion_boxes, data_binding, new_assertions, new_claim, new_manifest, parent_ingredient}
+
+-- one action: the asset was created
+unfoldable pub actions : NewAssertion
+actions = record {
+  label = codes "c2pa.actions.v2";
+  kind = payload.Cbor;
+  bytes = 0xA1 ∷ 0x67 ∷ codes "actions" ++ 0x81 ∷ 0xA1 ∷ 0x66 ∷ codes "action" ++ 0x6C ∷ codes "c2pa.created";
+}
+
+-- a definition under a label that ends so
+unfoldable defined : List ℕ → Definition
+defined last = record {
+  label = codes "urn:c2pa:00000000-0000-4000-8000-00000000000" ++ last;
+  instance_id = codes "xmp:iid:sample";
+  generator = codes "c2";
+  title = None;
+  protected = 0xA1 ∷ 0x01 ∷ 0x26 ∷ [];
+  reserve = 256;
+  assertions = actions ∷ [];
+  redact = [];
+}
+
+-- ---- over a JPEG without a store
+
+unfoldable fresh : Content
+fresh = record { definition = defined (codes "0"); carried = none; parent = None }
+
+unfoldable binding : NewAssertion
+binding = data_binding 20 1141 zero_digest
+
+actions_item : length actions.bytes ≡ 31
+unfolding actions
+actions_item = refl
+
+actions_box : length (tree_bytes (assertion_box actions)) ≡ 88
+unfolding actions
+actions_box = refl
+
+binding_item : length binding.bytes ≡ 100
+unfolding binding shortest_head
+binding_item = refl
+
+binding_box : length (tree_bytes (assertion_box binding)) ≡ 156
+unfolding binding shortest_head
+binding_box = refl
+
+assertion_store : length (tree_bytes (fresh_box (codes "c2as") (codes "c2pa.assertions") (assertion_boxes (new_assertions no_digest fresh binding)))) ≡ 293
+unfolding fresh defined actions binding shortest_head
+assertion_store = refl
+
+claim : length (new_claim no_digest fresh binding) ≡ 352
+unfolding fresh defined actions binding shortest_head
+claim = refl
+
+claim_box : length (tree_bytes (item_box (codes "c2cl") (codes "c2pa.claim.v2") (new_claim no_digest fresh binding))) ≡ 407
+unfolding fresh defined actions binding shortest_head
+claim_box = refl
+
+signature_box : length (tree_bytes (item_box (codes "c2cs") (codes "c2pa.signature") (replicate 256 0))) ≡ 312
+signature_box = refl
+
+-- what is signed: its first bytes are an array of four, "Signature1", the protected header, no bytes, and the claim's 352
+signed : length (deterministic (sig_structure (defined (codes "0")).protected (new_claim no_digest fresh binding))) ≡ 372
+unfolding fresh defined actions binding shortest_head
+signed = refl
+
+signed_first : take 20 (deterministic (sig_structure (defined (codes "0")).protected (new_claim no_digest fresh binding))) ≡ 0x84 ∷ 0x6A ∷ codes "Signature1" ++ 0x43 ∷ 0xA1 ∷ 0x01 ∷ 0x26 ∷ 0x40 ∷ 0x59 ∷ 0x01 ∷ 0x60 ∷ []
+unfolding fresh defined actions binding shortest_head
+signed_first = refl
+
+manifest : length (tree_bytes (new_manifest no_digest fresh binding (replicate 256 0))) ≡ 1091
+unfolding fresh defined actions binding shortest_head
+manifest = refl
+
+store : store_size fresh 256 ≡ 1129
+unfolding fresh defined actions shortest_head
+store = refl
+
+range : built_len fresh 256 ≡ 1141
+unfolding fresh defined actions shortest_head
+range = refl
+
+-- behind one APP0 segment of 16 bytes and its marker
+place : insert_place (record { fill = 0; marker = 0xE0; payload = codes "JFIF" ++ 0 ∷ 1 ∷ 2 ∷ 0 ∷ 0 ∷ 1 ∷ 0 ∷ 1 ∷ 0 ∷ 0 ∷ [] } ∷ []) ≡ 20
+place = refl
+
+-- ---- over a store with one manifest of 1,091 bytes, which is the parent
+
+unfoldable parent : Parent
+parent = record { label = codes "urn:c2pa:00000000-0000-4000-8000-000000000000"; contents = []; signed = [] }
+
+unfoldable second : Content
+second = record {
+  definition = defined (codes "1");
+  carried = more (leaf (record { kind = 0; wide = false; payload = replicate 1083 0 })) none;
+  parent = Some parent;
+}
+
+unfoldable second_binding : NewAssertion
+second_binding = data_binding 20 2667 zero_digest
+
+ingredient : length (deterministic (ingredient_item (parent_ingredient no_digest parent))) ≡ 284
+unfolding parent shortest_head
+ingredient = refl
+
+second_claim : length (new_claim no_digest second second_binding) ≡ 443
+unfolding second parent defined actions second_binding shortest_head
+second_claim = refl
+
+second_manifest : length (tree_bytes (new_manifest no_digest second second_binding (replicate 256 0))) ≡ 1526
+unfolding second parent defined actions second_binding shortest_head
+second_manifest = refl
+
+second_store : store_size second 256 ≡ 2655
+unfolding second parent defined actions shortest_head
+second_store = refl
+
+second_range : built_len second 256 ≡ 2667
+unfolding second parent defined actions shortest_head
+second_range = refl

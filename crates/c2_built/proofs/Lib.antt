@@ -1,0 +1,17 @@
+pub mod Lists
+pub mod ByIndex
+pub mod BoxLemmas
+pub mod Labels
+pub mod StoreTests
+pub mod WrittenStore
+pub mod Put
+pub mod StoreSize
+pub mod BuiltLemmas
+pub mod Spelled
+pub mod GoodItems
+pub mod Uris
+pub mod WrittenItems
+pub mod NewRules
+pub mod Unbound
+pub mod FreshFile
+pub mod BuildRows

@@ -1,0 +1,41 @@
+-- The URIs that a new manifest has: they are read as those URIs, and their texts are UTF-8.
+use Rattle.std.specs.Prelude.{not}
+use Rattle.std.proofs.Common.{◌≡◌, ◌≢◌, ℕ, ◌<◌, true, List, [], ◌∷◌, ◌++◌, length, Some, None, refl, ap, subst, arith}
+use Rattle.std.specs.List.{list_all}
+use Rattle.std.specs.Str.{IsUtf8}
+use Rattle.std.proofs.lemmas.Str.{IsUtf8-append}
+use Rattle.c2_spec.specs.C2pa.Uri.{PlainUri, assertion, signature, uri_of, uri_text, scheme, store_path, assertions_path, signature_path}
+use Rattle.c2_uri.specs.Writing.{IsLabel, IsWritable}
+use Rattle.c2_built.proofs.BoxLemmas.{is_plain_byte, plain_label}
+use Rattle.c2_built.proofs.Labels.{IsLabelText, no_slash}
+
+-- what is written of a URI is read
+abbrev pub UrisAreRead : Type 0
+UrisAreRead = (u : PlainUri) → IsWritable u → uri_of (uri_text u) ≡ Some u
+
+-- a label that can be named
+pub named_label : (t : List ℕ) → IsLabelText t → IsLabel t
+named_label t h = record { some = some t h.some; one = ap not (no_slash t h.named) }
+  where
+    some : (t : List ℕ) → 0 < length t → t ≢ []
+    some t n e = omega (arith, n, ap length e)
+
+-- an assertion of the own manifest
+pub own_assertion_read : UrisAreRead → (label : List ℕ) → IsLabelText label → uri_of (uri_text (record { manifest = None; target = assertion label })) ≡ Some (record { manifest = None; target = assertion label })
+own_assertion_read read label h = read (record { manifest = None; target = assertion label }) (record { manifest = λ x e. absurd (cc (e)); target = named_label label h })
+
+-- the signature of a manifest
+pub signature_read : UrisAreRead → (label : List ℕ) → IsLabelText label → uri_of (uri_text (record { manifest = Some label; target = signature })) ≡ Some (record { manifest = Some label; target = signature })
+signature_read read label h = read (record { manifest = Some label; target = signature }) (record { manifest = λ x e. (let same : label ≡ x = cc (e) in subst IsLabel same (named_label label h)); target = tt })
+
+-- a text of letters
+pub plain_text : (t : List ℕ) → list_all is_plain_byte t ≡ true → IsUtf8 t
+plain_text t h = (plain_label t h).0
+
+pub signature_utf8 : (label : List ℕ) → IsUtf8 label → IsUtf8 (uri_text (record { manifest = Some label; target = signature }))
+signature_utf8 label h =
+    IsUtf8-append scheme ((store_path ++ label) ++ (0x2F ∷ signature_path)) (plain_text scheme refl)
+    (IsUtf8-append (store_path ++ label) (0x2F ∷ signature_path) (IsUtf8-append store_path label (plain_text store_path refl) h) (plain_text (0x2F ∷ signature_path) refl))
+
+pub assertion_utf8 : (label : List ℕ) → IsUtf8 label → IsUtf8 (uri_text (record { manifest = None; target = assertion label }))
+assertion_utf8 label h = IsUtf8-append scheme (assertions_path ++ label) (plain_text scheme refl) (IsUtf8-append assertions_path label (plain_text assertions_path refl) h)

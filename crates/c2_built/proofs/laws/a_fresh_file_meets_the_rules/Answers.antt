@@ -1,0 +1,17 @@
+use Rattle.c2_built.proofs.FreshFile.{fresh_meets}
+use Rattle.c2_built.proofs.laws.a_fresh_file_meets_the_rules.Goals as goal
+
+pub returns : goal.returns
+returns c = fresh_meets (record {
+  store = record {
+    keeps = c.sorting_keeps_the_length.ensures;
+    trip = c.round_trip.ensures;
+    claims = c.a_written_claim_is_read.ensures;
+    uris = c.written_uris_are_read.ensures;
+  };
+  one = c.a_written_data_hash_has_one_length.ensures.any;
+  hundred = c.a_written_data_hash_has_one_length.ensures.sha256;
+  hold = c.packets_hold_the_store.ensures;
+  hashes = c.a_written_data_hash_is_read.ensures;
+  in_order = c.written_items_are_in_order.ensures.data;
+})

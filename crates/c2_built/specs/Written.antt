@@ -1,0 +1,102 @@
+-- What a new store is read as: one legal tree, which is a store, with the manifests that are carried and then the new one.
+use Rattle.std.specs.Prelude.{◌≡◌, ℕ, ◌<◌, ◌≤◌, ◌^◌, true, false, ◌∷◌, [], List, ◌++◌, length, map, codes, Some, None, IfSome}
+use Rattle.std.specs.declared.option.Option.{Option}
+use Rattle.std.specs.List.{AllByRecursion}
+use Rattle.std.specs.Str.{IsUtf8}
+use Rattle.c2_base.specs.declared.limits.TheConstants.{MAX_STORE_LEN, MAX_MANIFESTS}
+use Rattle.c2_spec.specs.C2pa.Assertion.{kind_of}
+use Rattle.c2_spec.specs.C2pa.Manifest.{Superbox, Manifest, is_manifest, is_manifest_label, store_refusal, manifests_of}
+use Rattle.c2_spec.specs.Jumbf.Boxes.{node, any_label}
+use Rattle.c2_spec.specs.Jumbf.Tree.{Tree, Trees, tree_bytes, tree_labels, SpellsTree, IsLabel, AreLegalTrees, AreDistinctLabels, IsNewLabel}
+use Rattle.c2_rules.specs.Rules.{is_binding}
+use Rattle.c2_definition.specs.DefinitionFile.{IsWellFormed}
+use Rattle.c2_definition.specs.declared.types.Definition.{Definition}
+use Rattle.c2_definition.specs.declared.types.NewAssertion.{NewAssertion}
+use Rattle.c2_definition.specs.declared.types.Payload.{Payload}
+use Rattle.c2_definition.specs.declared.types.Payload.TheVariants as payload
+use Rattle.c2_built.specs.FreshBoxes.{contents_of, item_box}
+use Rattle.c2_built.specs.Manifests.{supers_in, manifest_of}
+use Rattle.c2_built.specs.Store.{Content, assertion_box, manifest_box, new_assertions, new_claim, new_store}
+
+-- ---- what is asked of what is written
+
+-- a text as a program holds it
+pub record IsText (t : List ℕ) : Type 0 where
+  pub utf8 : IsUtf8 t
+  pub short : length t < 2 ^ 64
+
+-- the texts of a definition that a new manifest has
+pub record HasTexts (d : Definition) : Type 0 where
+  pub label : IsText d.label
+  pub instance : IsText d.instance_id
+  pub generator : IsText d.generator
+  pub title : IfSome d.title IsText
+  pub labels : AllByRecursion (λ (a : NewAssertion). IsText a.label) d.assertions
+  pub redact : AllByRecursion IsText d.redact
+
+-- a definition that can be written: one that was read of a file
+pub record CanBeWritten (d : Definition) : Type 0 where
+  pub formed : IsWellFormed d
+  pub texts : HasTexts d
+
+-- a box that may stand in a store: a manifest with a label that can be named
+pub record IsStoreBox (t : Tree) : Type 0 where
+  pub manifest : is_manifest (node t) ≡ true
+  pub label : is_manifest_label (any_label (node t)) ≡ true
+
+-- boxes that can be carried beside a manifest with this label: they are legal in a store, have other labels, and leave room for it
+pub record CanBeCarried (label : List ℕ) (boxes : Trees) : Type 0 where
+  pub legal : AreLegalTrees 2 boxes
+  pub distinct : AreDistinctLabels (tree_labels boxes)
+  pub new : IsNewLabel (Some label) (tree_labels boxes)
+  pub manifests : AllByRecursion IsStoreBox (supers_in boxes)
+  pub few : length (supers_in boxes) < MAX_MANIFESTS
+
+-- a binding that a manifest can have
+pub record IsNewBinding (binding : NewAssertion) : Type 0 where
+  pub label : IsLabel binding.label
+  pub kind : is_binding (kind_of binding.label) ≡ true
+
+-- ---- what is read
+
+-- the item of an assertion
+abbrev pub written_item : Payload → List ℕ → Option (List ℕ)
+written_item payload.Cbor bytes = Some bytes
+written_item payload.Json bytes = None
+
+-- the box of an assertion
+abbrev pub written_assertion : NewAssertion → Superbox
+written_assertion a = record { label = Some a.label; contents = contents_of (assertion_box a); item = written_item a.kind a.bytes }
+
+-- the box of an item
+abbrev pub written_box : List ℕ → List ℕ → List ℕ → Superbox
+written_box name label bytes = record { label = Some label; contents = contents_of (item_box name label bytes); item = Some bytes }
+
+-- a manifest of these assertions, this claim and this message, as the rules see it
+abbrev pub written_manifest : List ℕ → List NewAssertion → List ℕ → List ℕ → Manifest
+written_manifest label assertions claim message = record {
+  label = Some label;
+  contents = contents_of (manifest_box label assertions claim message);
+  is_update = false;
+  claims = written_box (codes "c2cl") (codes "c2pa.claim.v2") claim ∷ [];
+  signature = Some (written_box (codes "c2cs") (codes "c2pa.signature") message);
+  assertions = map written_assertion assertions;
+}
+
+-- the new manifest, as the rules see it
+abbrev pub new_written : (List ℕ → List ℕ) → Content → NewAssertion → List ℕ → Manifest
+new_written hash c binding message =
+    written_manifest c.definition.label (new_assertions hash c binding) (new_claim hash c binding) message
+
+-- A tree's bytes spell it, it is a store, and its manifests are those that are carried and then this one.
+pub record IsRead (carried : Trees) (last : Manifest) (t : Tree) : Type 0 where
+  pub spelled : SpellsTree (tree_bytes t) t
+  pub store : store_refusal t ≡ None
+  pub manifests : manifests_of t ≡ map manifest_of (supers_in carried) ++ last ∷ []
+
+-- So a new store is read, which isn't too large.
+abbrev pub NewStoreIsRead : Type 0
+NewStoreIsRead = (hash : List ℕ → List ℕ) (c : Content) (binding : NewAssertion) (message : List ℕ)
+    → CanBeWritten c.definition → CanBeCarried c.definition.label c.carried → IsNewBinding binding
+    → length (tree_bytes (new_store hash c binding message)) ≤ MAX_STORE_LEN
+    → IsRead c.carried (new_written hash c binding message) (new_store hash c binding message)
