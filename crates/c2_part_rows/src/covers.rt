@@ -2,7 +2,7 @@
 ghost use Rattle.std.specs.Prelude.{◌<◌};
 
 use crate::films::exclusions_of;
-use crate::read::show_hex;
+use crate::line::{Line, shown};
 use crate::settings::{Settings, ranges_of};
 use crate::trouble::Trouble;
 use c2_base::{Blob, Failed, MemSource, Range};
@@ -29,43 +29,40 @@ const LENGTHS: [(usize, usize); 9] = [
 /// Whether ranges rise inside a file of the size that is set, or the first that doesn't.
 pub fn checked(alloc: Global, settings: &Settings, input: &str) -> Result<String, Trouble> {
     let ranges = ranges_of(alloc, input)?;
-    let found = check_ranges(ranges.as_slice(), settings.number("size")?);
-    Ok(format!(in alloc; "{found:?}")?)
+    let size = settings.number("size")?;
+    shown(alloc, &check_ranges(ranges.as_slice(), size))
 }
 
 /// How many positions of a file of the size that is set the ranges leave, and how many of the excluded ones stand outside the range that
 /// is set.
 pub fn counts(alloc: Global, settings: &Settings, input: &str) -> Result<String, Trouble> {
     let ranges = ranges_of(alloc, input)?;
-    match data_cover(alloc, ranges.as_slice(), settings.number("size")?) {
-        Ok(cover) => counted(alloc, settings.range("embedded")?, &cover),
-        Err(error) => Ok(format!(in alloc; "{error:?}")?),
+    let size = settings.number("size")?;
+    let embedded = settings.range("embedded")?;
+    let mut out = Line::new(alloc);
+    match data_cover(alloc, ranges.as_slice(), size) {
+        Ok(cover) => show_counts(&mut out, embedded, &cover),
+        Err(error) => out.debug(&error),
     }
+    out.whole()
 }
 
 // The two counts of a cover.
-fn counted(alloc: Global, embedded: Range, cover: &Cover) -> Result<String, Trouble> {
-    let covered = covered_count(cover);
-    let outside = outside_count(cover, embedded.start, embedded.length);
-    Ok(format!(in alloc; "{covered} covered, {outside} outside")?)
+fn show_counts(out: &mut Line, embedded: Range, cover: &Cover) {
+    out.number(covered_count(cover));
+    out.text(" covered, ");
+    out.number(outside_count(cover, embedded.start, embedded.length));
+    out.text(" outside");
 }
 
 // The counts, and the digest of what is covered.
-fn told(
-    alloc: Global,
-    embedded: Range,
-    cover: &Cover,
-    digest: Result<Digest, Failed>,
-) -> Result<String, Trouble> {
-    let mut out = counted(alloc, embedded, cover)?;
+fn show_cover(out: &mut Line, embedded: Range, cover: &Cover, digest: Result<Digest, Failed>) {
+    show_counts(out, embedded, cover);
+    out.text(" ");
     match digest {
-        Ok(digest) => {
-            out.push_str(" ")?;
-            show_hex(&mut out, digest.as_slice())?;
-        }
-        Err(_) => out.push_str(" failed")?,
+        Ok(digest) => out.hex(digest.as_slice()),
+        Err(Failed) => out.text("failed"),
     }
-    Ok(out)
 }
 
 /// What the ranges that are set leave of a file: the same by reads and buffers of each length.
@@ -97,13 +94,15 @@ fn data_at(
 {
     let mut source = MemSource::new(Blob::copied(alloc, bytes)?, most, 0);
     let mut buf = vec![in alloc; 0; room]?;
+    let mut out = Line::new(alloc);
     match data_cover(alloc, ranges, bytes.len() as u64) {
         Ok(cover) => {
-            let found = digest_cover(&Sha, &mut source, &cover, Alg::Sha256, &mut buf);
-            told(alloc, embedded, &cover, found)
+            let digest = digest_cover(&Sha, &mut source, &cover, Alg::Sha256, &mut buf);
+            show_cover(&mut out, embedded, &cover, digest);
         }
-        Err(error) => Ok(format!(in alloc; "{error:?}")?),
+        Err(error) => out.debug(&error),
     }
+    out.whole()
 }
 
 /// What the exclusions that are set leave of a film: the same by reads and buffers of each length.
@@ -138,11 +137,13 @@ fn film_at(
     let Ok(boxes) = roots(alloc, &mut source) else {
         return Err(Trouble::BadLine);
     };
+    let mut out = Line::new(alloc);
     match bmff_cover(alloc, &mut source, &boxes, entries) {
         Ok(cover) => {
-            let found = digest_cover(&Sha, &mut source, &cover, Alg::Sha256, &mut buf);
-            told(alloc, embedded, &cover, found)
+            let digest = digest_cover(&Sha, &mut source, &cover, Alg::Sha256, &mut buf);
+            show_cover(&mut out, embedded, &cover, digest);
         }
-        Err(error) => Ok(format!(in alloc; "{error:?}")?),
+        Err(error) => out.debug(&error),
     }
+    out.whole()
 }

@@ -1,14 +1,15 @@
 // Items of assertions, field by field.
 use crate::claims::show_ref;
-use crate::read::{show_hex, show_text};
+use crate::line::Line;
 use crate::trouble::Trouble;
 use c2_assertion::{
-    read_bmff_hash, read_data_hash, read_ingredient, write_bmff_hash, write_data_hash,
-    write_ingredient,
+    BmffHash, DataHash, Ingredient, read_bmff_hash, read_data_hash, read_ingredient,
+    write_bmff_hash, write_data_hash, write_ingredient,
 };
+use c2_base::{Blob, Text};
 use c2_bmff::Exclusion;
 use c2_cbor::{Cbor, Ref, decode_whole, encode};
-use std::alloc::{AllocError, Global};
+use std::alloc::Global;
 
 // The item of these bytes.
 fn item_of(alloc: Global, bytes: &[u8]) -> Result<Cbor, Trouble> {
@@ -18,87 +19,101 @@ fn item_of(alloc: Global, bytes: &[u8]) -> Result<Cbor, Trouble> {
     }
 }
 
-/// A data hash: exclusions as start and length, algorithm and digest; or the refusal.
-pub fn data_hash(alloc: Global, bytes: &[u8]) -> Result<String, Trouble> {
-    let value = match read_data_hash(alloc, &item_of(alloc, bytes)?) {
-        Ok(value) => value,
-        Err(error) => return Ok(format!(in alloc; "{error:?}")?),
-    };
-    let mut out = String::from_str(alloc, "[")?;
+// Algorithm and digest, behind exclusions.
+fn show_digest(out: &mut Line, alg: &Option<Text>, hash: &Blob) {
+    out.text("] ");
+    out.name(alg);
+    out.text(" ");
+    out.hex(hash.as_slice());
+}
+
+fn show_data_hash(out: &mut Line, value: &DataHash) {
+    out.text("[");
     let mut gap = "";
     for range in value.exclusions.as_slice() {
-        let (start, length) = (range.start, range.length);
-        write!(&mut out, "{gap}{start}+{length}")?;
+        out.text(gap);
         gap = ",";
+        out.range(range.start, range.length);
     }
-    out.push_str("] ")?;
-    show_text(&mut out, value.alg.as_ref().map(|alg| alg.as_str()))?;
-    out.push_str(" ")?;
-    show_hex(&mut out, value.hash.as_slice())?;
-    Ok(out)
+    show_digest(out, &value.alg, &value.hash);
+}
+
+/// A data hash: exclusions as start and length, algorithm and digest; or the refusal.
+pub fn data_hash(alloc: Global, bytes: &[u8]) -> Result<String, Trouble> {
+    let item = item_of(alloc, bytes)?;
+    let mut out = Line::new(alloc);
+    match read_data_hash(alloc, &item) {
+        Ok(value) => show_data_hash(&mut out, &value),
+        Err(error) => out.debug(&error),
+    }
+    out.whole()
+}
+
+// The steps of its path, its length, how many byte tests and how many parts.
+fn show_exclusion(out: &mut Line, exclusion: &Exclusion) {
+    out.number(exclusion.path.segments().len() as u64);
+    out.text("/");
+    match exclusion.length {
+        Some(length) => out.number(length),
+        None => out.text("-"),
+    }
+    out.text("/");
+    out.number(exclusion.tests.as_slice().len() as u64);
+    out.text("/");
+    match &exclusion.subset {
+        Some(parts) => out.number(parts.as_slice().len() as u64),
+        None => out.text("-"),
+    }
+}
+
+fn show_bmff_hash(out: &mut Line, value: &BmffHash) {
+    out.text("[");
+    let mut gap = "";
+    for exclusion in value.exclusions.as_slice() {
+        out.text(gap);
+        gap = ",";
+        show_exclusion(out, exclusion);
+    }
+    show_digest(out, &value.alg, &value.hash);
 }
 
 /// A BMFF hash: of each exclusion the steps of its path, its length, how many byte tests and how many parts; algorithm and digest; or
 /// the refusal.
 pub fn bmff_hash(alloc: Global, bytes: &[u8]) -> Result<String, Trouble> {
-    let value = match read_bmff_hash(alloc, &item_of(alloc, bytes)?) {
-        Ok(value) => value,
-        Err(error) => return Ok(format!(in alloc; "{error:?}")?),
-    };
-    let mut out = String::from_str(alloc, "[")?;
-    let mut gap = "";
-    for exclusion in value.exclusions.as_slice() {
-        out.push_str(gap)?;
-        gap = ",";
-        show_exclusion(&mut out, exclusion)?;
+    let item = item_of(alloc, bytes)?;
+    let mut out = Line::new(alloc);
+    match read_bmff_hash(alloc, &item) {
+        Ok(value) => show_bmff_hash(&mut out, &value),
+        Err(error) => out.debug(&error),
     }
-    out.push_str("] ")?;
-    show_text(&mut out, value.alg.as_ref().map(|alg| alg.as_str()))?;
-    out.push_str(" ")?;
-    show_hex(&mut out, value.hash.as_slice())?;
-    Ok(out)
+    out.whole()
 }
 
-fn show_exclusion(out: &mut String, exclusion: &Exclusion) -> Result<(), AllocError> {
-    let steps = exclusion.path.segments().len();
-    write!(out, "{steps}/")?;
-    match exclusion.length {
-        Some(length) => write!(out, "{length}")?,
-        None => out.push_str("-")?,
+// A reference, where there is one.
+fn show_option(out: &mut Line, found: &Option<Ref>) {
+    match found {
+        Some(found) => show_ref(out, found),
+        None => out.text("none"),
     }
-    let tests = exclusion.tests.as_slice().len();
-    write!(out, "/{tests}/")?;
-    match &exclusion.subset {
-        Some(parts) => {
-            let count = parts.as_slice().len();
-            write!(out, "{count}")
-        }
-        None => out.push_str("-"),
-    }
+}
+
+fn show_ingredient(out: &mut Line, value: &Ingredient) {
+    out.debug(&value.relationship);
+    out.text(" ");
+    show_option(out, &value.manifest);
+    out.text(" ");
+    show_option(out, &value.signature);
 }
 
 /// An ingredient: relationship, manifest and signature; or the refusal.
 pub fn ingredient(alloc: Global, bytes: &[u8]) -> Result<String, Trouble> {
-    let mut out = String::new(alloc);
-    match read_ingredient(alloc, &item_of(alloc, bytes)?) {
-        Ok(value) => {
-            let relationship = value.relationship;
-            write!(&mut out, "{relationship:?} ")?;
-            show_option(&mut out, &value.manifest)?;
-            out.push_str(" ")?;
-            show_option(&mut out, &value.signature)?;
-        }
-        Err(error) => write!(&mut out, "{error:?}")?,
+    let item = item_of(alloc, bytes)?;
+    let mut out = Line::new(alloc);
+    match read_ingredient(alloc, &item) {
+        Ok(value) => show_ingredient(&mut out, &value),
+        Err(error) => out.debug(&error),
     }
-    Ok(out)
-}
-
-// A reference, where there is one.
-fn show_option(out: &mut String, found: &Option<Ref>) -> Result<(), AllocError> {
-    match found {
-        Some(found) => show_ref(out, found),
-        None => out.push_str("none"),
-    }
+    out.whole()
 }
 
 /// What an item is of.
@@ -109,22 +124,47 @@ pub enum Field {
     Ingredient,
 }
 
+// The item that is written of the BMFF hash of an item.
+fn bmff_hash_again(alloc: Global, item: &Cbor) -> Option<Cbor> {
+    match read_bmff_hash(alloc, item) {
+        Ok(value) => write_bmff_hash(alloc, &value).ok(),
+        Err(_) => None,
+    }
+}
+
+// The item that is written of the data hash of an item.
+fn data_hash_again(alloc: Global, item: &Cbor) -> Option<Cbor> {
+    match read_data_hash(alloc, item) {
+        Ok(value) => write_data_hash(alloc, &value).ok(),
+        Err(_) => None,
+    }
+}
+
+// The item that is written of the ingredient of an item.
+fn ingredient_again(alloc: Global, item: &Cbor) -> Option<Cbor> {
+    match read_ingredient(alloc, item) {
+        Ok(value) => write_ingredient(alloc, &value).ok(),
+        Err(_) => None,
+    }
+}
+
 // What is written of the value that is read.
 fn written(alloc: Global, what: Field, item: &Cbor) -> Option<Cbor> {
     match what {
-        Field::BmffHash => write_bmff_hash(alloc, &read_bmff_hash(alloc, item).ok()?).ok(),
-        Field::DataHash => write_data_hash(alloc, &read_data_hash(alloc, item).ok()?).ok(),
-        Field::Ingredient => write_ingredient(alloc, &read_ingredient(alloc, item).ok()?).ok(),
+        Field::BmffHash => bmff_hash_again(alloc, item),
+        Field::DataHash => data_hash_again(alloc, item),
+        Field::Ingredient => ingredient_again(alloc, item),
     }
 }
 
 /// The bytes of the item that is written of the value of these.
 pub fn rewritten(alloc: Global, what: Field, bytes: &[u8]) -> Result<String, Trouble> {
-    let mut out = String::new(alloc);
-    if let Some(again) = written(alloc, what, &item_of(alloc, bytes)?) {
+    let item = item_of(alloc, bytes)?;
+    let mut out = Line::new(alloc);
+    if let Some(again) = written(alloc, what, &item) {
         if let Ok(bytes) = encode(alloc, &again) {
-            show_hex(&mut out, bytes.as_slice())?;
+            out.hex(bytes.as_slice());
         }
     }
-    Ok(out)
+    out.whole()
 }

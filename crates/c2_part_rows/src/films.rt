@@ -1,11 +1,13 @@
 // BMFF files.
+use crate::line::{Line, shown};
 use crate::media::located;
 use crate::read::bytes_of;
 use crate::settings::{Settings, range_of};
 use crate::trouble::Trouble;
 use c2_base::{Blob, MemSource, Range, Ranges};
 use c2_bmff::{
-    ByteTests, Exclusion, insert_place, locate, match_path, match_paths, read_path, roots,
+    ByteTests, Exclusion, Path, RootBox, insert_place, locate, match_path, match_paths, read_path,
+    roots,
 };
 use std::alloc::Global;
 
@@ -18,30 +20,41 @@ pub fn path(alloc: Global, text: &str) -> Result<String, Trouble> {
     Ok(String::from_str(alloc, form)?)
 }
 
+fn show_root(out: &mut Line, root: &RootBox) {
+    out.range(root.start, root.length);
+    out.text(" ");
+    out.number(root.header);
+    out.text(" ");
+    out.text(str::from_utf8(&root.kind).unwrap_or("?"));
+    if root.to_end {
+        out.text(" to the end");
+    }
+}
+
+fn show_roots(out: &mut Line, boxes: &[RootBox]) {
+    let mut gap = "";
+    for root in boxes {
+        out.text(gap);
+        gap = " / ";
+        show_root(out, root);
+    }
+}
+
 /// Start, length, header and kind of each root box.
 pub fn root_boxes(alloc: Global, source: &mut MemSource) -> Result<String, Trouble> {
-    let mut out = String::new(alloc);
+    let mut out = Line::new(alloc);
     match roots(alloc, source) {
-        Ok(boxes) => {
-            let mut gap = "";
-            for root in boxes.as_slice() {
-                let (start, length, header) = (root.start, root.length, root.header);
-                let kind = str::from_utf8(&root.kind).unwrap_or("?");
-                let end = if root.to_end { " to the end" } else { "" };
-                write!(&mut out, "{gap}{start}+{length} {header} {kind}{end}")?;
-                gap = " / ";
-            }
-        }
-        Err(error) => write!(&mut out, "{error:?}")?,
+        Ok(boxes) => show_roots(&mut out, boxes.as_slice()),
+        Err(error) => out.debug(&error),
     }
-    Ok(out)
+    out.whole()
 }
 
 /// The store of a film.
 pub fn store(alloc: Global, source: &mut MemSource) -> Result<String, Trouble> {
     match roots(alloc, source) {
         Ok(boxes) => located(alloc, locate(alloc, source, &boxes)),
-        Err(error) => Ok(format!(in alloc; "{error:?}")?),
+        Err(error) => shown(alloc, &error),
     }
 }
 
@@ -66,32 +79,49 @@ pub fn box_place(
     Ok(format!(in alloc; "{place:?}")?)
 }
 
-// One exclusion: a path, and behind spaces a length, `OFFSET=HEX` for each byte test, and `START+LENGTH` for each part.
-fn exclusion_of(alloc: Global, text: &str) -> Result<Exclusion, Trouble> {
-    let mut words = text.split_whitespace();
-    let Some(path) = read_path(alloc, words.next().unwrap_or(""))? else {
-        return Err(Trouble::BadLine);
-    };
-    let mut tests = Vec::new(alloc);
-    let mut parts = Vec::new(alloc);
-    let mut length = None;
-    for word in words {
+// What stands behind the path of an exclusion.
+#[derive(Drop)]
+struct Limits {
+    tests: Vec<(u64, Blob)>,
+    parts: Vec<Range>,
+    length: Option<u64>,
+}
+
+impl Limits {
+    // Takes in a word: a length, `OFFSET=HEX` for a byte test, or `START+LENGTH` for a part.
+    fn take(&mut self, alloc: Global, word: &str) -> Result<(), Trouble> {
         if let Some((offset, digits)) = word.split_once('=') {
-            let value = Blob::from_vec(bytes_of(alloc, digits)?);
-            tests.push((offset.parse::<u64>()?, value))?;
-        } else if word.contains('+') {
-            parts.push(range_of(word)?)?;
+            return self.take_test(alloc, offset, digits);
+        }
+        if word.contains('+') {
+            self.parts.push(range_of(word)?)?;
         } else {
-            length = Some(word.parse::<u64>()?);
+            self.length = Some(word.parse::<u64>()?);
+        }
+        Ok(())
+    }
+
+    fn take_test(&mut self, alloc: Global, offset: &str, digits: &str) -> Result<(), Trouble> {
+        let offset = offset.parse::<u64>()?;
+        let value = Blob::from_vec(bytes_of(alloc, digits)?);
+        self.tests.push((offset, value))?;
+        Ok(())
+    }
+
+    // The exclusion with this path.
+    fn behind(self, path: Path) -> Exclusion {
+        let Limits {
+            tests,
+            parts,
+            length,
+        } = self;
+        Exclusion {
+            path,
+            length,
+            tests: ByteTests::from_list(tests),
+            subset: subset_of(parts),
         }
     }
-    let subset = subset_of(parts);
-    Ok(Exclusion {
-        path,
-        length,
-        tests: ByteTests::from_list(tests),
-        subset,
-    })
 }
 
 // The parts, where there are some.
@@ -101,6 +131,28 @@ fn subset_of(parts: Vec<Range>) -> Option<Ranges> {
     } else {
         Some(Ranges::from_list(parts))
     }
+}
+
+// One exclusion: a path, and behind spaces its limits.
+fn exclusion_of(alloc: Global, text: &str) -> Result<Exclusion, Trouble> {
+    let (path, words) = text.split_once(' ').unwrap_or((text, ""));
+    let limits = limits_of(alloc, words)?;
+    match read_path(alloc, path)? {
+        Some(path) => Ok(limits.behind(path)),
+        None => Err(Trouble::BadLine),
+    }
+}
+
+fn limits_of(alloc: Global, words: &str) -> Result<Limits, Trouble> {
+    let mut limits = Limits {
+        tests: Vec::new(alloc),
+        parts: Vec::new(alloc),
+        length: None,
+    };
+    for word in words.split_whitespace() {
+        limits.take(alloc, word)?;
+    }
+    Ok(limits)
 }
 
 /// The exclusions that are set, a comma between them.
@@ -125,27 +177,29 @@ pub fn excluded(
     let entries = exclusions_of(alloc, settings)?;
     let boxes = match roots(alloc, source) {
         Ok(boxes) => boxes,
-        Err(error) => return Ok(format!(in alloc; "{error:?}")?),
+        Err(error) => return shown(alloc, &error),
     };
+    let mut out = Line::new(alloc);
     let found = match entries.as_slice() {
         [entry] => match_path(alloc, source, &boxes, entry),
         entries => match_paths(alloc, source, &boxes, entries),
     };
     match found {
-        Ok(ranges) => shown(alloc, ranges.as_slice()),
-        Err(error) => Ok(format!(in alloc; "{error:?}")?),
+        Ok(ranges) => show_ranges(&mut out, ranges.as_slice()),
+        Err(error) => out.debug(&error),
     }
+    out.whole()
 }
 
 // Ranges, a space between them; `none` where there are none.
-fn shown(alloc: Global, ranges: &[Range]) -> Result<String, Trouble> {
-    let mut out = String::new(alloc);
+fn show_ranges(out: &mut Line, ranges: &[Range]) {
     let mut gap = "";
     for range in ranges {
-        let (start, length) = (range.start, range.length);
-        write!(&mut out, "{gap}{start}+{length}")?;
+        out.text(gap);
         gap = " ";
+        out.range(range.start, range.length);
     }
-    out.push_str(if ranges.is_empty() { "none" } else { "" })?;
-    Ok(out)
+    if ranges.is_empty() {
+        out.text("none");
+    }
 }

@@ -9,6 +9,7 @@ mod covers;
 mod fields;
 mod films;
 mod items;
+mod line;
 mod media;
 mod messages;
 mod read;

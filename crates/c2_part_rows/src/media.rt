@@ -1,6 +1,6 @@
 // Files of media.
 use crate::films;
-use crate::read::show_digest;
+use crate::line::{Line, shown};
 use crate::settings::Settings;
 use crate::trouble::Trouble;
 use c2_base::{Blob, Found, MediaError, MemSource};
@@ -30,19 +30,30 @@ pub fn in_pieces(
     bytes: &[u8],
 ) -> Result<String, Trouble> {
     let fail_at = settings.number("fault")?;
-    let mut source = MemSource::new(Blob::copied(alloc, bytes)?, 65_536, fail_at);
-    let wanted = said(alloc, settings, what, &mut source)?;
+    let wanted = said_in(alloc, settings, what, bytes, 65_536, fail_at)?;
     if fail_at > 0 {
         return Ok(wanted);
     }
     for most in PIECES {
-        let mut source = MemSource::new(Blob::copied(alloc, bytes)?, most.max(1), 0);
-        let got = said(alloc, settings, what, &mut source)?;
+        let got = said_in(alloc, settings, what, bytes, most, 0)?;
         if got.as_str() != wanted.as_str() {
             return Ok(format!(in alloc; "{got} in pieces of {most}")?);
         }
     }
     Ok(wanted)
+}
+
+// The same over a source that gives `most` bytes a call.
+fn said_in(
+    alloc: Global,
+    settings: &Settings,
+    what: FileView,
+    bytes: &[u8],
+    most: usize,
+    fail_at: u64,
+) -> Result<String, Trouble> {
+    let mut source = MemSource::new(Blob::copied(alloc, bytes)?, most.max(1), fail_at);
+    said(alloc, settings, what, &mut source)
 }
 
 // What is said of a file.
@@ -54,14 +65,8 @@ fn said(
 ) -> Result<String, Trouble> {
     match what {
         FileView::Packets => located(alloc, locate(alloc, source)),
-        FileView::Place => {
-            let place = insert_place(source, settings.range("skip")?);
-            Ok(format!(in alloc; "{place:?}")?)
-        }
-        FileView::FreeNumber => {
-            let number = free_number(alloc, source, settings.range("skip")?);
-            Ok(format!(in alloc; "{number:?}")?)
-        }
+        FileView::Place => shown(alloc, &insert_place(source, settings.range("skip")?)),
+        FileView::FreeNumber => shown(alloc, &free_number(alloc, source, settings.range("skip")?)),
         FileView::RootBoxes => films::root_boxes(alloc, source),
         FileView::Film => films::store(alloc, source),
         FileView::BoxPlace => films::box_place(alloc, settings, source),
@@ -74,15 +79,15 @@ pub fn located(
     alloc: Global,
     answer: Result<Option<Found>, MediaError>,
 ) -> Result<String, Trouble> {
-    let mut out = String::new(alloc);
+    let mut out = Line::new(alloc);
     match answer {
         Ok(Some(found)) => {
-            let (start, length) = (found.start, found.length);
-            write!(&mut out, "{start}+{length} ")?;
-            show_digest(&mut out, found.store.as_slice())?;
+            out.range(found.start, found.length);
+            out.text(" ");
+            out.digest(found.store.as_slice());
         }
-        Ok(None) => out.push_str("none")?,
-        Err(error) => write!(&mut out, "{error:?}")?,
+        Ok(None) => out.text("none"),
+        Err(error) => out.debug(&error),
     }
-    Ok(out)
+    out.whole()
 }

@@ -1,24 +1,35 @@
 // JUMBF URIs and labels.
-use crate::read::show_text;
+use crate::line::Line;
 use crate::trouble::Trouble;
 use c2_uri::{Target, base_label, parse};
 use std::alloc::Global;
 
+fn show_target(out: &mut Line, target: Target<'_>) {
+    match target {
+        Target::Whole => out.text(" whole"),
+        Target::Signature => out.text(" signature"),
+        Target::Assertion(label) => {
+            out.text(" assertion ");
+            out.text(label);
+        }
+        Target::Other(path) => {
+            out.text(" other ");
+            out.text(path);
+        }
+    }
+}
+
 /// The manifest of the URI that a text spells, `-` where it is relative, and what it names.
 pub fn shown(alloc: Global, spelled: &str) -> Result<String, Trouble> {
-    let mut out = String::new(alloc);
-    let Some(uri) = parse(spelled) else {
-        out.push_str("none")?;
-        return Ok(out);
-    };
-    show_text(&mut out, uri.manifest)?;
-    match uri.target {
-        Target::Whole => out.push_str(" whole")?,
-        Target::Signature => out.push_str(" signature")?,
-        Target::Assertion(label) => write!(&mut out, " assertion {label}")?,
-        Target::Other(path) => write!(&mut out, " other {path}")?,
+    let mut out = Line::new(alloc);
+    match parse(spelled) {
+        Some(uri) => {
+            out.text(uri.manifest.unwrap_or("-"));
+            show_target(&mut out, uri.target);
+        }
+        None => out.text("none"),
     }
-    Ok(out)
+    out.whole()
 }
 
 /// A label's base.

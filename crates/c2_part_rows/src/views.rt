@@ -1,5 +1,6 @@
 // What a row is of.
-use crate::read::{bytes_of, show_digest};
+use crate::line::{Line, shown};
+use crate::read::bytes_of;
 use crate::settings::Settings;
 use crate::trouble::Trouble;
 use crate::{claims, covers, fields, films, items, media, messages, stores, trees, uris, verdicts};
@@ -130,11 +131,11 @@ fn of_text(
     input: &str,
 ) -> Result<String, Trouble> {
     match what {
-        TextView::LabelKind => Ok(format!(in alloc; "{:?}", kind(input))?),
+        TextView::LabelKind => shown(alloc, &kind(input)),
         TextView::Uri => uris::shown(alloc, input),
         TextView::BaseLabel => uris::base(alloc, input),
         TextView::Path => films::path(alloc, input),
-        TextView::Fill => Ok(format!(in alloc; "{:?}", fill(input.parse::<u64>()?))?),
+        TextView::Fill => shown(alloc, &fill(input.parse::<u64>()?)),
         TextView::Ranges => covers::checked(alloc, settings, input),
         TextView::Counts => covers::counts(alloc, settings, input),
     }
@@ -148,11 +149,7 @@ fn of_bytes(
     bytes: &[u8],
 ) -> Result<String, Trouble> {
     match what {
-        BytesView::Digest => {
-            let mut out = String::new(alloc);
-            show_digest(&mut out, bytes)?;
-            Ok(out)
-        }
+        BytesView::Digest => digest(alloc, bytes),
         BytesView::VerdictFile => verdicts::said(alloc, settings, bytes),
         BytesView::Item => items::whole(alloc, bytes),
         BytesView::Prefix => items::prefix(alloc, bytes),
@@ -169,4 +166,11 @@ fn of_bytes(
         BytesView::DataCover => covers::data(alloc, settings, bytes),
         BytesView::FilmCover => covers::film(alloc, settings, bytes),
     }
+}
+
+// How many bytes these are, and their digest.
+fn digest(alloc: Global, bytes: &[u8]) -> Result<String, Trouble> {
+    let mut out = Line::new(alloc);
+    out.digest(bytes);
+    out.whole()
 }

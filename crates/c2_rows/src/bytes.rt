@@ -1,6 +1,6 @@
 // Bytes of a row, and media files that are made of them.
 use crate::trouble::Trouble;
-use std::alloc::Global;
+use std::alloc::{AllocError, Global};
 
 // The most bytes of a store in a packet.
 const MAX_PACKET: usize = 63_984;
@@ -13,19 +13,21 @@ pub fn bytes_of(alloc: Global, text: &str) -> Result<Vec<u8>, Trouble> {
     }
     let mut bytes = Vec::new(alloc);
     for word in text.split(' ') {
-        let (count, piece) = word.split_once('*').unwrap_or(("1", word));
-        match count.split_once("..") {
-            Some((first, last)) => {
-                let numbers = (first.parse::<u16>()?, last.parse::<u16>()?);
-                push_numbered(alloc, &mut bytes, numbers, piece)?;
-            }
-            None => {
-                let piece = hex::decode(alloc, piece)?;
-                push_often(&mut bytes, piece.as_slice(), count.parse::<u32>()?)?;
-            }
-        }
+        push_word(alloc, &mut bytes, word)?;
     }
     Ok(bytes)
+}
+
+// Appends the bytes of a word.
+fn push_word(alloc: Global, bytes: &mut Vec<u8>, word: &str) -> Result<(), Trouble> {
+    let (count, piece) = word.split_once('*').unwrap_or(("1", word));
+    match count.split_once("..") {
+        Some((first, last)) => {
+            let numbers = (first.parse::<u16>()?, last.parse::<u16>()?);
+            push_numbered(alloc, bytes, numbers, piece)
+        }
+        None => push_often(alloc, bytes, piece, count.parse::<u32>()?),
+    }
 }
 
 // Appends a piece with each number from the first to the last.
@@ -39,17 +41,28 @@ fn push_numbered(
     let front = hex::decode(alloc, front)?;
     let back = hex::decode(alloc, back)?;
     for number in numbers.0..=numbers.1 {
-        bytes.extend_from_slice(front.as_slice())?;
-        bytes.extend_from_slice(&number.to_be_bytes())?;
-        bytes.extend_from_slice(back.as_slice())?;
+        push_between(bytes, front.as_slice(), number, back.as_slice())?;
     }
     Ok(())
 }
 
+// Appends a number between two pieces.
+fn push_between(
+    bytes: &mut Vec<u8>,
+    front: &[u8],
+    number: u16,
+    back: &[u8],
+) -> Result<(), AllocError> {
+    bytes.extend_from_slice(front)?;
+    bytes.extend_from_slice(&number.to_be_bytes())?;
+    bytes.extend_from_slice(back)
+}
+
 // Appends a piece so many times.
-fn push_often(bytes: &mut Vec<u8>, piece: &[u8], count: u32) -> Result<(), Trouble> {
+fn push_often(alloc: Global, bytes: &mut Vec<u8>, piece: &str, count: u32) -> Result<(), Trouble> {
+    let piece = hex::decode(alloc, piece)?;
     for _ in 0..count {
-        bytes.extend_from_slice(piece)?;
+        bytes.extend_from_slice(piece.as_slice())?;
     }
     Ok(())
 }
@@ -66,13 +79,24 @@ pub fn in_jpeg(alloc: Global, store: &[u8], most: usize) -> Result<Vec<u8>, Trou
     let Some((header, body)) = store.split_at_checked(width) else {
         return Ok(file);
     };
+    push_packets(&mut file, header, body, most)?;
+    file.extend_from_slice(&[0xFF, 0xD9])?;
+    Ok(file)
+}
+
+// A packet for each piece of a body, of so many bytes at most.
+fn push_packets(
+    file: &mut Vec<u8>,
+    header: &[u8],
+    body: &[u8],
+    most: usize,
+) -> Result<(), AllocError> {
     let mut number: u32 = 0;
     for piece in body.chunks(most.clamp(1, MAX_PACKET)) {
         number = number.saturating_add(1);
-        push_packet(&mut file, number, header, piece)?;
+        push_packet(file, number, header, piece)?;
     }
-    file.extend_from_slice(&[0xFF, 0xD9])?;
-    Ok(file)
+    Ok(())
 }
 
 // A packet with this sequence number.
@@ -81,15 +105,13 @@ fn push_packet(
     number: u32,
     header: &[u8],
     piece: &[u8],
-) -> Result<(), Trouble> {
+) -> Result<(), AllocError> {
     let length = header.len().min(16) as u16 + piece.len().min(MAX_PACKET) as u16 + 10;
-    file.extend_from_slice(&[0xFF, 0xEB])?;
-    file.extend_from_slice(&length.to_be_bytes())?;
-    file.extend_from_slice(&[0x4A, 0x50, 0x02, 0x11])?;
-    file.extend_from_slice(&number.to_be_bytes())?;
+    let [a, b] = length.to_be_bytes();
+    let [c, d, e, f] = number.to_be_bytes();
+    file.extend_from_slice(&[0xFF, 0xEB, a, b, 0x4A, 0x50, 0x02, 0x11, c, d, e, f])?;
     file.extend_from_slice(header)?;
-    file.extend_from_slice(piece)?;
-    Ok(())
+    file.extend_from_slice(piece)
 }
 
 /// The file, where the byte at a place is one more.

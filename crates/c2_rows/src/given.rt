@@ -36,18 +36,21 @@ impl Given {
     pub fn take(&mut self, alloc: Global, text: &str) -> Result<(), Trouble> {
         self.count = 0;
         for file in text.split(" | ") {
-            let kept = match self.count {
-                0 => &mut self.first,
-                1 => &mut self.second,
-                2 => &mut self.third,
-                _ => return Err(Trouble::BadLine),
-            };
-            if file != "." {
-                *kept = bytes_of(alloc, file)?;
-            }
-            self.count = self.count.saturating_add(1);
+            self.take_file(alloc, file)?;
         }
         Ok(())
+    }
+
+    // Takes in the next file.
+    fn take_file(&mut self, alloc: Global, file: &str) -> Result<(), Trouble> {
+        let place = self.count;
+        self.count = self.count.saturating_add(1);
+        match place {
+            0 => put(alloc, &mut self.first, file),
+            1 => put(alloc, &mut self.second, file),
+            2 => put(alloc, &mut self.third, file),
+            _ => Err(Trouble::BadLine),
+        }
     }
 
     /// These files with another first one, read in pieces of these lengths.
@@ -67,4 +70,12 @@ impl Given {
             pieces,
         }
     }
+}
+
+// Puts a file into its place, unless it is the one that is there.
+fn put(alloc: Global, place: &mut Vec<u8>, file: &str) -> Result<(), Trouble> {
+    if file != "." {
+        *place = bytes_of(alloc, file)?;
+    }
+    Ok(())
 }

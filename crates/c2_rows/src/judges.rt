@@ -23,13 +23,23 @@ pub fn judge_of(alloc: Global, name: &str, fail_at: u64) -> Result<Named, Troubl
     if name == "broken" {
         return Ok(Named::Broken(BrokenJudge::new()));
     }
-    if let Some(digits) = name.strip_prefix("list:") {
-        let file = bytes_of(alloc, digits)?;
-        return match ListJudge::read(alloc, file.as_slice()) {
-            Ok(judge) => Ok(Named::Listed(judge)),
-            Err(_) => Err(Trouble::BadLine),
-        };
+    match name.strip_prefix("list:") {
+        Some(digits) => listed(alloc, digits),
+        None => fixed(name, fail_at),
     }
+}
+
+// The judge by the verdict file that is this hex.
+fn listed(alloc: Global, digits: &str) -> Result<Named, Trouble> {
+    let file = bytes_of(alloc, digits)?;
+    match ListJudge::read(alloc, file.as_slice()) {
+        Ok(judge) => Ok(Named::Listed(judge)),
+        Err(_) => Err(Trouble::BadLine),
+    }
+}
+
+// The judge that says the verdict of this name.
+fn fixed(name: &str, fail_at: u64) -> Result<Named, Trouble> {
     let (word, fail_at) = match name.split_once('@') {
         Some((word, call)) => (word, call.parse::<u64>()?),
         None => (name, fail_at),

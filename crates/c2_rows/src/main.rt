@@ -7,6 +7,7 @@
 mod bytes;
 mod given;
 mod judges;
+mod line;
 mod once;
 mod settings;
 mod sinks;

@@ -1,6 +1,7 @@
 // One run, and what it comes to.
 use crate::given::Read;
 use crate::judges::{Named, judge_of};
+use crate::line::Line;
 use crate::settings::{Fault, Hash, Object, Settings};
 use crate::sinks::InPieces;
 use crate::trouble::Trouble;
@@ -25,53 +26,66 @@ pub struct Outcome {
 impl Outcome {
     /// The outcome as a row writes it: the status, the lines of the report with ` / ` between them, and what else is to be said.
     pub fn told(&self, alloc: Global) -> Result<String, Trouble> {
-        let status = self.status;
-        let mut told = format!(in alloc; "{status} ")?;
-        push_lines(&mut told, self.report.as_str())?;
+        let mut out = Line::new(alloc);
+        self.tell(&mut out);
+        out.whole()
+    }
+
+    /// Appends the outcome as a row writes it.
+    pub fn tell(&self, out: &mut Line) {
+        out.number(u64::from(self.status));
+        out.text(" ");
+        tell_report(out, self.report.as_str());
         if !self.finished {
-            told.push_str(", not finished")?;
+            out.text(", not finished");
         }
         if !self.asked.is_empty() {
-            told.push_str(", asked ")?;
-            told.push_str(self.asked.as_str())?;
+            out.text(", asked ");
+            out.text(self.asked.as_str());
         }
-        push_file(alloc, &mut told, self.file.as_slice(), self.is_whole)?;
-        Ok(told)
+        tell_file(out, self.file.as_slice(), self.is_whole);
     }
 }
 
 // Appends what a new file is, unless nothing was done to it.
-fn push_file(alloc: Global, told: &mut String, file: &[u8], is_whole: bool) -> Result<(), Trouble> {
+fn tell_file(out: &mut Line, file: &[u8], is_whole: bool) {
     if file.is_empty() && !is_whole {
-        return Ok(());
+        return;
     }
-    let digest = hex::encode(alloc, digest_of(&Sha, Alg::Sha256, file).as_slice())?;
-    let (length, digest) = (file.len(), digest.as_str());
-    write!(told, ", out {length} {digest}")?;
+    out.text(", out ");
+    out.number(file.len() as u64);
+    out.text(" ");
+    out.hex(digest_of(&Sha, Alg::Sha256, file).as_slice());
     if !is_whole {
-        told.push_str(", not finished")?;
+        out.text(", not finished");
     }
-    Ok(())
 }
 
-// Appends the lines of a report with ` / ` between them.
-fn push_lines(told: &mut String, report: &str) -> Result<(), Trouble> {
+// Appends a report.
+fn tell_report(out: &mut Line, report: &str) {
     if report.is_empty() {
-        told.push_str("nothing")?;
-        return Ok(());
+        out.text("nothing");
+        return;
     }
-    let (lines, end) = match report.strip_suffix('\n') {
-        Some(lines) => (lines, ""),
-        None => (report, ", cut"),
-    };
-    for (number, line) in lines.split('\n').enumerate() {
-        if number > 0 {
-            told.push_str(" / ")?;
+    match report.strip_suffix('\n') {
+        Some(lines) => tell_lines(out, lines),
+        None => {
+            tell_lines(out, report);
+            out.text(", cut");
         }
-        told.push_str(line)?;
     }
-    told.push_str(end)?;
-    Ok(())
+}
+
+// Appends lines with ` / ` between them.
+fn tell_lines(out: &mut Line, lines: &str) {
+    let mut is_first = true;
+    for line in lines.split('\n') {
+        if !is_first {
+            out.text(" / ");
+        }
+        is_first = false;
+        out.text(line);
+    }
 }
 
 // A file that is read in pieces of this length and fails at this call; at its first, where there is no file.
@@ -149,46 +163,86 @@ fn run_over<H: Hashing, A: Source>(
             Named::Listed(judge) => judges.push(Box::new(alloc, judge)?)?,
         }
     }
+    run_before(alloc, hashing, settings, media, read, fault, &mut judges)
+}
+
+// What a run reads and writes beside its first file.
+#[derive(Drop)]
+struct Objects {
+    second: MemSource,
+    third: MemSource,
+    out: InPieces<MemSink>,
+    report: InPieces<MemSink>,
+}
+
+// The other files, the new file and the report.
+fn objects_of(
+    alloc: Global,
+    settings: &Settings,
+    read: Read,
+    fault: Fault,
+) -> Result<Objects, Trouble> {
     let (most, other) = read.pieces;
-    let mut second = source_of(alloc, read.second, other, fault.of(Object::Second))?;
-    let mut third = source_of(alloc, read.third, other, fault.of(Object::Third))?;
-    let mut out = sink_of(alloc, settings.out, most, fault.of(Object::Out))?;
-    let mut report = sink_of(alloc, Some(settings.room), most, fault.of(Object::Report))?;
+    Ok(Objects {
+        second: source_of(alloc, read.second, other, fault.of(Object::Second))?,
+        third: source_of(alloc, read.third, other, fault.of(Object::Third))?,
+        out: sink_of(alloc, settings.out, most, fault.of(Object::Out))?,
+        report: sink_of(alloc, Some(settings.room), most, fault.of(Object::Report))?,
+    })
+}
+
+// Runs the words over this first file, before these judges.
+fn run_before<H: Hashing, A: Source>(
+    alloc: Global,
+    hashing: &H,
+    settings: &Settings,
+    media: &mut A,
+    read: Read,
+    fault: Fault,
+    judges: &mut Vec<Box<dyn Judge>>,
+) -> Result<Outcome, Trouble> {
+    let mut objects = objects_of(alloc, settings, read, fault)?;
     let status = run(
         alloc,
         hashing,
         &settings.words,
         media,
-        &mut second,
-        &mut third,
-        &mut out,
-        &mut report,
-        &mut judges,
+        &mut objects.second,
+        &mut objects.third,
+        &mut objects.out,
+        &mut objects.report,
+        judges,
     );
-    outcome_of(alloc, status.code(), &report.sink, &out.sink, &judges)
+    outcome_of(alloc, status.code(), &objects, judges)
 }
 
 // The outcome of a run.
 fn outcome_of(
     alloc: Global,
     status: u8,
-    report: &MemSink,
-    out: &MemSink,
+    objects: &Objects,
     judges: &Vec<Box<dyn Judge>>,
 ) -> Result<Outcome, Trouble> {
-    let mut asked = String::new(alloc);
-    for (number, judge) in judges.iter().enumerate() {
-        let times = judge.asked();
-        let gap = if number > 0 { " " } else { "" };
-        write!(&mut asked, "{gap}{times}")?;
-    }
+    let (report, out) = (&objects.report.sink, &objects.out.sink);
     let text = str::from_utf8(report.bytes()).unwrap_or("no text");
     Ok(Outcome {
         status,
         report: String::from_str(alloc, text)?,
         finished: report.finished(),
-        asked,
+        asked: asks_of(alloc, judges)?,
         file: Blob::copied(alloc, out.bytes())?,
         is_whole: out.finished(),
     })
+}
+
+// How often each judge was asked.
+fn asks_of(alloc: Global, judges: &Vec<Box<dyn Judge>>) -> Result<String, Trouble> {
+    let mut asked = Line::new(alloc);
+    let mut gap = "";
+    for judge in judges.iter() {
+        asked.text(gap);
+        gap = " ";
+        asked.number(judge.asked());
+    }
+    asked.whole()
 }

@@ -3,7 +3,7 @@ use crate::trouble::Trouble;
 use std::alloc::Global;
 
 /// The hash of a run.
-#[derive(Clone, Copy, Debug, PartialEq, Eq)]
+#[derive(Clone, Copy, PartialEq, Eq)]
 pub enum Hash {
     /// SHA-256.
     Sha,
@@ -13,7 +13,7 @@ pub enum Hash {
 }
 
 /// What a row is of.
-#[derive(Clone, Copy, Debug, PartialEq, Eq)]
+#[derive(Clone, Copy)]
 pub enum View {
     /// A run over the media.
     Run,
@@ -32,7 +32,7 @@ pub enum View {
 }
 
 /// An object that fails.
-#[derive(Clone, Copy, Debug, PartialEq, Eq)]
+#[derive(Clone, Copy)]
 pub enum Object {
     /// The first file.
     Media,
@@ -54,7 +54,7 @@ pub enum Object {
 }
 
 /// An object, and its call that fails, from 1 on; none where this is 0.
-#[derive(Clone, Copy, Debug, PartialEq, Eq)]
+#[derive(Clone, Copy)]
 pub struct Fault {
     pub object: Object,
     pub call: u64,
@@ -63,7 +63,11 @@ pub struct Fault {
 impl Fault {
     /// The call of this object that fails; 0 where none does.
     pub fn of(self, object: Object) -> u64 {
-        if self.object == object { self.call } else { 0 }
+        if self.object as u8 == object as u8 {
+            self.call
+        } else {
+            0
+        }
     }
 }
 
@@ -145,25 +149,64 @@ impl Settings {
     /// Sets what a line says.
     pub fn set(&mut self, alloc: Global, key: &str, value: &str) -> Result<(), Trouble> {
         match key {
-            "words" => self.words = words_of(alloc, value)?,
-            "hash" => self.hash = hash_of(value)?,
-            "packets" => self.packets = numbers_of(alloc, value)?,
-            "pieces" => self.pieces = pairs_of(alloc, value)?,
-            "judges" => self.judges = String::from_str(alloc, value)?,
-            "room" => self.room = value.parse::<usize>()?,
-            "out" => self.out = number_of(value)?,
-            "size" => self.size = number_of(value)?,
-            "fault" => self.fault = fault_of(value)?,
-            "view" => self.view = view_of(value)?,
-            "status" => self.status = value.parse::<u8>()?,
-            "least" => self.least = value.parse::<u64>()?,
-            "part" => self.part = value == "yes",
-            "asked" => self.asked = String::from_str(alloc, value)?,
-            "around" => self.around = pair_of(value)?,
-            _ => return Err(Trouble::BadLine),
+            "words" => keep(&mut self.words, words_of(alloc, value)),
+            "packets" => keep(&mut self.packets, numbers_of(alloc, value)),
+            "pieces" => keep(&mut self.pieces, pairs_of(alloc, value)),
+            "judges" => keep(&mut self.judges, text_of(alloc, value)),
+            "asked" => keep(&mut self.asked, text_of(alloc, value)),
+            _ => self.set_plain(key, value),
         }
-        Ok(())
     }
+
+    // Sets what takes no memory.
+    fn set_plain(&mut self, key: &str, value: &str) -> Result<(), Trouble> {
+        match key {
+            "hash" => keep(&mut self.hash, hash_of(value)),
+            "room" => keep(&mut self.room, size_of(value)),
+            "out" => keep(&mut self.out, number_of(value)),
+            "size" => keep(&mut self.size, number_of(value)),
+            "fault" => keep(&mut self.fault, fault_of(value)),
+            "view" => keep(&mut self.view, view_of(value)),
+            "around" => keep(&mut self.around, pair_of(value)),
+            _ => self.set_expected(key, value),
+        }
+    }
+
+    // Sets what a run with a fault may come to.
+    fn set_expected(&mut self, key: &str, value: &str) -> Result<(), Trouble> {
+        match key {
+            "status" => keep(&mut self.status, status_of(value)),
+            "least" => keep(&mut self.least, count_of(value)),
+            "part" => keep(&mut self.part, Ok(value == "yes")),
+            _ => Err(Trouble::BadLine),
+        }
+    }
+}
+
+// Puts a value into its place, where it could be read.
+fn keep<T: Drop>(place: &mut T, value: Result<T, Trouble>) -> Result<(), Trouble> {
+    *place = value?;
+    Ok(())
+}
+
+// The text of a line.
+fn text_of(alloc: Global, line: &str) -> Result<String, Trouble> {
+    Ok(String::from_str(alloc, line)?)
+}
+
+// A number of bytes.
+fn size_of(word: &str) -> Result<usize, Trouble> {
+    Ok(word.parse::<usize>()?)
+}
+
+// A number of calls.
+fn count_of(word: &str) -> Result<u64, Trouble> {
+    Ok(word.parse::<u64>()?)
+}
+
+// A status.
+fn status_of(word: &str) -> Result<u8, Trouble> {
+    Ok(word.parse::<u8>()?)
 }
 
 // The words of a line, a space between them; `''` is an empty word.
@@ -181,14 +224,14 @@ fn number_of(word: &str) -> Result<Option<usize>, Trouble> {
     if word == "none" {
         return Ok(None);
     }
-    Ok(Some(word.parse::<usize>()?))
+    Ok(Some(size_of(word)?))
 }
 
 // Numbers, a space between them.
 fn numbers_of(alloc: Global, line: &str) -> Result<Vec<usize>, Trouble> {
     let mut numbers = Vec::new(alloc);
     for word in line.split_whitespace() {
-        numbers.push(word.parse::<usize>()?)?;
+        numbers.push(size_of(word)?)?;
     }
     Ok(numbers)
 }
@@ -205,7 +248,7 @@ fn pairs_of(alloc: Global, line: &str) -> Result<Vec<(usize, usize)>, Trouble> {
 // Two numbers with a slash between them, or one that is both.
 fn pair_of(word: &str) -> Result<(usize, usize), Trouble> {
     let (first, second) = word.split_once('/').unwrap_or((word, word));
-    Ok((first.parse::<usize>()?, second.parse::<usize>()?))
+    Ok((size_of(first)?, size_of(second)?))
 }
 
 // The hash of this name.
@@ -232,17 +275,21 @@ fn view_of(name: &str) -> Result<View, Trouble> {
 // An object and the number of its call, a space between them; the number is 0 where there is none.
 fn fault_of(line: &str) -> Result<Fault, Trouble> {
     let (name, call) = line.split_once(' ').unwrap_or((line, "0"));
-    let object = match name {
-        "media" => Object::Media,
-        "second" => Object::Second,
-        "third" => Object::Third,
-        "judge" => Object::Judge,
-        "out" => Object::Out,
-        "report" => Object::Report,
-        _ => return Err(Trouble::BadLine),
-    };
     Ok(Fault {
-        object,
-        call: call.parse::<u64>()?,
+        object: object_of(name)?,
+        call: count_of(call)?,
     })
+}
+
+// The object of this name.
+fn object_of(name: &str) -> Result<Object, Trouble> {
+    match name {
+        "media" => Ok(Object::Media),
+        "second" => Ok(Object::Second),
+        "third" => Ok(Object::Third),
+        "judge" => Ok(Object::Judge),
+        "out" => Ok(Object::Out),
+        "report" => Ok(Object::Report),
+        _ => Err(Trouble::BadLine),
+    }
 }

@@ -1,6 +1,7 @@
 // A table, line by line.
 use crate::bytes::in_jpeg;
 use crate::given::Given;
+use crate::line::Line;
 use crate::settings::Settings;
 use crate::trouble::Trouble;
 use crate::views::view;
@@ -77,8 +78,13 @@ impl Table {
             self.held = self.held.saturating_add(1);
             return Ok(None);
         };
-        let name = self.name.as_str();
-        Ok(Some(format!(in alloc; "{name}: wanted {wanted}, got {got}")?))
+        let mut out = Line::new(alloc);
+        out.text(self.name());
+        out.text(": wanted ");
+        out.text(wanted);
+        out.text(", got ");
+        out.text(got.as_str());
+        Ok(Some(out.whole()?))
     }
 }
 
@@ -117,10 +123,19 @@ fn in_pieces(
     for pieces in settings.pieces.iter() {
         let got = view(alloc, settings, given.with_first(first, *pieces))?;
         if got.as_str() != wanted {
-            let got = got.as_str();
-            let (a, b) = *pieces;
-            return Ok(Some(format!(in alloc; "{got} in pieces of {a} and {b}")?));
+            return Ok(Some(told(alloc, got.as_str(), *pieces)?));
         }
     }
     Ok(None)
+}
+
+// What a row comes to that is read in these pieces.
+fn told(alloc: Global, got: &str, pieces: (usize, usize)) -> Result<String, Trouble> {
+    let mut out = Line::new(alloc);
+    out.text(got);
+    out.text(" in pieces of ");
+    out.number(pieces.0 as u64);
+    out.text(" and ");
+    out.number(pieces.1 as u64);
+    out.whole()
 }
