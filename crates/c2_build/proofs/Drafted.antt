@@ -5,10 +5,14 @@ use Rattle.std.proofs.lemmas.Bool.{lt-ltb, le-ltb, le-leb, lt-leb}
 use Rattle.std.specs.Option.{option_or}
 use Rattle.c2_base.specs.declared.limits.TheConstants.{MAX_MANIFESTS, MAX_STORE_LEN, FILE_LEN_LIMIT}
 use Rattle.c2_spec.specs.declared.reason.Reason.TheVariants.{FileTooLarge}
-use Rattle.c2_layout.specs.Store.{Content}
-use Rattle.c2_build.specs.Refusals.{BuildTest, first_refusal, new_range_len, new_store_len, number_tests}
+use Rattle.c2_built.specs.Store.{Content}
+use Rattle.c2_places.specs.Places.{Place, in_boxes, in_segments}
+use Rattle.c2_build.specs.Refusals.{BuildTest, box_tests, first_refusal, new_range_len, new_store_len, number_tests, place_tests}
+use Rattle.c2_build.specs.Steps.{IsSeat, seat_range_len, seat_store_len}
 use Rattle.c2_build.specs.declared.error.BuildError.{BuildError}
-use Rattle.c2_build.specs.declared.error.BuildError.TheVariants.{MediaRefused, NoInstance, TooManyManifests, StoreTooLarge}
+use Rattle.c2_build.specs.declared.error.BuildError.TheVariants.{MediaRefused, TooManyManifests, StoreTooLarge}
+use Rattle.c2_build.specs.declared.place.Seat.{Seat}
+use Rattle.c2_build.specs.declared.place.Seat.TheVariants as Seat
 
 -- of two lists of tests the first refusal is that of the first list, else that of the second
 pub first_of_both : (xs ys : List BuildTest) → first_refusal (xs ++ ys) ≡ option_or (first_refusal xs) (first_refusal ys)
@@ -29,47 +33,64 @@ first_passes xs ys o h k = first_of_both xs ys ∙ ap (λ (p : Option BuildError
 
 -- ---- numbers
 
--- no number is free
-pub no_number : (size ms : ℕ) (c : Content) (o : Option ℕ) → o ≡ None → first_refusal (number_tests size ms c o) ≡ Some NoInstance
-no_number size ms c o is = ap (λ (p : Option ℕ). first_refusal (number_tests size ms c p)) is
+-- the tests behind those on the place alone, by whether there are too many manifests, the store is too large, and the file is too long
+abbrev by_numbers : Bool → Bool → Bool → ℕ → ℕ → Content → Place → Option BuildError
+by_numbers many large long size ms c p =
+    cond many (Some (TooManyManifests ms)) (cond large (Some (StoreTooLarge (new_store_len p c))) (cond long (Some (MediaRefused FileTooLarge (size + new_range_len p c))) (first_refusal (box_tests p))))
 
--- what the tests on numbers answer where a number is free, by whether there are too many manifests, the store is too large, and the file
--- is too long
-abbrev by_numbers : Bool → Bool → Bool → ℕ → ℕ → Content → Option BuildError
-by_numbers many large long size ms c = cond many (Some (TooManyManifests ms)) (cond large (Some (StoreTooLarge (new_store_len c))) (cond long (Some (MediaRefused FileTooLarge (size + new_range_len c))) None))
+-- nothing can be put in at the place
+pub no_place : (size ms : ℕ) (c : Content) (p : Place) (e : BuildError) → first_refusal (place_tests p) ≡ Some e → first_refusal (number_tests size ms c p) ≡ Some e
+no_place size ms c p e h = first_fails (place_tests p) _ e h
 
--- those are the tests
-numbers_are : (size ms : ℕ) (c : Content) (o : Option ℕ) (n : ℕ) → o ≡ Some n
-    → first_refusal (number_tests size ms c o) ≡ by_numbers (nat_lt MAX_MANIFESTS ms) (nat_lt MAX_STORE_LEN (new_store_len c)) (nat_le FILE_LEN_LIMIT (size + new_range_len c)) size ms c
-numbers_are size ms c o n is = ap (λ (p : Option ℕ). first_refusal (number_tests size ms c p)) is
+-- else those are the tests
+numbers_are : (size ms : ℕ) (c : Content) (p : Place) → first_refusal (place_tests p) ≡ None
+    → first_refusal (number_tests size ms c p) ≡ by_numbers (nat_lt MAX_MANIFESTS ms) (nat_lt MAX_STORE_LEN (new_store_len p c)) (nat_le FILE_LEN_LIMIT (size + new_range_len p c)) size ms c p
+numbers_are size ms c p is = first_passes (place_tests p) _ _ is refl
 
 -- there are too many manifests
-pub too_many : (size ms : ℕ) (c : Content) (o : Option ℕ) (n : ℕ) → o ≡ Some n → MAX_MANIFESTS < ms → first_refusal (number_tests size ms c o) ≡ Some (TooManyManifests ms)
-too_many size ms c o n is many =
-    numbers_are size ms c o n is ∙ ap (λ (b : Bool). by_numbers b (nat_lt MAX_STORE_LEN (new_store_len c)) (nat_le FILE_LEN_LIMIT (size + new_range_len c)) size ms c) (lt-ltb MAX_MANIFESTS ms many)
+pub too_many : (size ms : ℕ) (c : Content) (p : Place) → first_refusal (place_tests p) ≡ None → MAX_MANIFESTS < ms → first_refusal (number_tests size ms c p) ≡ Some (TooManyManifests ms)
+too_many size ms c p is many =
+    numbers_are size ms c p is ∙ ap (λ (b : Bool). by_numbers b (nat_lt MAX_STORE_LEN (new_store_len p c)) (nat_le FILE_LEN_LIMIT (size + new_range_len p c)) size ms c p) (lt-ltb MAX_MANIFESTS ms many)
 
 -- there aren't
-few_are : (size ms : ℕ) (c : Content) (o : Option ℕ) (n : ℕ) → o ≡ Some n → ms ≤ MAX_MANIFESTS
-    → first_refusal (number_tests size ms c o) ≡ by_numbers false (nat_lt MAX_STORE_LEN (new_store_len c)) (nat_le FILE_LEN_LIMIT (size + new_range_len c)) size ms c
-few_are size ms c o n is few =
-    numbers_are size ms c o n is ∙ ap (λ (b : Bool). by_numbers b (nat_lt MAX_STORE_LEN (new_store_len c)) (nat_le FILE_LEN_LIMIT (size + new_range_len c)) size ms c) (le-ltb MAX_MANIFESTS ms few)
+few_are : (size ms : ℕ) (c : Content) (p : Place) → first_refusal (place_tests p) ≡ None → ms ≤ MAX_MANIFESTS
+    → first_refusal (number_tests size ms c p) ≡ by_numbers false (nat_lt MAX_STORE_LEN (new_store_len p c)) (nat_le FILE_LEN_LIMIT (size + new_range_len p c)) size ms c p
+few_are size ms c p is few =
+    numbers_are size ms c p is ∙ ap (λ (b : Bool). by_numbers b (nat_lt MAX_STORE_LEN (new_store_len p c)) (nat_le FILE_LEN_LIMIT (size + new_range_len p c)) size ms c p) (le-ltb MAX_MANIFESTS ms few)
 
 -- the store is too large
-pub large_store : (size ms : ℕ) (c : Content) (o : Option ℕ) (n : ℕ) → o ≡ Some n → ms ≤ MAX_MANIFESTS → MAX_STORE_LEN < new_store_len c → first_refusal (number_tests size ms c o) ≡ Some (StoreTooLarge (new_store_len c))
-large_store size ms c o n is few large =
-    few_are size ms c o n is few ∙ ap (λ (b : Bool). by_numbers false b (nat_le FILE_LEN_LIMIT (size + new_range_len c)) size ms c) (lt-ltb MAX_STORE_LEN (new_store_len c) large)
+pub large_store : (size ms : ℕ) (c : Content) (p : Place) → first_refusal (place_tests p) ≡ None → ms ≤ MAX_MANIFESTS → MAX_STORE_LEN < new_store_len p c → first_refusal (number_tests size ms c p) ≡ Some (StoreTooLarge (new_store_len p c))
+large_store size ms c p is few large =
+    few_are size ms c p is few ∙ ap (λ (b : Bool). by_numbers false b (nat_le FILE_LEN_LIMIT (size + new_range_len p c)) size ms c p) (lt-ltb MAX_STORE_LEN (new_store_len p c) large)
 
 -- it isn't
-small_are : (size ms : ℕ) (c : Content) (o : Option ℕ) (n : ℕ) → o ≡ Some n → ms ≤ MAX_MANIFESTS → new_store_len c ≤ MAX_STORE_LEN
-    → first_refusal (number_tests size ms c o) ≡ by_numbers false false (nat_le FILE_LEN_LIMIT (size + new_range_len c)) size ms c
-small_are size ms c o n is few small =
-    few_are size ms c o n is few ∙ ap (λ (b : Bool). by_numbers false b (nat_le FILE_LEN_LIMIT (size + new_range_len c)) size ms c) (le-ltb MAX_STORE_LEN (new_store_len c) small)
+small_are : (size ms : ℕ) (c : Content) (p : Place) → first_refusal (place_tests p) ≡ None → ms ≤ MAX_MANIFESTS → new_store_len p c ≤ MAX_STORE_LEN
+    → first_refusal (number_tests size ms c p) ≡ by_numbers false false (nat_le FILE_LEN_LIMIT (size + new_range_len p c)) size ms c p
+small_are size ms c p is few small =
+    few_are size ms c p is few ∙ ap (λ (b : Bool). by_numbers false b (nat_le FILE_LEN_LIMIT (size + new_range_len p c)) size ms c p) (le-ltb MAX_STORE_LEN (new_store_len p c) small)
 
 -- the file is too long
-pub long_file : (size ms : ℕ) (c : Content) (o : Option ℕ) (n : ℕ) → o ≡ Some n → ms ≤ MAX_MANIFESTS → new_store_len c ≤ MAX_STORE_LEN → FILE_LEN_LIMIT ≤ size + new_range_len c
-    → first_refusal (number_tests size ms c o) ≡ Some (MediaRefused FileTooLarge (size + new_range_len c))
-long_file size ms c o n is few small long = small_are size ms c o n is few small ∙ ap (λ (b : Bool). by_numbers false false b size ms c) (le-leb FILE_LEN_LIMIT (size + new_range_len c) long)
+pub long_file : (size ms : ℕ) (c : Content) (p : Place) → first_refusal (place_tests p) ≡ None → ms ≤ MAX_MANIFESTS → new_store_len p c ≤ MAX_STORE_LEN → FILE_LEN_LIMIT ≤ size + new_range_len p c
+    → first_refusal (number_tests size ms c p) ≡ Some (MediaRefused FileTooLarge (size + new_range_len p c))
+long_file size ms c p is few small long = small_are size ms c p is few small ∙ ap (λ (b : Bool). by_numbers false false b size ms c p) (le-leb FILE_LEN_LIMIT (size + new_range_len p c) long)
 
--- nothing is
-pub numbers_pass : (size ms : ℕ) (c : Content) (o : Option ℕ) (n : ℕ) → o ≡ Some n → ms ≤ MAX_MANIFESTS → new_store_len c ≤ MAX_STORE_LEN → size + new_range_len c < FILE_LEN_LIMIT → first_refusal (number_tests size ms c o) ≡ None
-numbers_pass size ms c o n is few small short = small_are size ms c o n is few small ∙ ap (λ (b : Bool). by_numbers false false b size ms c) (lt-leb FILE_LEN_LIMIT (size + new_range_len c) short)
+-- nothing is, but for the count of root boxes
+pub numbers_pass : (size ms : ℕ) (c : Content) (p : Place) (o : Option BuildError) → first_refusal (place_tests p) ≡ None → ms ≤ MAX_MANIFESTS → new_store_len p c ≤ MAX_STORE_LEN → size + new_range_len p c < FILE_LEN_LIMIT → first_refusal (box_tests p) ≡ o
+    → first_refusal (number_tests size ms c p) ≡ o
+numbers_pass size ms c p o is few small short boxes = small_are size ms c p is few small ∙ ap (λ (b : Bool). by_numbers false false b size ms c p) (lt-leb FILE_LEN_LIMIT (size + new_range_len p c) short) ∙ boxes
+
+-- ---- lengths
+
+-- a store is as long in a place as in its seat
+pub seat_store : (s : Seat) (p : Place) (c : Content) → IsSeat s p → new_store_len p c ≡ seat_store_len s c
+seat_store (Seat.Segments start number) (in_segments segments en) c h = refl
+seat_store (Seat.Segments start number) (in_boxes roots) c h = absurd h
+seat_store (Seat.Boxes rows) (in_segments segments en) c h = absurd h
+seat_store (Seat.Boxes rows) (in_boxes roots) c h = refl
+
+-- and what is put in
+pub seat_range : (s : Seat) (p : Place) (c : Content) → IsSeat s p → new_range_len p c ≡ seat_range_len s c
+seat_range (Seat.Segments start number) (in_segments segments en) c h = refl
+seat_range (Seat.Segments start number) (in_boxes roots) c h = absurd h
+seat_range (Seat.Boxes rows) (in_segments segments en) c h = absurd h
+seat_range (Seat.Boxes rows) (in_boxes roots) c h = refl

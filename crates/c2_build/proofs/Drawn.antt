@@ -7,7 +7,8 @@ use Rattle.c2_spec.specs.declared.digest.Alg.{Alg}
 use Rattle.c2_spec.specs.declared.panel.Verdict.{Verdict}
 use Rattle.c2_definition.specs.declared.types.Definition.{Definition}
 use Rattle.c2_build.specs.Answers.{ComesTo, WithoutFault}
-use Rattle.c2_build.specs.Building.{IsEmbeddedOn, IsEmbeddedOver, IsGroundStage, IsPlaceStage, IsPlannedOn, IsPlannedOver, MediaKind, Place, Then, Unless, signed_bytes}
+use Rattle.c2_places.specs.Places.{IsPlace, Place}
+use Rattle.c2_build.specs.Building.{IsEmbeddedOn, IsEmbeddedOver, IsGroundStage, IsPlaceStage, IsPlannedOn, IsPlannedOver, MediaKind, Then, Unless, signed_bytes}
 use Rattle.c2_build.specs.Refusals.{Ground, first_refusal, ground_tests, late_tests, reserve_tests}
 use Rattle.c2_build.specs.Steps.{ComesAs, IsPassed, IsRefusedPlace}
 use Rattle.c2_build.specs.declared.error.BuildError.{BuildError}
@@ -58,7 +59,7 @@ pub refused_plan : (hash : Alg → List ℕ → List ℕ) (said : Question → V
 refused_plan hash said media kind d e (inl h) = then_first (IsGroundStage hash said media d kind) (IsPlannedOn hash) e h
 refused_plan hash said media kind d e (inr h) =
     then_next (IsGroundStage hash said media d kind) (IsPlannedOn hash) h.0 (Err e) h.1
-    (then_next (IsPlaceStage h.0.base) _ h.2.0 (Err e) h.2.1 (unless_fails (first_refusal (ground_tests h.0 h.2.0.number)) _ e h.2.2))
+    (then_next (IsPlaceStage h.0.base) _ h.2.0 (Err e) h.2.1 (unless_fails (first_refusal (ground_tests h.0 h.2.0)) _ e h.2.2))
 
 -- and a new file
 pub refused_embedding : (hash : Alg → List ℕ → List ℕ) (said : Question → Verdict) (media : List ℕ) (kind : MediaKind) (d : Definition) (parts : SignParts) (e : BuildError) → IsRefusedPlace hash said media d kind e → IsEmbeddedOver hash said media kind d parts (Err e)
@@ -66,10 +67,14 @@ refused_embedding hash said media kind d parts e (inl h) = then_first (IsGroundS
 refused_embedding hash said media kind d parts e (inr h) =
     then_next (IsGroundStage hash said media d kind) (IsEmbeddedOn hash parts) h.0 (Err e) h.1
     (then_next (IsPlaceStage h.0.base) _ h.2.0 (Err e) h.2.1
-    (unless_fails (first_refusal (late_tests h.0 parts h.2.0.number)) _ e (first_fails (ground_tests h.0 h.2.0.number) (reserve_tests h.0.content.definition parts) e h.2.2)))
+    (unless_fails (first_refusal (late_tests h.0 parts h.2.0)) _ e (first_fails (ground_tests h.0 h.2.0) (reserve_tests h.0.content.definition parts) e h.2.2)))
 
 -- a place that passes lets be planned
 pub passed_plan : (hash : Alg → List ℕ → List ℕ) (said : Question → Verdict) (media : List ℕ) (kind : MediaKind) (d : Definition) (g : Ground) (p : Place) → IsPassed hash said media d kind g p → IsPlannedOver hash said media kind d (Ok (signed_bytes hash g p))
 passed_plan hash said media kind d g p h =
     then_next (IsGroundStage hash said media d kind) (IsPlannedOn hash) g (Ok (signed_bytes hash g p)) h.ground
-    (then_next (IsPlaceStage g.base) _ p (Ok (signed_bytes hash g p)) h.stage (unless_passes (first_refusal (ground_tests g p.number)) _ (Ok (signed_bytes hash g p)) h.numbers refl))
+    (then_next (IsPlaceStage g.base) _ p (Ok (signed_bytes hash g p)) h.stage (unless_passes (first_refusal (ground_tests g p)) _ (Ok (signed_bytes hash g p)) h.numbers refl))
+
+-- the place that was found is the file's
+pub place_at : {base : List ℕ} {p : Place} → IsPlaceStage base (Ok p) → IsPlace base p
+place_at {base} {p} h = let same : h.0 ≡ p = cc (h.2) in subst (IsPlace base) same h.1

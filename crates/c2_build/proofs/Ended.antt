@@ -7,6 +7,7 @@ use Rattle.c2_spec.specs.declared.panel.Verdict.{Verdict}
 use Rattle.c2_build.specs.Answers.{HasSpare, IsBegun, IsDelivered, IsEmbedding, WithoutFault, SinkState, file_of}
 use Rattle.c2_build.specs.Building.{Built, IsEmbedded}
 use Rattle.c2_build.specs.Meeting.{OneEmbedding}
+use Rattle.c2_cleared.specs.Clears.{cleared}
 use Rattle.c2_build.specs.Steps.{Breaks, IsCopyCause, IsReady, ready_file}
 use Rattle.c2_build.specs.declared.ready.Ready.{Ready}
 use Rattle.c2_build.specs.declared.error.BuildError.{BuildError}
@@ -25,10 +26,10 @@ pub not_ready : (hash : Alg → List ℕ → List ℕ) (said : Question → Verd
 not_ready hash said media definition message s (build.MediaRefused reason number) h = h
 not_ready hash said media definition message s (build.BadDefinition field) h = h
 not_ready hash said media definition message s (build.BadSignature part) h = h
-not_ready hash said media definition message s build.Later h = h
 not_ready hash said media definition message s (build.ParentFails code uri) h = h
 not_ready hash said media definition message s (build.LabelTaken label) h = h
 not_ready hash said media definition message s (build.RedactionRefused text code) h = h
+not_ready hash said media definition message s (build.OpenBox at) h = h
 not_ready hash said media definition message s build.NoInstance h = h
 not_ready hash said media definition message s (build.TooManyManifests n) h = h
 not_ready hash said media definition message s (build.StoreTooLarge n) h = h
@@ -43,10 +44,10 @@ pub no_fault : (hash : Alg → List ℕ → List ℕ) (said : Question → Verdi
 no_fault hash said media definition message spare (build.MediaRefused reason number) h = tt
 no_fault hash said media definition message spare (build.BadDefinition field) h = tt
 no_fault hash said media definition message spare (build.BadSignature part) h = tt
-no_fault hash said media definition message spare build.Later h = tt
 no_fault hash said media definition message spare (build.ParentFails code uri) h = tt
 no_fault hash said media definition message spare (build.LabelTaken label) h = tt
 no_fault hash said media definition message spare (build.RedactionRefused text code) h = tt
+no_fault hash said media definition message spare (build.OpenBox at) h = tt
 no_fault hash said media definition message spare build.NoInstance h = tt
 no_fault hash said media definition message spare (build.TooManyManifests n) h = tt
 no_fault hash said media definition message spare (build.StoreTooLarge n) h = tt
@@ -64,12 +65,12 @@ seen written finished sink = record { written = written sink; finished = finishe
 
 -- the file that is ready is the one that the inputs come to
 file_is : OneEmbedding → (hash : Alg → List ℕ → List ℕ) (said : Question → Verdict) (media definition message : List ℕ) (ready : Ready) (b : Built) → IsEmbedded hash said media definition message (Ok b) → IsReady media ready b → (r : Result Built BuildError) → IsEmbedded hash said media definition message r
-    → ready_file ready media ≡ file_of r
+    → ready_file ready (cleared ready.clearing media) ≡ file_of r
 file_is one hash said media definition message ready b is h r same = sym h.file ∙ ap file_of (one hash said media definition message (Ok b) r is same)
 
 -- a prefix of it was written
 begun_file : OneEmbedding → (hash : Alg → List ℕ → List ℕ) (said : Question → Verdict) (media definition message : List ℕ) (ready : Ready) (b : Built) {K : Type 0} (written : K → Option (List ℕ)) (spare : K → Option ℕ) (finished : K → Bool) (old new : K) (e : BuildError)
-    → IsEmbedded hash said media definition message (Ok b) → IsReady media ready b → Breaks written spare finished (ready_file ready media) old new e
+    → IsEmbedded hash said media definition message (Ok b) → IsReady media ready b → Breaks written spare finished (ready_file ready (cleared ready.clearing media)) old new e
     → (r : Result Built BuildError) → IsEmbedded hash said media definition message r → IsBegun (file_of r) (seen written finished old) (seen written finished new)
 begun_file one hash said media definition message ready b written spare finished old new e is h k r same = record {
   prefix = subst (HasWrittenPrefix (written old) (written new)) (file_is one hash said media definition message ready b is h r same) k.prefix;
@@ -78,15 +79,15 @@ begun_file one hash said media definition message ready b written spare finished
 
 -- a file that was begun, and then a source or the sink failed
 pub not_written : OneEmbedding → (hash : Alg → List ℕ → List ℕ) (said : Question → Verdict) (media definition message : List ℕ) (ready : Ready) (b : Built) {K : Type 0} (written : K → Option (List ℕ)) (spare : K → Option ℕ) (finished : K → Bool) (old new : K) (m n o p : ℕ) (e : BuildError)
-    → IsEmbedded hash said media definition message (Ok b) → IsReady media ready b → IsCopyCause m n o p e → Breaks written spare finished (ready_file ready media) old new e
+    → IsEmbedded hash said media definition message (Ok b) → IsReady media ready b → IsCopyCause m n o p e → Breaks written spare finished (ready_file ready (cleared ready.clearing media)) old new e
     → IsEmbedding hash said media definition message (seen written finished old) (seen written finished new) (Err e)
 not_written one hash said media definition message ready b written spare finished old new m n o p (build.MediaRefused reason number) is h cause k = absurd cause
 not_written one hash said media definition message ready b written spare finished old new m n o p (build.BadDefinition field) is h cause k = absurd cause
 not_written one hash said media definition message ready b written spare finished old new m n o p (build.BadSignature part) is h cause k = absurd cause
-not_written one hash said media definition message ready b written spare finished old new m n o p build.Later is h cause k = absurd cause
 not_written one hash said media definition message ready b written spare finished old new m n o p (build.ParentFails code uri) is h cause k = absurd cause
 not_written one hash said media definition message ready b written spare finished old new m n o p (build.LabelTaken label) is h cause k = absurd cause
 not_written one hash said media definition message ready b written spare finished old new m n o p (build.RedactionRefused text code) is h cause k = absurd cause
+not_written one hash said media definition message ready b written spare finished old new m n o p (build.OpenBox at) is h cause k = absurd cause
 not_written one hash said media definition message ready b written spare finished old new m n o p build.NoInstance is h cause k = absurd cause
 not_written one hash said media definition message ready b written spare finished old new m n o p (build.TooManyManifests l) is h cause k = absurd cause
 not_written one hash said media definition message ready b written spare finished old new m n o p (build.StoreTooLarge l) is h cause k = absurd cause
@@ -98,15 +99,15 @@ not_written one hash said media definition message ready b written spare finishe
 
 -- the spare of a sink that failed didn't hold the file
 pub no_spare : OneEmbedding → (hash : Alg → List ℕ → List ℕ) (said : Question → Verdict) (media definition message : List ℕ) (ready : Ready) (b : Built) {K : Type 0} (written : K → Option (List ℕ)) (spare : K → Option ℕ) (finished : K → Bool) (old new : K) (e : BuildError)
-    → IsEmbedded hash said media definition message (Ok b) → IsReady media ready b → Breaks written spare finished (ready_file ready media) old new e
+    → IsEmbedded hash said media definition message (Ok b) → IsReady media ready b → Breaks written spare finished (ready_file ready (cleared ready.clearing media)) old new e
     → HasSpare hash said media definition message (spare old) (Err e)
 no_spare one hash said media definition message ready b written spare finished old new (build.MediaRefused reason number) is h k = tt
 no_spare one hash said media definition message ready b written spare finished old new (build.BadDefinition field) is h k = tt
 no_spare one hash said media definition message ready b written spare finished old new (build.BadSignature part) is h k = tt
-no_spare one hash said media definition message ready b written spare finished old new build.Later is h k = tt
 no_spare one hash said media definition message ready b written spare finished old new (build.ParentFails code uri) is h k = tt
 no_spare one hash said media definition message ready b written spare finished old new (build.LabelTaken label) is h k = tt
 no_spare one hash said media definition message ready b written spare finished old new (build.RedactionRefused text code) is h k = tt
+no_spare one hash said media definition message ready b written spare finished old new (build.OpenBox at) is h k = tt
 no_spare one hash said media definition message ready b written spare finished old new build.NoInstance is h k = tt
 no_spare one hash said media definition message ready b written spare finished old new (build.TooManyManifests l) is h k = tt
 no_spare one hash said media definition message ready b written spare finished old new (build.StoreTooLarge l) is h k = tt
@@ -120,7 +121,7 @@ no_spare one hash said media definition message ready b written spare finished o
 
 -- all of it was, and the sink is finished
 pub all_written : (hash : Alg → List ℕ → List ℕ) (said : Question → Verdict) (media definition message : List ℕ) (ready : Ready) (b : Built) (e : Embedded) (old new : SinkState)
-    → IsEmbedded hash said media definition message (Ok b) → IsReady media ready b → IsDelivered (ready_file ready media) old new
+    → IsEmbedded hash said media definition message (Ok b) → IsReady media ready b → IsDelivered (ready_file ready (cleared ready.clearing media)) old new
     → e.start ≡ ready.draft.start → e.length ≡ ready.draft.length → IsEmbedding hash said media definition message old new (Ok e)
 all_written hash said media definition message ready b e old new is h k start len =
     (b, is, record { start = start ∙ sym h.start; length = len ∙ sym h.len }, subst (λ (x : List ℕ). IsDelivered x old new) (sym h.file) k)

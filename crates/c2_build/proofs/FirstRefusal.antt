@@ -1,7 +1,7 @@
 -- What tests answer is the refusal of the first of them that fails.
 use Rattle.std.proofs.Common.{◌≡◌, ℕ, zero, suc, ◌<◌, Bool, true, false, List, [], ◌∷◌, Option, Some, None, slice_get, refl, sym, ap, ◌∙◌, cond, arith}
 use Rattle.std.proofs.lemmas.Option.{same_Some}
-use Rattle.c2_build.specs.Refusals.{AllPass, BuildTest, FirstRefusalIsLeast, IsRefusalOf, RefusesFirst, first_refusal}
+use Rattle.c2_build.specs.Refusals.{AllPass, BuildTest, FirstRefusalIsLeast, IsRefusalOf, first_refusal}
 use Rattle.c2_build.specs.declared.error.BuildError.{BuildError}
 
 -- each test before a place passes, also with one more that passes in front

@@ -1,13 +1,10 @@
 -- What a new file is built over, by what calls of other crates answered.
-use Rattle.std.proofs.Common.{◌≡◌, inl, inr, ℕ, ◌+◌, ◌≤◌, Bool, true, false, List, [], ◌∷◌, ◌++◌, length, Option, Some, None, refl, sym, ap, ◌∙◌, subst}
+use Rattle.std.proofs.Common.{◌≡◌, ℕ, ◌+◌, Bool, true, false, List, [], ◌∷◌, ◌++◌, length, Option, Some, None, refl, sym, ap, ◌∙◌, subst}
 use Rattle.std.specs.Prelude.{Result, Ok, Err, IfErr, IfOk}
 use Rattle.c2_base.specs.declared.values.Question.{Question}
-use Rattle.c2_base.specs.declared.values.Range.{Range}
 use Rattle.c2_spec.specs.C2pa.Manifest.{manifests_of}
-use Rattle.c2_spec.specs.Jpeg.Places.{CanSkip}
 use Rattle.c2_spec.specs.Jumbf.Tree.{Tree, Trees, none, trees_bytes}
 use Rattle.c2_spec.specs.Located.{Opening, here, refused}
-use Rattle.c2_spec.specs.PutIn.{taken_out}
 use Rattle.c2_spec.specs.declared.digest.Alg.{Alg}
 use Rattle.c2_spec.specs.declared.digest.Alg.TheVariants.{Sha256}
 use Rattle.c2_spec.specs.declared.panel.Verdict.{Verdict}
@@ -22,10 +19,10 @@ use Rattle.c2_rules.specs.declared.answer.Answer.TheVariants as answer
 use Rattle.c2_rules.specs.declared.answer.Failing.{Failing}
 use Rattle.c2_rules.specs.declared.answer.Summary.{Summary}
 use Rattle.c2_definition.specs.declared.types.Definition.{Definition}
-use Rattle.c2_layout.specs.Fresh.{fresh_content}
-use Rattle.c2_layout.specs.Manifests.{supers_in}
+use Rattle.c2_built.specs.Fresh.{fresh_content}
+use Rattle.c2_built.specs.Manifests.{supers_in}
 use Rattle.c2_layout.specs.Parts.{AreRefs, HasRefs, IsContent}
-use Rattle.c2_layout.specs.Store.{Content, Parent}
+use Rattle.c2_built.specs.Store.{Content, Parent}
 use Rattle.c2_layout.specs.declared.carried.Carried.{Carried}
 use Rattle.c2_layout.specs.declared.carried.ParentRefs.{ParentRefs}
 use Rattle.c2_carried.specs.Carrying.{SomeContentOver}
@@ -33,11 +30,13 @@ use Rattle.c2_carried.specs.Parents.{IsContentOver, IsParentOf}
 use Rattle.c2_carried.specs.Redacting.{boxes_in, redacted_boxes}
 use Rattle.c2_carried.specs.Refusing.{has_manifest, redaction_refusal}
 use Rattle.c2_carried.specs.declared.refused.RefusedRedaction.{RefusedRedaction}
-use Rattle.c2_succeeding.proofs.Composed.{old_is}
+use Rattle.c2_cleared.specs.Clears.{cleared}
+use Rattle.c2_cleared.specs.declared.clearing.Clearing.{Clearing}
+use Rattle.c2_places.specs.Bases.{IsLeft}
 use Rattle.c2_build.specs.Answers.{WithoutFault}
 use Rattle.c2_build.specs.Building.{IsGroundOver, IsGroundStage, IsMediaStage, Unless, fresh, fresh_ground, stored}
 use Rattle.c2_build.specs.Refusals.{BuildTest, Ground, first_refusal, label_tests, older_tests, parent_tests, redaction_tests, refuse_if}
-use Rattle.c2_build.specs.Steps.{ComesAs, IsCarriedOver, IsChecked, IsCheckRefusal, IsGround, IsOver, IsOverRefusal, IsSomeGround}
+use Rattle.c2_build.specs.Steps.{ComesAs, IsCarriedOver, IsChecked, IsCheckRefusal, IsGround, IsOver, IsOverRefusal}
 use Rattle.c2_build.specs.declared.error.BuildError.{BuildError}
 use Rattle.c2_build.specs.declared.error.BuildError.TheVariants as build
 use Rattle.c2_build.specs.declared.ground.KeptGround.{KeptGround}
@@ -45,7 +44,7 @@ use Rattle.c2_build.proofs.Drafted.{first_of_both, first_fails, first_passes}
 use Rattle.c2_build.proofs.Drawn.{unless_fails, unless_passes}
 use Rattle.c2_build.proofs.OneBuild.{OneOpened}
 use Rattle.c2_build.proofs.Outside.{outside_map, said_of}
-use Rattle.c2_build.proofs.SomeBuild.{is_passable, is_stored, stands_over}
+use Rattle.c2_build.proofs.SomeBuild.{is_passable, opened_here, stands_over}
 use Rattle.std.specs.Prelude.{option_map}
 use Rattle.std.specs.Option.{option_to_list}
 
@@ -154,10 +153,10 @@ pub check_stage : OneOpened → (hash : Alg → List ℕ → List ℕ) (said : Q
 check_stage one hash said media d start len t (build.MediaRefused reason number) opened h = never_refused one hash said media start len t reason number opened h
 check_stage one hash said media d start len t (build.BadDefinition field) opened h = absurd h
 check_stage one hash said media d start len t (build.BadSignature part) opened h = absurd h
-check_stage one hash said media d start len t build.Later opened h = absurd h
 check_stage one hash said media d start len t (build.ParentFails code uri) opened h = failed_stage one hash said media d start len t (record { code = code; uri = uri }) opened h
 check_stage one hash said media d start len t (build.LabelTaken label) opened h = absurd h
 check_stage one hash said media d start len t (build.RedactionRefused text code) opened h = absurd h
+check_stage one hash said media d start len t (build.OpenBox at) opened h = absurd h
 check_stage one hash said media d start len t build.NoInstance opened h = absurd h
 check_stage one hash said media d start len t (build.TooManyManifests n) opened h = absurd h
 check_stage one hash said media d start len t (build.StoreTooLarge n) opened h = absurd h
@@ -180,58 +179,39 @@ over_stage hash said media d start len t e p h =
           (first_passes (parent_tests (first_failing (check_list hash said s))) (label_tests d s.readings ++ redaction_tests d s.readings) (Some e) none first),
     )) h
 
--- What was built over a media file less this range, as it is kept.
-pub record IsKept (hash : List ℕ → List ℕ) (media : List ℕ) (d : Definition) (k : KeptGround) (start len : ℕ) (g : Ground) : Type 0 where
-  pub base : g.base ≡ taken_out start len media
-  pub content : IsContent hash d k.carried g.content
-  pub manifests : g.manifests ≡ k.manifests
-  pub skips : k.skip ≡ record { start = start; length = len }
-
--- where none does, it is built over the media less its store
-pub over_ground : SomeContentOver → (hash : Alg → List ℕ → List ℕ) (said : Question → Verdict) (media : List ℕ) (d : Definition) (start len : ℕ) (t : Tree) (k : KeptGround) (p : IsPast hash said media t) → IsMediaStage media (Ok (stored start len t)) → IsOver (hash Sha256) d t (record { start = start; length = len }) p.reading.readings k
-    → (g : Ground) × IsGroundStage hash said media d (stored start len t) (Ok g) × IsKept (hash Sha256) media d k start len g
-over_ground law hash said media d start len t k p m h =
+-- where none does, it is built over what is left of the media
+pub over_ground : SomeContentOver → (hash : Alg → List ℕ → List ℕ) (said : Question → Verdict) (media : List ℕ) (d : Definition) (start len : ℕ) (t : Tree) (clearing : Clearing) (k : KeptGround) (p : IsPast hash said media t) → IsMediaStage media (Ok (stored start len t)) → IsLeft media start len (cleared clearing media)
+    → IsOver (hash Sha256) d t clearing p.reading.readings k → (g : Ground) × IsGroundStage hash said media d (stored start len t) (Ok g) × IsGround (hash Sha256) media d k g
+over_ground law hash said media d start len t clearing k p m left h =
     let s : StoreReading = p.reading in
     let rs : List Reading = s.readings in
     let label : first_refusal (label_tests d rs) ≡ None = ap (λ (b : Bool). first_refusal (refuse_if b (build.LabelTaken d.label) ∷ [])) h.label in
     let first : first_refusal (parent_tests (first_failing (check_list hash said s))) ≡ None = ap (λ (o : Option Failing). first_refusal (parent_tests o)) p.none in
     let none : first_refusal (older_tests d rs (first_failing (check_list hash said s))) ≡ None =
     first_passes (parent_tests (first_failing (check_list hash said s))) (label_tests d rs ++ redaction_tests d rs) None first (first_passes (label_tests d rs) (redaction_tests d rs) None label (no_refusal d rs h.redactions)) in
-    let content = law hash said d t s (stands_over hash said media d start len t s (is_stored media start len t m) p.reads (is_passable hash said d s none)) in
+    let content = law hash said d t s (stands_over hash said media d start len t s (opened_here media start len t m) p.reads (is_passable hash said d s none)) in
     let c : Content = content.0 in
-    let g : Ground = record { base = taken_out start len media; content = c; manifests = length rs + 1 } in
+    let g : Ground = record { base = cleared clearing media; content = c; manifests = length rs + 1 } in
     let same : c ≡ h.carried.content = h.carried.only c content.1 in (
       g,
-      (s, p.reads, unless_passes (first_refusal (older_tests d rs (first_failing (check_list hash said s)))) (IsGroundOver media d start len t rs) (Ok g) none (c, content.1, refl)),
+      (s, p.reads, unless_passes (first_refusal (older_tests d rs (first_failing (check_list hash said s)))) (IsGroundOver media d start len t rs) (Ok g) none (c, content.1, (cleared clearing media, left, refl))),
       record {
-        base = refl;
+        base = ap (λ (x : Clearing). cleared x media) (sym h.clears);
         content = subst (IsContent (hash Sha256) d k.carried) (sym same) h.carried.is;
         manifests = sym h.manifests;
-        skips = h.skips;
       },
     )
 
 -- what is built over a file with this store, by what its tests behind the check answered
-pub stored_over : SomeContentOver → OneOpened → (hash : Alg → List ℕ → List ℕ) (said : Question → Verdict) (media : List ℕ) (d : Definition) (start len : ℕ) (t : Tree) → IsMediaStage media (Ok (stored start len t)) → IsChecked hash said media → (r : Result KeptGround BuildError)
-    → ((rs : List Reading) → AreReadings (manifests_of t) rs → IfOk r (IsOver (hash Sha256) d t (record { start = start; length = len }) rs)) → ((rs : List Reading) → AreReadings (manifests_of t) rs → IfErr r (IsOverRefusal d rs))
+pub stored_over : SomeContentOver → OneOpened → (hash : Alg → List ℕ → List ℕ) (said : Question → Verdict) (media : List ℕ) (d : Definition) (start len : ℕ) (t : Tree) (clearing : Clearing) → IsMediaStage media (Ok (stored start len t)) → IsLeft media start len (cleared clearing media)
+    → IsChecked hash said media → (r : Result KeptGround BuildError)
+    → ((rs : List Reading) → AreReadings (manifests_of t) rs → IfOk r (IsOver (hash Sha256) d t clearing rs)) → ((rs : List Reading) → AreReadings (manifests_of t) rs → IfErr r (IsOverRefusal d rs))
     → ComesAs (IsGround (hash Sha256) media d) (IsGroundStage hash said media d (stored start len t)) r
-stored_over law one hash said media d start len t m checked (Ok k) over bad =
-    let at = is_stored media start len t m in
-    let o = old_is media start len t at.jpeg at.opened in
-    let p = is_past one hash said media start len t at.opened checked in
-    let g = over_ground law hash said media d start len t k p m (over p.reading.readings p.reads.reads.each) in (
-      g.0,
-      g.1,
-      record {
-        base = g.2.base ∙ ap (λ (s : Range). taken_out s.start s.length media) (sym g.2.skips);
-        content = g.2.content;
-        manifests = g.2.manifests;
-        skip = subst (CanSkip media) (sym g.2.skips) (inr (o.store, o.has));
-      },
-    )
-stored_over law one hash said media d start len t m checked (Err e) over bad =
-    let at = is_stored media start len t m in
-    let p = is_past one hash said media start len t at.opened checked in
+stored_over law one hash said media d start len t clearing m left checked (Ok k) over bad =
+    let p = is_past one hash said media start len t (opened_here media start len t m) checked in
+    over_ground law hash said media d start len t clearing k p m left (over p.reading.readings p.reads.reads.each)
+stored_over law one hash said media d start len t clearing m left checked (Err e) over bad =
+    let p = is_past one hash said media start len t (opened_here media start len t m) checked in
     over_stage hash said media d start len t e p (bad p.reading.readings p.reads.reads.each)
 
 -- the bytes of a store are one store of manifests

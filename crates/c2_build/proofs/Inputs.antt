@@ -1,10 +1,17 @@
 -- What the inputs of a build come to, by what calls of other crates answered.
-use Rattle.std.proofs.Common.{◌≡◌, ℕ, ◌<◌, Bool, true, not, ◌&&◌, cond, List, length, inl, refl, sym, ap, subst, arith}
-use Rattle.std.specs.Prelude.{Result, Ok, Err}
+use Rattle.std.proofs.Common.{◌≡◌, ℕ, ◌<◌, Bool, true, false, not, ◌&&◌, cond, List, length, Option, Some, None, inl, refl, sym, ap, subst, arith}
+use Rattle.std.specs.Prelude.{Result, Ok, Err, MatchBool}
 use Rattle.std.proofs.lemmas.Bool.{lt-ltb}
 use Rattle.c2_base.specs.declared.limits.TheConstants.{MAX_INPUT_LEN}
 use Rattle.c2_base.specs.declared.media.Found.{Found}
 use Rattle.c2_spec.specs.Bmff.Boxes.{begins_bmff}
+use Rattle.c2_spec.specs.Bmff.Store.{HasBmffStore, IsBmffLocated}
+use Rattle.c2_spec.specs.Jpeg.Store as jpeg_store
+use Rattle.c2_spec.specs.PutIn.{taken_out}
+use Rattle.c2_boxes.specs.Search.{IsStoreOr}
+use Rattle.c2_cleared.specs.Clears.{ClearsTo, cleared}
+use Rattle.c2_cleared.specs.declared.clearing.Clearing.{Clearing}
+use Rattle.c2_places.specs.Bases.{IsLeft, IsLeftOfBoxes}
 use Rattle.c2_spec.specs.C2pa.Manifest.{IsStoreOf}
 use Rattle.c2_spec.specs.C2pa.Sign1.{SignParts, SpellsMessage}
 use Rattle.c2_spec.specs.Container.{IsLocated, begins_jpeg, is_bmff}
@@ -15,7 +22,6 @@ use Rattle.c2_spec.specs.declared.reason.Reason.{Reason}
 use Rattle.c2_spec.specs.declared.store.ManifestBoxes.{ManifestBoxes}
 use Rattle.c2_media.specs.Opened.{IsContainerOf, IsFound, IsRead}
 use Rattle.c2_media.specs.declared.types.Container.{Container}
-use Rattle.c2_media.specs.declared.types.Container.TheVariants as container
 use Rattle.c2_media.specs.declared.types.Media.{Media}
 use Rattle.c2_media.specs.declared.types.Opened.{Opened}
 use Rattle.c2_media.specs.declared.types.Opened.TheVariants as opened
@@ -33,12 +39,11 @@ use Rattle.c2_message.specs.declared.error.MessageError.{MessageError}
 use Rattle.c2_message.specs.declared.error.MessageError.TheVariants as refusal
 use Rattle.c2_message.specs.declared.error.SignaturePart.{SignaturePart}
 use Rattle.c2_message.specs.declared.error.SignaturePart.TheVariants as part
-use Rattle.c2_build.specs.Building.{IsDefinitionStage, IsMediaStage, IsMessageStage, MediaKind, fresh, kind_in, stored, waits}
-use Rattle.c2_build.specs.Steps.{IsKind}
+use Rattle.c2_build.specs.Building.{IsDefinitionStage, IsMediaStage, IsMessageStage, MediaKind, fresh, stored}
+use Rattle.c2_build.specs.Steps.{IsFoundOf, IsKind}
 use Rattle.c2_build.specs.declared.error.BuildError.{BuildError}
 use Rattle.c2_build.specs.declared.error.BuildError.TheVariants.{MediaRefused, BadDefinition, BadSignature}
 use Rattle.c2_build.specs.declared.media.MediaFile.{MediaFile}
-use Rattle.c2_build.specs.declared.media.MediaFile.TheVariants as MediaFile
 use Rattle.c2_build.proofs.SomeBuild.{EachDefinition}
 use Rattle.c2_definition.specs.Json.{object_of}
 use Rattle.c2_spec.specs.Cbor.Fields.{require}
@@ -53,22 +58,29 @@ refused_media file o reason number is h = (refused reason number, (refused reaso
 pub refused_store : (file : List ℕ) (f : Found) (r : StoreRead) (reason : Reason) (number : ℕ) → r ≡ read.Refused reason number → IsRead f r → IsLocated file (here f.start f.length f.store) → IsMediaStage file (Err (MediaRefused reason number))
 refused_store file f r reason number is h located = (refused reason number, (here f.start f.length f.store, located, (subst (IsRead f) is h).store), refl)
 
--- a JPEG file with a store of manifests
-pub stored_jpeg : (file : List ℕ) (f : Found) (t : Tree) → IsManifestStore f.start f.length f.store (here f.start f.length t) → IsLocated file (here f.start f.length f.store) → begins_jpeg file ≡ true → (kind : MediaKind) × IsMediaStage file (Ok kind) × IsKind (MediaFile.Stored f) kind
-stored_jpeg file f t h located jpeg = (
-  stored f.start f.length t,
-  (
-    here f.start f.length t,
-    (here f.start f.length f.store, located, h),
-    sym (ap (λ (b : Bool). Ok (kind_in (not b && begins_bmff file) (stored f.start f.length t))) jpeg),
-  ),
-  (t, h, refl),
-)
+-- a file with a store of manifests
+pub stored_stage : (file : List ℕ) (f : Found) (t : Tree) → IsManifestStore f.start f.length f.store (here f.start f.length t) → IsLocated file (here f.start f.length f.store) → IsMediaStage file (Ok (stored f.start f.length t))
+stored_stage file f t h located = (here f.start f.length t, (here f.start f.length f.store, located, h), refl)
 
--- a BMFF file with one
-pub stored_bmff : (file : List ℕ) (f : Found) (t : Tree) → IsManifestStore f.start f.length f.store (here f.start f.length t) → IsLocated file (here f.start f.length f.store) → is_bmff file ≡ true → IsMediaStage file (Ok waits)
-stored_bmff file f t h located bmff =
-    (here f.start f.length t, (here f.start f.length f.store, located, h), sym (ap (λ (b : Bool). Ok (kind_in b (stored f.start f.length t))) bmff))
+-- no JPEG file is a BMFF file
+pub jpeg_form : (file : List ℕ) → begins_jpeg file ≡ true → is_bmff file ≡ false
+jpeg_form file is = ap (λ (b : Bool). not b && begins_bmff file) is
+
+-- what is left of a JPEG file less its store
+pub jpeg_left : (file : List ℕ) (start len : ℕ) → is_bmff file ≡ false → IsLeft file start len (taken_out start len file)
+jpeg_left file start len is = subst (λ (b : Bool). MatchBool b (IsLeftOfBoxes file (taken_out start len file)) (taken_out start len file ≡ taken_out start len file)) (sym is) refl
+
+-- a BMFF file that is cleared to its base
+pub film_left : (file : List ℕ) (start len : ℕ) (c : Clearing) → is_bmff file ≡ true → ClearsTo file c → IsLeft file start len (cleared c file)
+film_left file start len c is h = subst (λ (b : Bool). MatchBool b (IsLeftOfBoxes file (cleared c file)) (cleared c file ≡ taken_out start len file)) (sym is) h
+
+-- the store of a BMFF file is in a box
+pub film_store : (file : List ℕ) (start len : ℕ) (store : List ℕ) → is_bmff file ≡ true → IsLocated file (here start len store) → HasBmffStore file start len store
+film_store file start len store is h = subst (λ (b : Bool). MatchBool b (IsBmffLocated file (here start len store)) (jpeg_store.IsLocated file (here start len store))) is h
+
+-- so it was found there
+pub film_found : (file : List ℕ) (o : Option Found) (f : Found) → o ≡ Some f → is_bmff file ≡ true → IsLocated file (here f.start f.length f.store) → IsStoreOr file (Ok o)
+film_found file o f is form located = subst (λ (x : Option Found). IsStoreOr file (Ok x)) (sym is) (film_store file f.start f.length f.store form located)
 
 -- what a store was read as that isn't refused
 pub here_tree : (f : Found) (r : StoreRead) (t : Tree) (s : List ManifestBoxes) → r ≡ read.Here t s → IsRead f r → IsManifestStore f.start f.length f.store (here f.start f.length t)
@@ -100,30 +112,20 @@ pub record IsFoundAbsent (file : List ℕ) (c : Container) : Type 0 where
 pub found_absent : (file : List ℕ) (o : Opened) (c : Container) → o ≡ opened.NoStore c → IsFound file o → IsFoundAbsent file c
 found_absent file o c is h = let f = subst (IsFound file) is h in record { located = f.located; container = f.container }
 
--- a JPEG file without a store
-pub absent_jpeg : (file : List ℕ) (c : Container) → c ≡ container.Jpeg → IsLocated file absent → IsContainerOf file c → (kind : MediaKind) × IsMediaStage file (Ok kind) × IsKind MediaFile.Fresh kind
-absent_jpeg file c jpeg located is =
-    let f = subst (IsContainerOf file) jpeg is in
-    (fresh, (absent, (absent, located, refl), sym (ap (λ (b : Bool). Ok (kind_in (not b && begins_bmff file) fresh)) f)), refl)
-
--- and a BMFF file
-pub absent_bmff : (file : List ℕ) → is_bmff file ≡ true → IsLocated file absent → (kind : MediaKind) × IsMediaStage file (Ok kind) × IsKind MediaFile.Waits kind
-absent_bmff file bmff located = (waits, (absent, (absent, located, refl), sym (ap (λ (b : Bool). Ok (kind_in b fresh)) bmff)), refl)
+-- a file without a store
+pub absent_stage : (file : List ℕ) → IsLocated file absent → IsMediaStage file (Ok fresh)
+absent_stage file located = (absent, (absent, located, refl), refl)
 
 -- ---- what kind a file is
 
--- one without a store
-pub fresh_kind : (m : MediaFile) (kind : MediaKind) → m ≡ MediaFile.Fresh → IsKind m kind → kind ≡ fresh
-fresh_kind m kind is h = subst (λ (x : MediaFile). IsKind x kind) is h
+-- one in which no store was found
+pub fresh_kind : (file : List ℕ) (m : MediaFile) (kind : MediaKind) → m.found ≡ None → IsKind file m kind → kind ≡ fresh
+fresh_kind file m kind is h = subst (λ (o : Option Found). IsFoundOf o kind) is h.found
 
--- one with this store
-pub stored_kind : (m : MediaFile) (f : Found) (kind : MediaKind) → m ≡ MediaFile.Stored f → IsKind m kind
+-- one in which this store was found
+pub stored_kind : (file : List ℕ) (m : MediaFile) (f : Found) (kind : MediaKind) → m.found ≡ Some f → IsKind file m kind
     → (t : Tree) × IsManifestStore f.start f.length f.store (here f.start f.length t) × (kind ≡ stored f.start f.length t)
-stored_kind m f kind is h = subst (λ (x : MediaFile). IsKind x kind) is h
-
--- one that waits
-pub waits_kind : (m : MediaFile) (kind : MediaKind) → m ≡ MediaFile.Waits → IsKind m kind → kind ≡ waits
-waits_kind m kind is h = subst (λ (x : MediaFile). IsKind x kind) is h
+stored_kind file m f kind is h = subst (λ (o : Option Found). IsFoundOf o kind) is h.found
 
 -- ---- the definition
 

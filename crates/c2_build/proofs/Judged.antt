@@ -6,18 +6,14 @@ use Rattle.c2_spec.specs.Judges.Panel.{Judges, LeavesJudges}
 use Rattle.c2_spec.specs.declared.digest.Alg.{Alg}
 use Rattle.c2_spec.specs.declared.panel.Verdict.{Verdict}
 use Rattle.c2_rules.specs.Asking.{HaveAsked}
-use Rattle.c2_rules.specs.Validated.{CheckAsks}
 use Rattle.c2_spec.specs.C2pa.Sign1.{SignParts}
 use Rattle.c2_definition.specs.declared.types.Definition.{Definition}
 use Rattle.c2_validate.specs.Validation.{HasAsked}
 use Rattle.c2_media.specs.declared.error.ValidateError.{ValidateError}
 use Rattle.c2_build.specs.Answers.{HasAskedAll, HasAskedThose}
-use Rattle.c2_build.specs.Building.{KindAsks, MediaKind}
-use Rattle.c2_build.specs.Steps.{ComesAs, IsAskCause, IsEmbedCause, IsKind, IsQuiet, IsReadCause, IsReserveRefusal, SaysNothing}
+use Rattle.c2_build.specs.Steps.{ComesAs, IsAskCause, IsEmbedCause, IsQuiet, IsReadCause, IsReserveRefusal, SaysNothing}
 use Rattle.c2_build.specs.declared.error.BuildError.{BuildError}
 use Rattle.c2_build.specs.declared.error.BuildError.TheVariants as build
-use Rattle.c2_build.specs.declared.media.MediaFile.{MediaFile}
-use Rattle.c2_build.specs.declared.media.MediaFile.TheVariants as MediaFile
 use Rattle.c2_build.proofs.Outside.{ask_embed, asked_before, none_asked, nothing_said, quiet_ask, read_ask, said_of}
 
 -- an answer is no failure of a judge
@@ -43,10 +39,10 @@ pub asked_as : (T U : Type 0) (qs : List Question) (old new : Judges) (e : Build
 asked_as T U qs old new (build.MediaRefused reason number) h = h
 asked_as T U qs old new (build.BadDefinition field) h = h
 asked_as T U qs old new (build.BadSignature part) h = h
-asked_as T U qs old new build.Later h = h
 asked_as T U qs old new (build.ParentFails code uri) h = h
 asked_as T U qs old new (build.LabelTaken label) h = h
 asked_as T U qs old new (build.RedactionRefused text code) h = h
+asked_as T U qs old new (build.OpenBox at) h = h
 asked_as T U qs old new build.NoInstance h = h
 asked_as T U qs old new (build.TooManyManifests n) h = h
 asked_as T U qs old new (build.StoreTooLarge n) h = h
@@ -59,18 +55,6 @@ asked_as T U qs old new build.NoMemory h = h
 -- the same of the questions of which something holds
 pub asked_those : (T U : Type 0) (Asks : List Question → Type 0) (old new : Judges) (e : BuildError) → HasAskedThose {T = T} Asks old new (Err e) → HasAskedThose {T = U} Asks old new (Err e)
 asked_those T U Asks old new e h = λ qs a. asked_as T U qs old new e (h qs a)
-
--- what is asked over a file with a store is what its check asks
-abbrev pub IsStoredFile : MediaFile → Type 0
-IsStoredFile MediaFile.Fresh = ⊥
-IsStoredFile (MediaFile.Stored f) = ⊤
-IsStoredFile MediaFile.Waits = ⊥
-
--- then it is
-pub kind_asks : (hash : Alg → List ℕ → List ℕ) (said : Question → Verdict) (file : List ℕ) (m : MediaFile) (kind : MediaKind) (qs : List Question) → IsKind m kind → IsStoredFile m → KindAsks hash said file kind qs → CheckAsks hash said file qs
-kind_asks hash said file MediaFile.Fresh kind qs is s h = absurd s
-kind_asks hash said file (MediaFile.Stored f) kind qs is s h = subst (λ (k : MediaKind). KindAsks hash said file k qs) is.2 h
-kind_asks hash said file MediaFile.Waits kind qs is s h = absurd s
 
 -- what was asked in a check that failed so
 pub check_failed : (T : Type 0) (qs : List Question) (old new : Judges) (v w : ValidateError) → v ≡ w → HasAsked {T = T} qs old new (Err v) → HasAsked {T = T} qs old new (Err w)
@@ -113,10 +97,10 @@ pub reserve_cause : (m n : ℕ) (js ks : List ℕ) (d : Definition) (p : SignPar
 reserve_cause m n js ks d p (build.MediaRefused reason number) count same h = absurd h
 reserve_cause m n js ks d p (build.BadDefinition field) count same h = absurd h
 reserve_cause m n js ks d p (build.BadSignature part) count same h = absurd h
-reserve_cause m n js ks d p build.Later count same h = absurd h
 reserve_cause m n js ks d p (build.ParentFails code uri) count same h = absurd h
 reserve_cause m n js ks d p (build.LabelTaken label) count same h = absurd h
 reserve_cause m n js ks d p (build.RedactionRefused text code) count same h = absurd h
+reserve_cause m n js ks d p (build.OpenBox at) count same h = absurd h
 reserve_cause m n js ks d p build.NoInstance count same h = absurd h
 reserve_cause m n js ks d p (build.TooManyManifests k) count same h = absurd h
 reserve_cause m n js ks d p (build.StoreTooLarge k) count same h = absurd h

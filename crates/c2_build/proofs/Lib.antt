@@ -1,10 +1,14 @@
 mod FirstRefusal
 mod Stages
 mod OneBuild
+mod Rooms
 mod SomeBuild
 mod Approved
 mod NewFile
 mod Worked
+mod WorkedFilm
+mod WorkedOver
+mod WorkedAgain
 mod Walked
 mod Outside
 mod Drafted
@@ -12,9 +16,12 @@ mod Inputs
 mod Written
 mod Drawn
 mod Placed
+mod Seated
+mod Filled
 mod NewStores
 mod Ended
 mod Seen
 mod Judged
 mod Grounds
 mod Questioned
+mod Unasked

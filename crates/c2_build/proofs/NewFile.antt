@@ -1,17 +1,13 @@
 -- What a new file meets.
-use Rattle.std.proofs.Common.{◌≡◌, ℕ, ◌+◌, ◌<◌, ◌≤◌, List, [], ◌∷◌, ◌++◌, length, Bool, true, Option, Some, None, refl, sym, ap, ◌∙◌, subst, arith}
-use Rattle.std.specs.Prelude.{Result, Ok, Err, is_none, nat_lt, nat_le}
-use Rattle.std.proofs.lemmas.Bool.{ltb-false, leb-false}
+use Rattle.std.proofs.Common.{◌≡◌, ℕ, ◌+◌, ◌<◌, ◌≤◌, List, [], ◌∷◌, length, true, Option, Some, None, refl, sym, ap, ◌∙◌, subst, arith}
+use Rattle.std.specs.Prelude.{Result, Ok, Err}
 use Rattle.c2_base.specs.declared.limits.TheConstants.{FILE_LEN_LIMIT, MAX_MANIFESTS, MAX_STORE_LEN}
 use Rattle.c2_base.specs.declared.values.Question.{Question}
 use Rattle.c2_spec.specs.C2pa.Manifest.{manifests_of}
 use Rattle.c2_spec.specs.C2pa.Message.{padded_read}
 use Rattle.c2_spec.specs.C2pa.Sign1.{SignParts, SpellsMessage, sig_structure}
 use Rattle.c2_spec.specs.Cbor.Deterministic.{deterministic}
-use Rattle.c2_spec.specs.Jpeg.Segments.{Segment}
-use Rattle.c2_spec.specs.Jpeg.Store.{NoneBegins}
-use Rattle.c2_spec.specs.Jpeg.Writing.{IsNumberOf, insert_place}
-use Rattle.c2_spec.specs.Jumbf.Tree.{Tree}
+use Rattle.c2_spec.specs.Jumbf.Tree.{Tree, tree_bytes}
 use Rattle.c2_spec.specs.Located.{absent, here}
 use Rattle.c2_spec.specs.PutIn.{taken_out}
 use Rattle.c2_spec.specs.declared.digest.Alg.{Alg}
@@ -29,47 +25,32 @@ use Rattle.c2_definition.specs.DefinitionFile.{IsDefinition}
 use Rattle.c2_definition.specs.declared.types.Definition.{Definition}
 use Rattle.c2_definition.specs.declared.types.DefinitionField.{DefinitionField}
 use Rattle.c2_message.specs.Signed.{IsSigned}
-use Rattle.c2_layout.specs.Built.{BaseIsLeft, CanBuild, built_file, built_len, built_store, store_size}
-use Rattle.c2_layout.specs.Fresh.{FreshFileMeets, GivesDigests, IsFresh, IsFreshBase, Meets, fresh_content, new_question}
-use Rattle.c2_layout.specs.Store.{Content, data_binding, new_claim}
-use Rattle.c2_layout.specs.Written.{CanBeWritten}
-use Rattle.c2_carried.specs.Carrying.{BaseHasNoStore, FirstIsRefused, IsFreeBase}
+use Rattle.c2_built.specs.Fresh.{GivesDigests, IsFresh, Meets, fresh_content}
+use Rattle.c2_built.specs.Store.{Content, new_claim}
+use Rattle.c2_built.specs.Written.{CanBeWritten}
+use Rattle.c2_carried.specs.Carrying.{FirstIsRefused}
 use Rattle.c2_carried.specs.Parents.{IsContentOver}
 use Rattle.c2_carried.specs.Refusing.{redaction_refusal}
 use Rattle.c2_carried.specs.declared.refused.RefusedRedaction.{RefusedRedaction}
-use Rattle.c2_succeeding.specs.Over.{CanSucceed, FileOverStoreMeets, ValidIsApproved}
-use Rattle.c2_build.specs.Building.{Built, IsBuilt, IsDefinitionStage, IsEmbedded, IsEmbeddedOn, IsGroundOver, IsGroundStage, IsMediaStage, IsMessageStage, IsPlace, IsPlaceStage, IsPlanned, IsPlannedOn, MediaKind, Place, built_of, definition_stage, fresh, fresh_ground, signed_bytes, stored, waits}
+use Rattle.c2_succeeding.specs.Over.{ValidIsApproved}
+use Rattle.c2_places.specs.Bases.{IsLeft}
+use Rattle.c2_places.specs.Laws.{OnePlace}
+use Rattle.c2_places.specs.Meeting.{BaseStays, CanSucceedAt, FreshPlaceMeets, OverPlaceMeets}
+use Rattle.c2_places.specs.Places.{CanPut, IsFreePlace, IsPlace, Place, place_binding, place_file, place_question, place_start, place_store, put_bytes, range_len, store_len}
+use Rattle.c2_build.specs.Building.{Built, IsBuilt, IsDefinitionStage, IsEmbedded, IsEmbeddedOn, IsGroundOver, IsGroundStage, IsMediaStage, IsMessageStage, IsPlaceStage, IsPlanned, IsPlannedOn, MediaKind, built_of, definition_stage, fresh, fresh_ground, signed_bytes, stored}
 use Rattle.c2_build.specs.Meeting.{ApprovedIsValid, AreApproved, BuiltFileMeets, BuiltMeets, HasTextsIn}
-use Rattle.c2_build.specs.Refusals.{Ground, first_refusal, ground_tests, late_tests, new_range_len, new_store_len, older_tests, redaction_tests, refuse_if, reserve_tests}
+use Rattle.c2_build.specs.Refusals.{Ground, first_refusal, ground_tests, late_tests, new_range_len, older_tests, redaction_tests, refuse_if, reserve_tests}
 use Rattle.c2_build.specs.declared.error.BuildError.{BuildError}
 use Rattle.c2_build.specs.declared.error.BuildError.TheVariants.{RedactionRefused}
 use Rattle.c2_build.proofs.Drawn.{then_next, unless_passes}
-use Rattle.c2_build.proofs.OneBuild.{OneList, ground_of}
-use Rattle.c2_build.proofs.SomeBuild.{AreWellFormed, ground_base, ground_definition, is_passable, is_stored, opened_absent, read_formed, read_taken}
-use Rattle.c2_build.proofs.Stages.{none_fails, none_of_both, passed, unless_passed}
+use Rattle.c2_build.proofs.OneBuild.{ground_of}
+use Rattle.c2_build.proofs.Rooms.{pass_numbers}
+use Rattle.c2_build.proofs.SomeBuild.{AreWellFormed, PlaceLaws, free_place, ground_definition, is_passable, opened_absent, opened_here, read_formed, read_taken}
+use Rattle.c2_build.proofs.Stages.{none_of_both, passed, unless_passed}
 use Rattle.std.specs.Option.{option_to_list}
 use Rattle.std.specs.Prelude.{option_map}
 
 -- ---- what passed
-
--- What is known of numbers where no test on them fails.
-record PassNumbers (g : Ground) : Type 0 where
-  few : g.manifests ≤ MAX_MANIFESTS
-  small : new_store_len g.content ≤ MAX_STORE_LEN
-  fits : length g.base + new_range_len g.content < FILE_LEN_LIMIT
-
--- no test on numbers fails
-pass_numbers : (g : Ground) (number : Option ℕ) → first_refusal (ground_tests g number) ≡ None → PassNumbers g
-pass_numbers g number h =
-    let a = none_fails (is_none number) _ _ h in
-    let b = none_fails (nat_lt MAX_MANIFESTS g.manifests) _ _ a.1 in
-    let c = none_fails (nat_lt MAX_STORE_LEN (new_store_len g.content)) _ _ b.1 in
-    let d = none_fails (nat_le FILE_LEN_LIMIT (length g.base + new_range_len g.content)) _ _ c.1 in
-    record {
-      few = ltb-false MAX_MANIFESTS g.manifests b.0;
-      small = ltb-false MAX_STORE_LEN (new_store_len g.content) c.0;
-      fits = leb-false FILE_LEN_LIMIT (length g.base + new_range_len g.content) d.0;
-    }
 
 -- What is known of a build that comes to a file.
 record Known (hash : Alg → List ℕ → List ℕ) (said : Question → Verdict) (media definition message : List ℕ) (b : Built) : Type 0 where
@@ -83,12 +64,12 @@ record Known (hash : Alg → List ℕ → List ℕ) (said : Question → Verdict
   is_ground : IsGroundStage hash said media d kind (Ok ground)
   place : Place
   is_place : IsPlace ground.base place
-  numbers : first_refusal (ground_tests ground place.number) ≡ None
-  en : ℕ
-  free : place.number ≡ Some en
+  numbers : first_refusal (ground_tests ground place) ≡ None
   signed : List ℕ
   is_signed : IsSigned parts ground.content.definition.reserve signed
-  same : b ≡ built_of hash ground place.segments en signed
+  bytes : List ℕ
+  put : put_bytes place (tree_bytes (place_store (hash Sha256) ground.content signed ground.base place)) ≡ Some bytes
+  same : b ≡ built_of ground place bytes
 
 -- so much is known
 known : (hash : Alg → List ℕ → List ℕ) (said : Question → Verdict) (media definition message : List ℕ) (b : Built) → IsEmbedded hash said media definition message (Ok b) → Known hash said media definition message b
@@ -99,8 +80,8 @@ known hash said media definition message b h =
     let four = passed (IsGroundStage hash said media two.value one.value) (IsEmbeddedOn hash three.value) b three.next in
     let g : Ground = four.value in
     let five = passed (IsPlaceStage g.base) _ b four.next in
-    let six = unless_passed (first_refusal (late_tests g three.value five.value.number)) (IsBuilt hash g five.value three.value) b five.next in
-    let none = none_of_both (ground_tests g five.value.number) (reserve_tests g.content.definition three.value) six.0 in
+    let six = unless_passed (first_refusal (late_tests g three.value five.value)) (IsBuilt hash g five.value three.value) b five.next in
+    let none = none_of_both (ground_tests g five.value) (reserve_tests g.content.definition three.value) six.0 in
     let at : five.first.0 ≡ five.value = cc (five.first.2) in
     record {
       d = two.value;
@@ -114,10 +95,10 @@ known hash said media definition message b h =
       place = five.value;
       is_place = subst (IsPlace g.base) at five.first.1;
       numbers = none.0;
-      en = six.1.0;
-      free = six.1.1;
-      signed = six.1.2.0;
-      is_signed = six.1.2.1;
+      signed = six.1.0;
+      is_signed = six.1.1;
+      bytes = six.1.2.0;
+      put = six.1.2.1;
       same = cc (six.1.2.2);
     }
 
@@ -126,13 +107,13 @@ known hash said media definition message b h =
 -- what laws of other crates say
 pub record MetLaws : Type 0 where
   pub formed : AreWellFormed
-  pub list : OneList
-  pub fresh : FreshFileMeets
-  pub over : FileOverStoreMeets
+  pub place : OnePlace
+  pub places : PlaceLaws
+  pub fresh : FreshPlaceMeets
+  pub over : OverPlaceMeets
   pub approved : ValidIsApproved
-  pub free : BaseHasNoStore
   pub first : FirstIsRefused
-  pub base : BaseIsLeft
+  pub base : BaseStays
   pub valid : ApprovedIsValid
 
 -- a file that meets all but the verdicts is valid where its questions are approved
@@ -153,25 +134,25 @@ planned_of hash said media definition message b k =
     (then_next (IsDefinitionStage definition) _ k.d r k.is_d
     (then_next (IsGroundStage hash said media k.d k.kind) (IsPlannedOn hash) k.ground r k.is_ground
     (then_next (IsPlaceStage k.ground.base) _ k.place r (k.place, k.is_place, refl)
-    (unless_passes (first_refusal (ground_tests k.ground k.place.number)) (λ x. x ≡ Ok (signed_bytes hash k.ground k.place)) r k.numbers refl))))
+    (unless_passes (first_refusal (ground_tests k.ground k.place)) (λ x. x ≡ Ok (signed_bytes hash k.ground k.place)) r k.numbers refl))))
 
 -- the bytes that the new question is about are those
 same_signed : (hash : Alg → List ℕ → List ℕ) (g : Ground) (p : Place) (message : List ℕ) (parts : SignParts) → parts.protected ≡ g.content.definition.protected → length message ≡ g.content.definition.reserve
-    → signed_bytes hash g p ≡ (new_question (hash Sha256) g.content message g.base p.segments parts).tbs
+    → signed_bytes hash g p ≡ (place_question (hash Sha256) g.content (length message) g.base p parts).tbs
 same_signed hash g p message parts protected filled =
-    ap (λ (n : ℕ). deterministic (sig_structure g.content.definition.protected (new_claim (hash Sha256) g.content (data_binding (insert_place p.segments) (built_len g.content n) (hash Sha256 g.base))))) (sym filled)
-    ∙ ap (λ (x : List ℕ). deterministic (sig_structure x (new_claim (hash Sha256) g.content (data_binding (insert_place p.segments) (built_len g.content (length message)) (hash Sha256 g.base))))) (sym protected)
+    ap (λ (n : ℕ). deterministic (sig_structure g.content.definition.protected (new_claim (hash Sha256) g.content (place_binding (hash Sha256) g.content n g.base p)))) (sym filled)
+    ∙ ap (λ (x : List ℕ). deterministic (sig_structure x (new_claim (hash Sha256) g.content (place_binding (hash Sha256) g.content (length message) g.base p)))) (sym protected)
 
 -- ---- by the media
 
 -- The file that is built over a ground meets the rules but that on the verdict on its message, and asks the new question and then these,
 -- which are those of the media and are approved.
-record MeetsOver (hash : Alg → List ℕ → List ℕ) (said : Question → Verdict) (media : List ℕ) (g : Ground) (segments : List Segment) (en : ℕ) (message : List ℕ) (read : SignParts) : Type 0 where
+record MeetsOver (hash : Alg → List ℕ → List ℕ) (said : Question → Verdict) (media : List ℕ) (g : Ground) (p : Place) (bytes message : List ℕ) (read : SignParts) : Type 0 where
   older : List Question
   asked : AreQuestions media older
   approved : AreApproved said older
-  meets : Meets hash (built_file (hash Sha256) g.content message g.base segments en) (insert_place segments) (built_len g.content (length message)) (built_store (hash Sha256) g.content message g.base (insert_place segments))
-      (new_question (hash Sha256) g.content message g.base segments read ∷ older)
+  meets : Meets hash (place_file g.base p bytes) (place_start p) (range_len p g.content (length message)) (place_store (hash Sha256) g.content message g.base p)
+      (place_question (hash Sha256) g.content (length message) g.base p read ∷ older)
 
 -- a definition none of whose redactions is refused without a store has none
 no_redactions : FirstIsRefused → (d : Definition) → first_refusal (redaction_tests d []) ≡ None → d.redact ≡ []
@@ -185,43 +166,37 @@ no_redactions law d h = by d.redact refl
         absurd (cc (bad))
 
 -- over each ground
-met_over : MetLaws → (hash : Alg → List ℕ → List ℕ) (said : Question → Verdict) (media : List ℕ) (d : Definition) (kind : MediaKind) (g : Ground) (segments : List Segment) (en : ℕ) (message : List ℕ) (read : SignParts)
-    → GivesDigests hash → IsMediaStage media (Ok kind) → IsGroundStage hash said media d kind (Ok g) → CanBeWritten d → PassNumbers g → CanBuild g.content (length message) g.base segments en
-    → length g.base + built_len g.content (length message) < FILE_LEN_LIMIT → SpellsMessage message read → MeetsOver hash said media g segments en message read
-met_over l hash said media d waits g segments en message read digests m h w numbers can fits spelled = absurd (cc (h))
-met_over l hash said media d fresh g segments en message read digests m h w numbers can fits spelled =
+met_over : MetLaws → (hash : Alg → List ℕ → List ℕ) (said : Question → Verdict) (media : List ℕ) (d : Definition) (kind : MediaKind) (g : Ground) (p : Place) (bytes message : List ℕ) (read : SignParts)
+    → GivesDigests hash → IsMediaStage media (Ok kind) → IsGroundStage hash said media d kind (Ok g) → CanBeWritten d → g.manifests ≤ MAX_MANIFESTS → CanPut g.content (length message) g.base p
+    → SpellsMessage message read → put_bytes p (tree_bytes (place_store (hash Sha256) g.content message g.base p)) ≡ Some bytes → MeetsOver hash said media g p bytes message read
+met_over l hash said media d fresh g p bytes message read digests m h w few can spelled put =
     let is = unless_passed (first_refusal (redaction_tests d [])) (λ r. r ≡ Ok (fresh_ground media d)) g h in
     let same : g ≡ fresh_ground media d = cc (is.1) in
-    let base : IsFreeBase g.base = ground_base l.free hash said media d fresh g m h in
-    let none : NoneBegins segments = subst NoneBegins (l.list g.base base.segments segments base.is_of can.is_of) base.none in
     let own : g.content ≡ fresh_content d = ap (λ (x : Ground). x.content) same in
     record {
       older = [];
       asked = (absent, opened_absent media m, refl);
       approved = tt;
-      meets = l.fresh hash g.content message g.base segments en read digests (subst IsFresh (sym own) (record { carried = refl; parent = refl; redact = no_redactions l.first d is.0 }))
-          (subst (λ (c : Content). CanBeWritten c.definition) (sym own) w) can (record { none = none; fits = fits }) spelled;
+      meets = l.fresh hash g.content message g.base bytes p read digests (subst IsFresh (sym own) (record { carried = refl; parent = refl; redact = no_redactions l.first d is.0 }))
+          (subst (λ (c : Content). CanBeWritten c.definition) (sym own) w) can spelled put;
     }
-met_over l hash said media d (stored start len t) g segments en message read digests m h w numbers can fits spelled =
-    let at = is_stored media start len t m in
+met_over l hash said media d (stored start len t) g p bytes message read digests m h w few can spelled put =
+    let opened = opened_here media start len t m in
     let s = h.0 in
     let is = unless_passed (first_refusal (older_tests d s.readings (first_failing (check_list hash said s)))) (IsGroundOver media d start len t s.readings) g h.2 in
     let pass = is_passable hash said d s is.0 in
-    let c = is.1.0 in
-    let same : ground_of (taken_out start len media) c (length s.readings + 1) ≡ g = cc (is.1.2) in
-    let base : taken_out start len media ≡ g.base = ap (λ (x : Ground). x.base) same in
+    let same : ground_of is.1.2.0 is.1.0 (length s.readings + 1) ≡ g = cc (is.1.2.2) in
+    let base : is.1.2.0 ≡ g.base = ap (λ (x : Ground). x.base) same in
     let count : length s.readings + 1 ≡ g.manifests = ap (λ (x : Ground). x.manifests) same in
-    let content : c ≡ g.content = ap (λ (x : Ground). x.content) same in
+    let content : is.1.0 ≡ g.content = ap (λ (x : Ground). x.content) same in
     let over : IsContentOver d t g.content = subst (IsContentOver d t) content is.1.1 in
-    let succeed : CanSucceed hash said media start len t s d = record { opened = at.opened; jpeg = at.jpeg; reads = h.1; valid = pass.valid; label = pass.label; redactions = pass.redactions; few = omega (arith, count, numbers.few) } in
-    let met = l.over hash said media start len t s d g.content message segments en read digests succeed w over
-    (subst (λ (b : List ℕ). CanBuild g.content (length message) b segments en) (sym base) can)
-    (subst (λ (b : List ℕ). length b + built_len g.content (length message) < FILE_LEN_LIMIT) (sym base) fits) spelled in
+    let left : IsLeft media start len g.base = subst (IsLeft media start len) base is.1.2.1 in
+    let succeed : CanSucceedAt hash said media start len t s d = record { opened = opened; reads = h.1; valid = pass.valid; label = pass.label; redactions = pass.redactions; few = omega (arith, count, few) } in
     record {
       older = questions s.readings;
-      asked = (here start len t, at.opened, (s.readings, h.1.reads.each, refl));
+      asked = (here start len t, opened, (s.readings, h.1.reads.each, refl));
       approved = l.approved hash said s pass.valid;
-      meets = subst (λ (b : List ℕ). Meets hash (built_file (hash Sha256) g.content message b segments en) (insert_place segments) (built_len g.content (length message)) (built_store (hash Sha256) g.content message b (insert_place segments)) (new_question (hash Sha256) g.content message b segments read ∷ questions s.readings)) base met;
+      meets = l.over hash said media start len t s d g.content message g.base bytes p read digests succeed w over left can spelled put;
     }
 
 -- ---- all of it
@@ -234,30 +209,35 @@ defined_of file d h = read_as h.0 h.1 h.2
     read_as (Ok x) is e = let same : x ≡ d = cc (e) in subst (λ (y : Definition). IsDefinition file (Ok y)) same is
     read_as (Err f) is e = absurd (cc (e))
 
+-- the place of a ground is free
+free_at : MetLaws → (hash : Alg → List ℕ → List ℕ) (said : Question → Verdict) (media definition message : List ℕ) (b : Built) (k : Known hash said media definition message b) → IsFreePlace k.ground.base k.place
+free_at l hash said media definition message b k =
+    let free = free_place l.places hash said media k.d k.kind k.ground k.is_media k.is_ground in
+    subst (IsFreePlace k.ground.base) (l.place k.ground.base free.0 k.place free.1.is k.is_place) free.1
+
 -- a file that is built meets all of it
 meets_of : MetLaws → (hash : Alg → List ℕ → List ℕ) (said : Question → Verdict) (media definition message : List ℕ) (b : Built) → GivesDigests hash → HasTextsIn definition → (k : Known hash said media definition message b)
-    → BuiltMeets hash said media definition message (built_of hash k.ground k.place.segments k.en k.signed)
+    → BuiltMeets hash said media definition message (built_of k.ground k.place k.bytes)
 meets_of l hash said media definition message b digests texts k =
     let d : Definition = k.d in
     let g : Ground = k.ground in
+    let p : Place = k.place in
     let c : Content = g.content in
     let own : c.definition ≡ d = ground_definition hash said media d k.kind g k.is_ground in
-    let numbers = pass_numbers g k.place.number k.numbers in
-    let en = k.en in
-    let segments = k.place.segments in
+    let numbers = pass_numbers g p k.numbers in
     let filled : length k.signed ≡ c.definition.reserve = k.is_signed.filled in
-    let small : store_size c (length k.signed) ≤ MAX_STORE_LEN = subst (λ (n : ℕ). store_size c n ≤ MAX_STORE_LEN) (sym filled) numbers.small in
-    let fits : length g.base + built_len c (length k.signed) < FILE_LEN_LIMIT = subst (λ (n : ℕ). length g.base + built_len c n < FILE_LEN_LIMIT) (sym filled) numbers.fits in
-    let can : CanBuild c (length k.signed) g.base segments en = record { is_of = k.is_place.is_of; number = subst (IsNumberOf segments) k.free k.is_place.is_number; small = small } in
+    let small : store_len p c (length k.signed) ≤ MAX_STORE_LEN = subst (λ (n : ℕ). store_len p c n ≤ MAX_STORE_LEN) (sym filled) numbers.small in
+    let fits : length g.base + range_len p c (length k.signed) < FILE_LEN_LIMIT = subst (λ (n : ℕ). length g.base + range_len p c n < FILE_LEN_LIMIT) (sym filled) numbers.fits in
+    let can : CanPut c (length k.signed) g.base p = record { place = free_at l hash said media definition message b k; room = numbers.room; small = small; fits = fits } in
     let read : SignParts = padded_read k.parts (fill_pairs k.is_signed.fill) in
     let writable : CanBeWritten d = record { formed = read_formed l.formed definition d k.is_d; texts = texts d (defined_of definition d k.is_d) } in
-    let met = met_over l hash said media d k.kind g segments en k.signed read digests k.is_media k.is_ground writable numbers can fits k.is_signed.spelled in
+    let met = met_over l hash said media d k.kind g p k.bytes k.signed read digests k.is_media k.is_ground writable numbers.few can k.is_signed.spelled k.put in
     let taken = read_taken d.protected message k.parts k.is_parts in
     let header : read.protected ≡ c.definition.protected = taken.accepted.1.1.1.0 k.parts taken.spelled ∙ ap (λ (x : Definition). x.protected) (sym own) in
-    let q : Question = new_question (hash Sha256) c k.signed g.base segments read in
-    let store : Tree = built_store (hash Sha256) c k.signed g.base (insert_place segments) in
-    let meets : Meets hash (built_file (hash Sha256) c k.signed g.base segments en) (insert_place segments) (new_range_len c) store (q ∷ met.older) =
-    subst (λ (n : ℕ). Meets hash (built_file (hash Sha256) c k.signed g.base segments en) (insert_place segments) (built_len c n) store (q ∷ met.older)) filled met.meets in
+    let q : Question = place_question (hash Sha256) c (length k.signed) g.base p read in
+    let store : Tree = place_store (hash Sha256) c k.signed g.base p in
+    let meets : Meets hash (place_file g.base p k.bytes) (place_start p) (new_range_len p c) store (q ∷ met.older) =
+    subst (λ (n : ℕ). Meets hash (place_file g.base p k.bytes) (place_start p) (range_len p c n) store (q ∷ met.older)) filled met.meets in
     record {
       store = store;
       question = q;
@@ -273,14 +253,16 @@ meets_of l hash said media definition message b digests texts k =
         spelled = taken.spelled;
         padded = k.signed;
         filled = subst (λ (n : ℕ). IsSigned k.parts n k.signed) (ap (λ (x : Definition). x.reserve) own) k.is_signed;
+        place = p;
+        placed = k.is_place;
         is = refl;
       };
       meets = meets;
-      signed = subst (λ (x : List ℕ). IsPlanned hash said media definition (Ok x)) (same_signed hash g k.place k.signed read header filled) (planned_of hash said media definition message b k);
+      signed = subst (λ (x : List ℕ). IsPlanned hash said media definition (Ok x)) (same_signed hash g p k.signed read header filled) (planned_of hash said media definition message b k);
       asked = met.asked;
       approved = met.approved;
-      base = subst (λ (n : ℕ). taken_out (insert_place segments) (built_len c n) (built_file (hash Sha256) c k.signed g.base segments en) ≡ g.base) filled (l.base (hash Sha256) c k.signed g.base segments en (λ text. (digests Sha256 text).sized) can);
-      accepted = accepted_if l.valid hash (built_file (hash Sha256) c k.signed g.base segments en) (insert_place segments) (new_range_len c) store (q ∷ met.older) meets;
+      base = subst (λ (n : ℕ). taken_out (place_start p) (range_len p c n) (place_file g.base p k.bytes) ≡ g.base) filled (l.base (hash Sha256) c k.signed g.base k.bytes p (λ text. (digests Sha256 text).sized) can k.put);
+      accepted = accepted_if l.valid hash (place_file g.base p k.bytes) (place_start p) (new_range_len p c) store (q ∷ met.older) meets;
     }
 
 -- what is written meets all of it

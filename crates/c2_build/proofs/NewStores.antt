@@ -1,19 +1,20 @@
 -- What is signed and what is written of the parts of a new store.
-use Rattle.std.proofs.Common.{◌≡◌, ℕ, ◌+◌, ◌≤◌, true, List, ◌++◌, length, Option, option_map, Some, None, refl, sym, ap, ◌∙◌, subst, arith, codes, length-append}
-use Rattle.std.specs.Prelude.{Ok, Err}
+use Rattle.std.proofs.lemmas.List.{length-replicate}
+use Rattle.std.proofs.Common.{◌≡◌, inl, inr, ℕ, ◌+◌, ◌≤◌, replicate, true, List, ◌++◌, length, Option, option_map, Some, None, refl, sym, ap, ◌∙◌, subst, arith, codes, length-append}
+use Rattle.std.specs.Prelude.{Result, Ok, Err, IfErr, IfOk}
 use Rattle.std.specs.Int.{w32, to_be_bytes}
 use Rattle.std.specs.Option.{option_to_list}
 use Rattle.c2_base.specs.declared.limits.TheConstants.{MAX_STORE_LEN}
 use Rattle.c2_base.specs.declared.values.Question.{Question}
-use Rattle.c2_base.specs.declared.values.Range.{Range}
 use Rattle.c2_spec.specs.C2pa.Manifest.{type_uuid}
 use Rattle.c2_spec.specs.C2pa.Message.{bare_bytes}
 use Rattle.c2_spec.specs.C2pa.Sign1.{SignParts, sig_structure}
 use Rattle.c2_spec.specs.Cbor.Deterministic.{deterministic}
-use Rattle.c2_spec.specs.Jpeg.Writing.{IsPacketStore, insert_place, packets_bytes}
+use Rattle.c2_spec.specs.Jpeg.Writing.{IsPacketStore, packets_bytes}
 use Rattle.c2_spec.specs.Jumbf.Tree.{Tree, Trees, description_bytes, tree_bytes, trees_bytes}
 use Rattle.c2_spec.specs.Jumbf.Writing.{fresh_description}
-use Rattle.c2_spec.specs.PutIn.{put_in, taken_out}
+use Rattle.c2_spec.specs.Digest.{digest_len}
+use Rattle.c2_spec.specs.PutIn.{put_in}
 use Rattle.c2_spec.specs.declared.digest.Alg.{Alg}
 use Rattle.c2_spec.specs.declared.digest.Alg.TheVariants.{Sha256}
 use Rattle.c2_spec.specs.declared.panel.Verdict.{Verdict}
@@ -21,41 +22,60 @@ use Rattle.c2_definition.specs.declared.types.Definition.{Definition}
 use Rattle.c2_definition.specs.declared.types.NewAssertion.{NewAssertion}
 use Rattle.c2_message.specs.Refusals.{reserve_needed}
 use Rattle.c2_message.specs.Signed.{FillsOrNeedsMore, IsSigned}
-use Rattle.c2_layout.specs.Built.{HasDigestLen, StoreSizeIsFixed, built_len, store_size}
-use Rattle.c2_layout.specs.FreshBoxes.{store_box, trees_then}
+use Rattle.c2_built.specs.Built.{HasDigestLen, StoreSizeIsFixed, bound_len, no_digest, store_size}
+use Rattle.c2_built.specs.FreshBoxes.{store_box, trees_then}
 use Rattle.c2_layout.specs.Parts.{AreParts, IsContent}
-use Rattle.c2_layout.specs.Store.{Content, data_binding, new_claim, new_manifest, new_store}
+use Rattle.c2_built.specs.Store.{Content, data_binding, new_claim, new_manifest, new_store}
+use Rattle.c2_built.specs.Unbound.{IsKnownBinding}
 use Rattle.c2_layout.specs.declared.carried.Carried.{Carried}
 use Rattle.c2_layout.specs.declared.parts.NewParts.{NewParts}
+use Rattle.c2_cleared.specs.Clears.{cleared}
+use Rattle.c2_cleared.specs.declared.clearing.Clearing.{Clearing}
+use Rattle.c2_films.specs.Films.{FilmSizeIsFixed, film_store_size}
+use Rattle.c2_places.specs.Places.{IsPlace, Place, binding_with, bound_text, in_boxes, in_segments, place_binding, place_start, place_store, put_bytes}
 use Rattle.c2_build.specs.Answers.{WithoutFault}
-use Rattle.c2_build.specs.Building.{IsBuilt, IsEmbeddedOn, IsEmbeddedOver, IsGroundStage, IsPlaceStage, MediaKind, Place, built_of, signed_bytes}
-use Rattle.c2_build.specs.Refusals.{Ground, first_refusal, ground_tests, late_tests, new_range_len, new_store_len, refuse_if, reserve_tests}
-use Rattle.c2_build.specs.Steps.{AreNewParts, IsGround, IsNumbered, IsPassed, IsReady, IsReserveRefusal, IsSmall}
+use Rattle.c2_build.specs.Building.{IsBuilt, IsEmbeddedOn, IsEmbeddedOver, IsGroundStage, IsPlaceStage, MediaKind, built_of, signed_bytes}
+use Rattle.c2_build.specs.Refusals.{Ground, first_refusal, ground_tests, late_tests, new_range_len, refuse_if, reserve_tests}
+use Rattle.c2_build.specs.Steps.{AreNewParts, ComesAs, IsDrafted, IsGround, IsNumbered, IsPassed, IsPut, IsPutReady, IsReady, IsReserveRefusal, IsSeat, IsSmall, SaysNothing, put_of, seat_binding, seat_store_len}
 use Rattle.c2_build.specs.declared.draft.Draft.{Draft}
 use Rattle.c2_build.specs.declared.draft.Drafted.{Drafted}
+use Rattle.c2_build.specs.declared.draft.Put.{Put}
+use Rattle.c2_build.specs.declared.draft.Put.TheVariants as Put
+use Rattle.c2_build.specs.declared.place.Seat.{Seat}
+use Rattle.c2_build.specs.declared.place.Seat.TheVariants as Seat
 use Rattle.c2_build.specs.declared.ready.Ready.{Ready}
 use Rattle.c2_build.specs.declared.error.BuildError.{BuildError}
 use Rattle.c2_build.specs.declared.error.BuildError.TheVariants as build
 use Rattle.c2_build.proofs.Drafted.{first_passes}
+use Rattle.c2_build.proofs.Outside.{nothing_said}
 use Rattle.c2_build.proofs.Drawn.{then_next, unless_fails, unless_passes}
 
 -- ---- what is signed
 
+-- the binding of a seat is that of its place
+seat_with : (s : Seat) (p : Place) (start len : ℕ) (digest : List ℕ) → IsSeat s p → start ≡ place_start p → seat_binding s start len digest ≡ binding_with p len digest
+seat_with (Seat.Segments at number) (in_segments segments en) start len digest h is = ap (λ (n : ℕ). data_binding n len digest) is
+seat_with (Seat.Segments at number) (in_boxes roots) start len digest h is = absurd h
+seat_with (Seat.Boxes rows) (in_segments segments en) start len digest h is = absurd h
+seat_with (Seat.Boxes rows) (in_boxes roots) start len digest h is = refl
+
 -- the binding of a draft is that of its place
-same_binding : (hash : List ℕ → List ℕ) (media : List ℕ) (d : Definition) (w : Drafted) (g : Ground) (p : Place) (digest : List ℕ) → IsGround hash media d w.ground g → IsNumbered w.draft g p → digest ≡ hash (taken_out w.ground.skip.start w.ground.skip.length media)
-    → data_binding w.draft.start w.draft.length digest ≡ data_binding (insert_place p.segments) (new_range_len g.content) (hash g.base)
-same_binding hash media d w g p digest ground numbers is =
-    ap (λ (n : ℕ). data_binding n w.draft.length digest) numbers.start ∙ ap (λ (n : ℕ). data_binding (insert_place p.segments) n digest) numbers.length
-    ∙ ap (λ (x : List ℕ). data_binding (insert_place p.segments) (new_range_len g.content) x) (is ∙ ap hash (sym ground.base))
+same_binding : (hash : List ℕ → List ℕ) (known : Option (List ℕ)) (media : List ℕ) (d : Definition) (w : Drafted) (g : Ground) (p : Place) (parts : NewParts) → IsGround hash media d w.ground g → IsPlace g.base p → IsSeat w.seat p → IsNumbered w.draft g p
+    → (new : AreNewParts hash known d w parts) → known ≡ Some (cleared w.ground.clearing media)
+    → seat_binding w.seat w.draft.start w.draft.length new.digest ≡ place_binding hash g.content g.content.definition.reserve g.base p
+same_binding hash known media d w g p parts ground at seat numbers new is =
+    let digest : new.digest ≡ hash (bound_text (cleared w.ground.clearing media) p) = new.is_digest (cleared w.ground.clearing media) is p (subst (λ (b : List ℕ). IsPlace b p) ground.base at) seat in
+    seat_with w.seat p w.draft.start w.draft.length new.digest seat numbers.start ∙ ap (λ (n : ℕ). binding_with p n new.digest) numbers.length
+    ∙ ap (binding_with p (new_range_len p g.content)) (digest ∙ ap (λ (b : List ℕ). hash (bound_text b p)) (sym ground.base))
 
 -- the bytes that were made over the claim
-pub signed_is : (hash : Alg → List ℕ → List ℕ) (media : List ℕ) (d : Definition) (w : Drafted) (g : Ground) (p : Place) (parts : NewParts) (known : Option (List ℕ)) (claim tbs : List ℕ) → IsGround (hash Sha256) media d w.ground g → IsNumbered w.draft g p
-    → AreNewParts (hash Sha256) known d w parts → known ≡ Some media → claim ≡ parts.claim → tbs ≡ deterministic (sig_structure d.protected claim) → tbs ≡ signed_bytes hash g p
-signed_is hash media d w g p parts known claim tbs ground numbers new is same made =
-    let binding = same_binding (hash Sha256) media d w g p new.digest ground numbers (new.is_digest media is) in
+pub signed_is : (hash : Alg → List ℕ → List ℕ) (media : List ℕ) (d : Definition) (w : Drafted) (g : Ground) (p : Place) (parts : NewParts) (known : Option (List ℕ)) (claim tbs : List ℕ) → IsGround (hash Sha256) media d w.ground g → IsPlace g.base p → IsSeat w.seat p → IsNumbered w.draft g p
+    → AreNewParts (hash Sha256) known d w parts → known ≡ Some (cleared w.ground.clearing media) → claim ≡ parts.claim → tbs ≡ deterministic (sig_structure d.protected claim) → tbs ≡ signed_bytes hash g p
+signed_is hash media d w g p parts known claim tbs ground at seat numbers new is same made =
+    let binding = same_binding (hash Sha256) known media d w g p parts ground at seat numbers new is in
     let own = new.parts g.content ground.content in
     made ∙ ap (λ (x : List ℕ). deterministic (sig_structure d.protected x)) (same ∙ own.claim ∙ ap (new_claim (hash Sha256) g.content) binding)
-    ∙ ap (λ (x : Definition). deterministic (sig_structure x.protected (new_claim (hash Sha256) g.content (data_binding (insert_place p.segments) (new_range_len g.content) (hash Sha256 g.base))))) (sym ground.content.definition)
+    ∙ ap (λ (x : Definition). deterministic (sig_structure x.protected (new_claim (hash Sha256) g.content (place_binding (hash Sha256) g.content g.content.definition.reserve g.base p)))) (sym ground.content.definition)
 
 -- ---- the message
 
@@ -73,9 +93,9 @@ refused_by : (hash : Alg → List ℕ → List ℕ) (said : Question → Verdict
 refused_by hash said media kind d parts g p n h own r =
     let last : first_refusal (reserve_tests g.content.definition parts) ≡ Some (build.ReserveTooSmall n) =
     ap (λ (x : Definition). first_refusal (reserve_tests x parts)) own ∙ ap (λ (x : Option ℕ). first_refusal (option_to_list (option_map (λ (m : ℕ). refuse_if true (build.ReserveTooSmall m)) x))) r in
-    let first = first_passes (ground_tests g p.number) (reserve_tests g.content.definition parts) (Some (build.ReserveTooSmall n)) h.numbers last in
+    let first = first_passes (ground_tests g p) (reserve_tests g.content.definition parts) (Some (build.ReserveTooSmall n)) h.numbers last in
     then_next (IsGroundStage hash said media d kind) (IsEmbeddedOn hash parts) g (Err (build.ReserveTooSmall n)) h.ground
-    (then_next (IsPlaceStage g.base) _ p (Err (build.ReserveTooSmall n)) h.stage (unless_fails (first_refusal (late_tests g parts p.number)) _ (build.ReserveTooSmall n) first))
+    (then_next (IsPlaceStage g.base) _ p (Err (build.ReserveTooSmall n)) h.stage (unless_fails (first_refusal (late_tests g parts p)) _ (build.ReserveTooSmall n) first))
 
 -- so it is for each error
 pub reserve_outside : (hash : Alg → List ℕ → List ℕ) (said : Question → Verdict) (media : List ℕ) (kind : MediaKind) (d : Definition) (parts : SignParts) (g : Ground) (p : Place) (e : BuildError) → IsPassed hash said media d kind g p → g.content.definition ≡ d → IsReserveRefusal d parts e
@@ -83,10 +103,10 @@ pub reserve_outside : (hash : Alg → List ℕ → List ℕ) (said : Question �
 reserve_outside hash said media kind d parts g p (build.MediaRefused reason number) h own r = absurd r
 reserve_outside hash said media kind d parts g p (build.BadDefinition field) h own r = absurd r
 reserve_outside hash said media kind d parts g p (build.BadSignature part) h own r = absurd r
-reserve_outside hash said media kind d parts g p build.Later h own r = absurd r
 reserve_outside hash said media kind d parts g p (build.ParentFails code uri) h own r = absurd r
 reserve_outside hash said media kind d parts g p (build.LabelTaken label) h own r = absurd r
 reserve_outside hash said media kind d parts g p (build.RedactionRefused text code) h own r = absurd r
+reserve_outside hash said media kind d parts g p (build.OpenBox at) h own r = absurd r
 reserve_outside hash said media kind d parts g p build.NoInstance h own r = absurd r
 reserve_outside hash said media kind d parts g p (build.TooManyManifests n) h own r = absurd r
 reserve_outside hash said media kind d parts g p (build.StoreTooLarge n) h own r = absurd r
@@ -99,39 +119,49 @@ reserve_outside hash said media kind d parts g p build.NoMemory h own r = tt
 -- ---- what is written
 
 -- a file is built where no test fails
-pub built_over : FillsOrNeedsMore → (hash : Alg → List ℕ → List ℕ) (said : Question → Verdict) (media : List ℕ) (kind : MediaKind) (d : Definition) (parts : SignParts) (g : Ground) (p : Place) (en : ℕ) (message : List ℕ) → IsPassed hash said media d kind g p → g.content.definition ≡ d
-    → p.number ≡ Some en → IsSigned parts d.reserve message → IsEmbeddedOver hash said media kind d parts (Ok (built_of hash g p.segments en message))
-built_over law hash said media kind d parts g p en message h own free signed =
+pub built_over : FillsOrNeedsMore → (hash : Alg → List ℕ → List ℕ) (said : Question → Verdict) (media : List ℕ) (kind : MediaKind) (d : Definition) (parts : SignParts) (g : Ground) (p : Place) (message bytes : List ℕ) → IsPassed hash said media d kind g p → g.content.definition ≡ d
+    → put_bytes p (tree_bytes (place_store (hash Sha256) g.content message g.base p)) ≡ Some bytes → IsSigned parts d.reserve message → IsEmbeddedOver hash said media kind d parts (Ok (built_of g p bytes))
+built_over law hash said media kind d parts g p message bytes h own put signed =
     let filled : IsSigned parts g.content.definition.reserve message = subst (λ (x : Definition). IsSigned parts x.reserve message) (sym own) signed in
-    let none = first_passes (ground_tests g p.number) (reserve_tests g.content.definition parts) None h.numbers (fits law g.content.definition parts message filled) in
-    then_next (IsGroundStage hash said media d kind) (IsEmbeddedOn hash parts) g (Ok (built_of hash g p.segments en message)) h.ground
-    (then_next (IsPlaceStage g.base) _ p (Ok (built_of hash g p.segments en message)) h.stage
-    (unless_passes (first_refusal (late_tests g parts p.number)) (IsBuilt hash g p parts) (Ok (built_of hash g p.segments en message)) none (en, free, (message, filled, refl))))
+    let none = first_passes (ground_tests g p) (reserve_tests g.content.definition parts) None h.numbers (fits law g.content.definition parts message filled) in
+    then_next (IsGroundStage hash said media d kind) (IsEmbeddedOn hash parts) g (Ok (built_of g p bytes)) h.ground
+    (then_next (IsPlaceStage g.base) _ p (Ok (built_of g p bytes)) h.stage
+    (unless_passes (first_refusal (late_tests g parts p)) (IsBuilt hash g p parts) (Ok (built_of g p bytes)) none (message, filled, (bytes, put, refl))))
 
 -- a store was made of these parts
 abbrev pub IsMade : Definition → Carried → NewParts → List ℕ → List ℕ → Type 0
 IsMade d k parts message store = (h : List ℕ → List ℕ) (c : Content) (binding : NewAssertion) → IsContent h d k c → AreParts h c binding parts → store ≡ tree_bytes (new_store h c binding message)
 
+-- what is put in of a store
+put_is : (put : Put) (p : Place) (store : List ℕ) → IsPut put p → put_bytes p store ≡ Some (put_of put store)
+put_is (Put.Packets en) (in_segments segments number) store h = ap (option_map (packets_bytes store)) h
+put_is (Put.Packets en) (in_boxes roots) store h = absurd h
+put_is Put.Box (in_segments segments number) store h = absurd h
+put_is Put.Box (in_boxes roots) store h = refl
+
 -- it is ready to be written
-pub ready_is : (hash : Alg → List ℕ → List ℕ) (media : List ℕ) (d : Definition) (w : Drafted) (parts : NewParts) (known : Option (List ℕ)) (message : List ℕ) (r : Ready) → r.draft ≡ w.draft → r.skip ≡ w.ground.skip → AreNewParts (hash Sha256) known d w parts → known ≡ Some media → length message ≡ d.reserve
-    → IsMade d w.ground.carried parts message r.store → (g : Ground) (p : Place) → IsGround (hash Sha256) media d w.ground g → IsNumbered w.draft g p → IsReady media r (built_of hash g p.segments w.draft.number message)
-ready_is hash media d w parts known message r draft skip new is filled store g p ground numbers =
-    let binding = same_binding (hash Sha256) media d w g p new.digest ground numbers (new.is_digest media is) in
+pub ready_is : (hash : Alg → List ℕ → List ℕ) (media : List ℕ) (d : Definition) (w : Drafted) (parts : NewParts) (known : Option (List ℕ)) (message : List ℕ) (r : Ready) → r.draft ≡ w.draft → r.clearing ≡ w.ground.clearing → AreNewParts (hash Sha256) known d w parts
+    → known ≡ Some (cleared w.ground.clearing media) → length message ≡ d.reserve → IsMade d w.ground.carried parts message r.store
+    → (g : Ground) (p : Place) → IsGround (hash Sha256) media d w.ground g → IsPlace g.base p → IsSeat w.seat p → IsNumbered w.draft g p → IsPutReady (hash Sha256) media r g p message
+ready_is hash media d w parts known message r draft clearing new is filled store g p ground at seat numbers =
+    let binding = same_binding (hash Sha256) known media d w g p parts ground at seat numbers new is in
     let reserve : length message ≡ g.content.definition.reserve = filled ∙ ap (λ (x : Definition). x.reserve) (sym ground.content.definition) in
-    let own : r.store ≡ tree_bytes (new_store (hash Sha256) g.content (data_binding (insert_place p.segments) (built_len g.content (length message)) (hash Sha256 g.base)) message) =
-    store (hash Sha256) g.content (data_binding w.draft.start w.draft.length new.digest) ground.content (new.parts g.content ground.content)
+    let own : r.store ≡ tree_bytes (place_store (hash Sha256) g.content message g.base p) =
+    store (hash Sha256) g.content (seat_binding w.seat w.draft.start w.draft.length new.digest) ground.content (new.parts g.content ground.content)
     ∙ ap (λ (b : NewAssertion). tree_bytes (new_store (hash Sha256) g.content b message)) binding
-    ∙ ap (λ (n : ℕ). tree_bytes (new_store (hash Sha256) g.content (data_binding (insert_place p.segments) (built_len g.content n) (hash Sha256 g.base)) message)) (sym reserve) in
-    let base : g.base ≡ taken_out r.skip.start r.skip.length media = ground.base ∙ ap (λ (s : Range). taken_out s.start s.length media) (sym skip) in
-    let start : insert_place p.segments ≡ r.draft.start = sym numbers.start ∙ ap (λ (f : Draft). f.start) (sym draft) in
-    let number : w.draft.number ≡ r.draft.number = ap (λ (f : Draft). f.number) (sym draft) in
+    ∙ ap (λ (n : ℕ). tree_bytes (new_store (hash Sha256) g.content (place_binding (hash Sha256) g.content n g.base p) message)) (sym reserve) in
+    let base : g.base ≡ cleared r.clearing media = ground.base ∙ ap (λ (c : Clearing). cleared c media) (sym clearing) in
+    let start : place_start p ≡ r.draft.start = sym numbers.start ∙ ap (λ (f : Draft). f.start) (sym draft) in
+    let put : IsPut r.draft.put p = subst (λ (f : Draft). IsPut f.put p) (sym draft) numbers.put in
+    let bytes : List ℕ = put_of r.draft.put r.store in
     record {
-      file = ap (λ (x : List ℕ). put_in (insert_place p.segments) (packets_bytes x w.draft.number) g.base) (sym own)
-          ∙ ap (λ (n : ℕ). put_in n (packets_bytes r.store w.draft.number) g.base) start
-          ∙ ap (λ (n : ℕ). put_in r.draft.start (packets_bytes r.store n) g.base) number
-          ∙ ap (put_in r.draft.start (packets_bytes r.store r.draft.number)) base;
-      start = start;
-      len = sym numbers.length ∙ ap (λ (f : Draft). f.length) (sym draft);
+      bytes = bytes;
+      are = ap (put_bytes p) (sym own) ∙ put_is r.draft.put p r.store put;
+      is = record {
+        file = ap (λ (n : ℕ). put_in n bytes g.base) start ∙ ap (put_in r.draft.start bytes) base;
+        start = start;
+        len = sym numbers.length ∙ ap (λ (f : Draft). f.length) (sym draft);
+      };
     }
 
 -- a new store can go into packets
@@ -149,13 +179,53 @@ packet_store carried m small =
       of_c2pa = refl;
     }
 
+-- how long a new store is in a seat, with so many bytes for its message
+abbrev pub seat_size : Seat → Content → ℕ → ℕ
+seat_size (Seat.Segments start number) c reserve = store_size c reserve
+seat_size (Seat.Boxes rows) c reserve = film_store_size c reserve
+
+-- so long it is with what is reserved
+pub seat_size_is : (s : Seat) (c : Content) → seat_size s c c.definition.reserve ≡ seat_store_len s c
+seat_size_is (Seat.Segments start number) c = refl
+seat_size_is (Seat.Boxes rows) c = refl
+
+-- it is so long whatever its range and its digests
+pub seat_fixed : StoreSizeIsFixed → FilmSizeIsFixed → (hash : List ℕ → List ℕ) (c : Content) (s : Seat) (start len : ℕ) (digest message : List ℕ) → HasDigestLen hash → length digest ≡ digest_len Sha256
+    → length (tree_bytes (new_store hash c (seat_binding s start len digest) message)) ≡ seat_size s c (length message)
+seat_fixed law film hash c (Seat.Segments at number) start len digest message digests sized = law hash c start len digest message digests sized
+seat_fixed law film hash c (Seat.Boxes rows) start len digest message digests sized = film hash c digest message digests sized
+
+-- digests of zero bytes have their length
+no_digests : HasDigestLen no_digest
+no_digests text = length-replicate {A = ℕ} (digest_len Sha256) 0
+
+-- and so with no digest beside the binding's
+pub seat_bound : StoreSizeIsFixed → FilmSizeIsFixed → (c : Content) (s : Seat) (start len : ℕ) (digest : List ℕ) (reserve : ℕ) → length digest ≡ digest_len Sha256
+    → bound_len c (seat_binding s start len digest) reserve ≡ seat_size s c reserve
+seat_bound law film c s start len digest reserve sized =
+    seat_fixed law film no_digest c s start len digest (replicate reserve 0) no_digests sized ∙ ap (seat_size s c) (length-replicate {A = ℕ} reserve 0)
+
+-- its binding is of a kind that is known
+pub seat_known : (s : Seat) (start len : ℕ) (digest : List ℕ) → IsKnownBinding (seat_binding s start len digest)
+seat_known (Seat.Segments at number) start len digest = record { label = inl refl; item = refl }
+seat_known (Seat.Boxes rows) start len digest = record { label = inr refl; item = refl }
+
 -- and so can that of a draft
-pub store_packs : StoreSizeIsFixed → (hash : List ℕ → List ℕ) (known : Option (List ℕ)) (len : ℕ) (d : Definition) (w : Drafted) (parts : NewParts) (message store : List ℕ) → HasDigestLen hash → AreNewParts hash known d w parts → length message ≡ d.reserve → IsSmall hash len d w
+pub store_packs : StoreSizeIsFixed → FilmSizeIsFixed → (hash : List ℕ → List ℕ) (known : Option (List ℕ)) (len : ℕ) (d : Definition) (w : Drafted) (parts : NewParts) (message store : List ℕ) → HasDigestLen hash → AreNewParts hash known d w parts → length message ≡ d.reserve → IsSmall hash len d w
     → IsMade d w.ground.carried parts message store → IsPacketStore store
-store_packs law hash known len d w parts message store digests new filled small is =
+store_packs law film hash known len d w parts message store digests new filled small is =
     let c : Content = small.content in
-    let binding : NewAssertion = data_binding w.draft.start w.draft.length new.digest in
+    let binding : NewAssertion = seat_binding w.seat w.draft.start w.draft.length new.digest in
     let tree : List ℕ = tree_bytes (new_store hash c binding message) in
-    let size : length tree ≡ store_size c (length message) = law hash c w.draft.start w.draft.length new.digest message digests new.sized in
-    let reserved : store_size c (length message) ≡ new_store_len c = ap (store_size c) (filled ∙ ap (λ (x : Definition). x.reserve) (sym small.is.definition)) in
+    let size : length tree ≡ seat_size w.seat c (length message) = seat_fixed law film hash c w.seat w.draft.start w.draft.length new.digest message digests new.sized in
+    let reserved : seat_size w.seat c (length message) ≡ seat_store_len w.seat c = ap (seat_size w.seat c) (filled ∙ ap (λ (x : Definition). x.reserve) (sym small.is.definition)) ∙ seat_size_is w.seat c in
     subst IsPacketStore (sym (is hash c binding small.is (new.parts c small.is))) (packet_store c.carried (new_manifest hash c binding message) (omega (arith, size, reserved, small.small)))
+
+-- ---- what comes of it
+
+-- what is ready is the new file
+pub ready_built : FillsOrNeedsMore → (hash : Alg → List ℕ → List ℕ) (said : Question → Verdict) (media : List ℕ) (kind : MediaKind) (d : Definition) (parts : SignParts) (w : Drafted) (at : IsDrafted hash said media d kind w) (message : List ℕ) (r : Result Ready BuildError) → IsSigned parts d.reserve message
+    → IfOk r (λ x. IsPutReady (hash Sha256) media x at.ground at.place message) → IfErr r SaysNothing → ComesAs (IsReady media) (IsEmbeddedOver hash said media kind d parts) r
+ready_built law hash said media kind d parts w at message (Ok x) signed h k =
+    (built_of at.ground at.place h.bytes, built_over law hash said media kind d parts at.ground at.place message h.bytes at.passed at.is.content.definition h.are signed, h.is)
+ready_built law hash said media kind d parts w at message (Err e) signed h k = nothing_said e _ k

@@ -1,5 +1,5 @@
 -- Told inputs come to one plan and to one new file.
-use Rattle.std.proofs.Common.{◌≡◌, ◌⊎◌, inl, inr, ℕ, ◌+◌, Bool, true, false, not, ◌&&◌, List, [], length, Option, refl, sym, ap, ◌∙◌, subst}
+use Rattle.std.proofs.Common.{◌≡◌, ◌⊎◌, inl, inr, ℕ, ◌+◌, Bool, true, false, not, ◌&&◌, List, [], length, refl, sym, ap, ◌∙◌, subst}
 use Rattle.std.specs.Prelude.{Result, Ok, Err}
 use Rattle.std.proofs.lemmas.Option.{same_Some}
 use Rattle.c2_base.specs.declared.values.Question.{Question}
@@ -9,12 +9,10 @@ use Rattle.c2_spec.specs.C2pa.Sign1.{SignParts, SpellsMessage, message_list}
 use Rattle.c2_spec.specs.Cbor.Item.{Item, tag}
 use Rattle.c2_spec.specs.Cbor.Spelling.{Spells}
 use Rattle.c2_spec.specs.Container.{Container, IsContainer, begins_jpeg, bmff, is_bmff, jpeg}
-use Rattle.c2_spec.specs.Jpeg.Places.{HasNumber, IsOfSegments}
-use Rattle.c2_spec.specs.Jpeg.Segments.{Segment}
-use Rattle.c2_spec.specs.Jumbf.Tree.{Tree}
+use Rattle.c2_spec.specs.Jumbf.Tree.{Tree, tree_bytes}
 use Rattle.c2_spec.specs.Located.{Opening}
-use Rattle.c2_spec.specs.PutIn.{taken_out}
 use Rattle.c2_spec.specs.declared.digest.Alg.{Alg}
+use Rattle.c2_spec.specs.declared.digest.Alg.TheVariants.{Sha256}
 use Rattle.c2_spec.specs.declared.panel.Verdict.{Verdict}
 use Rattle.c2_rules.specs.Binding.{IsMedia, Media}
 use Rattle.c2_rules.specs.CheckList.{IsStoreReading, StoreReading, check_list}
@@ -28,9 +26,11 @@ use Rattle.c2_definition.specs.declared.types.DefinitionField.{DefinitionField}
 use Rattle.c2_message.specs.Message.{RefusedForOne}
 use Rattle.c2_message.specs.Signed.{FillsOrNeedsMore}
 use Rattle.c2_message.specs.declared.error.SignaturePart.{SignaturePart}
-use Rattle.c2_layout.specs.Store.{Content}
+use Rattle.c2_built.specs.Store.{Content}
 use Rattle.c2_carried.specs.Carrying.{ContentIsOne}
-use Rattle.c2_build.specs.Building.{IsBuilt, IsDefinitionRefused, IsDefinitionStage, IsEmbeddedOn, IsGroundOver, IsGroundStage, IsMediaRefused, IsMediaStage, IsMessageRead, IsMessageStage, IsPlace, IsPlaceStage, IsPlannedOn, MediaKind, Place, Unless, built_of, definition_stage, fresh, fresh_ground, media_stage, message_stage, signed_bytes, stored, waits}
+use Rattle.c2_places.specs.Laws.{OneLeft, OnePlace}
+use Rattle.c2_places.specs.Places.{Place, place_store, put_bytes}
+use Rattle.c2_build.specs.Building.{IsBuilt, IsDefinitionRefused, IsDefinitionStage, IsEmbeddedOn, IsGroundOver, IsGroundStage, IsMediaRefused, IsMediaStage, IsMessageRead, IsMessageStage, IsPlaceStage, IsPlannedOn, MediaKind, Unless, built_of, definition_stage, fresh, fresh_ground, media_stage, message_stage, signed_bytes, stored}
 use Rattle.c2_build.specs.Meeting.{OneEmbedding, OnePlan}
 use Rattle.c2_build.specs.Refusals.{Ground, first_refusal, ground_tests, late_tests, older_tests, redaction_tests}
 use Rattle.c2_build.proofs.Stages.{IsOne, one_then, one_unless}
@@ -49,14 +49,6 @@ OneDefinition = (file : List ℕ) (r s : Result Definition DefinitionField) → 
 abbrev pub OneItem : Type 0
 OneItem = (v w : Item) (s : List ℕ) → Spells v s → Spells w s → v ≡ w
 
--- a file is one list of segments
-abbrev pub OneList : Type 0
-OneList = (file : List ℕ) (xs ys : List Segment) → IsOfSegments file xs → IsOfSegments file ys → xs ≡ ys
-
--- one number is free in a file, or none
-abbrev pub OneNumber : Type 0
-OneNumber = (file : List ℕ) (m n : Option ℕ) → HasNumber file m → HasNumber file n → m ≡ n
-
 -- the store of a file is read in one way
 abbrev pub OneStoreReading : Type 0
 OneStoreReading = (file : List ℕ) (t : Tree) (a b : StoreReading) → IsFileReading file t a → IsFileReading file t b → a ≡ b
@@ -66,8 +58,8 @@ pub record OneLaws : Type 0 where
   pub opened : OneOpened
   pub definition : OneDefinition
   pub item : OneItem
-  pub list : OneList
-  pub number : OneNumber
+  pub place : OnePlace
+  pub left : OneLeft
   pub refused : RefusedForOne
   pub fills : FillsOrNeedsMore
   pub reading : OneStoreReading
@@ -139,7 +131,7 @@ same_message one s p q a b =
 
 -- a media file is one thing to a build
 pub one_media : OneOpened → (media : List ℕ) → IsOne (IsMediaStage media)
-one_media one media r s h k = h.2 ∙ ap (media_stage media) (one media h.0 k.0 h.1 k.1) ∙ sym k.2
+one_media one media r s h k = h.2 ∙ ap media_stage (one media h.0 k.0 h.1 k.1) ∙ sym k.2
 
 -- so is a definition file
 pub one_definition : OneDefinition → (file : List ℕ) → IsOne (IsDefinitionStage file)
@@ -164,27 +156,17 @@ one_read one refused protected bytes (Err t) (Err u) h k = ap (λ (x : Signature
 pub one_message : OneItem → RefusedForOne → (protected bytes : List ℕ) → IsOne (IsMessageStage protected bytes)
 one_message one refused protected bytes r s h k = h.2 ∙ ap message_stage (one_read one refused protected bytes h.0 k.0 h.1 k.1) ∙ sym k.2
 
--- a place of these parts
-abbrev place : List Segment → Option ℕ → Place
-place segments number = record { segments = segments; number = number }
-
--- where packets go is one place
-same_place : OneList → OneNumber → (media : List ℕ) (p q : Place) → IsPlace media p → IsPlace media q → p ≡ q
-same_place list number media p q h k =
-    let segments : p.segments ≡ q.segments = list media p.segments q.segments h.is_of k.is_of in
-    let free : p.number ≡ q.number = number media p.number q.number (record { segments = p.segments; is_of = h.is_of; number_is = h.is_number }) (record { segments = q.segments; is_of = k.is_of; number_is = k.is_number }) in
-    ap (λ (ss : List Segment). place ss p.number) segments ∙ ap (λ (n : Option ℕ). place q.segments n) free
-
 -- a place is one
-one_place : OneList → OneNumber → (media : List ℕ) → IsOne (IsPlaceStage media)
-one_place list number media r s h k = h.2 ∙ ap (λ (p : Place). Ok p) (same_place list number media h.0 k.0 h.1 k.1) ∙ sym k.2
+one_place : OnePlace → (base : List ℕ) → IsOne (IsPlaceStage base)
+one_place law base r s h k = h.2 ∙ ap (λ (p : Place). Ok p) (law base h.0 k.0 h.1 k.1) ∙ sym k.2
 
 -- one new file is built
 one_built : FillsOrNeedsMore → (hash : Alg → List ℕ → List ℕ) (g : Ground) (p : Place) (m : SignParts) → IsOne (IsBuilt hash g p m)
 one_built fills hash g p m r s h k =
-    let number : h.0 ≡ k.0 = same_Some h.0 k.0 (sym h.1 ∙ k.1) in
-    h.2.2 ∙ ap (λ (en : ℕ). Ok (built_of hash g p.segments en h.2.0)) number
-    ∙ ap (λ (message : List ℕ). Ok (built_of hash g p.segments k.0 message)) (fills.one m g.content.definition.reserve h.2.0 k.2.0 h.2.1 k.2.1) ∙ sym k.2.2
+    let message : h.0 ≡ k.0 = fills.one m g.content.definition.reserve h.0 k.0 h.1 k.1 in
+    let store = ap (λ (x : List ℕ). put_bytes p (tree_bytes (place_store (hash Sha256) g.content x g.base p))) message in
+    let bytes : h.2.0 ≡ k.2.0 = same_Some h.2.0 k.2.0 (sym h.2.1 ∙ store ∙ k.2.1) in
+    h.2.2 ∙ ap (λ (b : List ℕ). Ok (built_of g p b)) bytes ∙ sym k.2.2
 
 -- ---- the ground
 
@@ -193,16 +175,16 @@ abbrev pub ground_of : List ℕ → Content → ℕ → Ground
 ground_of base content manifests = record { base = base; content = content; manifests = manifests }
 
 -- over an older store, what is built over is one
-one_over : ContentIsOne → (media : List ℕ) (d : Definition) (start len : ℕ) (t : Tree) (rs : List Reading) → IsOne (IsGroundOver media d start len t rs)
-one_over one media d start len t rs r s h k =
-    h.2 ∙ ap (λ (c : Content). Ok (ground_of (taken_out start len media) c (length rs + 1))) (one d t h.0 k.0 h.1 k.1) ∙ sym k.2
+one_over : OneLeft → ContentIsOne → (media : List ℕ) (d : Definition) (start len : ℕ) (t : Tree) (rs : List Reading) → IsOne (IsGroundOver media d start len t rs)
+one_over left one media d start len t rs r s h k =
+    h.2.2 ∙ ap (λ (c : Content). Ok (ground_of h.2.0 c (length rs + 1))) (one d t h.0 k.0 h.1 k.1)
+    ∙ ap (λ (b : List ℕ). Ok (ground_of b k.0 (length rs + 1))) (left media start len h.2.0 k.2.0 h.2.1 k.2.1) ∙ sym k.2.2
 
 -- what is built over is one, or what is refused of it
 pub one_ground : OneLaws → (hash : Alg → List ℕ → List ℕ) (said : Question → Verdict) (media : List ℕ) (d : Definition) (kind : MediaKind) → IsOne (IsGroundStage hash said media d kind)
-one_ground l hash said media d waits r s h k = h ∙ sym k
 one_ground l hash said media d fresh r s h k = one_unless (first_refusal (redaction_tests d [])) (λ x. x ≡ Ok (fresh_ground media d)) (λ a b p q. p ∙ sym q) r s h k
 one_ground l hash said media d (stored start len t) r s h k =
-    one_unless (first_refusal (older_tests d h.0.readings (first_failing (check_list hash said h.0)))) (IsGroundOver media d start len t h.0.readings) (one_over l.content media d start len t h.0.readings) r s h.2
+    one_unless (first_refusal (older_tests d h.0.readings (first_failing (check_list hash said h.0)))) (IsGroundOver media d start len t h.0.readings) (one_over l.left l.content media d start len t h.0.readings) r s h.2
     (subst (λ (x : StoreReading). Unless (first_refusal (older_tests d x.readings (first_failing (check_list hash said x)))) (IsGroundOver media d start len t x.readings) s) (l.reading media t k.0 h.0 k.1 h.1) k.2)
 
 -- ---- both calls
@@ -210,14 +192,14 @@ one_ground l hash said media d (stored start len t) r s h k =
 -- what is planned over a ground is one
 one_planned_on : OneLaws → (hash : Alg → List ℕ → List ℕ) (g : Ground) → IsOne (IsPlannedOn hash g)
 one_planned_on l hash g =
-    one_then (IsPlaceStage g.base) _ (one_place l.list l.number g.base) (λ p.
-    one_unless (first_refusal (ground_tests g p.number)) (λ r. r ≡ Ok (signed_bytes hash g p)) (λ r s h k. h ∙ sym k))
+    one_then (IsPlaceStage g.base) _ (one_place l.place g.base) (λ p.
+    one_unless (first_refusal (ground_tests g p)) (λ r. r ≡ Ok (signed_bytes hash g p)) (λ r s h k. h ∙ sym k))
 
 -- and what is built
 one_embedded_on : OneLaws → (hash : Alg → List ℕ → List ℕ) (m : SignParts) (g : Ground) → IsOne (IsEmbeddedOn hash m g)
 one_embedded_on l hash m g =
-    one_then (IsPlaceStage g.base) _ (one_place l.list l.number g.base) (λ p.
-    one_unless (first_refusal (late_tests g m p.number)) (IsBuilt hash g p m) (one_built l.fills hash g p m))
+    one_then (IsPlaceStage g.base) _ (one_place l.place g.base) (λ p.
+    one_unless (first_refusal (late_tests g m p)) (IsBuilt hash g p m) (one_built l.fills hash g p m))
 
 -- a plan is one
 pub one_plan : OneLaws → OnePlan

@@ -17,10 +17,10 @@ pub outside_map : (e : BuildError) {P Q : Type 0} → (P → Q) → WithoutFault
 outside_map (build.MediaRefused reason number) f h = f h
 outside_map (build.BadDefinition field) f h = f h
 outside_map (build.BadSignature part) f h = f h
-outside_map build.Later f h = f h
 outside_map (build.ParentFails code uri) f h = f h
 outside_map (build.LabelTaken label) f h = f h
 outside_map (build.RedactionRefused text code) f h = f h
+outside_map (build.OpenBox at) f h = f h
 outside_map build.NoInstance f h = f h
 outside_map (build.TooManyManifests n) f h = f h
 outside_map (build.StoreTooLarge n) f h = f h
@@ -34,15 +34,33 @@ outside_map build.NoMemory f h = h
 pub nothing_said : (e : BuildError) (P : Type 0) → SaysNothing e → WithoutFault e P
 nothing_said e P h = outside_map e (λ (x : ⊥). absurd x) h
 
+-- what holds holds of each error
+pub outside_all : (e : BuildError) {P : Type 0} → P → WithoutFault e P
+outside_all (build.MediaRefused reason number) h = h
+outside_all (build.BadDefinition field) h = h
+outside_all (build.BadSignature part) h = h
+outside_all (build.ParentFails code uri) h = h
+outside_all (build.LabelTaken label) h = h
+outside_all (build.RedactionRefused text code) h = h
+outside_all (build.OpenBox at) h = h
+outside_all build.NoInstance h = h
+outside_all (build.TooManyManifests n) h = h
+outside_all (build.StoreTooLarge n) h = h
+outside_all (build.ReserveTooSmall n) h = h
+outside_all build.ReadFault h = tt
+outside_all build.JudgeFault h = tt
+outside_all build.WriteFault h = tt
+outside_all build.NoMemory h = tt
+
 -- what is said of any answer
 pub said_of : (e : BuildError) {P : Type 0} → P → WithoutFault e P
 said_of (build.MediaRefused reason number) h = h
 said_of (build.BadDefinition field) h = h
 said_of (build.BadSignature part) h = h
-said_of build.Later h = h
 said_of (build.ParentFails code uri) h = h
 said_of (build.LabelTaken label) h = h
 said_of (build.RedactionRefused text code) h = h
+said_of (build.OpenBox at) h = h
 said_of build.NoInstance h = h
 said_of (build.TooManyManifests n) h = h
 said_of (build.StoreTooLarge n) h = h
@@ -57,10 +75,10 @@ pub store_outside : (len : ℕ) (e : BuildError) (o : Option BuildError) → IsS
 store_outside len (build.MediaRefused reason number) o h f = absurd h
 store_outside len (build.BadDefinition field) o h f = absurd h
 store_outside len (build.BadSignature part) o h f = absurd h
-store_outside len build.Later o h f = absurd h
 store_outside len (build.ParentFails code uri) o h f = absurd h
 store_outside len (build.LabelTaken label) o h f = absurd h
 store_outside len (build.RedactionRefused text code) o h f = absurd h
+store_outside len (build.OpenBox at) o h f = absurd h
 store_outside len build.NoInstance o h f = absurd h
 store_outside len (build.TooManyManifests n) o h f = absurd h
 store_outside len (build.StoreTooLarge n) o h f = f h.1 ∙ ap (λ (m : ℕ). Some (build.StoreTooLarge m)) (sym h.0)
@@ -77,10 +95,10 @@ pub read_ask : (m n : ℕ) (js ks : List ℕ) (e : BuildError) → ks ≡ js →
 read_ask m n js ks (build.MediaRefused reason number) same h = (h, same)
 read_ask m n js ks (build.BadDefinition field) same h = (h, same)
 read_ask m n js ks (build.BadSignature part) same h = absurd h
-read_ask m n js ks build.Later same h = (h, same)
 read_ask m n js ks (build.ParentFails code uri) same h = (h, same)
 read_ask m n js ks (build.LabelTaken label) same h = (h, same)
 read_ask m n js ks (build.RedactionRefused text code) same h = (h, same)
+read_ask m n js ks (build.OpenBox at) same h = (h, same)
 read_ask m n js ks build.NoInstance same h = (h, same)
 read_ask m n js ks (build.TooManyManifests k) same h = (h, same)
 read_ask m n js ks (build.StoreTooLarge k) same h = (h, same)
@@ -95,10 +113,10 @@ pub quiet_ask : (m n : ℕ) (js ks : List ℕ) (e : BuildError) → n ≡ m → 
 quiet_ask m n js ks (build.MediaRefused reason number) count same h = (count, same)
 quiet_ask m n js ks (build.BadDefinition field) count same h = (count, same)
 quiet_ask m n js ks (build.BadSignature part) count same h = absurd h
-quiet_ask m n js ks build.Later count same h = (count, same)
 quiet_ask m n js ks (build.ParentFails code uri) count same h = (count, same)
 quiet_ask m n js ks (build.LabelTaken label) count same h = (count, same)
 quiet_ask m n js ks (build.RedactionRefused text code) count same h = (count, same)
+quiet_ask m n js ks (build.OpenBox at) count same h = (count, same)
 quiet_ask m n js ks build.NoInstance count same h = (count, same)
 quiet_ask m n js ks (build.TooManyManifests k) count same h = (count, same)
 quiet_ask m n js ks (build.StoreTooLarge k) count same h = (count, same)
@@ -113,10 +131,10 @@ pub ask_embed : (m n : ℕ) (js ks : List ℕ) (e : BuildError) → IsAskCause m
 ask_embed m n js ks (build.MediaRefused reason number) h = h
 ask_embed m n js ks (build.BadDefinition field) h = h
 ask_embed m n js ks (build.BadSignature part) h = absurd h
-ask_embed m n js ks build.Later h = h
 ask_embed m n js ks (build.ParentFails code uri) h = h
 ask_embed m n js ks (build.LabelTaken label) h = h
 ask_embed m n js ks (build.RedactionRefused text code) h = h
+ask_embed m n js ks (build.OpenBox at) h = h
 ask_embed m n js ks build.NoInstance h = h
 ask_embed m n js ks (build.TooManyManifests k) h = h
 ask_embed m n js ks (build.StoreTooLarge k) h = h
@@ -133,10 +151,10 @@ pub none_asked : (T : Type 0) (Asks : List Question → Type 0) (j : Judges) (e 
 none_asked T Asks j (build.MediaRefused reason number) judge write h = λ qs a. subst (λ (x : List Question). HaveAsked j.said x j.asked j.asked) (sym (h qs a)) refl
 none_asked T Asks j (build.BadDefinition field) judge write h = λ qs a. subst (λ (x : List Question). HaveAsked j.said x j.asked j.asked) (sym (h qs a)) refl
 none_asked T Asks j (build.BadSignature part) judge write h = λ qs a. subst (λ (x : List Question). HaveAsked j.said x j.asked j.asked) (sym (h qs a)) refl
-none_asked T Asks j build.Later judge write h = λ qs a. subst (λ (x : List Question). HaveAsked j.said x j.asked j.asked) (sym (h qs a)) refl
 none_asked T Asks j (build.ParentFails code uri) judge write h = λ qs a. subst (λ (x : List Question). HaveAsked j.said x j.asked j.asked) (sym (h qs a)) refl
 none_asked T Asks j (build.LabelTaken label) judge write h = λ qs a. subst (λ (x : List Question). HaveAsked j.said x j.asked j.asked) (sym (h qs a)) refl
 none_asked T Asks j (build.RedactionRefused text code) judge write h = λ qs a. subst (λ (x : List Question). HaveAsked j.said x j.asked j.asked) (sym (h qs a)) refl
+none_asked T Asks j (build.OpenBox at) judge write h = λ qs a. subst (λ (x : List Question). HaveAsked j.said x j.asked j.asked) (sym (h qs a)) refl
 none_asked T Asks j build.NoInstance judge write h = λ qs a. subst (λ (x : List Question). HaveAsked j.said x j.asked j.asked) (sym (h qs a)) refl
 none_asked T Asks j (build.TooManyManifests n) judge write h = λ qs a. subst (λ (x : List Question). HaveAsked j.said x j.asked j.asked) (sym (h qs a)) refl
 none_asked T Asks j (build.StoreTooLarge n) judge write h = λ qs a. subst (λ (x : List Question). HaveAsked j.said x j.asked j.asked) (sym (h qs a)) refl
@@ -151,10 +169,10 @@ pub asked_before : (T : Type 0) (Asks : List Question → Type 0) (old new : Jud
 asked_before T Asks old new (build.MediaRefused reason number) judge h = h
 asked_before T Asks old new (build.BadDefinition field) judge h = h
 asked_before T Asks old new (build.BadSignature part) judge h = h
-asked_before T Asks old new build.Later judge h = h
 asked_before T Asks old new (build.ParentFails code uri) judge h = h
 asked_before T Asks old new (build.LabelTaken label) judge h = h
 asked_before T Asks old new (build.RedactionRefused text code) judge h = h
+asked_before T Asks old new (build.OpenBox at) judge h = h
 asked_before T Asks old new build.NoInstance judge h = h
 asked_before T Asks old new (build.TooManyManifests n) judge h = h
 asked_before T Asks old new (build.StoreTooLarge n) judge h = h

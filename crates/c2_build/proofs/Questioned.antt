@@ -7,7 +7,7 @@ use Rattle.c2_spec.specs.declared.panel.Verdict.{Verdict}
 use Rattle.c2_rules.specs.Validated.{CheckAsks}
 use Rattle.c2_message.specs.Message.{RefusedForOne}
 use Rattle.c2_build.specs.Asked.{OneEmbedAsks, OnePlanAsks, SomeEmbedAsks, SomePlanAsks}
-use Rattle.c2_build.specs.Building.{After, AskedBehind, AsksThen, IsDefinitionStage, IsMediaStage, IsMessageStage, KindAsks, MediaKind, Then, fresh, stored, waits}
+use Rattle.c2_build.specs.Building.{After, AskedBehind, AsksThen, IsDefinitionStage, IsMediaStage, IsMessageStage, KindAsks, MediaKind, Then, fresh, stored}
 use Rattle.c2_build.specs.Meeting.{SomeEmbedding, SomePlan}
 use Rattle.c2_build.specs.declared.error.BuildError.{BuildError}
 use Rattle.c2_build.proofs.OneBuild.{OneDefinition, OneItem, OneOpened, one_definition, one_media, one_message}
@@ -35,7 +35,6 @@ one_asked {A} First Asks first one ps qs h k =
 
 -- a media file of one kind asks one list
 one_kind : OneCheckAsks → (hash : Alg → List ℕ → List ℕ) (said : Question → Verdict) (media : List ℕ) (kind : MediaKind) → IsOneList (KindAsks hash said media kind)
-one_kind one hash said media waits ps qs h k = h ∙ sym k
 one_kind one hash said media fresh ps qs h k = h ∙ sym k
 one_kind one hash said media (stored start len t) ps qs h k = one hash said media ps qs h k
 
@@ -72,7 +71,6 @@ some_asked {A} {B} First Next Asks r h over = by h.first h.is_first h.next
 
 -- a media file of each kind asks a list
 some_kind : SomeCheckAsks → (hash : Alg → List ℕ → List ℕ) (said : Question → Verdict) (media : List ℕ) (kind : MediaKind) → All (λ b. b < 2 ^ 8) media → SomeList (KindAsks hash said media kind)
-some_kind check hash said media waits held = ([], refl)
 some_kind check hash said media fresh held = ([], refl)
 some_kind check hash said media (stored start len t) held = check hash said media held
 

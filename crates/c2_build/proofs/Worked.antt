@@ -1,6 +1,6 @@
 -- A worked build: a definition file of five fields over a JPEG file of one segment, and a message of eight bytes. It comes to a new
 -- file, so what is said of new files is said of some.
-use Rattle.std.proofs.Common.{◌≡◌, ◌⊎◌, inl, inr, ℕ, Bool, true, false, List, [], ◌∷◌, length, Option, Some, None, refl, sym, ap, ◌∙◌, subst, arith, codes, lit<, lit≤, option_and_then}
+use Rattle.std.proofs.Common.{◌≡◌, ◌⊎◌, inl, inr, ℕ, Bool, true, false, List, [], ◌∷◌, length, Some, None, refl, sym, ap, ◌∙◌, subst, arith, codes, lit<, lit≤, option_and_then}
 use Rattle.std.specs.Prelude.{Ok}
 use Rattle.std.specs.List.{AllByRecursion}
 use Rattle.std.specs.Str.{is_utf8, chars}
@@ -18,7 +18,7 @@ use Rattle.c2_spec.specs.Cbor.Legal.{HasBadSimple, IsLegal}
 use Rattle.c2_spec.specs.Cbor.Spelling.{direct}
 use Rattle.c2_spec.specs.Jpeg.Places.{IsOfSegments}
 use Rattle.c2_spec.specs.Jpeg.Segments.{Segment}
-use Rattle.c2_spec.specs.Jpeg.Store.{HasNoJpegStore}
+use Rattle.c2_spec.specs.Jpeg.Store.{HasNoJpegStore, NoneBegins}
 use Rattle.c2_spec.specs.Jpeg.Packets.{is_first_packet, is_store_start}
 use Rattle.c2_spec.specs.Located as located
 use Rattle.c2_spec.specs.declared.digest.Alg.{Alg}
@@ -31,22 +31,26 @@ use Rattle.c2_definition.specs.declared.types.NewAssertion.{NewAssertion}
 use Rattle.c2_message.specs.Message.{AreFew, HasNoPadding, IsAccepted}
 use Rattle.c2_message.specs.Refusals.{reserve_needed}
 use Rattle.c2_message.specs.Signed.{FillsOrNeedsMore, IsSigned, NeedsMore}
-use Rattle.c2_layout.specs.Written.{HasTexts}
-use Rattle.c2_build.specs.Building.{Built, IsBuilt, IsDefinitionStage, IsEmbedded, IsEmbeddedOn, IsGroundStage, IsMediaStage, IsMessageStage, IsPlace, IsPlaceStage, Place, Unless, built_of, fresh, fresh_ground}
+use Rattle.c2_built.specs.Written.{HasTexts}
+use Rattle.c2_spec.specs.Jumbf.Tree.{tree_bytes}
+use Rattle.c2_spec.specs.declared.digest.Alg.TheVariants.{Sha256}
+use Rattle.c2_places.specs.Places.{IsPlace, Place, in_segments, place_store}
+use Rattle.c2_build.specs.Building.{Built, IsBuilt, IsDefinitionStage, IsEmbedded, IsEmbeddedOn, IsGroundStage, IsMediaStage, IsMessageStage, IsPlaceStage, built_of, fresh, fresh_ground}
 use Rattle.c2_build.specs.Meeting.{HasTextsIn, SomeBuildSucceeds}
-use Rattle.c2_build.specs.Refusals.{Ground, first_refusal, late_tests}
-use Rattle.c2_build.specs.declared.error.BuildError.{BuildError}
+use Rattle.c2_build.specs.Refusals.{Ground, first_refusal, ground_tests, late_tests, reserve_tests}
 use Rattle.c2_build.proofs.OneBuild.{OneDefinition, OneItem, same_message}
-use Rattle.c2_build.proofs.Drawn.{then_next}
+use Rattle.c2_build.proofs.Drawn.{then_next, unless_passes}
+use Rattle.c2_build.proofs.Rooms.{pass_numbers, some_bytes}
+use Rattle.c2_build.proofs.Stages.{none_of_both}
 
 -- ---- the definition
 
 -- what the file is
-abbrev defined : Definition
+abbrev pub defined : Definition
 defined = record { label = codes "urn:c2pa:00000000-0000-4000-8000-00000000000a"; instance_id = codes "i"; generator = codes "g"; title = None; protected = 10 ∷ []; reserve = 64; assertions = []; redact = [] }
 
 -- {"label":"urn:c2pa:00000000-0000-4000-8000-00000000000a","instance_id":"i","generator":"g","protected":"0A","reserve":64}
-abbrev definition_file : List ℕ
+abbrev pub definition_file : List ℕ
 definition_file = 123 ∷ 34 ∷ 108 ∷ 97 ∷ 98 ∷ 101 ∷ 108 ∷ 34 ∷ 58 ∷ 34 ∷ 117 ∷ 114 ∷ 110 ∷ 58 ∷ 99 ∷ 50 ∷ 112 ∷ 97 ∷ 58 ∷ 48 ∷ 48 ∷ 48 ∷ 48 ∷ 48 ∷ 48 ∷ 48 ∷ 48 ∷ 45 ∷ 48 ∷ 48 ∷ 48 ∷ 48 ∷ 45 ∷ 52 ∷ 48 ∷ 48 ∷ 48 ∷ 45 ∷ 56 ∷ 48 ∷ 48 ∷ 48 ∷ 45 ∷ 48 ∷ 48 ∷ 48 ∷ 48 ∷ 48 ∷ 48 ∷ 48 ∷ 48 ∷ 48 ∷ 48 ∷ 48 ∷ 97 ∷ 34 ∷ 44 ∷ 34 ∷ 105 ∷ 110 ∷ 115 ∷ 116 ∷ 97 ∷ 110 ∷ 99 ∷ 101 ∷ 95 ∷ 105 ∷ 100 ∷ 34 ∷ 58 ∷ 34 ∷ 105 ∷ 34 ∷ 44 ∷ 34 ∷ 103 ∷ 101 ∷ 110 ∷ 101 ∷ 114 ∷ 97 ∷ 116 ∷ 111 ∷ 114 ∷ 34 ∷ 58 ∷ 34 ∷ 103 ∷ 34 ∷ 44 ∷ 34 ∷ 112 ∷ 114 ∷ 111 ∷ 116 ∷ 101 ∷ 99 ∷ 116 ∷ 101 ∷ 100 ∷ 34 ∷ 58 ∷ 34 ∷ 48 ∷ 65 ∷ 34 ∷ 44 ∷ 34 ∷ 114 ∷ 101 ∷ 115 ∷ 101 ∷ 114 ∷ 118 ∷ 101 ∷ 34 ∷ 58 ∷ 54 ∷ 52 ∷ 125 ∷ []
 
 -- that is what it is read as
@@ -69,17 +73,17 @@ have_payloads v at list is = by list (sym is ∙ (sym (ap (option_and_then asser
     by (a ∷ others) e = absurd (cc (e))
 
 -- the file is this definition
-is_defined : IsDefinition definition_file (Ok defined)
+pub is_defined : IsDefinition definition_file (Ok defined)
 is_defined = record { payloads = true; told = (λ e. have_payloads, λ h. refl); is = sym (defined_row true refl) }
 
 -- ---- the media
 
 -- SOI, the APP0 segment of JFIF, and EOI
-abbrev media : List ℕ
+abbrev pub media : List ℕ
 media = 0xFF ∷ 0xD8 ∷ 0xFF ∷ 0xE0 ∷ 0x00 ∷ 0x10 ∷ 0x4A ∷ 0x46 ∷ 0x49 ∷ 0x46 ∷ 0x00 ∷ 0x01 ∷ 0x02 ∷ 0x00 ∷ 0x00 ∷ 0x01 ∷ 0x00 ∷ 0x01 ∷ 0x00 ∷ 0x00 ∷ 0xFF ∷ 0xD9 ∷ []
 
 -- its segment
-abbrev jfif : Segment
+abbrev pub jfif : Segment
 jfif = record { fill = 0; marker = 0xE0; payload = 0x4A ∷ 0x46 ∷ 0x49 ∷ 0x46 ∷ 0x00 ∷ 0x01 ∷ 0x02 ∷ 0x00 ∷ 0x00 ∷ 0x01 ∷ 0x00 ∷ 0x01 ∷ 0x00 ∷ 0x00 ∷ [] }
 
 -- it has no other
@@ -92,33 +96,34 @@ one_segment = record {
 }
 
 -- which begins no store
-no_store : HasNoJpegStore media
+pub none_begins : NoneBegins (jfif ∷ [])
 unfolding is_first_packet is_store_start
-no_store = record { fits = one_segment.fits; segments = jfif ∷ []; rest = one_segment.rest; begins = one_segment.begins; ends = one_segment.ends; none = (refl, tt) }
+none_begins = (refl, tt)
+
+-- so the file has none
+no_store : HasNoJpegStore media
+no_store = record { fits = one_segment.fits; segments = jfif ∷ []; rest = one_segment.rest; begins = one_segment.begins; ends = one_segment.ends; none = none_begins }
 
 -- so it is opened as a file without one
 is_absent : IsOpened media located.absent
 is_absent = (located.absent, no_store, refl)
 
 -- where packets go, and the least number
-abbrev place : Place
-place = record { segments = jfif ∷ []; number = Some 0x0211 }
+abbrev pub place : Place
+place = in_segments (jfif ∷ []) (Some 0x0211)
 
 -- of this file
-is_place : IsPlace media place
-is_place = record {
-  is_of = one_segment;
-  is_number = record { least = lit≤ tt; most = lit< tt; free = refl; first = λ n low high. absurd (omega (arith, low, high)) };
-}
+pub is_place : IsPlace media place
+is_place = (refl, one_segment, record { least = lit≤ tt; most = lit< tt; free = refl; first = λ n low high. absurd (omega (arith, low, high)) })
 
 -- ---- the message
 
 -- a tagged message with the definition's protected header, and a signature of one byte
-abbrev message : List ℕ
+abbrev pub message : List ℕ
 message = 0xD2 ∷ 0x84 ∷ 0x41 ∷ 0x0A ∷ 0xA0 ∷ 0xF6 ∷ 0x41 ∷ 0x00 ∷ []
 
 -- its parts
-abbrev parts : SignParts
+abbrev pub parts : SignParts
 parts = record { protected = 0x0A ∷ []; unprotected = dict no_pairs; signature = 0x00 ∷ [] }
 
 -- the message is legal
@@ -137,7 +142,7 @@ plain : IsPlainMessage parts
 plain = record { legal = legal; plain = (tt, (tt, (tt, (tt, tt)))) }
 
 -- the bytes spell it
-spelled : SpellsMessage message parts
+pub spelled : SpellsMessage message parts
 spelled = record {
   message = tagged_message parts;
   legal = legal;
@@ -176,7 +181,7 @@ spelled = record {
 }
 
 -- it is taken
-accepted : OneItem → IsAccepted defined.protected message
+pub accepted : OneItem → IsAccepted defined.protected message
 accepted one = (lit≤ tt, ((parts, spelled), (λ p s. subst IsPlainMessage (same p s) plain, (λ p s. sym (ap (λ (q : SignParts). q.protected) (same p s)), (λ p s. few p (same p s), (λ p s. none p (same p s), tt))))))
   where
     same : (p : SignParts) → SpellsMessage message p → parts ≡ p
@@ -194,7 +199,7 @@ unfolding shortest_head
 enough = refl
 
 -- it fills what is reserved
-signed : FillsOrNeedsMore → (filled : List ℕ) × IsSigned parts 64 filled
+pub signed : FillsOrNeedsMore → (filled : List ℕ) × IsSigned parts 64 filled
 signed fills = by (fills.either message parts 64 (record { spelled = spelled; small = lit≤ tt; entries = no_pairs; can = record { map = refl; plain = plain; few = lit≤ tt; no_pad = tt; no_pad2 = tt }; most = lit≤ tt }))
   where
     by : ((filled : List ℕ) × IsSigned parts 64 filled) ⊎ NeedsMore parts 64 → (filled : List ℕ) × IsSigned parts 64 filled
@@ -204,7 +209,7 @@ signed fills = by (fills.either message parts 64 (record { spelled = spelled; sm
 -- ---- its texts
 
 -- the texts of the definition are texts
-texts : HasTexts defined
+pub texts : HasTexts defined
 unfolding lib.Utf8.encode
 texts = record {
   label = record { utf8 = (defined.label, (refl, refl)); short = lit< tt };
@@ -216,32 +221,37 @@ texts = record {
 }
 
 -- and so are those of what the file is
-texts_in : OneDefinition → HasTextsIn definition_file
+pub texts_in : OneDefinition → HasTextsIn definition_file
 texts_in one d is = let same : defined ≡ d = cc (one definition_file (Ok defined) (Ok d) is_defined is) in subst HasTexts same texts
 
 -- ---- the build
 
--- no test fails
-none_fails : first_refusal (late_tests (fresh_ground media defined) parts (Some 0x0211)) ≡ None
+-- a new file comes of a media file without a store, where no test fails at its place, whatever the hash and the judges
+pub worked_in : OneItem → FillsOrNeedsMore → (hash : Alg → List ℕ → List ℕ) (said : Question → Verdict) (file : List ℕ) (p : Place) → IsOpened file located.absent → IsPlace file p → first_refusal (late_tests (fresh_ground file defined) parts p) ≡ None
+    → (b : Built) × IsEmbedded hash said file definition_file message (Ok b)
+worked_in one fills hash said file p absent at none =
+    let filled = signed fills in
+    let g : Ground = fresh_ground file defined in
+    let numbers = none_of_both (ground_tests g p) (reserve_tests defined parts) none in
+    let bytes = some_bytes p (pass_numbers g p numbers.0).room (tree_bytes (place_store (hash Sha256) g.content filled.0 g.base p)) in
+    let b : Built = built_of g p bytes.0 in
+    let is_built : IsBuilt hash g p parts (Ok b) = (filled.0, filled.1, (bytes.0, bytes.1, refl)) in (
+      b,
+      then_next (IsMediaStage file) _ fresh (Ok b) (located.absent, absent, refl)
+          (then_next (IsDefinitionStage definition_file) _ defined (Ok b) (Ok defined, is_defined, refl)
+          (then_next (IsMessageStage defined.protected message) _ parts (Ok b) (Ok parts, (accepted one, spelled), refl)
+          (then_next (IsGroundStage hash said file defined fresh) (IsEmbeddedOn hash parts) g (Ok b) refl
+          (then_next (IsPlaceStage file) _ p (Ok b) (p, at, refl)
+          (unless_passes (first_refusal (late_tests g parts p)) (IsBuilt hash g p parts) (Ok b) none is_built))))),
+    )
+
+-- no test fails at the place of the JPEG file
+pub none_fails : first_refusal (late_tests (fresh_ground media defined) parts place) ≡ None
 unfolding shortest_head
 none_fails = refl
 
--- a new file comes of it, whatever the hash and the judges
-pub worked : OneItem → FillsOrNeedsMore → (hash : Alg → List ℕ → List ℕ) (said : Question → Verdict) → (b : Built) × IsEmbedded hash said media definition_file message (Ok b)
-worked one fills hash said =
-    let filled = signed fills in
-    let g : Ground = fresh_ground media defined in
-    let b : Built = built_of hash g place.segments 0x0211 filled.0 in
-    let is_built : IsBuilt hash g place parts (Ok b) = (0x0211, refl, (filled.0, filled.1, refl)) in (
-      b,
-      then_next (IsMediaStage media) _ fresh (Ok b) (located.absent, is_absent, refl)
-          (then_next (IsDefinitionStage definition_file) _ defined (Ok b) (Ok defined, is_defined, refl)
-          (then_next (IsMessageStage defined.protected message) _ parts (Ok b) (Ok parts, (accepted one, spelled), refl)
-          (then_next (IsGroundStage hash said media defined fresh) (IsEmbeddedOn hash parts) g (Ok b) refl
-          (then_next (IsPlaceStage media) _ place (Ok b) (place, is_place, refl)
-          (subst (λ (o : Option BuildError). Unless o (IsBuilt hash g place parts) (Ok b)) (sym none_fails) is_built))))),
-    )
-
 -- so some build succeeds
 pub some_succeeds : OneDefinition → OneItem → FillsOrNeedsMore → SomeBuildSucceeds
-some_succeeds one item fills hash said = let w = worked item fills hash said in (media, definition_file, message, w.0, texts_in one, w.1)
+some_succeeds one item fills hash said =
+    let w = worked_in item fills hash said media place is_absent is_place none_fails in
+    (media, definition_file, message, w.0, texts_in one, w.1)

@@ -5,7 +5,9 @@ use Rattle.std.proofs.lemmas.Bool.{cases_lt}
 use Rattle.std.proofs.lemmas.List.{take-append-drop, take-append-le, take_all, take-take, drop-drop, length-take, length-take-le, length-drop}
 use Rattle.std.specs.declared.option.Option.TheVariants.{Some, None}
 use Rattle.c2_base.specs.Sink.{HasWrittenPrefix, then_written, spare_less}
-use Rattle.c2_spec.specs.PutIn.{put_in, taken_out}
+use Rattle.c2_spec.specs.Bmff.Boxes.{box_bytes}
+use Rattle.c2_spec.specs.Bmff.Writing.{c2pa_box, c2pa_frame_len}
+use Rattle.c2_spec.specs.PutIn.{put_in}
 use Rattle.c2_build.specs.Steps.{Breaks, IsOverSpare, IsStep, Puts, piece_of}
 use Rattle.c2_build.specs.declared.error.BuildError.{BuildError}
 use Rattle.c2_build.specs.declared.error.BuildError.TheVariants as build
@@ -75,10 +77,10 @@ over_more : (e : BuildError) (s : Option ℕ) (m n : ℕ) → m ≤ n → IsOver
 over_more (build.MediaRefused reason number) s m n le h = tt
 over_more (build.BadDefinition field) s m n le h = tt
 over_more (build.BadSignature part) s m n le h = tt
-over_more build.Later s m n le h = tt
 over_more (build.ParentFails code uri) s m n le h = tt
 over_more (build.LabelTaken label) s m n le h = tt
 over_more (build.RedactionRefused text code) s m n le h = tt
+over_more (build.OpenBox at) s m n le h = tt
 over_more build.NoInstance s m n le h = tt
 over_more (build.TooManyManifests k) s m n le h = tt
 over_more (build.StoreTooLarge k) s m n le h = tt
@@ -93,10 +95,10 @@ over_later : (e : BuildError) (old mid : Option ℕ) (m n : ℕ) → mid ≡ spa
 over_later (build.MediaRefused reason number) old mid m n is h = tt
 over_later (build.BadDefinition field) old mid m n is h = tt
 over_later (build.BadSignature part) old mid m n is h = tt
-over_later build.Later old mid m n is h = tt
 over_later (build.ParentFails code uri) old mid m n is h = tt
 over_later (build.LabelTaken label) old mid m n is h = tt
 over_later (build.RedactionRefused text code) old mid m n is h = tt
+over_later (build.OpenBox at) old mid m n is h = tt
 over_later build.NoInstance old mid m n is h = tt
 over_later (build.TooManyManifests k) old mid m n is h = tt
 over_later (build.StoreTooLarge k) old mid m n is h = tt
@@ -180,87 +182,21 @@ piece_back xs ys from to a b =
     let count : to - from ≡ to - length xs - (from - length xs) = omega (arith, a, b) in
     ap (take (to - from)) (drop_back xs ys from a) ∙ ap (λ (n : ℕ). take n (drop (from - length xs) ys)) count
 
--- before the range a file less it is the file
-less_front : (start len : ℕ) (file : List ℕ) (from to : ℕ) → start + len ≤ length file → from ≤ to → to ≤ start → piece_of (taken_out start len file) from to ≡ piece_of file from to
-less_front start len file from to inside a b =
-    let size : length (take start file) ≡ start = length-take-le start file (omega (arith, inside)) in
-    piece_front (take start file) (drop (start + len) file) from to a (omega (arith, b, size)) ∙ sym (piece_front (take start file) (drop start file) from to a (omega (arith, b, size)))
-    ∙ ap (λ (x : List ℕ). piece_of x from to) (take-append-drop start file)
-
--- and behind it it is the file further on
-less_back : (start len : ℕ) (file : List ℕ) (from to : ℕ) → start + len ≤ length file → start ≤ from → from ≤ to → piece_of (taken_out start len file) from to ≡ piece_of file (from + len) (to + len)
-less_back start len file from to inside a b =
-    let rest : List ℕ = drop (start + len) file in
-    let one : length (take start file) ≡ start = length-take-le start file (omega (arith, inside)) in
-    let two : length (take (start + len) file) ≡ start + len = length-take-le (start + len) file inside in
-    let low : from - length (take start file) ≡ from + len - length (take (start + len) file) = omega (arith, one, two) in
-    let high : to - length (take start file) ≡ to + len - length (take (start + len) file) = omega (arith, one, two) in
-    piece_back (take start file) rest from to (omega (arith, a, one)) b
-    ∙ ap (λ (n : ℕ). piece_of rest n (to - length (take start file))) low ∙ ap (piece_of rest (from + len - length (take (start + len) file))) high
-    ∙ sym (piece_back (take (start + len) file) rest (from + len) (to + len) (omega (arith, a, two)) (omega (arith, b)))
-    ∙ ap (λ (x : List ℕ). piece_of x (from + len) (to + len)) (take-append-drop (start + len) file)
-
--- a piece of it is two of the file, one on each side of the range
-pub less_piece : (start len : ℕ) (file : List ℕ) (from to : ℕ) → start + len ≤ length file → from ≤ to
-    → piece_of file (min from start) (min to start) ++ piece_of file (max from start + len) (max to start + len) ≡ piece_of (taken_out start len file) from to
-less_piece start len file from to inside le = by (cases_lt start to) (cases_lt from start)
-  where
-    by : (start < to) ⊎ (to ≤ start) → (from < start) ⊎ (start ≤ from) → piece_of file (min from start) (min to start) ++ piece_of file (max from start + len) (max to start + len) ≡ piece_of (taken_out start len file) from to
-    by (inr a) c =
-        let one : min from start ≡ from = omega (arith, a, le) in
-        let two : min to start ≡ to = omega (arith, a) in
-        let three : max from start ≡ start = omega (arith, a, le) in
-        let four : max to start ≡ start = omega (arith, a) in
-        ap (λ (n : ℕ). piece_of file n (min to start) ++ piece_of file (max from start + len) (max to start + len)) one
-        ∙ ap (λ (n : ℕ). piece_of file from n ++ piece_of file (max from start + len) (max to start + len)) two
-        ∙ ap (λ (n : ℕ). piece_of file from to ++ piece_of file (n + len) (max to start + len)) three
-        ∙ ap (λ (n : ℕ). piece_of file from to ++ piece_of file (start + len) (n + len)) four
-        ∙ ap (λ (x : List ℕ). piece_of file from to ++ x) (piece_none file (start + len)) ∙ append-nil (piece_of file from to)
-        ∙ sym (less_front start len file from to inside le a)
-    by (inl a) (inr c) =
-        let one : min from start ≡ start = omega (arith, c) in
-        let two : min to start ≡ start = omega (arith, a) in
-        let three : max from start ≡ from = omega (arith, c) in
-        let four : max to start ≡ to = omega (arith, a) in
-        ap (λ (n : ℕ). piece_of file n (min to start) ++ piece_of file (max from start + len) (max to start + len)) one
-        ∙ ap (λ (n : ℕ). piece_of file start n ++ piece_of file (max from start + len) (max to start + len)) two
-        ∙ ap (λ (n : ℕ). piece_of file start start ++ piece_of file (n + len) (max to start + len)) three
-        ∙ ap (λ (n : ℕ). piece_of file start start ++ piece_of file (from + len) (n + len)) four
-        ∙ ap (λ (x : List ℕ). x ++ piece_of file (from + len) (to + len)) (piece_none file start)
-        ∙ sym (less_back start len file from to inside c le)
-    by (inl a) (inl c) =
-        let one : min from start ≡ from = omega (arith, c) in
-        let two : min to start ≡ start = omega (arith, a) in
-        let three : max from start ≡ start = omega (arith, c) in
-        let four : max to start ≡ to = omega (arith, a) in
-        ap (λ (n : ℕ). piece_of file n (min to start) ++ piece_of file (max from start + len) (max to start + len)) one
-        ∙ ap (λ (n : ℕ). piece_of file from n ++ piece_of file (max from start + len) (max to start + len)) two
-        ∙ ap (λ (n : ℕ). piece_of file from start ++ piece_of file (n + len) (max to start + len)) three
-        ∙ ap (λ (n : ℕ). piece_of file from start ++ piece_of file (start + len) (n + len)) four
-        ∙ ap (λ (x : List ℕ). x ++ piece_of file (start + len) (to + len)) (sym (less_front start len file from start inside (omega (arith, c)) (omega arith)))
-        ∙ ap (λ (x : List ℕ). piece_of (taken_out start len file) from start ++ x) (sym (less_back start len file start to inside (omega arith) (omega (arith, a))))
-        ∙ parts_join (taken_out start len file) from start to (omega (arith, c)) (omega (arith, a))
-
--- so it is with the places of both pieces
-pub less_pieces : (start len : ℕ) (file : List ℕ) (from to f g h k : ℕ) → f ≡ min from start → g ≡ min to start → h ≡ max from start + len → k ≡ max to start + len → start + len ≤ length file → from ≤ to
-    → piece_of file f g ++ piece_of file h k ≡ piece_of (taken_out start len file) from to
-less_pieces start len file from to f g h k ef eg eh ek inside le =
-    ap (λ (n : ℕ). piece_of file n g ++ piece_of file h k) ef ∙ ap (λ (n : ℕ). piece_of file (min from start) n ++ piece_of file h k) eg
-    ∙ ap (λ (n : ℕ). piece_of file (min from start) (min to start) ++ piece_of file n k) eh ∙ ap (λ (n : ℕ). piece_of file (min from start) (min to start) ++ piece_of file (max from start + len) n) ek
-    ∙ less_piece start len file from to inside le
-
--- the bytes before the range and those behind it are the file less it
-pub less_whole : (start len size : ℕ) (file front back : List ℕ) → size ≡ length file → start + len ≤ length file → front ≡ piece_of file 0 start → back ≡ piece_of file (start + len) size → front ++ back ≡ taken_out start len file
-less_whole start len size file front back same inside f b =
-    let none : start - 0 ≡ start = omega arith in
-    let rest : piece_of file (start + len) size ≡ drop (start + len) file = take_all (size - (start + len)) (drop (start + len) file) (omega (arith, length-drop (start + len) file, same)) in
-    ap (λ (x : List ℕ). x ++ back) (f ∙ ap (λ (n : ℕ). take n file) none) ∙ ap (λ (x : List ℕ). take start file ++ x) (b ∙ rest)
+-- a whole file is a piece of it
+pub whole_piece : (size : ℕ) (file bytes : List ℕ) → size ≡ length file → bytes ≡ piece_of file 0 size → bytes ≡ file
+whole_piece size file bytes same is =
+    let none : size - 0 ≡ size = omega arith in
+    is ∙ ap (λ (n : ℕ). take n file) none ∙ take_all size file (omega (arith, same))
 
 -- ---- a new file
 
 -- a spare that doesn't hold so much is less
 pub spare_over : (s count n : ℕ) → n ≡ count → (count ≤ s → ⊥) → s < n
 spare_over s count n same over = omega (arith, same, over)
+
+-- how long the box of a store is
+pub box_size : (store : List ℕ) → length (box_bytes (c2pa_box store)) ≡ c2pa_frame_len + length store
+box_size store = omega arith
 
 -- a step behind bytes that were written
 pub step_back : {K T : Type 0} (written : K → Option (List ℕ)) (spare : K → Option ℕ) (finished : K → Bool) (xs ys : List ℕ) (old mid new : K) (r : Result T BuildError) → Puts written spare finished xs old mid → IsStep written spare finished ys mid new r → IsStep written spare finished (xs ++ ys) old new r

@@ -1,6 +1,6 @@
--- What the build of a new store into a JPEG file comes to: what is to be signed, the new file, or what is refused first. Known inputs
+-- What the build of a new store into a media file comes to: what is to be signed, the new file, or what is refused first. Known inputs
 -- come to one thing: the order of the tests is this project's own choice.
-use Rattle.std.specs.Prelude.{◌≡◌, ℕ, ◌+◌, Bool, List, [], length, if◌then◌else◌}
+use Rattle.std.specs.Prelude.{◌≡◌, ◌⊎◌, ℕ, ◌+◌, List, [], length}
 use Rattle.std.specs.declared.option.Option.{Option}
 use Rattle.std.specs.declared.option.Option.TheVariants.{Some, None}
 use Rattle.std.specs.declared.result.Result.{Result}
@@ -8,13 +8,8 @@ use Rattle.std.specs.declared.result.Result.TheVariants.{Ok, Err}
 use Rattle.c2_base.specs.declared.values.Question.{Question}
 use Rattle.c2_spec.specs.C2pa.Sign1.{SignParts, SpellsMessage, sig_structure}
 use Rattle.c2_spec.specs.Cbor.Deterministic.{deterministic}
-use Rattle.c2_spec.specs.Container.{is_bmff}
-use Rattle.c2_spec.specs.Jpeg.Places.{IsOfSegments}
-use Rattle.c2_spec.specs.Jpeg.Segments.{Segment}
-use Rattle.c2_spec.specs.Jpeg.Writing.{IsNumberOf, insert_place}
-use Rattle.c2_spec.specs.Jumbf.Tree.{Tree}
+use Rattle.c2_spec.specs.Jumbf.Tree.{Tree, tree_bytes}
 use Rattle.c2_spec.specs.Located.{Opening, refused, absent, here}
-use Rattle.c2_spec.specs.PutIn.{taken_out}
 use Rattle.c2_spec.specs.declared.digest.Alg.{Alg}
 use Rattle.c2_spec.specs.declared.digest.Alg.TheVariants.{Sha256}
 use Rattle.c2_spec.specs.declared.panel.Verdict.{Verdict}
@@ -29,13 +24,14 @@ use Rattle.c2_definition.specs.declared.types.DefinitionField.{DefinitionField}
 use Rattle.c2_message.specs.Message.{IsAccepted, IsRefused}
 use Rattle.c2_message.specs.Signed.{IsSigned}
 use Rattle.c2_message.specs.declared.error.SignaturePart.{SignaturePart}
-use Rattle.c2_layout.specs.Built.{built_file}
-use Rattle.c2_layout.specs.Store.{Content, data_binding, new_claim}
-use Rattle.c2_layout.specs.Fresh.{fresh_content}
+use Rattle.c2_built.specs.Store.{Content, new_claim}
+use Rattle.c2_built.specs.Fresh.{fresh_content}
 use Rattle.c2_carried.specs.Parents.{IsContentOver}
+use Rattle.c2_places.specs.Bases.{IsLeft}
+use Rattle.c2_places.specs.Places.{IsPlace, Place, place_binding, place_file, place_start, place_store, put_bytes}
 use Rattle.c2_build.specs.Refusals.{Ground, first_refusal, ground_tests, late_tests, new_range_len, older_tests, redaction_tests}
 use Rattle.c2_build.specs.declared.error.BuildError.{BuildError}
-use Rattle.c2_build.specs.declared.error.BuildError.TheVariants.{MediaRefused, BadDefinition, BadSignature, Later}
+use Rattle.c2_build.specs.declared.error.BuildError.TheVariants.{MediaRefused, BadDefinition, BadSignature}
 
 -- ---- one stage after the other
 
@@ -57,30 +53,28 @@ Unless (Some e) Next r = r ≡ Err e
 
 -- ---- the inputs
 
--- What a media file that isn't refused is to a build: a JPEG file without a store; one with this store in this range; or a BMFF file,
--- which has to wait for a later version.
+-- What a media file that isn't refused is to a build: a file without a store, or one with this store in this range.
 pub data MediaKind : Type 0 where
   fresh : MediaKind
   stored : ℕ → ℕ → Tree → MediaKind
-  waits : MediaKind
-
--- what a JPEG or a BMFF file without a store, and one with a store, is to a build
-abbrev pub kind_in : Bool → MediaKind → MediaKind
-kind_in bmff kind = if bmff then waits else kind
 
 -- what a media file that is opened so is to a build
-abbrev pub media_stage : List ℕ → Opening Tree → Result MediaKind BuildError
-media_stage media (refused reason number) = Err (MediaRefused reason number)
-media_stage media absent = Ok (kind_in (is_bmff media) fresh)
-media_stage media (here start len t) = Ok (kind_in (is_bmff media) (stored start len t))
+abbrev pub media_stage : Opening Tree → Result MediaKind BuildError
+media_stage (refused reason number) = Err (MediaRefused reason number)
+media_stage absent = Ok fresh
+media_stage (here start len t) = Ok (stored start len t)
 
 -- this is what the media file is: the tests of the container, of the boxes and of the store come first
 abbrev pub IsMediaStage : List ℕ → Result MediaKind BuildError → Type 0
-IsMediaStage media r = (what : Opening Tree) × IsOpened media what × (r ≡ media_stage media what)
+IsMediaStage media r = (what : Opening Tree) × IsOpened media what × (r ≡ media_stage what)
 
 -- the media file is refused
 abbrev pub IsMediaRefused : List ℕ → Type 0
 IsMediaRefused media = (e : BuildError) × IsMediaStage media (Err e)
+
+-- nothing of the media file is asked of judges: it is refused, or has no store
+abbrev pub HasNothingToAsk : List ℕ → Type 0
+HasNothingToAsk media = IsMediaRefused media ⊎ IsMediaStage media (Ok fresh)
 
 -- what a definition that is read so is to a build
 abbrev pub definition_stage : Result Definition DefinitionField → Result Definition BuildError
@@ -109,24 +103,29 @@ message_stage (Err test) = Err (BadSignature test)
 abbrev pub IsMessageStage : List ℕ → List ℕ → Result SignParts BuildError → Type 0
 IsMessageStage protected bytes r = (m : Result SignParts SignaturePart) × IsMessageRead protected bytes m × (r ≡ message_stage m)
 
+-- the message is refused, whose protected header isn't that of this definition file, or which isn't one
+abbrev pub IsMessageRefused : List ℕ → List ℕ → Type 0
+IsMessageRefused definition message =
+    (d : Definition) × IsDefinitionStage definition (Ok d) × ((e : BuildError) × IsMessageStage d.protected message (Err e))
+
 -- ---- the older store
 
--- what is built over a JPEG file without a store: the file, with nothing carried
+-- what is built over a media file without a store: the file, with nothing carried
 abbrev pub fresh_ground : List ℕ → Definition → Ground
 fresh_ground media d = record { base = media; content = fresh_content d; manifests = 1 }
 
--- what is built over a JPEG file with this store in this range: the file less the range. The boxes of the store are carried, less
+-- what is built over a media file with this store in this range: what is left of the file. The boxes of the store are carried, less
 -- what the definition redacts
 abbrev pub IsGroundOver : List ℕ → Definition → ℕ → ℕ → Tree → List Reading → Result Ground BuildError → Type 0
 IsGroundOver media d start len t rs r =
     (c : Content) × IsContentOver d t c
-    × (r ≡ Ok (record { base = taken_out start len media; content = c; manifests = length rs + 1 }))
+    × ((base : List ℕ) × IsLeft media start len base
+    × (r ≡ Ok (record { base = base; content = c; manifests = length rs + 1 })))
 
--- What is built over a media file of this kind, where judges say this; or what refuses it: the file has to wait; a rule of its
--- store's check fails; a manifest has the new label; or a redaction can't be made.
+-- What is built over a media file of this kind, where judges say this; or what refuses it: a rule of its store's check fails; a
+-- manifest has the new label; or a redaction can't be made.
 abbrev pub IsGroundStage : (Alg → List ℕ → List ℕ) → (Question → Verdict) → List ℕ → Definition → MediaKind
     → Result Ground BuildError → Type 0
-IsGroundStage hash said media d waits r = r ≡ Err Later
 IsGroundStage hash said media d fresh r =
     Unless (first_refusal (redaction_tests d [])) (λ r. r ≡ Ok (fresh_ground media d)) r
 IsGroundStage hash said media d (stored start len t) r =
@@ -136,17 +135,7 @@ IsGroundStage hash said media d (stored start len t) r =
 
 -- ---- the place
 
--- The segments of a JPEG file, and the number that is free for packets among them, where one is.
-pub record Place : Type 0 where
-  pub segments : List Segment
-  pub number : Option ℕ
-
--- these are a file's
-pub record IsPlace (base : List ℕ) (p : Place) : Type 0 where
-  pub is_of : IsOfSegments base p.segments
-  pub is_number : IsNumberOf p.segments p.number
-
--- this is where the new store goes in a JPEG file
+-- this is where the new store goes in a media file without one
 abbrev pub IsPlaceStage : List ℕ → Result Place BuildError → Type 0
 IsPlaceStage base r = (p : Place) × IsPlace base p × (r ≡ Ok p)
 
@@ -157,7 +146,7 @@ IsPlaceStage base r = (p : Place) × IsPlace base p × (r ≡ Ok p)
 abbrev pub signed_bytes : (Alg → List ℕ → List ℕ) → Ground → Place → List ℕ
 signed_bytes hash g p =
     deterministic (sig_structure g.content.definition.protected (new_claim (hash Sha256) g.content
-    (data_binding (insert_place p.segments) (new_range_len g.content) (hash Sha256 g.base))))
+    (place_binding (hash Sha256) g.content g.content.definition.reserve g.base p)))
 
 -- A new file, and the range of its store.
 pub record Built : Type 0 where
@@ -165,21 +154,20 @@ pub record Built : Type 0 where
   pub start : ℕ
   pub len : ℕ
 
--- the file with this message: the base of these segments, and the packets of the new store behind its APP0 segments, under this
--- number
-abbrev pub built_of : (Alg → List ℕ → List ℕ) → Ground → List Segment → ℕ → List ℕ → Built
-built_of hash g segments en message = record {
-  file = built_file (hash Sha256) g.content message g.base segments en;
-  start = insert_place segments;
-  len = new_range_len g.content;
+-- the file where these bytes are put in at the place
+abbrev pub built_of : Ground → Place → List ℕ → Built
+built_of g p bytes = record {
+  file = place_file g.base p bytes;
+  start = place_start p;
+  len = new_range_len p g.content;
 }
 
--- the new file under the number that is free, with a message of these parts, padded to the bytes that are reserved
+-- the new file, with a message of these parts, padded to the bytes that are reserved
 abbrev pub IsBuilt : (Alg → List ℕ → List ℕ) → Ground → Place → SignParts → Result Built BuildError → Type 0
 IsBuilt hash g p parts r =
-    (en : ℕ) × (p.number ≡ Some en)
-    × ((message : List ℕ) × IsSigned parts g.content.definition.reserve message
-    × (r ≡ Ok (built_of hash g p.segments en message)))
+    (message : List ℕ) × IsSigned parts g.content.definition.reserve message
+    × ((bytes : List ℕ) × (put_bytes p (tree_bytes (place_store (hash Sha256) g.content message g.base p)) ≡ Some bytes)
+    × (r ≡ Ok (built_of g p bytes)))
 
 -- ---- the two calls
 
@@ -187,7 +175,7 @@ IsBuilt hash g p parts r =
 abbrev pub IsPlannedOn : (Alg → List ℕ → List ℕ) → Ground → Result (List ℕ) BuildError → Type 0
 IsPlannedOn hash g =
     Then (IsPlaceStage g.base) (λ p.
-    Unless (first_refusal (ground_tests g p.number)) (λ r. r ≡ Ok (signed_bytes hash g p)))
+    Unless (first_refusal (ground_tests g p)) (λ r. r ≡ Ok (signed_bytes hash g p)))
 
 -- over a media file of this kind, and a definition
 abbrev pub IsPlannedOver : (Alg → List ℕ → List ℕ) → (Question → Verdict) → List ℕ → MediaKind → Definition
@@ -205,7 +193,7 @@ IsPlanned hash said media definition =
 abbrev pub IsEmbeddedOn : (Alg → List ℕ → List ℕ) → SignParts → Ground → Result Built BuildError → Type 0
 IsEmbeddedOn hash parts g =
     Then (IsPlaceStage g.base) (λ p.
-    Unless (first_refusal (late_tests g parts p.number)) (IsBuilt hash g p parts))
+    Unless (first_refusal (late_tests g parts p)) (IsBuilt hash g p parts))
 
 -- over a media file of this kind, a definition, and a message with these parts
 abbrev pub IsEmbeddedOver : (Alg → List ℕ → List ℕ) → (Question → Verdict) → List ℕ → MediaKind → Definition
@@ -225,7 +213,6 @@ IsEmbedded hash said media definition message =
 
 -- what is asked of judges over a media file of this kind: of one with a store, what its check asks
 abbrev pub KindAsks : (Alg → List ℕ → List ℕ) → (Question → Verdict) → List ℕ → MediaKind → List Question → Type 0
-KindAsks hash said media waits qs = qs ≡ []
 KindAsks hash said media fresh qs = qs ≡ []
 KindAsks hash said media (stored start len t) qs = CheckAsks hash said media qs
 

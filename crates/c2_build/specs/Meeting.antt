@@ -1,11 +1,12 @@
--- What a new JPEG file meets.
-use Rattle.std.specs.Prelude.{◌≡◌, ℕ, ◌<◌, ◌^◌, ⊤, List, ◌∷◌, All}
+-- What a new file meets.
+use Rattle.std.specs.Prelude.{◌≡◌, ℕ, ◌<◌, ◌^◌, ⊤, Bool, true, List, ◌∷◌, All}
 use Rattle.std.specs.declared.result.Result.{Result}
 use Rattle.std.specs.declared.result.Result.TheVariants.{Ok, Err}
 use Rattle.std.specs.List.{AllByRecursion}
 use Rattle.c2_base.specs.declared.values.Question.{Question}
 use Rattle.c2_spec.specs.C2pa.Manifest.{Manifest}
 use Rattle.c2_spec.specs.C2pa.Sign1.{SignParts, SpellsMessage}
+use Rattle.c2_spec.specs.Container.{is_bmff}
 use Rattle.c2_spec.specs.Jumbf.Tree.{Tree}
 use Rattle.c2_spec.specs.PutIn.{taken_out}
 use Rattle.c2_spec.specs.declared.digest.Alg.{Alg}
@@ -21,10 +22,10 @@ use Rattle.c2_rules.specs.declared.answer.Summary.{Summary}
 use Rattle.c2_definition.specs.DefinitionFile.{IsDefinition}
 use Rattle.c2_definition.specs.declared.types.Definition.{Definition}
 use Rattle.c2_message.specs.Signed.{IsSigned}
-use Rattle.c2_layout.specs.Built.{built_store}
-use Rattle.c2_layout.specs.Fresh.{GivesDigests, Meets}
-use Rattle.c2_layout.specs.Written.{HasTexts}
-use Rattle.c2_build.specs.Building.{Built, IsEmbedded, IsGroundStage, IsMediaStage, IsPlanned, MediaKind}
+use Rattle.c2_built.specs.Fresh.{GivesDigests, Meets}
+use Rattle.c2_built.specs.Written.{HasTexts}
+use Rattle.c2_places.specs.Places.{IsPlace, Place, place_store}
+use Rattle.c2_build.specs.Building.{Built, IsEmbedded, IsGroundStage, IsMediaStage, IsPlanned, MediaKind, stored}
 use Rattle.c2_build.specs.Refusals.{Ground}
 use Rattle.c2_build.specs.declared.error.BuildError.{BuildError}
 use Rattle.c2_build.specs.declared.types.Embedded.{Embedded}
@@ -69,9 +70,9 @@ ApprovedIsValid = (hash : Alg → List ℕ → List ℕ) (said : Question → Ve
 abbrev pub HasTextsIn : List ℕ → Type 0
 HasTextsIn file = (d : Definition) → IsDefinition file (Ok d) → HasTexts d
 
--- The store is the new one of the definition that a file is, over the ground that this media file gives, at this place. Its message is
--- the signed one, padded to the bytes that the definition reserves.
-pub record IsNewStore (hash : Alg → List ℕ → List ℕ) (said : Question → Verdict) (media definition message : List ℕ) (start : ℕ) (store : Tree) : Type 0 where
+-- The store is the new one of the definition that a file is, over the ground that this media file gives, in the place of that.
+-- Its message is the signed one, padded to the bytes that the definition reserves.
+pub record IsNewStore (hash : Alg → List ℕ → List ℕ) (said : Question → Verdict) (media definition message : List ℕ) (store : Tree) : Type 0 where
   pub new : Definition
   pub defined : IsDefinition definition (Ok new)
   pub kind : MediaKind
@@ -82,7 +83,9 @@ pub record IsNewStore (hash : Alg → List ℕ → List ℕ) (said : Question �
   pub spelled : SpellsMessage message parts
   pub padded : List ℕ
   pub filled : IsSigned parts new.reserve padded
-  pub is : store ≡ built_store (hash Sha256) ground.content padded ground.base start
+  pub place : Place
+  pub placed : IsPlace ground.base place
+  pub is : store ≡ place_store (hash Sha256) ground.content padded ground.base place
 
 -- The file has its new store in the new range, and all rules hold of it apart from verdicts. It asks the question of the new manifest,
 -- over the bytes that `plan` gives, and then those of the media file, which the judges of the build approve. Without the new range it
@@ -91,7 +94,7 @@ pub record BuiltMeets (hash : Alg → List ℕ → List ℕ) (said : Question �
   pub store : Tree
   pub question : Question
   pub older : List Question
-  pub written : IsNewStore hash said media definition message b.start store
+  pub written : IsNewStore hash said media definition message store
   pub meets : Meets hash b.file b.start b.len store (question ∷ older)
   pub signed : IsPlanned hash said media definition (Ok question.tbs)
   pub asked : AreQuestions media older
@@ -116,4 +119,18 @@ IsMet hash said media definition message (Err e) = ⊤
 abbrev pub SomeBuildSucceeds : Type 0
 SomeBuildSucceeds = (hash : Alg → List ℕ → List ℕ) (said : Question → Verdict)
     → (media : List ℕ) × (definition : List ℕ) × (message : List ℕ) × (b : Built)
+    × HasTextsIn definition × IsEmbedded hash said media definition message (Ok b)
+
+-- And some build into a BMFF file does.
+abbrev pub SomeFilmSucceeds : Type 0
+SomeFilmSucceeds = (hash : Alg → List ℕ → List ℕ) (said : Question → Verdict)
+    → (media : List ℕ) × (definition : List ℕ) × (message : List ℕ) × (b : Built)
+    × (is_bmff media ≡ true) × HasTextsIn definition × IsEmbedded hash said media definition message (Ok b)
+
+-- And so does some build into a file with a store, a BMFF file or a JPEG file, where the hash gives digests and judges approve each
+-- question.
+abbrev pub SomeBuildOverStoreSucceeds : Type 0
+SomeBuildOverStoreSucceeds = (film : Bool) (hash : Alg → List ℕ → List ℕ) (said : Question → Verdict) → GivesDigests hash → ((q : Question) → said q ≡ Approved)
+    → (media : List ℕ) × (definition : List ℕ) × (message : List ℕ) × (b : Built) × (is_bmff media ≡ film)
+    × ((start : ℕ) × (len : ℕ) × (old : Tree) × IsMediaStage media (Ok (stored start len old)))
     × HasTextsIn definition × IsEmbedded hash said media definition message (Ok b)

@@ -1,12 +1,11 @@
-// Copying parts of the media file into the new file.
+// Copying parts of a file into the new file.
 ghost use Rattle.std.specs.Prelude.{◌≡◌, ◌+◌, ◌<◌, ◌≤◌, length, take, drop, IfErr, OnOk};
 ghost use Rattle.std.specs.Option.{ForSome};
 ghost use Rattle.c2_base.specs.Source.{StaysSource};
-ghost use Rattle.c2_spec.specs.PutIn.{taken_out};
 ghost use Rattle.c2_build.specs.Steps.{IsCopyCause, IsStep, piece_of};
 
 use crate::BuildError;
-use c2_base::{Failed, Range, Sink, Source, fill_at, write_all};
+use c2_base::{Failed, Sink, Source, fill_at, write_all};
 
 // Appends the bytes of a source from a place on, as many as the buffer holds.
 fn copy_piece<S: Source, K: Sink>(
@@ -67,40 +66,4 @@ pub fn copy<S: Source, K: Sink>(
         at += len as u64;
     }
     Ok(())
-}
-
-/// Appends the bytes of a source less a range from one place to another: places count in what is left. They are read in pieces through
-/// a buffer that isn't empty. Takes no memory.
-pub fn copy_base<S: Source, K: Sink>(
-    source: &mut S,
-    sink: &mut K,
-    skip: Range,
-    from: u64,
-    to: u64,
-    buf: &mut [u8],
-) -> Result<(), BuildError>
-    requires ordered { from ≤ to }
-    requires inside { to + skip.length ≤ S.len source.old }
-    requires skip { skip.start + skip.length ≤ S.len source.old }
-    requires room { 0 < length buf.old }
-    ensures step { ForSome (S.known source.old) (λ file. IsStep K.written K.spare K.finished
-        (piece_of (taken_out skip.start skip.length file) from to) sink.old sink.new result) }
-    ensures unfinished { K.finished sink.new ≡ K.finished sink.old }
-    ensures cause { IfErr result (IsCopyCause (S.faults source.old) (S.faults source.new)
-        (K.faults sink.old) (K.faults sink.new)) }
-    ensures count { OnOk result (S.faults source.new ≡ S.faults source.old) }
-    ensures out_count { OnOk result (K.faults sink.new ≡ K.faults sink.old) }
-    ensures stays { StaysSource S.len S.known S.faults source.old source.new }
-    ensures later { K.faults sink.old ≤ K.faults sink.new }
-{
-    let start = skip.start;
-    let front = from.min(start);
-    let front_end = to.min(start);
-    match copy(source, sink, front, front_end, buf) {
-        Ok(()) => {}
-        Err(error) => return Err(error),
-    }
-    let back = from.max(start) + skip.length;
-    let back_end = to.max(start) + skip.length;
-    copy(source, sink, back, back_end, buf)
 }

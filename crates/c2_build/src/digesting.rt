@@ -1,13 +1,12 @@
-// The digest of a media file less a range.
-ghost use Rattle.std.specs.Prelude.{◌≡◌, ◌+◌, ◌<◌, ◌≤◌, length, IfErr, IfOk, OnOk, Ok};
+// The digest of a whole file.
+ghost use Rattle.std.specs.Prelude.{◌≡◌, ◌<◌, ◌≤◌, length, IfErr, IfOk, OnOk, Ok};
 ghost use Rattle.std.specs.Option.{ForSome};
 ghost use Rattle.c2_base.specs.Source.{FilledAt, StaysSource};
 ghost use Rattle.c2_base.specs.Causes.{HasCause};
 ghost use Rattle.c2_spec.specs.Digest.{digest_len};
-ghost use Rattle.c2_spec.specs.PutIn.{taken_out};
 ghost use Rattle.c2_build.specs.Steps.{HasTaken};
 
-use c2_base::{Failed, Range, Source, fill_at};
+use c2_base::{Failed, Source, fill_at};
 use c2_hash::{Alg, Digest, Hashing};
 
 // Hashes the bytes of a source from one place to another, read in pieces through a buffer that isn't empty.
@@ -37,32 +36,22 @@ fn hash_piece<S: Source, H: Hashing>(
     Ok(())
 }
 
-/// The SHA-256 digest of a media file of this size less a range in it.
-pub fn digest_base<S: Source, H: Hashing>(
+/// The SHA-256 digest of a whole file of this size, read through a buffer that isn't empty.
+pub fn hash_all<S: Source, H: Hashing>(
     hashing: &H,
-    media: &mut S,
-    skip: Range,
+    source: &mut S,
     size: u64,
     buf: &mut [u8],
 ) -> Result<Digest, Failed>
-    requires size { size ≡ S.len media.old }
-    requires inside { skip.start + skip.length ≤ size }
+    requires size { size ≡ S.len source.old }
     requires room { 0 < length buf.old }
-    ensures digest { IfOk result (λ d. ForSome (S.known media.old) (λ file.
-        d ≡ H.digest_of Alg.Sha256 (taken_out skip.start skip.length file))) }
+    ensures digest { IfOk result (λ d. ForSome (S.known source.old) (λ file.
+        d ≡ H.digest_of Alg.Sha256 file)) }
     ensures len { IfOk result (λ d. length d ≡ digest_len Alg.Sha256) }
-    ensures stays { StaysSource S.len S.known S.faults media.old media.new }
-    ensures cause { HasCause (S.faults media.old) (S.faults media.new) result }
+    ensures stays { StaysSource S.len S.known S.faults source.old source.new }
+    ensures cause { HasCause (S.faults source.old) (S.faults source.new) result }
 {
     let mut state = hashing.start(Alg::Sha256);
-    hash_piece(hashing, &mut state, media, 0, skip.start, buf)?;
-    hash_piece(
-        hashing,
-        &mut state,
-        media,
-        skip.start + skip.length,
-        size,
-        buf,
-    )?;
+    hash_piece(hashing, &mut state, source, 0, size, buf)?;
     Ok(hashing.finish(state))
 }

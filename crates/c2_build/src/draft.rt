@@ -1,47 +1,76 @@
 // What is to be built, by numbers that are known before anything is digested.
-ghost use Rattle.std.specs.Prelude.{◌≡◌, ℕ, ◌<◌, List, IfErr, IfOk, None, Some, Ok, OnOk, map, vec_len, []};
+ghost use Rattle.std.specs.Prelude.{◌≡◌, ℕ, ◌-◌, ◌<◌, ◌≤◌, ◌^◌, min, List, IfErr, IfOk, None, Some, Ok, OnOk, map, vec_len, []};
 ghost use Rattle.std.specs.Option.{ForSome};
 ghost use Rattle.c2_base.specs.Source.{StaysSource};
 ghost use Rattle.c2_base.specs.declared.limits.TheConstants as limits;
+ghost use Rattle.c2_cleared.specs.Clears.{cleared_len};
 ghost use Rattle.c2_spec.specs.Jpeg.Writing as jpeg;
 ghost use Rattle.c2_spec.specs.Judges.Panel.{LeavesJudges, judges_of, panel_says};
 ghost use Rattle.c2_spec.specs.declared.digest.Alg.TheVariants.{Sha256};
+ghost use Rattle.c2_spec.specs.declared.packets.TheConstants.{LEAST_STORE_LEN};
 ghost use Rattle.c2_definition.specs.DefinitionFile.{IsWellFormed};
+ghost use Rattle.c2_built.specs.Built.{zero_digest};
 ghost use Rattle.c2_layout.specs.Parts.{IsContent};
-ghost use Rattle.c2_layout.specs.Store.{Content};
+ghost use Rattle.c2_built.specs.Store.{Content};
+ghost use Rattle.c2_places.specs.Places.{IsPlace, Place};
 ghost use Rattle.c2_build.specs.Answers.{HasAskedThose, WithoutFault};
 ghost use Rattle.c2_build.specs.Building.{IsMediaStage, KindAsks, MediaKind};
-ghost use Rattle.c2_build.specs.Refusals.{first_refusal, new_store_len, number_tests};
-ghost use Rattle.c2_build.specs.Steps.{IsAskCause, IsDraft, IsDrafted, IsInside, IsKind, IsQuiet, IsRefusedPlace, IsSmall, IsStoreRefusal};
+ghost use Rattle.c2_build.specs.Refusals.{box_tests, first_refusal, number_tests, place_tests};
+ghost use Rattle.c2_build.specs.Steps.{IsAskCause, IsDraft, IsDrafted, IsFitted, IsKind, IsQuiet, IsRefusedPlace, IsSeat, IsSeatIn, IsSmall, IsStoreRefusal, seat_binding, seat_range_len, seat_store_len};
 
 use crate::BuildError;
 use crate::ground::{KeptGround, grounded};
 use crate::media::MediaFile;
-use crate::place::{Spot, find_spot};
-use c2_base::Source;
-use c2_base::limits::{FILE_LEN_LIMIT, MAX_MANIFESTS, MAX_STORE_LEN};
-use c2_definition::Definition;
+use crate::place::{Seat, find_spot};
+use c2_base::limits::{FILE_LEN_LIMIT, MAX_MANIFESTS, MAX_ROOT_BOXES, MAX_STORE_LEN};
+use c2_base::{MediaError, NoMemory, Range, Source};
+use c2_boxes::insert_place;
+use c2_definition::{Definition, NewAssertion};
+use c2_film_binding::film_binding;
 use c2_hash::Hashing;
-use c2_jpegseg::{a_located_file_is_segments, segments_len};
+use c2_jpegseg::segments_len;
 use c2_judge::Judge;
-use c2_layout::{Carried, store_size};
+use c2_layout::{Carried, bound_size, data_binding};
+use c2_places::each_media_has_a_place;
 use c2_spec::Reason;
 use std::alloc::Global;
+
+// What stands for a digest that isn't known yet.
+const NO_DIGEST: [u8; 32] = [0; 32];
+
+// What stands for a range that isn't known yet.
+const NO_RANGE: Range = Range {
+    start: 0,
+    length: 0,
+};
+
+// How many bytes the C2PA box of a store has before the store.
+const BOX_FRAME_LEN: u64 = 45;
+
+/// What is put in of a new store.
+#[derive(Clone, Copy, Debug, PartialEq, Eq)]
+pub enum Put {
+    /// Its packets, under this number.
+    Packets(u16),
+
+    /// Its box.
+    Box,
+}
 
 /// The numbers of what is to be built.
 #[derive(Clone, Copy, Debug)]
 pub struct Draft {
-    /// The place of the packets' first byte.
+    /// The place of the first byte that is put in.
     pub start: u64,
 
-    /// Their number.
-    pub number: u16,
-
-    /// How many bytes they have.
+    /// How many bytes are put in.
     pub length: u64,
 
     /// How many bytes the new file has beside them.
     pub size: u64,
+
+    /// What is put in.
+    pub put: Put,
 }
 
 /// What is to be built, and over what.
@@ -50,29 +79,82 @@ pub struct Drafted {
     /// What it is built over.
     pub ground: KeptGround,
 
+    /// The place in that.
+    pub seat: Seat,
+
     /// Its numbers.
     pub draft: Draft,
 }
 
-// The length of the new store, where it isn't too large.
+// The place of the first byte that is put in, and what is put in, where something can be put in at this place.
+fn put_at(seat: &Seat) -> Result<(u64, Put), BuildError>
+    ensures passed { IfOk result (λ r. (base : List ℕ) (p : Place) → IsPlace base p
+        → IsSeat seat.now p → IsFitted r.0 r.1 p) }
+    ensures refused { IfErr result (λ e. (base : List ℕ) (p : Place) → IsPlace base p
+        → IsSeat seat.now p → first_refusal (place_tests p) ≡ Some e) }
+    ensures inside { IfOk result (λ r. (len : ℕ) → IsSeatIn len seat.now → r.0 ≤ len) }
+    ensures quiet { IfErr result IsQuiet }
+{
+    match seat {
+        Seat::Segments { start, number } => match number {
+            Some(number) => Ok((*start, Put::Packets(*number))),
+            None => Err(BuildError::NoInstance),
+        },
+        Seat::Boxes(roots) => match insert_place(roots, None) {
+            Ok(start) => Ok((start, Put::Box)),
+            Err(error) => match error {
+                MediaError::BadBox(at) => Err(BuildError::OpenBox(at)),
+                _ => Err(BuildError::NoMemory),
+            },
+        },
+    }
+}
+
+// The new binding at this place, while neither a range nor a digest is known.
+fn blank_binding(alloc: Global, seat: &Seat) -> Result<NewAssertion, NoMemory>
+    ensures { IfOk result (λ a. a ≡ seat_binding seat.now 0 0 zero_digest) }
+{
+    match seat {
+        Seat::Segments { .. } => data_binding(alloc, NO_RANGE, &NO_DIGEST),
+        Seat::Boxes(_) => film_binding(alloc, &NO_DIGEST),
+    }
+}
+
+// The length of the new store at this place; 2^64 - 1 where 64 bits can't hold it.
+fn store_len(
+    alloc: Global,
+    definition: &Definition,
+    carried: &Carried,
+    seat: &Seat,
+) -> Result<u64, NoMemory>
+    ensures len { IfOk result (λ n. (hash : List ℕ → List ℕ) (c : Content)
+        → IsContent hash definition.now carried.now c
+        → n ≡ min (seat_store_len seat.now c) (2 ^ 64 - 1)) }
+    ensures least { IfOk result (λ n. LEAST_STORE_LEN ≤ n) }
+{
+    let binding = blank_binding(alloc, seat)?;
+    bound_size(alloc, definition, carried, binding)
+}
+
+// The length of the new store at this place, where it isn't too large.
 fn small_store_len(
     alloc: Global,
     definition: &Definition,
     carried: &Carried,
+    seat: &Seat,
 ) -> Result<u64, BuildError>
     requires formed { IsWellFormed definition.now }
-    requires some { (hash : List ℕ → List ℕ) × (c : Content)
-        × IsContent hash definition.now carried.now c }
     ensures len { IfOk result (λ n. (hash : List ℕ → List ℕ) (c : Content)
-        → IsContent hash definition.now carried.now c → n ≡ new_store_len c) }
+        → IsContent hash definition.now carried.now c → n ≡ seat_store_len seat.now c) }
     ensures is_len { IfOk result (λ n. jpeg.IsStoreLen n) }
     ensures refused { IfErr result (λ e. (hash : List ℕ → List ℕ) (c : Content)
-        → IsContent hash definition.now carried.now c → IsStoreRefusal (new_store_len c) e) }
+        → IsContent hash definition.now carried.now c
+        → IsStoreRefusal (seat_store_len seat.now c) e) }
     ensures quiet { IfErr result IsQuiet }
 {
-    let len = match store_size(alloc, definition, carried) {
+    let len = match store_len(alloc, definition, carried, seat) {
         Ok(len) => len,
-        Err(_) => return Err(BuildError::NoMemory),
+        Err(NoMemory) => return Err(BuildError::NoMemory),
     };
     // The length may be one that 64 bits can't hold.
     if len == u64::MAX {
@@ -84,48 +166,85 @@ fn small_store_len(
     Ok(len)
 }
 
-/// The numbers of a new file over a ground, at a place that was found, where no test on them refuses it.
+// How many bytes are put in of a store of so many.
+fn range_len(seat: &Seat, store_len: u64) -> u64
+    requires { jpeg.IsStoreLen store_len }
+    ensures len { (c : Content) → seat_store_len seat.now c ≡ store_len
+        → result ≡ seat_range_len seat.now c }
+    ensures small { result < limits.FILE_LEN_LIMIT }
+{
+    match seat {
+        Seat::Segments { .. } => segments_len(store_len),
+        Seat::Boxes(_) => BOX_FRAME_LEN + store_len,
+    }
+}
+
+// Refuses a file that has as many root boxes as it may have.
+fn check_boxes(seat: &Seat) -> Result<(), BuildError>
+    ensures passed { OnOk result ((p : Place) → IsSeat seat.now p
+        → first_refusal (box_tests p) ≡ None) }
+    ensures refused { IfErr result (λ e. (p : Place) → IsSeat seat.now p
+        → first_refusal (box_tests p) ≡ Some e) }
+    ensures quiet { IfErr result IsQuiet }
+{
+    match seat {
+        Seat::Segments { .. } => Ok(()),
+        Seat::Boxes(roots) => {
+            if roots.as_slice().len() as u64 >= MAX_ROOT_BOXES {
+                return Err(BuildError::MediaRefused(Reason::TooManyBoxes, MAX_ROOT_BOXES));
+            }
+            Ok(())
+        }
+    }
+}
+
+/// The numbers of a new file over a ground, at a place that was found in a base of so many bytes, where no test on them refuses it.
 pub fn draft_at(
     alloc: Global,
     definition: &Definition,
     ground: &KeptGround,
-    spot: Spot,
+    seat: &Seat,
+    size: u64,
 ) -> Result<Draft, BuildError>
     requires formed { IsWellFormed definition.now }
-    requires some { (hash : List ℕ → List ℕ) × (c : Content)
-        × IsContent hash definition.now ground.now.carried c }
-    requires short { spot.size < limits.FILE_LEN_LIMIT }
-    ensures passed { OnOk result ((hash : List ℕ → List ℕ) (c : Content)
-        → IsContent hash definition.now ground.now.carried c
-        → first_refusal (number_tests spot.size ground.now.manifests c spot.number) ≡ None) }
-    ensures refused { IfErr result (λ e. (hash : List ℕ → List ℕ) (c : Content)
-        → IsContent hash definition.now ground.now.carried c → WithoutFault e
-        (first_refusal (number_tests spot.size ground.now.manifests c spot.number) ≡ Some e)) }
+    requires short { size < limits.FILE_LEN_LIMIT }
+    requires inside { IsSeatIn size seat.now }
+    ensures passed { OnOk result ((hash : List ℕ → List ℕ) (c : Content) (base : List ℕ) (p : Place)
+        → IsContent hash definition.now ground.now.carried c → IsPlace base p → IsSeat seat.now p
+        → first_refusal (number_tests size ground.now.manifests c p) ≡ None) }
+    ensures refused { IfErr result (λ e. (hash : List ℕ → List ℕ) (c : Content) (base : List ℕ)
+        (p : Place) → IsContent hash definition.now ground.now.carried c → IsPlace base p
+        → IsSeat seat.now p → WithoutFault e
+        (first_refusal (number_tests size ground.now.manifests c p) ≡ Some e)) }
     ensures draft { IfOk result (λ f. (hash : List ℕ → List ℕ) (c : Content)
-        → IsContent hash definition.now ground.now.carried c → IsDraft c spot f) }
+        → IsContent hash definition.now ground.now.carried c → IsDraft c seat.now size f) }
     ensures quiet { IfErr result IsQuiet }
 {
-    let Some(number) = spot.number else {
-        return Err(BuildError::NoInstance);
+    let (start, put) = match put_at(seat) {
+        Ok(at) => at,
+        Err(error) => return Err(error),
     };
     if ground.manifests > MAX_MANIFESTS as u64 {
         return Err(BuildError::TooManyManifests(ground.manifests));
     }
-    let len = match small_store_len(alloc, definition, &ground.carried) {
+    let len = match small_store_len(alloc, definition, &ground.carried, seat) {
         Ok(len) => len,
         Err(error) => return Err(error),
     };
-    let length = segments_len(len);
-    let file_len = spot.size + length;
+    let length = range_len(seat, len);
+    let file_len = size + length;
     if file_len >= FILE_LEN_LIMIT {
         return Err(BuildError::MediaRefused(Reason::FileTooLarge, file_len));
     }
-    Ok(Draft {
-        start: spot.start,
-        number,
-        length,
-        size: spot.size,
-    })
+    match check_boxes(seat) {
+        Ok(()) => Ok(Draft {
+            start,
+            length,
+            size,
+            put,
+        }),
+        Err(error) => Err(error),
+    }
 }
 
 /// What is to be built over a media file that was opened so. Judges are asked what the check of its store asks, where it has one, and
@@ -139,25 +258,25 @@ pub fn draft_over<A: Source, H: Hashing>(
     judges: &mut Vec<Box<dyn Judge>>,
 ) -> Result<Drafted, BuildError>
     requires formed { IsWellFormed definition.now }
-    requires inside { IsInside (A.len media.old) file }
     ensures passed { let said = panel_says (map (λ j. says j) judges.old.items) in
         IfOk result (λ w. ForSome (A.known media.old) (λ bytes. (kind : MediaKind)
-        → IsMediaStage bytes (Ok kind) → IsKind file kind
+        → IsMediaStage bytes (Ok kind) → IsKind bytes file kind
         → IsDrafted H.digest_of said bytes definition.now kind w)) }
     ensures refused { let said = panel_says (map (λ j. says j) judges.old.items) in
         IfErr result (λ e. ForSome (A.known media.old) (λ bytes. (kind : MediaKind)
-        → IsMediaStage bytes (Ok kind) → IsKind file kind
+        → IsMediaStage bytes (Ok kind) → IsKind bytes file kind
         → WithoutFault e (IsRefusedPlace H.digest_of said bytes definition.now kind e))) }
-    ensures small { IfOk result (IsSmall (H.digest_of Sha256) (A.len media.old) definition.now) }
+    ensures small { IfOk result (λ w. IsSmall (H.digest_of Sha256)
+        (cleared_len w.ground.clearing (A.len media.old)) definition.now w) }
     ensures asked { let said = panel_says (map (λ j. says j) judges.old.items) in
         let old = judges_of (λ j. says j) (λ j. asked_times j) (λ j. judge_faults j)
         judges.old.items in
         let new = judges_of (λ j. says j) (λ j. asked_times j) (λ j. judge_faults j)
         judges.new.items in
-        ForSome (A.known media.old) (λ bytes. (kind : MediaKind) → IsKind file kind
+        ForSome (A.known media.old) (λ bytes. (kind : MediaKind) → IsKind bytes file kind
         → HasAskedThose (KindAsks H.digest_of said bytes kind) old new result) }
     ensures unasked { let said = panel_says (map (λ j. says j) judges.old.items) in
-        ForSome (A.known media.old) (λ bytes. (kind : MediaKind) → IsKind file kind
+        ForSome (A.known media.old) (λ bytes. (kind : MediaKind) → IsKind bytes file kind
         → KindAsks H.digest_of said bytes kind [] → judges.new ≡ judges.old) }
     ensures cause { let old = judges_of (λ j. says j) (λ j. asked_times j) (λ j. judge_faults j)
         judges.old.items in
@@ -173,18 +292,23 @@ pub fn draft_over<A: Source, H: Hashing>(
         LeavesJudges old new result }
     ensures judges_len { vec_len judges.new ≡ vec_len judges.old }
 {
-    // Only the prover needs this law.
-    a_located_file_is_segments();
+    // Only the prover needs these laws.
+    each_media_has_a_place();
+    let form = file.form;
     let ground = match grounded(alloc, hashing, media, file, definition, judges) {
         Ok(ground) => ground,
         Err(error) => return Err(error),
     };
-    let spot = match find_spot(alloc, media, ground.skip) {
+    let spot = match find_spot(alloc, media, ground.clearing, form) {
         Ok(spot) => spot,
         Err(error) => return Err(error),
     };
-    match draft_at(alloc, definition, &ground, spot) {
-        Ok(draft) => Ok(Drafted { ground, draft }),
+    match draft_at(alloc, definition, &ground, &spot.seat, spot.size) {
+        Ok(draft) => Ok(Drafted {
+            ground,
+            seat: spot.seat,
+            draft,
+        }),
         Err(error) => Err(error),
     }
 }

@@ -3,23 +3,30 @@ ghost use Rattle.std.specs.Prelude.{◌≡◌, ◌≤◌, IfErr, Ok, OnErr, OnOk
 ghost use Rattle.std.specs.Option.{ForSome};
 ghost use Rattle.c2_base.specs.Causes.{Rose};
 ghost use Rattle.c2_base.specs.Source.{StaysSource};
+ghost use Rattle.c2_cleared.specs.Clears.{cleared};
+ghost use Rattle.c2_spec.specs.Bmff.Boxes.{box_bytes};
+ghost use Rattle.c2_spec.specs.Bmff.Writing.{c2pa_box};
 ghost use Rattle.c2_spec.specs.Jpeg.Writing.{IsPacketStore, packets_bytes};
 ghost use Rattle.c2_spec.specs.Judges.Panel.{LeavesJudges, judges_of, panel_says};
 ghost use Rattle.c2_build.specs.Answers.{Faults, HasAskedThose, HasFinish, HasSpare, IsBuildCause, IsEmbedding, LeavesSink, SinkState};
-ghost use Rattle.c2_build.specs.Building.{EmbedAsks, IsDefinitionRefused, IsEmbedded, IsMediaRefused};
+ghost use Rattle.c2_build.specs.Building.{EmbedAsks, HasNothingToAsk, IsDefinitionRefused, IsEmbedded, IsMediaRefused, IsMessageRefused};
 ghost use Rattle.c2_build.specs.Meeting.{IsMet};
 ghost use Rattle.c2_build.specs.declared.error.BuildError.TheVariants as build;
-ghost use Rattle.c2_build.specs.Steps.{CanWrite, IsCopyCause, IsStep, IsWhole, ready_file};
+ghost use Rattle.c2_build.specs.Steps.{CanWrite, CanWriteOver, IsCopyCause, IsStep, IsWhole, put_of, ready_file};
 
-use crate::copying::copy_base;
+use crate::copying::copy;
+use crate::draft::Put;
 use crate::laws::{a_build_comes_to_one_thing, a_new_file_meets_the_rules};
 use crate::ready::{Ready, prepare};
 use crate::{BuildError, Embedded};
 use c2_base::{Failed, Sink, Source};
+use c2_boxes::write_box;
+use c2_cleared::{Cleared, Named};
 use c2_hash::Hashing;
 use c2_jpegseg::{packets_hold_the_store, write_segments};
 use c2_judge::Judge;
 use std::alloc::Global;
+use std::marker::Brand;
 
 // Appends the packets of a store under this number.
 fn write_packets<K: Sink>(store: &[u8], number: u16, out: &mut K) -> Result<(), BuildError>
@@ -40,15 +47,107 @@ fn write_packets<K: Sink>(store: &[u8], number: u16, out: &mut K) -> Result<(), 
     }
 }
 
-// Appends the new file.
+// Appends the box of a store.
+fn write_boxed<K: Sink>(store: &[u8], out: &mut K) -> Result<(), BuildError>
+    requires { IsPacketStore store.now }
+    ensures step { IsStep K.written K.spare K.finished (box_bytes (c2pa_box store.now))
+        out.old out.new result }
+    ensures unfinished { K.finished out.new ≡ K.finished out.old }
+    ensures fault { IfErr result (λ e. (e ≡ build.WriteFault)
+        × Rose (K.faults out.old) (K.faults out.new)) }
+    ensures out_count { OnOk result (K.faults out.new ≡ K.faults out.old) }
+    ensures later { K.faults out.old ≤ K.faults out.new }
+{
+    match write_box(store, out) {
+        Ok(()) => Ok(()),
+        Err(Failed) => Err(BuildError::WriteFault),
+    }
+}
+
+// Appends what is put in of a store.
+fn put_store<K: Sink>(store: &[u8], put: Put, out: &mut K) -> Result<(), BuildError>
+    requires { IsPacketStore store.now }
+    ensures step { IsStep K.written K.spare K.finished (put_of put store.now)
+        out.old out.new result }
+    ensures unfinished { K.finished out.new ≡ K.finished out.old }
+    ensures fault { IfErr result (λ e. (e ≡ build.WriteFault)
+        × Rose (K.faults out.old) (K.faults out.new)) }
+    ensures out_count { OnOk result (K.faults out.new ≡ K.faults out.old) }
+    ensures later { K.faults out.old ≤ K.faults out.new }
+{
+    match put {
+        Put::Packets(number) => write_packets(store, number, out),
+        Put::Box => write_boxed(store, out),
+    }
+}
+
+// Appends the new file over a base.
+fn write_over<B: Source, K: Sink>(
+    base: &mut B,
+    mut ready: Ready,
+    out: &mut K,
+) -> Result<(), BuildError>
+    requires { CanWriteOver (B.len base.old) ready }
+    ensures step { ForSome (B.known base.old) (λ file. IsStep K.written K.spare K.finished
+        (ready_file ready file)
+        out.old out.new result) }
+    ensures unfinished { K.finished out.new ≡ K.finished out.old }
+    ensures cause { IfErr result (IsCopyCause (B.faults base.old) (B.faults base.new)
+        (K.faults out.old) (K.faults out.new)) }
+    ensures count { OnOk result (B.faults base.new ≡ B.faults base.old) }
+    ensures out_count { OnOk result (K.faults out.new ≡ K.faults out.old) }
+    ensures stays { StaysSource B.len B.known B.faults base.old base.new }
+    ensures later { K.faults out.old ≤ K.faults out.new }
+{
+    let draft = ready.draft;
+    match copy(base, out, 0, draft.start, &mut ready.buffer) {
+        Ok(()) => {}
+        Err(error) => return Err(error),
+    }
+    match put_store(ready.store.as_slice(), draft.put, out) {
+        Ok(()) => {}
+        Err(error) => return Err(error),
+    }
+    copy(base, out, draft.start, draft.size, &mut ready.buffer)
+}
+
+// Appends the new file over what is left of a media file of which this is known, puts the answer into `done`, and gives the file back.
+fn write_left<'m, A: Source, L: Named, K: Sink>(
+    media: &'m mut A,
+    ready: Ready,
+    out: &mut K,
+    done: &mut Result<(), BuildError>,
+) -> &'m mut A
+    requires name { media.ghost_name ≡ L.name }
+    requires len { A.len media.old ≡ L.len }
+    requires known { A.known media.old ≡ L.known }
+    requires can { CanWrite (A.len media.old) ready }
+    ensures same { result.ghost_name ≡ media.entry.ghost_name }
+    ensures step { ForSome (A.known media.old) (λ file. IsStep K.written K.spare K.finished
+        (ready_file ready (cleared ready.clearing file))
+        out.old out.new done.new) }
+    ensures unfinished { K.finished out.new ≡ K.finished out.old }
+    ensures cause { IfErr done.new (IsCopyCause (A.faults media.old) (A.faults result.now)
+        (K.faults out.old) (K.faults out.new)) }
+    ensures count { OnOk done.new (A.faults result.now ≡ A.faults media.old) }
+    ensures out_count { OnOk done.new (K.faults out.new ≡ K.faults out.old) }
+    ensures stays { StaysSource A.len A.known A.faults media.old result.now }
+    ensures later { K.faults out.old ≤ K.faults out.new }
+{
+    let mut base = Cleared::<A, L>::new(media, ready.clearing);
+    *done = write_over(&mut base, ready, out);
+    base.into_media()
+}
+
+// Appends the new file over what is left of a media file.
 fn write_bytes<A: Source, K: Sink>(
     media: &mut A,
-    mut ready: Ready,
+    ready: Ready,
     out: &mut K,
 ) -> Result<(), BuildError>
     requires { CanWrite (A.len media.old) ready }
     ensures step { ForSome (A.known media.old) (λ file. IsStep K.written K.spare K.finished
-        (ready_file ready file)
+        (ready_file ready (cleared ready.clearing file))
         out.old out.new result) }
     ensures unfinished { K.finished out.new ≡ K.finished out.old }
     ensures cause { IfErr result (IsCopyCause (A.faults media.old) (A.faults media.new)
@@ -58,17 +157,9 @@ fn write_bytes<A: Source, K: Sink>(
     ensures stays { StaysSource A.len A.known A.faults media.old media.new }
     ensures later { K.faults out.old ≤ K.faults out.new }
 {
-    let draft = ready.draft;
-    let skip = ready.skip;
-    match copy_base(media, out, skip, 0, draft.start, &mut ready.buffer) {
-        Ok(()) => {}
-        Err(error) => return Err(error),
-    }
-    match write_packets(ready.store.as_slice(), draft.number, out) {
-        Ok(()) => {}
-        Err(error) => return Err(error),
-    }
-    copy_base(media, out, skip, draft.start, draft.size, &mut ready.buffer)
+    let mut done = Err(BuildError::NoMemory);
+    let _media = write_left::<A, Brand, K>(media, ready, out, &mut done);
+    done
 }
 
 // Appends the new file, and says that nothing follows.
@@ -79,7 +170,7 @@ fn write_file<A: Source, K: Sink>(
 ) -> Result<(), BuildError>
     requires { CanWrite (A.len media.old) ready }
     ensures whole { ForSome (A.known media.old) (λ file. IsWhole K.written K.spare K.finished
-        (ready_file ready file)
+        (ready_file ready (cleared ready.clearing file))
         out.old out.new result) }
     ensures finished { OnOk result (K.finished out.new ≡ true) }
     ensures unfinished { OnErr result (K.finished out.new ≡ K.finished out.old) }
@@ -100,8 +191,8 @@ fn write_file<A: Source, K: Sink>(
     }
 }
 
-/// Writes the new file: the media with a new store, of a definition and of a signed message, in packets behind SOI and the APP0
-/// segments that follow it.
+/// Writes the new file: the media with a new store, of a definition and of a signed message, in its place. That is behind the APP0
+/// segments of a JPEG file; in a BMFF file at the end, or before a last `mfra`.
 ///
 /// Over known bytes the error is the first of `BuildError` whose condition holds. `ReadFault` and `WriteFault` come only where a
 /// source or the sink failed in this call, and leave a prefix of the new file that isn't finished; every other error leaves the sink
@@ -147,6 +238,14 @@ pub fn embed<A: Source, B: Source, C: Source, K: Sink, H: Hashing>(
         ForSome (A.known media.old) (λ file. ForSome (B.known definition.old) (λ bytes.
         ForSome (C.known signature.old) (λ message.
         EmbedAsks H.digest_of said file bytes message [] → judges.new ≡ judges.old))) }
+    // What is known of one file, or of two, is enough for it.
+    ensures unasked_media { ForSome (A.known media.old) (λ file.
+        HasNothingToAsk file → judges.new ≡ judges.old) }
+    ensures unasked_definition { ForSome (B.known definition.old) (λ bytes.
+        IsDefinitionRefused bytes → judges.new ≡ judges.old) }
+    ensures unasked_message { ForSome (B.known definition.old) (λ bytes.
+        ForSome (C.known signature.old) (λ message.
+        IsMessageRefused bytes message → judges.new ≡ judges.old)) }
     // What isn't due isn't read.
     ensures definition_unread { ForSome (A.known media.old) (λ file.
         IsMediaRefused file → definition.new ≡ definition.old) }

@@ -6,12 +6,13 @@ use c2_message::SignaturePart;
 use c2_rules::Code;
 use c2_spec::Reason;
 
-/// Why nothing is built. A variant further up is tested earlier, but for the length of the new file, which is tested after
-/// `StoreTooLarge`. The last four have no place in this order, since they say nothing of the inputs.
+/// Why nothing is built. A variant further up is tested earlier, but for the length and the number of root boxes of the new
+/// file, which are tested after `StoreTooLarge`, in this order. The last four have no place in this order, since they say nothing of the inputs.
 #[derive(Debug, Drop)]
 pub enum BuildError {
     /// The container, a box or the store of the media file is refused for this reason, with its number. `FileTooLarge` also tells
-    /// the length of a file that would be built too long.
+    /// the length of a file that would be built too long, and `TooManyBoxes` comes also of a BMFF file that would get one root box too
+    /// many.
     MediaRefused(Reason, u64),
 
     /// What is refused of the definition file first.
@@ -19,9 +20,6 @@ pub enum BuildError {
 
     /// The test that the signed message fails first.
     BadSignature(SignaturePart),
-
-    /// The media file is a BMFF file. This version can't write into it yet. A refused one is `MediaRefused`.
-    Later,
 
     /// The first rule that fails of the check of the media file's store, with the URI of what it fails at.
     ParentFails(Code, Text),
@@ -32,7 +30,12 @@ pub enum BuildError {
     /// The first redaction, in the definition's own spelling, and why it can't be made.
     RedactionRefused(Text, Code),
 
-    /// Packets of the media file outside its older store have taken each box instance number from `LEAST_NUMBER` on.
+    /// The last root box of a BMFF file states no size and runs to the end of the file, so that nothing can stand behind it: this is
+    /// the place where it begins.
+    OpenBox(u64),
+
+    /// Packets of the media file have taken each box instance number from `LEAST_NUMBER` on; those of its older store, which are
+    /// taken out, don't count.
     NoInstance,
 
     /// So many manifests are too many for a store: `MAX_MANIFESTS` is the most.

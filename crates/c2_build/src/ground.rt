@@ -1,5 +1,5 @@
 // What a new file is built over.
-ghost use Rattle.std.specs.Prelude.{◌≡◌, ℕ, ◌+◌, ◌≤◌, List, [], IfErr, IfOk, None, Some, Ok, OnOk, map, length, vec_len};
+ghost use Rattle.std.specs.Prelude.{◌≡◌, ℕ, List, [], IfErr, IfOk, None, Some, Ok, OnOk, map, length, vec_len};
 ghost use Rattle.std.specs.Option.{ForSome};
 ghost use Rattle.c2_base.specs.Source.{StaysSource};
 ghost use Rattle.c2_base.specs.declared.values.Question.{Question};
@@ -9,7 +9,7 @@ ghost use Rattle.c2_spec.specs.declared.digest.Alg.{Alg};
 ghost use Rattle.c2_spec.specs.declared.panel.Verdict.{Verdict};
 ghost use Rattle.c2_rules.specs.Opened.{IsManifestStore};
 ghost use Rattle.c2_rules.specs.Validated.{CheckAsks};
-ghost use Rattle.c2_layout.specs.Store.{range_at};
+ghost use Rattle.c2_cleared.specs.Clears.{cleared};
 ghost use Rattle.c2_build.specs.declared.error.BuildError.TheVariants.{LabelTaken};
 ghost use Rattle.c2_spec.specs.C2pa.Manifest.{IsStoreOf, manifests_of};
 ghost use Rattle.c2_spec.specs.Judges.Panel.{LeavesJudges, judges_of, panel_says};
@@ -17,13 +17,14 @@ ghost use Rattle.c2_spec.specs.declared.digest.Alg.TheVariants.{Sha256};
 ghost use Rattle.c2_rules.specs.Readings.{AreReadings, Reading};
 ghost use Rattle.c2_build.specs.Answers.{HasAskedThose, WithoutFault};
 ghost use Rattle.c2_build.specs.Building.{IsGroundStage, IsMediaStage, KindAsks, MediaKind, fresh};
-ghost use Rattle.c2_build.specs.Steps.{ComesAs, IsAskCause, IsCarriedOver, IsCheckRefusal, IsChecked, IsGround, IsInside, IsKind, IsOver, IsOverRefusal, IsQuiet, IsSomeGround};
+ghost use Rattle.c2_build.specs.Steps.{ComesAs, IsAskCause, IsCarriedOver, IsCheckRefusal, IsChecked, IsGround, IsKind, IsOver, IsOverRefusal, IsQuiet, IsSomeGround};
 
 use crate::BuildError;
 use crate::media::MediaFile;
-use c2_base::{Found, NoMemory, Range, Source, Text};
+use c2_base::{Found, NoMemory, Source, Text};
 use c2_carried::a_valid_store_is_carried;
 use c2_chain::{labels_of_a_store_differ, of_store, one_reading, readings};
+use c2_cleared::Clearing;
 use c2_definition::Definition;
 use c2_hash::Hashing;
 use c2_judge::Judge;
@@ -39,17 +40,11 @@ use c2_validate::types::StoreRead;
 use c2_validate::{Answer, ValidateError, one_opening, read_store, validate};
 use std::alloc::Global;
 
-// No range is left out.
-const NO_RANGE: Range = Range {
-    start: 0,
-    length: 0,
-};
-
 /// What a new file is built over, as it is kept.
 #[derive(Debug, Drop)]
 pub struct KeptGround {
-    /// The range of the media file's store, which is left out; an empty one where it has none.
-    pub skip: Range,
+    /// How the media file is cleared of its older store.
+    pub clearing: Clearing,
 
     /// What is taken over of that store.
     pub carried: Carried,
@@ -58,19 +53,23 @@ pub struct KeptGround {
     pub manifests: u64,
 }
 
-// The ground over a JPEG file without a store.
-fn fresh_ground(alloc: Global, definition: &Definition) -> Result<KeptGround, BuildError>
+// The ground over a media file without a store, of which nothing is cleared away.
+fn fresh_ground(
+    alloc: Global,
+    definition: &Definition,
+    clearing: Clearing,
+) -> Result<KeptGround, BuildError>
     ensures ground { (hash : Alg → List ℕ → List ℕ) (said : Question → Verdict) (file : List ℕ)
-        → ComesAs (IsGround (hash Sha256) file definition.now)
+        → cleared clearing file ≡ file → ComesAs (IsGround (hash Sha256) file definition.now)
         (IsGroundStage hash said file definition.now fresh) result }
-    ensures some { (hash : List ℕ → List ℕ) (len : ℕ)
-        → IfOk result (IsSomeGround hash len definition.now) }
+    ensures some { (hash : List ℕ → List ℕ)
+        → IfOk result (IsSomeGround hash definition.now) }
     ensures quiet { IfErr result IsQuiet }
 {
     let own = definition.label.as_str();
     match refused_without_store(alloc, own, definition.redact.as_slice()) {
         Ok(None) => Ok(KeptGround {
-            skip: NO_RANGE,
+            clearing,
             carried: Carried::nothing(alloc),
             manifests: 1,
         }),
@@ -163,22 +162,21 @@ fn carried_of<'u, H: Hashing>(
     })
 }
 
-// The ground over a store in this range, whose manifests all rules hold of.
+// The ground over a store whose manifests all rules hold of, in a media file that is cleared so of it.
 fn over_tree<H: Hashing>(
     alloc: Global,
     hashing: &H,
-    skip: Range,
+    clearing: Clearing,
     tree: &Tree<'_>,
     store: &Store,
     definition: &Definition,
 ) -> Result<KeptGround, BuildError>
     requires { IsStoreOf tree.now store.now }
     ensures over { (rs : List Reading) → AreReadings (manifests_of tree.now) rs
-        → IfOk result (IsOver (H.digest_of Sha256) definition.now tree.now skip rs) }
+        → IfOk result (IsOver (H.digest_of Sha256) definition.now tree.now clearing rs) }
     ensures refused { IfErr result (λ e. (rs : List Reading)
         → AreReadings (manifests_of tree.now) rs → IsOverRefusal definition.now rs e) }
-    ensures some { (len : ℕ) → skip.start + skip.length ≤ len
-        → IfOk result (IsSomeGround (H.digest_of Sha256) len definition.now) }
+    ensures some { IfOk result (IsSomeGround (H.digest_of Sha256) definition.now) }
     ensures quiet { IfErr result IsQuiet }
 {
     // Only the prover needs these laws, and the count: it takes from here that the tree is legal.
@@ -203,7 +201,7 @@ fn over_tree<H: Hashing>(
     let manifests = manifests(readings(&chain)).len() as u64 + 1;
     match carried_of(alloc, hashing, tree, store, definition) {
         Ok(carried) => Ok(KeptGround {
-            skip,
+            clearing,
             carried,
             manifests,
         }),
@@ -222,26 +220,25 @@ fn label_taken(alloc: Global, definition: &Definition) -> BuildError
     }
 }
 
-// The ground over a store that was found, whose manifests all rules hold of.
+// The ground over a store that was found, whose manifests all rules hold of, in a media file that is cleared so of it.
 fn over_store<H: Hashing>(
     alloc: Global,
     hashing: &H,
     found: &Found,
+    clearing: Clearing,
     definition: &Definition,
 ) -> Result<KeptGround, BuildError>
     ensures over { (t : AnyTree) (rs : List Reading)
         → IsManifestStore found.now.start found.now.length found.now.store
         (here found.now.start found.now.length t)
         → AreReadings (manifests_of t) rs
-        → IfOk result (IsOver (H.digest_of Sha256) definition.now t
-        (range_at found.now.start found.now.length) rs) }
+        → IfOk result (IsOver (H.digest_of Sha256) definition.now t clearing rs) }
     ensures refused { (t : AnyTree) (rs : List Reading)
         → IsManifestStore found.now.start found.now.length found.now.store
         (here found.now.start found.now.length t)
         → AreReadings (manifests_of t) rs
         → IfErr result (IsOverRefusal definition.now rs) }
-    ensures some { (len : ℕ) → found.now.start + found.now.length ≤ len
-        → IfOk result (IsSomeGround (H.digest_of Sha256) len definition.now) }
+    ensures some { IfOk result (IsSomeGround (H.digest_of Sha256) definition.now) }
     ensures quiet { IfErr result IsQuiet }
 {
     // Only the prover needs this law.
@@ -250,13 +247,9 @@ fn over_store<H: Hashing>(
         Ok(read) => read,
         Err(NoMemory) => return Err(BuildError::NoMemory),
     };
-    let skip = Range {
-        start: found.start,
-        length: found.length,
-    };
     match read {
         StoreRead::Here(tree, store) => {
-            over_tree(alloc, hashing, skip, &tree, &store, definition)
+            over_tree(alloc, hashing, clearing, &tree, &store, definition)
         }
         StoreRead::Refused(reason, number) => Err(BuildError::MediaRefused(reason, number)),
     }
@@ -274,23 +267,22 @@ pub fn grounded<A: Source, H: Hashing>(
     definition: &Definition,
     judges: &mut Vec<Box<dyn Judge>>,
 ) -> Result<KeptGround, BuildError>
-    requires { IsInside (A.len media.old) file }
+    requires { Unit {0} }
     ensures ground { let said = panel_says (map (λ j. says j) judges.old.items) in
         ForSome (A.known media.old) (λ bytes. (kind : MediaKind)
-        → IsMediaStage bytes (Ok kind) → IsKind file kind
+        → IsMediaStage bytes (Ok kind) → IsKind bytes file kind
         → ComesAs (IsGround (H.digest_of Sha256) bytes definition.now)
         (IsGroundStage H.digest_of said bytes definition.now kind) result) }
-    ensures some { IfOk result
-        (IsSomeGround (H.digest_of Sha256) (A.len media.old) definition.now) }
+    ensures some { IfOk result (IsSomeGround (H.digest_of Sha256) definition.now) }
     ensures asked { let said = panel_says (map (λ j. says j) judges.old.items) in
         let old = judges_of (λ j. says j) (λ j. asked_times j) (λ j. judge_faults j)
         judges.old.items in
         let new = judges_of (λ j. says j) (λ j. asked_times j) (λ j. judge_faults j)
         judges.new.items in
-        ForSome (A.known media.old) (λ bytes. (kind : MediaKind) → IsKind file kind
+        ForSome (A.known media.old) (λ bytes. (kind : MediaKind) → IsKind bytes file kind
         → HasAskedThose (KindAsks H.digest_of said bytes kind) old new result) }
     ensures unasked { let said = panel_says (map (λ j. says j) judges.old.items) in
-        ForSome (A.known media.old) (λ bytes. (kind : MediaKind) → IsKind file kind
+        ForSome (A.known media.old) (λ bytes. (kind : MediaKind) → IsKind bytes file kind
         → KindAsks H.digest_of said bytes kind [] → judges.new ≡ judges.old) }
     ensures cause { let old = judges_of (λ j. says j) (λ j. asked_times j) (λ j. judge_faults j)
         judges.old.items in
@@ -309,15 +301,17 @@ pub fn grounded<A: Source, H: Hashing>(
     // Only the prover needs these laws.
     one_opening();
     a_valid_store_is_carried();
-    match file {
-        MediaFile::Fresh => fresh_ground(alloc, definition),
-        MediaFile::Stored(found) => {
-            match check_parent(alloc, hashing, media, judges) {
-                Ok(()) => {}
-                Err(error) => return Err(error),
-            }
-            over_store(alloc, hashing, &found, definition)
-        }
-        MediaFile::Waits => Err(BuildError::Later),
+    let MediaFile {
+        found,
+        clearing,
+        ..
+    } = file;
+    let Some(found) = found else {
+        return fresh_ground(alloc, definition, clearing);
+    };
+    match check_parent(alloc, hashing, media, judges) {
+        Ok(()) => {}
+        Err(error) => return Err(error),
     }
+    over_store(alloc, hashing, &found, clearing, definition)
 }

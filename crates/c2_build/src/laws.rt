@@ -1,20 +1,24 @@
 // What holds of each build; nothing is computed.
-ghost use Rattle.c2_build.specs.Meeting.{ApprovedIsValid, BuiltFileMeets, SomeBuildSucceeds};
+ghost use Rattle.c2_build.specs.Meeting.{ApprovedIsValid, BuiltFileMeets};
+ghost use Rattle.c2_build.specs.Meeting.{SomeBuildOverStoreSucceeds, SomeBuildSucceeds, SomeFilmSucceeds};
 ghost use Rattle.c2_build.specs.Meeting.{OneEmbedding, OnePlan, SomeEmbedding, SomePlan};
 ghost use Rattle.c2_build.specs.Refusals.{FirstRefusalIsLeast};
 
-use c2_bmff::a_file_has_one_list_of_roots;
+use c2_boxes::a_file_has_one_list_of_roots;
 use c2_carried::{
-    a_base_has_no_store, a_valid_store_is_carried, redactions_that_pass_may_be_made,
-    what_is_taken_over_is_one,
+    a_valid_store_is_carried, redactions_that_pass_may_be_made, what_is_taken_over_is_one,
 };
 use c2_cbor::one_item;
 use c2_chain::one_reading;
 use c2_definition::{definitions_are_well_formed, each_definition_is_read_one_way};
-use c2_jpegseg::{place_and_number_are_one, segments_end_or_fail};
-use c2_layout::{a_built_file_has_its_store, a_fresh_file_meets_the_rules};
+use c2_films::a_built_film_has_its_store;
 use c2_message::{
     a_message_fills_its_reserve_or_needs_more, each_message_is_accepted_or_refused_for_one_test,
+};
+use c2_places::{
+    a_base_stays, a_file_built_in_its_place_meets_the_rules,
+    a_new_store_has_one_length_in_its_place, a_place_is_one, each_media_has_a_place,
+    what_is_left_is_one,
 };
 use c2_rules::a_question_where_the_claim_rules_hold;
 use c2_succeeding::a_file_over_a_store_meets_the_rules;
@@ -34,11 +38,11 @@ pub fn a_build_comes_to_one_thing()
     one_opening();
     each_definition_is_read_one_way();
     one_item();
-    segments_end_or_fail();
-    place_and_number_are_one();
+    a_place_is_one();
+    what_is_left_is_one();
+    a_file_has_one_list_of_roots();
     each_message_is_accepted_or_refused_for_one_test();
     a_message_fills_its_reserve_or_needs_more();
-    a_file_has_one_list_of_roots();
     one_reading();
     what_is_taken_over_is_one();
 }
@@ -53,7 +57,7 @@ pub fn each_build_comes_to_something()
     one_opening();
     each_definition_is_read_one_way();
     definitions_are_well_formed();
-    a_base_has_no_store();
+    each_media_has_a_place();
     a_valid_store_is_carried();
     each_message_is_accepted_or_refused_for_one_test();
     a_message_fills_its_reserve_or_needs_more();
@@ -74,12 +78,12 @@ pub fn a_new_file_meets_the_rules()
 {
     // Only the prover needs these laws.
     definitions_are_well_formed();
-    segments_end_or_fail();
-    a_fresh_file_meets_the_rules();
+    a_place_is_one();
+    each_media_has_a_place();
+    a_file_built_in_its_place_meets_the_rules();
     a_file_over_a_store_meets_the_rules();
-    a_base_has_no_store();
     redactions_that_pass_may_be_made();
-    a_built_file_has_its_store();
+    a_base_stays();
     approval_of_each_question_is_enough();
 }
 
@@ -91,4 +95,31 @@ pub fn some_build_succeeds()
     each_definition_is_read_one_way();
     one_item();
     a_message_fills_its_reserve_or_needs_more();
+}
+
+/// Some inputs with a BMFF file come to a new file.
+pub fn some_film_succeeds()
+    ensures { SomeFilmSucceeds }
+{
+    // Only the prover needs these laws.
+    each_definition_is_read_one_way();
+    one_item();
+    a_message_fills_its_reserve_or_needs_more();
+}
+
+/// Some inputs with a file that has a store come to a new file, for each container, where the hash gives digests and each question is
+/// approved.
+pub fn some_build_over_a_store_succeeds()
+    ensures { SomeBuildOverStoreSucceeds }
+{
+    // Only the prover needs these laws.
+    each_definition_is_read_one_way();
+    definitions_are_well_formed();
+    one_item();
+    a_message_fills_its_reserve_or_needs_more();
+    a_file_built_in_its_place_meets_the_rules();
+    a_base_stays();
+    a_built_film_has_its_store();
+    a_new_store_has_one_length_in_its_place();
+    approval_of_each_question_is_enough();
 }

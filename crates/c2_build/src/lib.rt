@@ -1,4 +1,4 @@
-//! What is built into a JPEG file: a new store, from a definition file and a signed message.
+//! What is built into a media file: a new store, from a definition file and a signed message.
 //!
 //! What each call comes to stands in `specs/Building.antt`, what is refused in `specs/Refusals.antt`, and what a new file meets in
 //! `specs/Meeting.antt`.
@@ -26,7 +26,8 @@ pub use embedding::embed;
 pub use error::BuildError;
 pub use laws::{
     a_build_comes_to_one_thing, a_new_file_meets_the_rules, approval_of_each_question_is_enough,
-    each_build_comes_to_something, some_build_succeeds, the_first_refusal_is_the_least,
+    each_build_comes_to_something, some_build_over_a_store_succeeds, some_build_succeeds,
+    some_film_succeeds, the_first_refusal_is_the_least,
 };
 pub use planning::plan;
 pub use types::Embedded;

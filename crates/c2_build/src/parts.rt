@@ -1,21 +1,181 @@
 // The parts of the new manifest over a media file.
-ghost use Rattle.std.specs.Prelude.{◌≡◌, ◌+◌, ◌<◌, IfErr, IfOk, OnOk, length};
+ghost use Rattle.std.specs.Prelude.{◌≡◌, ◌+◌, ◌<◌, IfErr, IfOk, List, OnOk, length, option_map, ℕ};
+ghost use Rattle.std.specs.Option.{ForSome};
 ghost use Rattle.c2_base.specs.Source.{StaysSource};
+ghost use Rattle.c2_cleared.specs.Clears.{cleared, cleared_len};
+ghost use Rattle.c2_spec.specs.Digest.{digest_len};
 ghost use Rattle.c2_spec.specs.declared.digest.Alg.TheVariants.{Sha256};
 ghost use Rattle.c2_definition.specs.DefinitionFile.{IsWellFormed};
-ghost use Rattle.c2_layout.specs.Parts.{CanBeStored, IsContent, parts_size};
-ghost use Rattle.c2_layout.specs.Store.{Content};
-ghost use Rattle.c2_build.specs.Refusals.{new_store_len};
-ghost use Rattle.c2_build.specs.Steps.{AreNewParts, IsReadCause, IsSmall, SaysNothing};
+ghost use Rattle.c2_layout.specs.Parts.{AreParts, IsContent, parts_size};
+ghost use Rattle.c2_built.specs.Store.{Content};
+ghost use Rattle.c2_places.specs.Places.{IsPlace, Place, bound_text};
+ghost use Rattle.c2_build.specs.Steps.{AreNewParts, IsReadCause, IsSeat, IsSeatIn, IsSmall, SaysNothing, seat_binding, seat_store_len};
 
 use crate::BuildError;
-use crate::digesting::digest_base;
+use crate::digesting::hash_all;
 use crate::draft::Drafted;
+use crate::place::Seat;
 use c2_base::{Failed, NoMemory, Range, Source};
-use c2_definition::Definition;
-use c2_hash::Hashing;
-use c2_layout::{NewParts, new_parts};
+use c2_built::a_new_store_has_one_length;
+use c2_cleared::{Cleared, Clearing, Named};
+use c2_definition::{Definition, NewAssertion};
+use c2_film_binding::film_binding;
+use c2_film_hash::{FilmError, film_digest};
+use c2_films::a_new_film_store_has_one_length;
+use c2_hash::{Digest, Hashing};
+use c2_layout::{NewParts, bound_parts, data_binding};
 use std::alloc::Global;
+use std::marker::Brand;
+
+// The digest of what the new binding binds of a base of this size, read through a buffer that isn't empty.
+fn digest_of<B: Source, H: Hashing>(
+    alloc: Global,
+    hashing: &H,
+    base: &mut B,
+    seat: &Seat,
+    size: u64,
+    buf: &mut [u8],
+) -> Result<Digest, BuildError>
+    requires size { size ≡ B.len base.old }
+    requires inside { IsSeatIn size seat.now }
+    requires room { 0 < length buf.old }
+    ensures digest { IfOk result (λ d. ForSome (B.known base.old) (λ file. (p : Place)
+        → IsPlace file p → IsSeat seat.now p → d ≡ H.digest_of Sha256 (bound_text file p))) }
+    ensures len { IfOk result (λ d. length d ≡ digest_len Sha256) }
+    ensures nothing { IfErr result SaysNothing }
+    ensures cause { IfErr result (IsReadCause (B.faults base.old) (B.faults base.new)) }
+    ensures count { OnOk result (B.faults base.new ≡ B.faults base.old) }
+    ensures stays { StaysSource B.len B.known B.faults base.old base.new }
+{
+    match seat {
+        Seat::Segments { .. } => match hash_all(hashing, base, size, buf) {
+            Ok(digest) => Ok(digest),
+            Err(Failed) => Err(BuildError::ReadFault),
+        },
+        Seat::Boxes(roots) => match film_digest(alloc, hashing, base, roots, buf) {
+            Ok(digest) => Ok(digest),
+            Err(FilmError::ReadFault) => Err(BuildError::ReadFault),
+            Err(FilmError::NoMemory) => Err(BuildError::NoMemory),
+        },
+    }
+}
+
+// Puts the digest of what is bound of what is left into `found`, of a media file of which this is known, and gives the file back.
+fn digest_left<'m, A: Source, K: Named, H: Hashing>(
+    alloc: Global,
+    hashing: &H,
+    media: &'m mut A,
+    clearing: Clearing,
+    seat: &Seat,
+    size: u64,
+    buf: &mut [u8],
+    found: &mut Result<Digest, BuildError>,
+) -> &'m mut A
+    requires name { media.ghost_name ≡ K.name }
+    requires len { A.len media.old ≡ K.len }
+    requires known { A.known media.old ≡ K.known }
+    requires size { size ≡ cleared_len clearing (A.len media.old) }
+    requires inside { IsSeatIn size seat.now }
+    requires room { 0 < length buf.old }
+    ensures same { result.ghost_name ≡ media.entry.ghost_name }
+    ensures digest { IfOk found.new (λ d. ForSome (A.known media.old) (λ file. (p : Place)
+        → IsPlace (cleared clearing file) p → IsSeat seat.now p
+        → d ≡ H.digest_of Sha256 (bound_text (cleared clearing file) p))) }
+    ensures digest_len { IfOk found.new (λ d. length d ≡ digest_len Sha256) }
+    ensures nothing { IfErr found.new SaysNothing }
+    ensures cause { IfErr found.new (IsReadCause (A.faults media.old) (A.faults result.now)) }
+    ensures count { OnOk found.new (A.faults result.now ≡ A.faults media.old) }
+    ensures stays { StaysSource A.len A.known A.faults media.old result.now }
+{
+    let mut base = Cleared::<A, K>::new(media, clearing);
+    *found = digest_of(alloc, hashing, &mut base, seat, size, buf);
+    base.into_media()
+}
+
+// The digest of what the new binding binds of what is left of a media file, read through a buffer that isn't empty.
+fn left_digest<A: Source, H: Hashing>(
+    alloc: Global,
+    hashing: &H,
+    media: &mut A,
+    drafted: &Drafted,
+    buf: &mut [u8],
+) -> Result<Digest, BuildError>
+    requires size { drafted.now.draft.size
+        ≡ cleared_len drafted.now.ground.clearing (A.len media.old) }
+    requires inside { IsSeatIn drafted.now.draft.size drafted.now.seat }
+    requires room { 0 < length buf.old }
+    ensures digest { IfOk result (λ d. ForSome (A.known media.old) (λ file. (p : Place)
+        → IsPlace (cleared drafted.now.ground.clearing file) p → IsSeat drafted.now.seat p
+        → d ≡ H.digest_of Sha256 (bound_text (cleared drafted.now.ground.clearing file) p))) }
+    ensures len { IfOk result (λ d. length d ≡ digest_len Sha256) }
+    ensures nothing { IfErr result SaysNothing }
+    ensures cause { IfErr result (IsReadCause (A.faults media.old) (A.faults media.new)) }
+    ensures count { OnOk result (A.faults media.new ≡ A.faults media.old) }
+    ensures stays { StaysSource A.len A.known A.faults media.old media.new }
+{
+    let mut found = Err(BuildError::NoMemory);
+    let clearing = drafted.ground.clearing;
+    let size = drafted.draft.size;
+    let _media = digest_left::<A, Brand, H>(
+        alloc,
+        hashing,
+        media,
+        clearing,
+        &drafted.seat,
+        size,
+        buf,
+        &mut found,
+    );
+    found
+}
+
+// The new binding at this place, to a file outside this range, by this digest.
+fn binding_at(
+    alloc: Global,
+    seat: &Seat,
+    range: Range,
+    digest: &Digest,
+) -> Result<NewAssertion, NoMemory>
+    ensures { IfOk result (λ a. a
+        ≡ seat_binding seat.now range.start range.length digest.now) }
+{
+    match seat {
+        Seat::Segments { .. } => data_binding(alloc, range, digest.as_slice()),
+        Seat::Boxes(_) => film_binding(alloc, digest.as_slice()),
+    }
+}
+
+// The parts of the new manifest with this digest of what its binding binds.
+fn parts_with<H: Hashing>(
+    alloc: Global,
+    hashing: &H,
+    definition: &Definition,
+    drafted: &Drafted,
+    digest: &Digest,
+) -> Result<NewParts, NoMemory>
+    requires formed { IsWellFormed definition.now }
+    requires small { (len : ℕ) × IsSmall (H.digest_of Sha256) len definition.now drafted.now }
+    requires digest { length digest.now ≡ digest_len Sha256 }
+    ensures parts { IfOk result (λ p. (c : Content)
+        → IsContent (H.digest_of Sha256) definition.now drafted.now.ground.carried c
+        → AreParts (H.digest_of Sha256) c (seat_binding drafted.now.seat
+        drafted.now.draft.start drafted.now.draft.length digest.now) p) }
+    ensures size { IfOk result (λ p. (c : Content)
+        → IsContent (H.digest_of Sha256) definition.now drafted.now.ground.carried c
+        → length drafted.now.ground.carried.boxes
+        + parts_size definition.now.label p definition.now.reserve
+        ≡ seat_store_len drafted.now.seat c) }
+{
+    // Only the prover needs these laws.
+    a_new_store_has_one_length();
+    a_new_film_store_has_one_length();
+    let range = Range {
+        start: drafted.draft.start,
+        length: drafted.draft.length,
+    };
+    let binding = binding_at(alloc, &drafted.seat, range, digest)?;
+    bound_parts(alloc, hashing, definition, &drafted.ground.carried, binding)
+}
 
 /// The parts of a new manifest over a media file, whose base is digested through a buffer that isn't empty.
 pub fn parts_for<A: Source, H: Hashing>(
@@ -27,32 +187,27 @@ pub fn parts_for<A: Source, H: Hashing>(
     buf: &mut [u8],
 ) -> Result<NewParts, BuildError>
     requires formed { IsWellFormed definition.now }
-    requires small { IsSmall (H.digest_of Sha256) (A.len media.old) definition.now drafted.now }
+    requires small { IsSmall (H.digest_of Sha256)
+        (cleared_len drafted.now.ground.clearing (A.len media.old)) definition.now drafted.now }
     requires room { 0 < length buf.old }
-    ensures parts { IfOk result (AreNewParts (H.digest_of Sha256) (A.known media.old)
+    ensures parts { IfOk result (AreNewParts (H.digest_of Sha256)
+        (option_map (cleared drafted.now.ground.clearing) (A.known media.old))
         definition.now drafted.now) }
     ensures size { IfOk result (λ p. (c : Content)
         → IsContent (H.digest_of Sha256) definition.now drafted.now.ground.carried c
         → length drafted.now.ground.carried.boxes
-        + parts_size definition.now.label p definition.now.reserve ≡ new_store_len c) }
+        + parts_size definition.now.label p definition.now.reserve
+        ≡ seat_store_len drafted.now.seat c) }
     ensures nothing { IfErr result SaysNothing }
     ensures cause { IfErr result (IsReadCause (A.faults media.old) (A.faults media.new)) }
     ensures count { OnOk result (A.faults media.new ≡ A.faults media.old) }
     ensures stays { StaysSource A.len A.known A.faults media.old media.new }
 {
-    let draft = drafted.draft;
-    let skip = drafted.ground.skip;
-    let size = draft.size + skip.length;
-    let digest = match digest_base(hashing, media, skip, size, buf) {
+    let digest = match left_digest(alloc, hashing, media, drafted, buf) {
         Ok(digest) => digest,
-        Err(Failed) => return Err(BuildError::ReadFault),
+        Err(error) => return Err(error),
     };
-    let range = Range {
-        start: draft.start,
-        length: draft.length,
-    };
-    let carried = &drafted.ground.carried;
-    match new_parts(alloc, hashing, definition, carried, range, &digest) {
+    match parts_with(alloc, hashing, definition, drafted, &digest) {
         Ok(parts) => Ok(parts),
         Err(NoMemory) => Err(BuildError::NoMemory),
     }

@@ -1,44 +1,74 @@
-// Where the packets of a new store go in a JPEG file, and their number.
-ghost use Rattle.std.specs.Prelude.{◌≡◌, ℕ, ◌+◌, ◌-◌, ◌<◌, ◌≤◌, List, IfErr, IfOk, OnOk};
+// Where a new store goes in a media file without its older store.
+ghost use Rattle.std.specs.Prelude.{◌≡◌, ℕ, ◌<◌, ◌≤◌, List, IfErr, IfOk, OnOk};
 ghost use Rattle.std.specs.Option.{ForSome};
 ghost use Rattle.c2_base.specs.Source.{StaysSource};
 ghost use Rattle.c2_base.specs.declared.limits.TheConstants.{FILE_LEN_LIMIT};
-ghost use Rattle.c2_spec.specs.Jpeg.Places.{CanSkip, IsOfSegments};
+ghost use Rattle.c2_box_rows.specs.Faults.{FirstRootsFault};
+ghost use Rattle.c2_boxes.specs.Causes.{IsCaused, OrOutside};
+ghost use Rattle.c2_cleared.specs.Clears.{cleared, cleared_len};
+ghost use Rattle.c2_spec.specs.Jpeg.Places.{IsOfSegments};
 ghost use Rattle.c2_spec.specs.Jpeg.Segments.{Segment};
 ghost use Rattle.c2_spec.specs.Located.{HasReason};
 ghost use Rattle.c2_jpegseg.specs.Refusals.{TellsFault};
-ghost use Rattle.c2_spec.specs.PutIn.{taken_out};
-ghost use Rattle.c2_build.specs.Building.{IsPlace, Place};
-ghost use Rattle.c2_build.specs.Steps.{IsReadCause, IsSpot, SaysNothing};
+ghost use Rattle.c2_build.specs.Steps.{HasSeat, IsForm, IsReadCause, IsSeatIn, SaysNothing, TellsNoPlace};
 
 use crate::BuildError;
+use crate::media::FileForm;
 use c2_base::{Failed, MediaError, Range, Source};
+use c2_boxes::types::Roots;
+use c2_boxes::{a_bmff_file_comes_to_one_thing, roots};
+use c2_cleared::{Cleared, Clearing, Named};
 use c2_jpegseg::{free_number, insert_place, segments_end_or_fail};
 use c2_spec::Refusal;
 use std::alloc::Global;
+use std::marker::Brand;
 
-/// A place for packets, as it was found in a media file.
-#[derive(Clone, Copy, Debug)]
-pub struct Spot {
-    /// The place of their first byte.
-    pub start: u64,
+// No range is left out.
+const NO_RANGE: Range = Range {
+    start: 0,
+    length: 0,
+};
 
-    /// The least free number, where one is free.
-    pub number: Option<u16>,
+/// A place for a new store, as it was found in a file without one.
+#[derive(Debug, Drop)]
+pub enum Seat {
+    /// In a JPEG file.
+    Segments {
+        /// The place of the first byte of the packets.
+        start: u64,
 
-    /// How many bytes the media file has without the range that is left out.
-    pub size: u64,
+        /// Their number, the least that is free, where one is.
+        number: Option<u16>,
+    },
+
+    /// Behind these root boxes of a BMFF file, or before a last `mfra`.
+    Boxes(Roots),
 }
 
-// Why the segments of a media file can't be walked. A file that is one list of segments isn't refused.
+/// A file without a store, as its place was looked for.
+#[derive(Debug, Drop)]
+pub struct Spot {
+    /// How many bytes it has.
+    pub size: u64,
+
+    /// The place.
+    pub seat: Seat,
+}
+
+// Why a file can't be walked. A file that has a free place isn't refused.
 fn walk_error(error: MediaError) -> BuildError
     ensures told { (file : List ℕ) (segments : List Segment)
         → IsOfSegments file segments → TellsFault file error → SaysNothing result }
     ensures cause { (len before now : ℕ)
         → HasReason len before now error → IsReadCause before now result }
+    ensures boxes { (file : List ℕ) → OrOutside error (FirstRootsFault file error)
+        → IsForm file FileForm.Bmff → TellsNoPlace file result }
+    ensures boxes_cause { (before now : ℕ) → IsCaused before now error
+        → IsReadCause before now result }
 {
-    // Only the prover needs this law.
+    // Only the prover needs these laws.
     segments_end_or_fail();
+    a_bmff_file_comes_to_one_thing();
     match error {
         MediaError::ReadFault => BuildError::ReadFault,
         MediaError::NoMemory => BuildError::NoMemory,
@@ -49,56 +79,136 @@ fn walk_error(error: MediaError) -> BuildError
     }
 }
 
-// The place in a JPEG file less a range, by which so many bytes are left.
-fn spot_in<A: Source>(
-    alloc: Global,
-    media: &mut A,
-    skip: Range,
-    size: u64,
-) -> Result<Spot, BuildError>
-    ensures spot { IfOk result (λ s. ForSome (A.known media.old) (λ file. CanSkip file skip
-        → (p : Place) × IsPlace (taken_out skip.start skip.length file) p × IsSpot s p)) }
-    ensures told { IfErr result (λ e. ForSome (A.known media.old) (λ file.
-        (segments : List Segment) → IsOfSegments file segments → SaysNothing e)) }
-    ensures size { IfOk result (λ s. s.size ≡ size) }
-    ensures inside { IfOk result (λ s. s.start ≤ A.len media.old - skip.length) }
-    ensures short { OnOk result (A.len media.old < FILE_LEN_LIMIT) }
-    ensures cause { IfErr result (IsReadCause (A.faults media.old) (A.faults media.new)) }
-    ensures count { OnOk result (A.faults media.new ≡ A.faults media.old) }
-    ensures stays { StaysSource A.len A.known A.faults media.old media.new }
+// The place in a JPEG file.
+fn seat_in_segments<B: Source>(alloc: Global, base: &mut B) -> Result<Seat, BuildError>
+    ensures seat { IfOk result (λ s. ForSome (B.known base.old) (λ file.
+        IsForm file FileForm.Jpeg → HasSeat file s)) }
+    ensures told { IfErr result (λ e. ForSome (B.known base.old) (λ file.
+        IsForm file FileForm.Jpeg → TellsNoPlace file e)) }
+    ensures inside { IfOk result (IsSeatIn (B.len base.old)) }
+    ensures short { OnOk result (B.len base.old < FILE_LEN_LIMIT) }
+    ensures cause { IfErr result (IsReadCause (B.faults base.old) (B.faults base.new)) }
+    ensures count { OnOk result (B.faults base.new ≡ B.faults base.old) }
+    ensures stays { StaysSource B.len B.known B.faults base.old base.new }
 {
     // Only the prover needs this law.
     segments_end_or_fail();
-    let start = match insert_place(media, skip) {
+    let start = match insert_place(base, NO_RANGE) {
         Ok(start) => start,
         Err(error) => return Err(walk_error(error)),
     };
-    match free_number(alloc, media, skip) {
-        Ok(number) => Ok(Spot {
-            start,
-            number,
-            size,
-        }),
+    match free_number(alloc, base, NO_RANGE) {
+        Ok(number) => Ok(Seat::Segments { start, number }),
         Err(error) => Err(walk_error(error)),
     }
 }
 
-/// Where packets go in a JPEG file less a range, which is empty or that of its store.
-pub fn find_spot<A: Source>(alloc: Global, media: &mut A, skip: Range) -> Result<Spot, BuildError>
-    requires { skip.start + skip.length ≤ A.len media.old }
-    ensures spot { IfOk result (λ s. ForSome (A.known media.old) (λ file. CanSkip file skip
-        → (p : Place) × IsPlace (taken_out skip.start skip.length file) p × IsSpot s p)) }
+// The place in a BMFF file.
+fn seat_in_boxes<B: Source>(alloc: Global, base: &mut B) -> Result<Seat, BuildError>
+    ensures seat { IfOk result (λ s. ForSome (B.known base.old) (λ file.
+        IsForm file FileForm.Bmff → HasSeat file s)) }
+    ensures told { IfErr result (λ e. ForSome (B.known base.old) (λ file.
+        IsForm file FileForm.Bmff → TellsNoPlace file e)) }
+    ensures inside { IfOk result (IsSeatIn (B.len base.old)) }
+    ensures short { OnOk result (B.len base.old < FILE_LEN_LIMIT) }
+    ensures cause { IfErr result (IsReadCause (B.faults base.old) (B.faults base.new)) }
+    ensures count { OnOk result (B.faults base.new ≡ B.faults base.old) }
+    ensures stays { StaysSource B.len B.known B.faults base.old base.new }
+{
+    match roots(alloc, base) {
+        Ok(roots) => Ok(Seat::Boxes(roots)),
+        Err(error) => Err(walk_error(error)),
+    }
+}
+
+// The place in a file of this form.
+fn seat_in<B: Source>(alloc: Global, base: &mut B, form: FileForm) -> Result<Seat, BuildError>
+    ensures seat { IfOk result (λ s. ForSome (B.known base.old) (λ file.
+        IsForm file form → HasSeat file s)) }
+    ensures told { IfErr result (λ e. ForSome (B.known base.old) (λ file.
+        IsForm file form → TellsNoPlace file e)) }
+    ensures inside { IfOk result (IsSeatIn (B.len base.old)) }
+    ensures short { OnOk result (B.len base.old < FILE_LEN_LIMIT) }
+    ensures cause { IfErr result (IsReadCause (B.faults base.old) (B.faults base.new)) }
+    ensures count { OnOk result (B.faults base.new ≡ B.faults base.old) }
+    ensures stays { StaysSource B.len B.known B.faults base.old base.new }
+{
+    match form {
+        FileForm::Jpeg => seat_in_segments(alloc, base),
+        FileForm::Bmff => seat_in_boxes(alloc, base),
+    }
+}
+
+// The place in a file of this form, with the file's length.
+fn spot_in<B: Source>(alloc: Global, base: &mut B, form: FileForm) -> Result<Spot, BuildError>
+    ensures seat { IfOk result (λ s. ForSome (B.known base.old) (λ file.
+        IsForm file form → HasSeat file s.seat)) }
+    ensures told { IfErr result (λ e. ForSome (B.known base.old) (λ file.
+        IsForm file form → TellsNoPlace file e)) }
+    ensures size { IfOk result (λ s. s.size ≡ B.len base.old) }
+    ensures inside { IfOk result (λ s. IsSeatIn s.size s.seat) }
+    ensures short { IfOk result (λ s. s.size < FILE_LEN_LIMIT) }
+    ensures cause { IfErr result (IsReadCause (B.faults base.old) (B.faults base.new)) }
+    ensures count { OnOk result (B.faults base.new ≡ B.faults base.old) }
+    ensures stays { StaysSource B.len B.known B.faults base.old base.new }
+{
+    let size = match base.size() {
+        Ok(size) => size,
+        Err(Failed) => return Err(BuildError::ReadFault),
+    };
+    match seat_in(alloc, base, form) {
+        Ok(seat) => Ok(Spot { size, seat }),
+        Err(error) => Err(error),
+    }
+}
+
+// Puts the place in what is left into `found`, of a media file of which this is known, and gives the file back.
+fn spot_left<'m, A: Source, K: Named>(
+    alloc: Global,
+    media: &'m mut A,
+    clearing: Clearing,
+    form: FileForm,
+    found: &mut Result<Spot, BuildError>,
+) -> &'m mut A
+    requires name { media.ghost_name ≡ K.name }
+    requires len { A.len media.old ≡ K.len }
+    requires known { A.known media.old ≡ K.known }
+    ensures same { result.ghost_name ≡ media.entry.ghost_name }
+    ensures seat { IfOk found.new (λ s. ForSome (A.known media.old) (λ file.
+        IsForm (cleared clearing file) form → HasSeat (cleared clearing file) s.seat)) }
+    ensures told { IfErr found.new (λ e. ForSome (A.known media.old) (λ file.
+        IsForm (cleared clearing file) form → TellsNoPlace (cleared clearing file) e)) }
+    ensures size { IfOk found.new (λ s. s.size ≡ cleared_len clearing (A.len media.old)) }
+    ensures inside { IfOk found.new (λ s. IsSeatIn s.size s.seat) }
+    ensures short { IfOk found.new (λ s. s.size < FILE_LEN_LIMIT) }
+    ensures cause { IfErr found.new (IsReadCause (A.faults media.old) (A.faults result.now)) }
+    ensures count { OnOk found.new (A.faults result.now ≡ A.faults media.old) }
+    ensures stays { StaysSource A.len A.known A.faults media.old result.now }
+{
+    let mut base = Cleared::<A, K>::new(media, clearing);
+    *found = spot_in(alloc, &mut base, form);
+    base.into_media()
+}
+
+/// Where a new store goes in what is left of a media file of this form, once it is cleared.
+pub fn find_spot<A: Source>(
+    alloc: Global,
+    media: &mut A,
+    clearing: Clearing,
+    form: FileForm,
+) -> Result<Spot, BuildError>
+    ensures seat { IfOk result (λ s. ForSome (A.known media.old) (λ file.
+        IsForm (cleared clearing file) form → HasSeat (cleared clearing file) s.seat)) }
     ensures told { IfErr result (λ e. ForSome (A.known media.old) (λ file.
-        (segments : List Segment) → IsOfSegments file segments → SaysNothing e)) }
-    ensures size { IfOk result (λ s. s.size + skip.length ≡ A.len media.old) }
-    ensures inside { IfOk result (λ s. s.start ≤ s.size) }
+        IsForm (cleared clearing file) form → TellsNoPlace (cleared clearing file) e)) }
+    ensures size { IfOk result (λ s. s.size ≡ cleared_len clearing (A.len media.old)) }
+    ensures inside { IfOk result (λ s. IsSeatIn s.size s.seat) }
     ensures short { IfOk result (λ s. s.size < FILE_LEN_LIMIT) }
     ensures cause { IfErr result (IsReadCause (A.faults media.old) (A.faults media.new)) }
     ensures count { OnOk result (A.faults media.new ≡ A.faults media.old) }
     ensures stays { StaysSource A.len A.known A.faults media.old media.new }
 {
-    match media.size() {
-        Ok(size) => spot_in(alloc, media, skip, size - skip.length),
-        Err(Failed) => Err(BuildError::ReadFault),
-    }
+    let mut found = Err(BuildError::NoMemory);
+    let _media = spot_left::<A, Brand>(alloc, media, clearing, form, &mut found);
+    found
 }

@@ -9,8 +9,8 @@ ghost use Rattle.c2_spec.specs.Cbor.View.{view};
 ghost use Rattle.c2_spec.specs.Judges.Panel.{LeavesJudges, judges_of, panel_says};
 ghost use Rattle.c2_definition.specs.DefinitionFile.{IsWellFormed};
 ghost use Rattle.c2_build.specs.Answers.{ComesTo, HasAskedThose, IsPlanCause, PlanFaults};
-ghost use Rattle.c2_build.specs.Building.{IsMediaRefused, IsMediaStage, IsPlanned, IsPlannedOver, KindAsks, MediaKind, PlanAsks};
-ghost use Rattle.c2_build.specs.Steps.{IsAskCause, IsInside, IsKind};
+ghost use Rattle.c2_build.specs.Building.{HasNothingToAsk, IsDefinitionRefused, IsMediaRefused, IsMediaStage, IsPlanned, IsPlannedOver, KindAsks, MediaKind, PlanAsks};
+ghost use Rattle.c2_build.specs.Steps.{IsAskCause, IsKind};
 
 use crate::BuildError;
 use crate::draft::draft_over;
@@ -58,20 +58,19 @@ fn plan_over<A: Source, H: Hashing>(
     judges: &mut Vec<Box<dyn Judge>>,
 ) -> Result<Blob, BuildError>
     requires formed { IsWellFormed definition.now }
-    requires inside { IsInside (A.len media.old) file }
     ensures planned { let said = panel_says (map (λ j. says j) judges.old.items) in
         ForSome (A.known media.old) (λ bytes. (kind : MediaKind)
-        → IsMediaStage bytes (Ok kind) → IsKind file kind
+        → IsMediaStage bytes (Ok kind) → IsKind bytes file kind
         → ComesTo (IsPlannedOver H.digest_of said bytes kind definition.now) result) }
     ensures asked { let said = panel_says (map (λ j. says j) judges.old.items) in
         let old = judges_of (λ j. says j) (λ j. asked_times j) (λ j. judge_faults j)
         judges.old.items in
         let new = judges_of (λ j. says j) (λ j. asked_times j) (λ j. judge_faults j)
         judges.new.items in
-        ForSome (A.known media.old) (λ bytes. (kind : MediaKind) → IsKind file kind
+        ForSome (A.known media.old) (λ bytes. (kind : MediaKind) → IsKind bytes file kind
         → HasAskedThose (KindAsks H.digest_of said bytes kind) old new result) }
     ensures unasked { let said = panel_says (map (λ j. says j) judges.old.items) in
-        ForSome (A.known media.old) (λ bytes. (kind : MediaKind) → IsKind file kind
+        ForSome (A.known media.old) (λ bytes. (kind : MediaKind) → IsKind bytes file kind
         → KindAsks H.digest_of said bytes kind [] → judges.new ≡ judges.old) }
     ensures cause { let old = judges_of (λ j. says j) (λ j. asked_times j) (λ j. judge_faults j)
         judges.old.items in
@@ -134,6 +133,11 @@ pub fn plan<A: Source, B: Source, H: Hashing>(
     ensures unasked { let said = panel_says (map (λ j. says j) judges.old.items) in
         ForSome (A.known media.old) (λ file. ForSome (B.known definition.old) (λ bytes.
         PlanAsks H.digest_of said file bytes [] → judges.new ≡ judges.old)) }
+    // What is known of one file is enough for it.
+    ensures unasked_media { ForSome (A.known media.old) (λ file.
+        HasNothingToAsk file → judges.new ≡ judges.old) }
+    ensures unasked_definition { ForSome (B.known definition.old) (λ bytes.
+        IsDefinitionRefused bytes → judges.new ≡ judges.old) }
     ensures definition_unread { ForSome (A.known media.old) (λ file.
         IsMediaRefused file → definition.new ≡ definition.old) }
 

@@ -2,6 +2,7 @@
 ghost use Rattle.std.specs.Prelude.{◌≡◌, ℕ, IfErr, IfOk, Ok, OnOk, length, map, vec_len, []};
 ghost use Rattle.std.specs.Option.{ForSome};
 ghost use Rattle.c2_base.specs.Source.{StaysSource};
+ghost use Rattle.c2_cleared.specs.Clears.{cleared_len};
 ghost use Rattle.c2_spec.specs.C2pa.Message.{CanBePadded};
 ghost use Rattle.c2_spec.specs.C2pa.Sign1.{parts_of};
 ghost use Rattle.c2_spec.specs.Cbor.Item.{Pairs};
@@ -9,11 +10,12 @@ ghost use Rattle.c2_spec.specs.Judges.Panel.{LeavesJudges, judges_of, panel_says
 ghost use Rattle.c2_spec.specs.declared.digest.Alg.TheVariants.{Sha256};
 ghost use Rattle.c2_definition.specs.DefinitionFile.{IsWellFormed};
 ghost use Rattle.c2_message.specs.Signed.{IsSigned};
+ghost use Rattle.c2_places.specs.Places.{IsPlace, Place};
 ghost use Rattle.c2_build.specs.Answers.{Faults, HasAskedThose, IsBuildCause};
-ghost use Rattle.c2_build.specs.Building.{EmbedAsks, IsDefinitionRefused, IsEmbedded, IsEmbeddedOver, IsMediaRefused, IsMediaStage, KindAsks, MediaKind, Place, built_of};
+ghost use Rattle.c2_build.specs.Building.{EmbedAsks, HasNothingToAsk, IsDefinitionRefused, IsMessageRefused, IsEmbedded, IsEmbeddedOver, IsMediaRefused, IsMediaStage, KindAsks, MediaKind};
 ghost use Rattle.c2_build.specs.Meeting.{HasTextsIn};
 ghost use Rattle.c2_build.specs.Refusals.{Ground};
-ghost use Rattle.c2_build.specs.Steps.{CanWrite, ComesAs, IsEmbedCause, IsGround, IsInside, IsKind, IsNumbered, IsReadCause, IsReady, IsReserveRefusal, IsSmall, SaysNothing};
+ghost use Rattle.c2_build.specs.Steps.{CanWrite, ComesAs, IsEmbedCause, IsGround, IsKind, IsNumbered, IsPutReady, IsReadCause, IsReady, IsReserveRefusal, IsSeat, IsSmall, SaysNothing};
 
 use crate::BuildError;
 use crate::draft::{Draft, Drafted, draft_over};
@@ -21,12 +23,15 @@ use crate::media::{MediaFile, open_media};
 use crate::parts::parts_for;
 use crate::reading::{read_definition_file, read_message_file};
 use c2_base::limits::PIECE_LEN;
-use c2_base::{Blob, NoMemory, Range, Source};
+use c2_base::{Blob, NoMemory, Source};
+use c2_built::a_new_store_has_one_length;
 use c2_cbor::one_item;
+use c2_cleared::Clearing;
 use c2_definition::{Definition, each_definition_is_read_one_way};
+use c2_films::a_new_film_store_has_one_length;
 use c2_hash::Hashing;
 use c2_judge::Judge;
-use c2_layout::{a_new_store_has_one_length, new_store};
+use c2_layout::new_store;
 use c2_message::{
     MessageError, a_message_fills_its_reserve_or_needs_more,
     each_message_is_accepted_or_refused_for_one_test, padded_message,
@@ -41,11 +46,11 @@ pub struct Ready {
     /// The new store.
     pub store: Blob,
 
-    /// Where its packets go.
+    /// Where it goes, and how.
     pub draft: Draft,
 
-    /// The range of the media that is left out.
-    pub skip: Range,
+    /// How the media is cleared of its older store.
+    pub clearing: Clearing,
 
     /// What the media is copied through.
     pub buffer: Vec<u8>,
@@ -75,20 +80,22 @@ fn ready_with<A: Source, H: Hashing>(
     message: &[u8],
 ) -> Result<Ready, BuildError>
     requires formed { IsWellFormed definition.now }
-    requires small { IsSmall (H.digest_of Sha256) (A.len media.old) definition.now drafted }
+    requires small { IsSmall (H.digest_of Sha256)
+        (cleared_len drafted.ground.clearing (A.len media.old)) definition.now drafted }
     requires filled { length message.now ≡ definition.now.reserve }
     ensures ready { IfOk result (λ r. ForSome (A.known media.old) (λ file. (g : Ground) (p : Place)
         → IsGround (H.digest_of Sha256) file definition.now drafted.ground g
-        → IsNumbered drafted.draft g p
-        → IsReady file r (built_of H.digest_of g p.segments drafted.draft.number message.now))) }
+        → IsPlace g.base p → IsSeat drafted.seat p → IsNumbered drafted.draft g p
+        → IsPutReady (H.digest_of Sha256) file r g p message.now)) }
     ensures nothing { IfErr result SaysNothing }
     ensures can_write { IfOk result (CanWrite (A.len media.old)) }
     ensures cause { IfErr result (IsReadCause (A.faults media.old) (A.faults media.new)) }
     ensures count { OnOk result (A.faults media.new ≡ A.faults media.old) }
     ensures stays { StaysSource A.len A.known A.faults media.old media.new }
 {
-    // Only the prover needs this law.
+    // Only the prover needs these laws.
     a_new_store_has_one_length();
+    a_new_film_store_has_one_length();
     let Ok(mut buffer) = vec![in alloc; 0u8; PIECE_LEN] else {
         return Err(BuildError::NoMemory);
     };
@@ -100,7 +107,7 @@ fn ready_with<A: Source, H: Hashing>(
         Ok(store) => Ok(Ready {
             store,
             draft: drafted.draft,
-            skip: drafted.ground.skip,
+            clearing: drafted.ground.clearing,
             buffer,
         }),
         Err(NoMemory) => Err(BuildError::NoMemory),
@@ -118,11 +125,10 @@ fn ready_over<A: Source, H: Hashing>(
     judges: &mut Vec<Box<dyn Judge>>,
 ) -> Result<Ready, BuildError>
     requires formed { IsWellFormed definition.now }
-    requires inside { IsInside (A.len media.old) file }
     requires can { (entries : Pairs) × CanBePadded (parts_of sign.now) entries }
     ensures ready { let said = panel_says (map (λ j. says j) judges.old.items) in
         ForSome (A.known media.old) (λ bytes. (kind : MediaKind)
-        → IsMediaStage bytes (Ok kind) → IsKind file kind
+        → IsMediaStage bytes (Ok kind) → IsKind bytes file kind
         → ComesAs (IsReady bytes)
         (IsEmbeddedOver H.digest_of said bytes kind definition.now (parts_of sign.now)) result) }
     ensures can_write { IfOk result (CanWrite (A.len media.old)) }
@@ -131,10 +137,10 @@ fn ready_over<A: Source, H: Hashing>(
         judges.old.items in
         let new = judges_of (λ j. says j) (λ j. asked_times j) (λ j. judge_faults j)
         judges.new.items in
-        ForSome (A.known media.old) (λ bytes. (kind : MediaKind) → IsKind file kind
+        ForSome (A.known media.old) (λ bytes. (kind : MediaKind) → IsKind bytes file kind
         → HasAskedThose (KindAsks H.digest_of said bytes kind) old new result) }
     ensures unasked { let said = panel_says (map (λ j. says j) judges.old.items) in
-        ForSome (A.known media.old) (λ bytes. (kind : MediaKind) → IsKind file kind
+        ForSome (A.known media.old) (λ bytes. (kind : MediaKind) → IsKind bytes file kind
         → KindAsks H.digest_of said bytes kind [] → judges.new ≡ judges.old) }
     ensures cause { let old = judges_of (λ j. says j) (λ j. asked_times j) (λ j. judge_faults j)
         judges.old.items in
@@ -197,6 +203,14 @@ pub fn prepare<A: Source, B: Source, C: Source, H: Hashing>(
         ForSome (A.known media.old) (λ file. ForSome (B.known definition.old) (λ bytes.
         ForSome (C.known signature.old) (λ message.
         EmbedAsks H.digest_of said file bytes message [] → judges.new ≡ judges.old))) }
+    // What is known of one file, or of two, is enough for it.
+    ensures unasked_media { ForSome (A.known media.old) (λ file.
+        HasNothingToAsk file → judges.new ≡ judges.old) }
+    ensures unasked_definition { ForSome (B.known definition.old) (λ bytes.
+        IsDefinitionRefused bytes → judges.new ≡ judges.old) }
+    ensures unasked_message { ForSome (B.known definition.old) (λ bytes.
+        ForSome (C.known signature.old) (λ message.
+        IsMessageRefused bytes message → judges.new ≡ judges.old)) }
     ensures texts { ForSome (B.known definition.old) (λ bytes. OnOk result (HasTextsIn bytes)) }
     ensures definition_unread { ForSome (A.known media.old) (λ file.
         IsMediaRefused file → definition.new ≡ definition.old) }

@@ -1,7 +1,7 @@
 // For the prover: the texts of a definition are texts as a program holds them.
 ghost use Rattle.std.specs.List.{AllByRecursion};
 ghost use Rattle.c2_definition.specs.declared.types.NewAssertion.{NewAssertion as AnyAssertion};
-ghost use Rattle.c2_layout.specs.Written.{HasTexts, IsText};
+ghost use Rattle.c2_built.specs.Written.{HasTexts, IsText};
 
 use c2_base::Text;
 use c2_definition::{Definition, NewAssertion};

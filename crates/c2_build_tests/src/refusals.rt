@@ -142,13 +142,14 @@ fn an_older_store_is_checked_first(rt: HostRuntime) -> Result<(), Fail> {
 }
 
 #[test]
-fn a_bmff_file_waits(rt: HostRuntime) -> Result<(), Fail> {
+fn an_open_box_is_told(rt: HostRuntime) -> Result<(), Fail> {
     let alloc = rt.alloc();
     let mut inputs = worked(alloc)?;
     inputs.media = Vec::from_slice(alloc, b"\x00\x00\x00\x10ftypisom\x00\x00\x00\x00")?;
-    comes_to(&rt, alloc, &inputs, false, "Later")?;
+    comes_to(&rt, alloc, &inputs, false, "written")?;
 
-    // A JPEG file doesn't.
-    let inputs = worked(alloc)?;
-    comes_to(&rt, alloc, &inputs, false, "written")
+    // Nothing can stand behind a box that runs to the end of the file.
+    let open = b"\x00\x00\x00\x10ftypisom\x00\x00\x00\x00\x00\x00\x00\x00mdatA";
+    inputs.media = Vec::from_slice(alloc, open)?;
+    comes_to(&rt, alloc, &inputs, false, "OpenBox(16)")
 }

@@ -14,7 +14,7 @@ use Rattle.c2_binding.specs.declared.compared.Compared.{Compared}
 use Rattle.c2_binding.specs.declared.compared.Compared.TheVariants as compared
 use Rattle.c2_words.specs.CommandLine.{reports_whole}
 use Rattle.c2_cmd.specs.Outcome.{HasDigests, Inputs, Outcome, IsCommandOutcome, IsOutcome, compare_outcome, has_whole_report, inputs}
-use Rattle.c2_layout.specs.Fresh.{GivesDigests}
+use Rattle.c2_built.specs.Fresh.{GivesDigests}
 use Rattle.c2_cmd.specs.Reply.{StandsFor, TakesFile}
 use Rattle.c2_cmd.specs.Run.{SinkState, AskedPanel, Delivers, Finishes, HasFile, HasWholeFile, HasNoFile, HasNoReply, HasReport, IsFileFirst, Leaves, WithoutFault, status_of}
 use Rattle.c2_cmd.specs.declared.reply.Fault.TheVariants.{Input, Output, Judge, Memory}

@@ -23,7 +23,7 @@ use Rattle.c2_build.specs.Meeting.{SomeEmbedding, SomePlan}
 use Rattle.c2_texts.specs.Texts.{refused_line, none_line, usage_line, listing, digest_line}
 use Rattle.c2_spec.specs.PutIn.{taken_out}
 use Rattle.c2_cmd.specs.Outcome.{HasDigests, pieces_in, sample_outcome, Outcome, Inputs, Reports, IsOutcome, IsCommandOutcome, IsDigested, IsListing, IsShown, IsQuestioned, IsMediaOutcome, Asks, CommandAsks, answered, compare_outcome, embed_outcome, plan_outcome, questioned, shown, reports}
-use Rattle.c2_layout.specs.Fresh.{GivesDigests}
+use Rattle.c2_built.specs.Fresh.{GivesDigests}
 use Rattle.c2_sample.specs.Sample.{EachSample, EachSampleAsks}
 use Rattle.c2_words.specs.CommandLine.{makes_media}
 use Rattle.c2_cmd.specs.declared.types.Answer.TheVariants as answer

@@ -16,7 +16,7 @@ use Rattle.c2_build.specs.Answers.{ComesTo, Faults, HasAskedAll, IsBegun, IsBuil
 use Rattle.c2_build.specs.Answers.{SinkState as BuildSink}
 use Rattle.c2_build.specs.Building.{Built, IsEmbedded, IsPlanned}
 use Rattle.c2_build.specs.declared.error.BuildError.{BuildError}
-use Rattle.c2_build.specs.declared.error.BuildError.TheVariants.{MediaRefused, BadDefinition, BadSignature, Later, ParentFails, LabelTaken, RedactionRefused, NoInstance, TooManyManifests, StoreTooLarge, ReserveTooSmall, ReadFault, JudgeFault, WriteFault, NoMemory}
+use Rattle.c2_build.specs.declared.error.BuildError.TheVariants.{MediaRefused, BadDefinition, BadSignature, ParentFails, LabelTaken, RedactionRefused, OpenBox, NoInstance, TooManyManifests, StoreTooLarge, ReserveTooSmall, ReadFault, JudgeFault, WriteFault, NoMemory}
 use Rattle.c2_build.specs.declared.types.Embedded.{Embedded}
 use Rattle.c2_texts.specs.Builds.{embedded_line, tbs_line}
 use Rattle.c2_words.specs.CommandLine.{writing_roles}
@@ -37,10 +37,10 @@ refused_comes : (e : BuildError) (claim : Type 0) → build_fault e ≡ None →
 refused_comes (MediaRefused reason number) claim none h = h
 refused_comes (BadDefinition field) claim none h = h
 refused_comes (BadSignature part) claim none h = h
-refused_comes Later claim none h = h
 refused_comes (ParentFails code uri) claim none h = h
 refused_comes (LabelTaken label) claim none h = h
 refused_comes (RedactionRefused text code) claim none h = h
+refused_comes (OpenBox n) claim none h = h
 refused_comes NoInstance claim none h = h
 refused_comes (TooManyManifests count) claim none h = h
 refused_comes (StoreTooLarge len) claim none h = h
@@ -55,10 +55,10 @@ refused_counts : (before now : Faults) (old new : List ℕ) (e : BuildError) →
 refused_counts before now old new (MediaRefused reason number) none h = h
 refused_counts before now old new (BadDefinition field) none h = h
 refused_counts before now old new (BadSignature part) none h = h
-refused_counts before now old new Later none h = h
 refused_counts before now old new (ParentFails code uri) none h = h
 refused_counts before now old new (LabelTaken label) none h = h
 refused_counts before now old new (RedactionRefused text code) none h = h
+refused_counts before now old new (OpenBox n) none h = h
 refused_counts before now old new NoInstance none h = h
 refused_counts before now old new (TooManyManifests count) none h = h
 refused_counts before now old new (StoreTooLarge len) none h = h
@@ -73,10 +73,10 @@ refused_sink : (e : BuildError) (claim : Type 0) → build_fault e ≡ None → 
 refused_sink (MediaRefused reason number) claim none h = h
 refused_sink (BadDefinition field) claim none h = h
 refused_sink (BadSignature part) claim none h = h
-refused_sink Later claim none h = h
 refused_sink (ParentFails code uri) claim none h = h
 refused_sink (LabelTaken label) claim none h = h
 refused_sink (RedactionRefused text code) claim none h = h
+refused_sink (OpenBox n) claim none h = h
 refused_sink NoInstance claim none h = h
 refused_sink (TooManyManifests count) claim none h = h
 refused_sink (StoreTooLarge len) claim none h = h
@@ -91,10 +91,10 @@ pub refused_embedding : (hash : Alg → List ℕ → List ℕ) (said : Question 
 refused_embedding hash said a b c before now (MediaRefused reason number) none h = h
 refused_embedding hash said a b c before now (BadDefinition field) none h = h
 refused_embedding hash said a b c before now (BadSignature part) none h = h
-refused_embedding hash said a b c before now Later none h = h
 refused_embedding hash said a b c before now (ParentFails code uri) none h = h
 refused_embedding hash said a b c before now (LabelTaken label) none h = h
 refused_embedding hash said a b c before now (RedactionRefused text code) none h = h
+refused_embedding hash said a b c before now (OpenBox n) none h = h
 refused_embedding hash said a b c before now NoInstance none h = h
 refused_embedding hash said a b c before now (TooManyManifests count) none h = h
 refused_embedding hash said a b c before now (StoreTooLarge len) none h = h
@@ -162,10 +162,10 @@ fault_caused a b c d e f k l old new NoMemory fault is h = let same : Memory ≡
 fault_caused a b c d e f k l old new (MediaRefused reason number) fault is h = absurd (cc (is))
 fault_caused a b c d e f k l old new (BadDefinition field) fault is h = absurd (cc (is))
 fault_caused a b c d e f k l old new (BadSignature part) fault is h = absurd (cc (is))
-fault_caused a b c d e f k l old new Later fault is h = absurd (cc (is))
 fault_caused a b c d e f k l old new (ParentFails code uri) fault is h = absurd (cc (is))
 fault_caused a b c d e f k l old new (LabelTaken label) fault is h = absurd (cc (is))
 fault_caused a b c d e f k l old new (RedactionRefused text code) fault is h = absurd (cc (is))
+fault_caused a b c d e f k l old new (OpenBox n) fault is h = absurd (cc (is))
 fault_caused a b c d e f k l old new NoInstance fault is h = absurd (cc (is))
 fault_caused a b c d e f k l old new (TooManyManifests count) fault is h = absurd (cc (is))
 fault_caused a b c d e f k l old new (StoreTooLarge len) fault is h = absurd (cc (is))
@@ -189,10 +189,10 @@ plan_as : (a b c d : ℕ) (old new : List ℕ) (e : BuildError) → IsPlanCause 
 plan_as a b c d old new (MediaRefused reason number) h = (ap as_faults h.0, h.1)
 plan_as a b c d old new (BadDefinition field) h = (ap as_faults h.0, h.1)
 plan_as a b c d old new (BadSignature part) h = absurd h
-plan_as a b c d old new Later h = (ap as_faults h.0, h.1)
 plan_as a b c d old new (ParentFails code uri) h = (ap as_faults h.0, h.1)
 plan_as a b c d old new (LabelTaken label) h = (ap as_faults h.0, h.1)
 plan_as a b c d old new (RedactionRefused text code) h = (ap as_faults h.0, h.1)
+plan_as a b c d old new (OpenBox n) h = (ap as_faults h.0, h.1)
 plan_as a b c d old new NoInstance h = (ap as_faults h.0, h.1)
 plan_as a b c d old new (TooManyManifests count) h = (ap as_faults h.0, h.1)
 plan_as a b c d old new (StoreTooLarge len) h = (ap as_faults h.0, h.1)
@@ -233,10 +233,10 @@ refused_asked : (T : Type 0) (qs : List Question) (old new : Judges) (e : BuildE
 refused_asked T qs old new (MediaRefused reason number) none h = h
 refused_asked T qs old new (BadDefinition field) none h = h
 refused_asked T qs old new (BadSignature part) none h = h
-refused_asked T qs old new Later none h = h
 refused_asked T qs old new (ParentFails code uri) none h = h
 refused_asked T qs old new (LabelTaken label) none h = h
 refused_asked T qs old new (RedactionRefused text code) none h = h
+refused_asked T qs old new (OpenBox n) none h = h
 refused_asked T qs old new NoInstance none h = h
 refused_asked T qs old new (TooManyManifests count) none h = h
 refused_asked T qs old new (StoreTooLarge len) none h = h
@@ -255,10 +255,10 @@ fault_asked T qs old new NoMemory f is h = let same : Memory ≡ f = cc (is) in 
 fault_asked T qs old new (MediaRefused reason number) f is h = absurd (cc (is))
 fault_asked T qs old new (BadDefinition field) f is h = absurd (cc (is))
 fault_asked T qs old new (BadSignature part) f is h = absurd (cc (is))
-fault_asked T qs old new Later f is h = absurd (cc (is))
 fault_asked T qs old new (ParentFails code uri) f is h = absurd (cc (is))
 fault_asked T qs old new (LabelTaken label) f is h = absurd (cc (is))
 fault_asked T qs old new (RedactionRefused text code) f is h = absurd (cc (is))
+fault_asked T qs old new (OpenBox n) f is h = absurd (cc (is))
 fault_asked T qs old new NoInstance f is h = absurd (cc (is))
 fault_asked T qs old new (TooManyManifests count) f is h = absurd (cc (is))
 fault_asked T qs old new (StoreTooLarge len) f is h = absurd (cc (is))
@@ -383,10 +383,10 @@ embed_unfiled {K} one hash said a b c written finished old new e (Err f) expecte
     by (MediaRefused reason number) is h left = absurd (cc (is))
     by (BadDefinition field) is h left = absurd (cc (is))
     by (BadSignature part) is h left = absurd (cc (is))
-    by Later is h left = absurd (cc (is))
     by (ParentFails code uri) is h left = absurd (cc (is))
     by (LabelTaken label) is h left = absurd (cc (is))
     by (RedactionRefused text code) is h left = absurd (cc (is))
+    by (OpenBox n) is h left = absurd (cc (is))
     by NoInstance is h left = absurd (cc (is))
     by (TooManyManifests count) is h left = absurd (cc (is))
     by (StoreTooLarge len) is h left = absurd (cc (is))
@@ -406,10 +406,10 @@ memory_leaves left whole e (Err x) (inl is) k = λ memory. inl (by e (is ∙ ap 
     by (MediaRefused reason number) is k = k
     by (BadDefinition field) is k = k
     by (BadSignature part) is k = k
-    by Later is k = k
     by (ParentFails code uri) is k = k
     by (LabelTaken label) is k = k
     by (RedactionRefused text code) is k = k
+    by (OpenBox n) is k = k
     by NoInstance is k = k
     by (TooManyManifests count) is k = k
     by (StoreTooLarge len) is k = k
@@ -429,10 +429,10 @@ judge_leaves left e (Err x) (inl is) k = λ judge. by e (is ∙ ap Some judge) k
     by (MediaRefused reason number) is k = k
     by (BadDefinition field) is k = k
     by (BadSignature part) is k = k
-    by Later is k = k
     by (ParentFails code uri) is k = k
     by (LabelTaken label) is k = k
     by (RedactionRefused text code) is k = k
+    by (OpenBox n) is k = k
     by NoInstance is k = k
     by (TooManyManifests count) is k = k
     by (StoreTooLarge len) is k = k

@@ -31,11 +31,11 @@ use Rattle.c2_build.specs.Building.{Built, EmbedAsks, IsEmbedded, IsPlanned, Pla
 use Rattle.c2_build.specs.Meeting.{BuiltMeets}
 use Rattle.c2_build.specs.declared.error.BuildError.{BuildError}
 use Rattle.c2_build.specs.declared.error.BuildError.TheVariants as build
-use Rattle.c2_layout.specs.Fresh.{GivesDigests}
+use Rattle.c2_built.specs.Fresh.{GivesDigests}
 use Rattle.c2_sample.specs.Sample.{IsSampled, SampleAsks, sample_line}
 use Rattle.c2_sample.specs.declared.types.Sampled.{Sampled}
 use Rattle.c2_sample.specs.declared.types.Sampled.TheVariants as sampled
-use Rattle.c2_texts.specs.Builds.{bad_definition_line, bad_signature_line, embedded_line, label_taken_line, later_line, media_refused_line, no_instance_line, parent_fails_line, redaction_refused_line, reserve_too_small_line, store_too_large_line, tbs_line, too_many_manifests_line}
+use Rattle.c2_texts.specs.Builds.{bad_definition_line, bad_signature_line, embedded_line, label_taken_line, media_refused_line, no_instance_line, open_box_line, parent_fails_line, redaction_refused_line, reserve_too_small_line, store_too_large_line, tbs_line, too_many_manifests_line}
 use Rattle.c2_texts.specs.Show.{show_line}
 use Rattle.c2_texts.specs.Texts.{usage_line, refused_line, none_line, digest_line, listing, question_line, no_question_line, valid_line, failing_line, same_line, different_line, not_accepted_line}
 use Rattle.c2_cmd.specs.declared.types.Answer.{Answer}
@@ -153,10 +153,10 @@ abbrev pub refusal_line : BuildError → List ℕ
 refusal_line (build.MediaRefused reason number) = media_refused_line reason number
 refusal_line (build.BadDefinition field) = bad_definition_line field
 refusal_line (build.BadSignature part) = bad_signature_line part
-refusal_line build.Later = later_line
 refusal_line (build.ParentFails code uri) = parent_fails_line code uri
 refusal_line (build.LabelTaken label) = label_taken_line label
 refusal_line (build.RedactionRefused text code) = redaction_refused_line text code
+refusal_line (build.OpenBox at) = open_box_line at
 refusal_line build.NoInstance = no_instance_line
 refusal_line (build.TooManyManifests count) = too_many_manifests_line count
 refusal_line (build.StoreTooLarge len) = store_too_large_line len

@@ -19,9 +19,9 @@ use c2_build::{BuildError, embed, plan};
 use c2_hash::Hashing;
 use c2_judge::Judge;
 use c2_texts::{
-    bad_definition_line, bad_signature_line, label_taken_line, later_line, media_refused_line,
-    no_instance_line, parent_fails_line, redaction_refused_line, reserve_too_small_line,
-    store_too_large_line, too_many_manifests_line,
+    bad_definition_line, bad_signature_line, label_taken_line, media_refused_line,
+    no_instance_line, open_box_line, parent_fails_line, redaction_refused_line,
+    reserve_too_small_line, store_too_large_line, too_many_manifests_line,
 };
 use std::alloc::{AllocError, Global};
 
@@ -194,12 +194,12 @@ pub fn refusal_line(alloc: Global, error: &BuildError) -> Result<String, AllocEr
         BuildError::MediaRefused(reason, number) => media_refused_line(alloc, *reason, *number),
         BuildError::BadDefinition(field) => bad_definition_line(alloc, *field),
         BuildError::BadSignature(part) => bad_signature_line(alloc, *part),
-        BuildError::Later => later_line(alloc),
         BuildError::ParentFails(code, uri) => parent_fails_line(alloc, *code, uri.as_str()),
         BuildError::LabelTaken(label) => label_taken_line(alloc, label.as_str()),
         BuildError::RedactionRefused(text, code) => {
             redaction_refused_line(alloc, text.as_str(), *code)
         }
+        BuildError::OpenBox(place) => open_box_line(alloc, *place),
         BuildError::NoInstance => no_instance_line(alloc),
         BuildError::TooManyManifests(count) => too_many_manifests_line(alloc, *count),
         BuildError::StoreTooLarge(length) => store_too_large_line(alloc, *length),

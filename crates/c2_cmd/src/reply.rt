@@ -94,10 +94,10 @@ pub fn build_fault(error: &BuildError) -> Option<Fault>
         BuildError::MediaRefused(_, _)
         | BuildError::BadDefinition(_)
         | BuildError::BadSignature(_)
-        | BuildError::Later
         | BuildError::ParentFails(_, _)
         | BuildError::LabelTaken(_)
         | BuildError::RedactionRefused(_, _)
+        | BuildError::OpenBox(_)
         | BuildError::NoInstance
         | BuildError::TooManyManifests(_)
         | BuildError::StoreTooLarge(_)

@@ -13,7 +13,7 @@ use Rattle.c2_build.specs.Answers.{IsEmbedding, SinkState}
 use Rattle.c2_build.specs.Building.{Built, IsEmbedded}
 use Rattle.c2_build.specs.Meeting.{OneEmbedding}
 use Rattle.c2_build.specs.declared.error.BuildError.{BuildError}
-use Rattle.c2_build.specs.declared.error.BuildError.TheVariants.{MediaRefused, BadDefinition, BadSignature, Later, ParentFails, LabelTaken, RedactionRefused, NoInstance, TooManyManifests, StoreTooLarge, ReserveTooSmall, ReadFault, JudgeFault, WriteFault, NoMemory}
+use Rattle.c2_build.specs.declared.error.BuildError.TheVariants.{MediaRefused, BadDefinition, BadSignature, ParentFails, LabelTaken, RedactionRefused, OpenBox, NoInstance, TooManyManifests, StoreTooLarge, ReserveTooSmall, ReadFault, JudgeFault, WriteFault, NoMemory}
 use Rattle.c2_build.specs.declared.types.Embedded.{Embedded}
 use Rattle.c2_sample.specs.Sample.{BuildAsks, IsNewFile, SampleAsks, is_refusal, no_judges, sample_definition, sample_media, sample_message}
 use Rattle.c2_sample.specs.declared.building.NewFile.{NewFile}
@@ -41,10 +41,10 @@ refused_build : (hash : Alg → List ℕ → List ℕ) (media : List ℕ) (befor
 refused_build hash media before now (MediaRefused reason number) is h = h
 refused_build hash media before now (BadDefinition field) is h = h
 refused_build hash media before now (BadSignature part) is h = h
-refused_build hash media before now Later is h = h
 refused_build hash media before now (ParentFails code uri) is h = h
 refused_build hash media before now (LabelTaken label) is h = h
 refused_build hash media before now (RedactionRefused text code) is h = h
+refused_build hash media before now (OpenBox n) is h = h
 refused_build hash media before now NoInstance is h = h
 refused_build hash media before now (TooManyManifests count) is h = h
 refused_build hash media before now (StoreTooLarge len) is h = h

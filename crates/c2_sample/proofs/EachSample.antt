@@ -7,7 +7,7 @@ use Rattle.c2_spec.specs.Located.{here}
 use Rattle.c2_spec.specs.declared.digest.Alg.{Alg}
 use Rattle.c2_spec.specs.declared.panel.Verdict.{Verdict}
 use Rattle.c2_rules.specs.CheckList.{check_asks, store_answer}
-use Rattle.c2_layout.specs.Fresh.{GivesDigests}
+use Rattle.c2_built.specs.Fresh.{GivesDigests}
 use Rattle.c2_build.specs.Building.{Built}
 use Rattle.c2_build.specs.Meeting.{BuiltFileMeets, SomeEmbedding}
 use Rattle.c2_build.specs.declared.error.BuildError.{BuildError}

@@ -10,7 +10,7 @@ use Rattle.c2_definition.specs.DefinitionFile.{IsDefinition, definition_in}
 use Rattle.c2_definition.specs.declared.types.Definition.{Definition}
 use Rattle.c2_definition.specs.declared.types.DefinitionField.{DefinitionField}
 use Rattle.c2_definition.specs.declared.types.Payload.TheVariants as payload
-use Rattle.c2_layout.specs.Written.{HasTexts}
+use Rattle.c2_built.specs.Written.{HasTexts}
 use Rattle.c2_build.specs.Meeting.{HasTextsIn}
 use Rattle.c2_sample.specs.Sample.{sample_definition}
 

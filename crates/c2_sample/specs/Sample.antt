@@ -11,7 +11,7 @@ use Rattle.c2_spec.specs.declared.panel.Verdict.{Verdict}
 use Rattle.c2_rules.specs.Asking.{HaveAsked, HaveAskedPrefix, HaveFailed}
 use Rattle.c2_rules.specs.Validated.{CheckAsks, IsAnswer}
 use Rattle.c2_rules.specs.declared.answer.Answer.{Answer}
-use Rattle.c2_layout.specs.Fresh.{GivesDigests}
+use Rattle.c2_built.specs.Fresh.{GivesDigests}
 use Rattle.c2_build.specs.Building.{Built, IsEmbedded}
 use Rattle.c2_build.specs.declared.error.BuildError.{BuildError}
 use Rattle.c2_build.specs.declared.error.BuildError.TheVariants as build

@@ -71,10 +71,10 @@ fn is_refusal(error: &BuildError) -> bool
         BuildError::MediaRefused(_, _)
         | BuildError::BadDefinition(_)
         | BuildError::BadSignature(_)
-        | BuildError::Later
         | BuildError::ParentFails(_, _)
         | BuildError::LabelTaken(_)
         | BuildError::RedactionRefused(_, _)
+        | BuildError::OpenBox(_)
         | BuildError::NoInstance
         | BuildError::TooManyManifests(_)
         | BuildError::StoreTooLarge(_)

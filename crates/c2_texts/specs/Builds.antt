@@ -67,10 +67,6 @@ bad_definition_line f = build_line (codes "BadDefinition") (spaced (field_name f
 abbrev pub bad_signature_line : SignaturePart → List ℕ
 bad_signature_line p = build_line (codes "BadSignature") (spaced (part_name p))
 
--- media that this version can't write into
-abbrev pub later_line : List ℕ
-later_line = build_line (codes "Later") []
-
 -- the older store, for a rule by its code and the URI of what it fails at
 abbrev pub parent_fails_line : Code → List ℕ → List ℕ
 parent_fails_line code uri = build_line (codes "ParentFails") (spaced (code_name code) ++ spaced (printed uri))
@@ -82,6 +78,10 @@ label_taken_line label = build_line (codes "LabelTaken") (spaced (printed label)
 -- a redaction by its text, for a reason by its code
 abbrev pub redaction_refused_line : List ℕ → Code → List ℕ
 redaction_refused_line text code = build_line (codes "RedactionRefused") (spaced (printed text) ++ spaced (code_name code))
+
+-- the last root box, which begins there, is open
+abbrev pub open_box_line : ℕ → List ℕ
+open_box_line place = build_line (codes "OpenBox") (spaced (decimal place))
 
 -- no box instance number is free
 abbrev pub no_instance_line : List ℕ

@@ -54,13 +54,6 @@ pub fn bad_signature_line(alloc: Global, part: SignaturePart) -> Result<String, 
     Ok(text)
 }
 
-/// The line of media that can't be written into yet.
-pub fn later_line(alloc: Global) -> Result<String, AllocError>
-    ensures { IfOk result (λ text. string_bytes text ≡ form.later_line) }
-{
-    String::from_str(alloc, "build Later\n")
-}
-
 /// The line of a rule that the check of the older store fails at: its code, and the URI of what it fails at, with `?` for control bytes.
 pub fn parent_fails_line(alloc: Global, code: Code, uri: &str) -> Result<String, AllocError>
     ensures { IfOk result
@@ -93,6 +86,14 @@ pub fn redaction_refused_line(
     let uri = printable(alloc, redaction)?;
     let name = code_name(code);
     let text = format!(in alloc; "build RedactionRefused {uri} {name}\n")?;
+    Ok(text)
+}
+
+/// The line of media whose last root box is open: the place where it begins.
+pub fn open_box_line(alloc: Global, place: u64) -> Result<String, AllocError>
+    ensures { IfOk result (λ text. string_bytes text ≡ form.open_box_line place) }
+{
+    let text = format!(in alloc; "build OpenBox {place}\n")?;
     Ok(text)
 }
 

@@ -15,8 +15,8 @@ mod show;
 mod tree;
 
 pub use builds::{
-    bad_definition_line, bad_signature_line, embedded_line, label_taken_line, later_line,
-    media_refused_line, no_instance_line, parent_fails_line, redaction_refused_line,
+    bad_definition_line, bad_signature_line, embedded_line, label_taken_line, media_refused_line,
+    no_instance_line, open_box_line, parent_fails_line, redaction_refused_line,
     reserve_too_small_line, store_too_large_line, tbs_line, too_many_manifests_line,
 };
 pub use lines::{

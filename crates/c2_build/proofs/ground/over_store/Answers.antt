@@ -19,7 +19,7 @@ pub returns-in-Here-clause-over : goal.returns-in-Here-clause-over
 returns-in-Here-clause-over g c = λ t rs opened reads.
     let f = c.args.found.now in
     let same = same_tree c.one_opening.ensures.store f.start f.length f.store t c.in-Here.tree opened (here_tree f c.in-Ok.read _ _ c.in-Here.is c.in-Ok.ensures) in
-    subst (λ (u : Tree). IfOk c.over_tree.result (IsOver (g.H.Hashing.digest_of Sha256) c.args.definition.now u (record { start = f.start; length = f.length }) rs)) (sym same) (c.over_tree.ensures.over rs (subst (λ (u : Tree). AreReadings (manifests_of u) rs) same reads))
+    subst (λ (u : Tree). IfOk c.over_tree.result (IsOver (g.H.Hashing.digest_of Sha256) c.args.definition.now u c.args.clearing rs)) (sym same) (c.over_tree.ensures.over rs (subst (λ (u : Tree). AreReadings (manifests_of u) rs) same reads))
 
 pub returns-in-Here-clause-refused : goal.returns-in-Here-clause-refused
 returns-in-Here-clause-refused g c = λ t rs opened reads.

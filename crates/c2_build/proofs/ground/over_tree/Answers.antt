@@ -33,9 +33,9 @@ returns-in-Ok-carried_of-clause-over g c = λ rs reads.
       label = ap (λ xs. has_manifest xs d.label) (sym same) ∙ ap (has_manifest c.in-Ok.chain.readings) (sym c.as_str-own.ensures.value) ∙ sym c.has_manifest.ensures ∙ c.if-has_manifest.false;
       redactions = ap (λ xs. redaction_refusal d.label xs d.redact) (sym same) ∙ ap (λ l. redaction_refusal l c.in-Ok.chain.readings d.redact) (sym c.as_str-own.ensures.value) ∙ ap (redaction_refusal _ c.in-Ok.chain.readings) (sym c.as_slice.ensures) ∙ sym c.in-Ok-None.ensures ∙ c.in-Ok-None.field-0-is;
       carried = c.in-Ok-carried_of.ensures;
-      skips = refl;
+      clears = refl;
       manifests = ap (λ (xs : List Reading). length xs + 1) (c.manifests.ensures ∙ c.readings.ensures ∙ same);
     }
 
 pub returns-in-Ok-carried_of-clause-some : goal.returns-in-Ok-carried_of-clause-some
-returns-in-Ok-carried_of-clause-some g c = λ len inside. record { content = c.in-Ok-carried_of.ensures.content; is = c.in-Ok-carried_of.ensures.is; inside = inside }
+returns-in-Ok-carried_of-clause-some g c = record { content = c.in-Ok-carried_of.ensures.content; is = c.in-Ok-carried_of.ensures.is }

@@ -6,12 +6,12 @@ pub returns : goal.returns
 returns c =
     let laws : MetLaws = record {
       formed = c.definitions_are_well_formed.ensures;
-      list = c.segments_end_or_fail.ensures.one;
-      fresh = c.a_fresh_file_meets_the_rules.ensures;
-      over = c.a_file_over_a_store_meets_the_rules.ensures.meets;
+      place = c.a_place_is_one.ensures;
+      places = record { fresh = c.each_media_has_a_place.ensures.fresh; left = c.each_media_has_a_place.ensures.place };
+      fresh = c.a_file_built_in_its_place_meets_the_rules.ensures.fresh;
+      over = c.a_file_built_in_its_place_meets_the_rules.ensures.over;
       approved = c.a_file_over_a_store_meets_the_rules.ensures.approved;
-      free = c.a_base_has_no_store.ensures;
       first = c.redactions_that_pass_may_be_made.ensures.none;
-      base = c.a_built_file_has_its_store.ensures.base;
+      base = c.a_base_stays.ensures;
       valid = c.approval_of_each_question_is_enough.ensures;
     } in built_meets laws

@@ -9,7 +9,8 @@ returns-clause-plan c =
       opened = c.one_opening.ensures.file;
       definition = c.each_definition_is_read_one_way.ensures.some;
       formed = c.definitions_are_well_formed.ensures;
-      base = c.a_base_has_no_store.ensures;
+      places = record { fresh = c.each_media_has_a_place.ensures.fresh; left = c.each_media_has_a_place.ensures.place };
+      left = c.each_media_has_a_place.ensures.left;
       content = c.a_valid_store_is_carried.ensures.some;
       refused = c.each_message_is_accepted_or_refused_for_one_test.ensures;
       fills = c.a_message_fills_its_reserve_or_needs_more.ensures;
@@ -23,7 +24,8 @@ returns-clause-embedding c =
       opened = c.one_opening.ensures.file;
       definition = c.each_definition_is_read_one_way.ensures.some;
       formed = c.definitions_are_well_formed.ensures;
-      base = c.a_base_has_no_store.ensures;
+      places = record { fresh = c.each_media_has_a_place.ensures.fresh; left = c.each_media_has_a_place.ensures.place };
+      left = c.each_media_has_a_place.ensures.left;
       content = c.a_valid_store_is_carried.ensures.some;
       refused = c.each_message_is_accepted_or_refused_for_one_test.ensures;
       fills = c.a_message_fills_its_reserve_or_needs_more.ensures;

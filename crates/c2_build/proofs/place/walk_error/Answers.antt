@@ -1,4 +1,5 @@
-use Rattle.c2_build.proofs.Walked.{left_alone, told}
+use Rattle.std.proofs.Common.{sym, ◌∙◌}
+use Rattle.c2_build.proofs.Walked.{free_film, left_alone, left_boxes, told, told_boxes}
 use Rattle.c2_build.proofs.place.walk_error.Goals as goal
 
 -- a file that is one list of segments isn't refused
@@ -9,3 +10,11 @@ returns-in-Some-clause-told c = λ file segments is_of tells.
 -- a refusal left the count
 pub returns-in-Some-clause-cause : goal.returns-in-Some-clause-cause
 returns-in-Some-clause-cause c = λ len before now reason. left_alone len before now c.args.error c.in_default.not-ReadFault c.in_default.not-NoMemory reason
+
+-- nor is a BMFF file that has a free place
+pub returns-in-Some-clause-boxes : goal.returns-in-Some-clause-boxes
+returns-in-Some-clause-boxes c = λ file tells form p free.
+    free_film c.a_bmff_file_comes_to_one_thing.ensures file c.args.error c.in-Some.refusal form (told_boxes _ c.args.error c.in_default.not-ReadFault c.in_default.not-NoMemory tells) (sym c.of_media.ensures ∙ c.in-Some.is) p free
+
+pub returns-in-Some-clause-boxes_cause : goal.returns-in-Some-clause-boxes_cause
+returns-in-Some-clause-boxes_cause c = λ before now caused. left_boxes before now c.args.error c.in_default.not-ReadFault c.in_default.not-NoMemory caused

@@ -4,8 +4,9 @@ use Rattle.c2_spec.specs.Judges.Panel.{judges_of, panel_says}
 use Rattle.c2_build.specs.Building.{IsDefinitionStage, IsMediaStage, PlanAsks}
 use Rattle.c2_build.specs.Steps.{IsReadCause}
 use Rattle.c2_build.proofs.Drawn.{comes_first, comes_next}
-use Rattle.c2_build.proofs.OneBuild.{not_both_media, one_definition, one_media}
+use Rattle.c2_build.proofs.OneBuild.{not_both_definitions, not_both_media, one_definition, one_media}
 use Rattle.c2_build.proofs.Outside.{asks_behind, asks_none, none_asked, outside_map}
+use Rattle.c2_build.proofs.Unasked.{kind_asks}
 use Rattle.c2_build.proofs.planning.plan.Goals as goal
 
 -- nothing is asked where the media is refused
@@ -63,3 +64,16 @@ pub returns-clause-definition_unread : goal.returns-clause-definition_unread
 returns-clause-definition_unread g c = λ file known refused.
     let media = c.in-Ok.ensures.stage file known in
     not_both_media c.one_opening.ensures.file file media.0 media.1 refused
+
+-- what is known of the media is enough where it has nothing to ask
+pub returns-clause-unasked_media : goal.returns-clause-unasked_media
+returns-clause-unasked_media g c = λ file known nothing.
+    let said = panel_says (map (λ j. (goal.Judge-dyn g (j.vtable, j.value)).says j.value) c.args.judges.now.items) in
+    let media = c.in-Ok.ensures.stage file known in
+    c.plan_over.ensures.unasked file (c.in-Ok.ensures.stays.same_bytes ∙ known) media.0 media.2
+    (kind_asks c.one_opening.ensures.file g.H.Hashing.digest_of said file media.0 media.1 nothing)
+
+-- and what is known of the definition where it is refused
+pub returns-clause-unasked_definition : goal.returns-clause-unasked_definition
+returns-clause-unasked_definition g c = λ bytes known refused.
+    not_both_definitions c.each_definition_is_read_one_way.ensures.one bytes c.in-Ok-read_definition_file.definition (c.in-Ok-read_definition_file.ensures.stage bytes known) refused

@@ -1,4 +1,4 @@
-use Rattle.std.proofs.Common.{List, ℕ, map, subst, sym, ◌∙◌}
+use Rattle.std.proofs.Common.{List, ℕ, ap, map, option_map, subst, sym, ◌∙◌}
 use Rattle.std.specs.Prelude.{Err, Ok}
 use Rattle.c2_spec.specs.Judges.Panel.{judges_of, panel_says}
 use Rattle.c2_build.specs.Building.{IsPlannedOver, KindAsks}
@@ -6,7 +6,8 @@ use Rattle.c2_build.specs.Steps.{IsReadCause}
 use Rattle.c2_build.specs.declared.draft.Drafted.{Drafted}
 use Rattle.c2_build.specs.declared.error.BuildError.{BuildError}
 use Rattle.c2_build.specs.declared.error.BuildError.TheVariants as build
-use Rattle.c2_build.proofs.Drawn.{passed_plan, refused_plan}
+use Rattle.c2_cleared.specs.Clears.{cleared}
+use Rattle.c2_build.proofs.Drawn.{passed_plan, place_at, refused_plan}
 use Rattle.c2_build.proofs.Judged.{asked_after, asked_those, leaves_next, quiet_judges}
 use Rattle.c2_build.proofs.NewStores.{signed_is}
 use Rattle.c2_build.proofs.Outside.{nothing_said, outside_map, read_ask}
@@ -36,7 +37,7 @@ returns-in-Err-parts_for-clause-cause g c =
 pub returns-in-Ok-signed_over-clause-planned : goal.returns-in-Ok-signed_over-clause-planned
 returns-in-Ok-signed_over-clause-planned g c = λ bytes known kind media is.
     let at = c.in-Ok.ensures.passed bytes known kind media is in
-    let tbs = signed_is g.H.Hashing.digest_of bytes c.args.definition.now c.in-Ok.drafted at.ground at.place c.in-Ok-parts_for.parts (g.A.Source.known c.draft_over.new.media) _ c.in-Ok-signed_over.tbs at.is at.numbers c.in-Ok-parts_for.ensures.parts (c.in-Ok.ensures.stays.same_bytes ∙ known) c.as_slice.ensures.value c.in-Ok-signed_over.ensures in
+    let tbs = signed_is g.H.Hashing.digest_of bytes c.args.definition.now c.in-Ok.drafted at.ground at.place c.in-Ok-parts_for.parts (option_map (cleared c.in-Ok.drafted.ground.clearing) (g.A.Source.known c.draft_over.new.media)) _ c.in-Ok-signed_over.tbs at.is (place_at {base = at.ground.base} {p = at.place} at.passed.stage) at.seat at.numbers c.in-Ok-parts_for.ensures.parts (ap (option_map (cleared c.in-Ok.drafted.ground.clearing)) (c.in-Ok.ensures.stays.same_bytes ∙ known)) c.as_slice.ensures.value c.in-Ok-signed_over.ensures in
     subst (λ x. IsPlannedOver g.H.Hashing.digest_of (panel_says (map (λ j. (goal.Judge-dyn g (j.vtable, j.value)).says j.value) c.args.judges.now.items)) bytes kind c.args.definition.now (Ok x)) (sym tbs) (passed_plan g.H.Hashing.digest_of (panel_says (map (λ j. (goal.Judge-dyn g (j.vtable, j.value)).says j.value) c.args.judges.now.items)) bytes kind c.args.definition.now at.ground at.place at.passed)
 
 pub returns-in-Ok-signed_over-clause-asked : goal.returns-in-Ok-signed_over-clause-asked

@@ -3,7 +3,7 @@ use Rattle.std.specs.Prelude.{Ok, Err}
 use Rattle.c2_base.specs.ReadAll.{HasReason}
 use Rattle.c2_base.specs.declared.limits.TheConstants.{MAX_INPUT_LEN}
 use Rattle.c2_definition.specs.DefinitionFile.{IsDefinition}
-use Rattle.c2_layout.specs.Written.{HasTexts}
+use Rattle.c2_built.specs.Written.{HasTexts}
 use Rattle.c2_build.proofs.Inputs.{is_bad, is_read, long_definition}
 use Rattle.c2_build.proofs.reading.read_definition_file.Goals as goal
 

@@ -9,6 +9,7 @@ use Rattle.c2_build.specs.declared.ready.Ready.{Ready}
 use Rattle.c2_build.proofs.Drawn.{as_next, comes_first, comes_next, on_any}
 use Rattle.c2_build.proofs.OneBuild.{not_both_definitions, not_both_media, one_definition, one_media, one_message}
 use Rattle.c2_build.proofs.Outside.{asks_behind, asks_none, none_asked, outside_map}
+use Rattle.c2_build.proofs.Unasked.{kind_asks, not_both_messages}
 use Rattle.c2_build.proofs.ready.prepare.Goals as goal
 
 -- nothing is asked where the media is refused
@@ -119,3 +120,24 @@ returns-in-Err-read_message_file-clause-message_unread g c = λ bytes known refu
 
 pub returns-clause-message_unread : goal.returns-clause-message_unread
 returns-clause-message_unread g c = λ bytes known refused. not_both_definitions c.each_definition_is_read_one_way.ensures.one bytes c.in-Ok-read_definition_file.definition (c.in-Ok-read_definition_file.ensures.stage bytes known) refused
+
+-- what is known of the media is enough where it has nothing to ask
+pub returns-clause-unasked_media : goal.returns-clause-unasked_media
+returns-clause-unasked_media g c = λ file known nothing.
+    let said = panel_says (map (λ j. (goal.Judge-dyn g (j.vtable, j.value)).says j.value) c.args.judges.now.items) in
+    let media = c.in-Ok.ensures.stage file known in
+    c.ready_over.ensures.unasked file (c.in-Ok.ensures.stays.same_bytes ∙ known) media.0 media.2
+    (kind_asks c.one_opening.ensures.file g.H.Hashing.digest_of said file media.0 media.1 nothing)
+
+-- what is known of the definition where it is refused
+pub returns-clause-unasked_definition : goal.returns-clause-unasked_definition
+returns-clause-unasked_definition g c = λ bytes known refused.
+    not_both_definitions c.each_definition_is_read_one_way.ensures.one bytes c.in-Ok-read_definition_file.definition (c.in-Ok-read_definition_file.ensures.stage bytes known) refused
+
+-- and what is known of both where the message is
+pub returns-clause-unasked_message : goal.returns-clause-unasked_message
+returns-clause-unasked_message g c = λ bytes known message known' refused.
+    let d = c.in-Ok-read_definition_file.definition in
+    let m = c.in-Ok-read_message_file.ensures.stage message known' in
+    let stage = subst (λ (x : List ℕ). IsMessageStage x message (Ok m.0)) c.as_slice.ensures.value m.1 in
+    not_both_messages c.each_definition_is_read_one_way.ensures.one c.one_item.ensures c.each_message_is_accepted_or_refused_for_one_test.ensures bytes message d m.0 (c.in-Ok-read_definition_file.ensures.stage bytes known) stage refused

@@ -3,13 +3,14 @@ use Rattle.std.specs.Prelude.{Err, Ok, IfErr}
 use Rattle.std.proofs.lemmas.Result.{IfOk-weaker}
 use Rattle.c2_spec.specs.C2pa.Sign1.{parts_of}
 use Rattle.c2_spec.specs.Judges.Panel.{judges_of, panel_says}
-use Rattle.c2_build.specs.Building.{IsEmbeddedOver, KindAsks, built_of}
-use Rattle.c2_build.specs.Steps.{IsReadCause, IsReady, IsReserveRefusal}
+use Rattle.c2_spec.specs.declared.digest.Alg.TheVariants.{Sha256}
+use Rattle.c2_build.specs.Building.{KindAsks}
+use Rattle.c2_build.specs.Steps.{IsPutReady, IsReadCause, IsReserveRefusal}
 use Rattle.c2_build.specs.declared.draft.Drafted.{Drafted}
 use Rattle.c2_build.specs.declared.ready.Ready.{Ready}
-use Rattle.c2_build.proofs.Drawn.{refused_embedding}
-use Rattle.c2_build.proofs.Judged.{asked_after, asked_those, comes_ready, leaves_error, leaves_next, read_embeds, read_judges, reserve_cause, reserve_judges}
-use Rattle.c2_build.proofs.NewStores.{built_over, reserve_outside}
+use Rattle.c2_build.proofs.Drawn.{place_at, refused_embedding}
+use Rattle.c2_build.proofs.Judged.{asked_after, asked_those, leaves_error, leaves_next, read_embeds, read_judges, reserve_cause, reserve_judges}
+use Rattle.c2_build.proofs.NewStores.{ready_built, reserve_outside}
 use Rattle.c2_build.proofs.Outside.{ask_embed, outside_map}
 use Rattle.c2_build.proofs.ready.ready_over.Goals as goal
 
@@ -41,13 +42,8 @@ returns-in-Err-padded-clause-cause g c = reserve_cause _ _ _ _ c.args.definition
 pub returns-clause-ready : goal.returns-clause-ready
 returns-clause-ready g c = λ bytes known kind media is.
     let at = c.in-Ok.ensures.passed bytes known kind media is in
-    let parts = parts_of c.args.sign.now in
-    let w = c.in-Ok.drafted in
-    let message = c.in-Ok-padded.message in
-    let b = built_of g.H.Hashing.digest_of at.ground at.place.segments w.draft.number message in
-    comes_ready (IsReady bytes) (IsEmbeddedOver g.H.Hashing.digest_of (panel_says (map (λ j. (goal.Judge-dyn g (j.vtable, j.value)).says j.value) c.args.judges.now.items)) bytes kind c.args.definition.now parts) b c.ready_with.result
-    (built_over c.a_message_fills_its_reserve_or_needs_more.ensures g.H.Hashing.digest_of (panel_says (map (λ j. (goal.Judge-dyn g (j.vtable, j.value)).says j.value) c.args.judges.now.items)) bytes kind c.args.definition.now parts at.ground at.place w.draft.number message at.passed at.is.content.definition at.numbers.number c.in-Ok-padded.ensures.signed)
-    (IfOk-weaker c.ready_with.result _ (λ x. IsReady bytes x b) (λ x h. subst (λ (m : List ℕ). IsReady bytes x (built_of g.H.Hashing.digest_of at.ground at.place.segments w.draft.number m)) c.as_slice.ensures.value (h bytes (c.in-Ok.ensures.stays.same_bytes ∙ known) at.ground at.place at.is at.numbers)) c.ready_with.ensures.ready)
+    ready_built c.a_message_fills_its_reserve_or_needs_more.ensures g.H.Hashing.digest_of (panel_says (map (λ j. (goal.Judge-dyn g (j.vtable, j.value)).says j.value) c.args.judges.now.items)) bytes kind c.args.definition.now (parts_of c.args.sign.now) c.in-Ok.drafted at c.in-Ok-padded.message c.ready_with.result c.in-Ok-padded.ensures.signed
+    (IfOk-weaker c.ready_with.result _ (λ x. IsPutReady (g.H.Hashing.digest_of Sha256) bytes x at.ground at.place c.in-Ok-padded.message) (λ x h. subst (λ (m : List ℕ). IsPutReady (g.H.Hashing.digest_of Sha256) bytes x at.ground at.place m) c.as_slice.ensures.value (h bytes (c.in-Ok.ensures.stays.same_bytes ∙ known) at.ground at.place at.is (place_at {base = at.ground.base} {p = at.place} at.passed.stage) at.seat at.numbers)) c.ready_with.ensures.ready)
     c.ready_with.ensures.nothing
 
 pub returns-clause-asked : goal.returns-clause-asked

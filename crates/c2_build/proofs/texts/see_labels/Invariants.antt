@@ -1,5 +1,5 @@
 use Rattle.c2_definition.specs.declared.types.NewAssertion.{NewAssertion}
-use Rattle.c2_layout.specs.Written.{IsText}
+use Rattle.c2_built.specs.Written.{IsText}
 use Rattle.c2_build.proofs.Seen.{AllFrom}
 use Rattle.c2_build.proofs.texts.see_labels.Given as goal
 

@@ -1,4 +1,4 @@
-use Rattle.c2_layout.specs.Written.{IsText}
+use Rattle.c2_built.specs.Written.{IsText}
 use Rattle.c2_build.proofs.Seen.{AllFrom}
 use Rattle.c2_build.proofs.texts.see_list.Given as goal
 

@@ -1,0 +1,119 @@
+-- What can be put in at a place that was found.
+use Rattle.std.proofs.Common.{◌≡◌, ℕ, ◌<◌, ◌≤◌, Bool, true, arith, List, [], ◌∷◌, length, Option, Some, None, option_map, refl, sym, ap, ◌∙◌}
+use Rattle.std.specs.Prelude.{Ok, Err, is_none}
+use Rattle.std.specs.Option.{option_to_list}
+use Rattle.std.proofs.lemmas.Bool.{le-leb, lt-leb}
+use Rattle.c2_base.specs.declared.limits.TheConstants.{MAX_ROOT_BOXES}
+use Rattle.c2_base.specs.declared.media.MediaError.{MediaError}
+use Rattle.c2_base.specs.declared.media.MediaError.TheVariants as media
+use Rattle.c2_spec.specs.Bmff.Boxes.{Box, HasRoots}
+use Rattle.c2_spec.specs.Bmff.Paths.{placed_from}
+use Rattle.c2_spec.specs.Bmff.Writing.{open_end, place_or}
+use Rattle.c2_spec.specs.Bmff.Writing as bmff
+use Rattle.c2_spec.specs.declared.reason.Reason.TheVariants.{TooManyBoxes}
+use Rattle.c2_boxes.specs.Roots.{AreRootsOf}
+use Rattle.c2_box_rows.specs.Rows.{rows_of}
+use Rattle.c2_box_rows.proofs.Lists.{length-rows}
+use Rattle.c2_built.specs.Built.{bound_len, zero_digest}
+use Rattle.c2_built.specs.Store.{Content}
+use Rattle.c2_box_rows.specs.declared.row.RootBox.{RootBox}
+use Rattle.c2_places.specs.Places.{IsPlace, Place, bound_text, in_boxes, in_segments}
+use Rattle.c2_build.specs.Refusals.{box_tests, first_refusal, place_tests, refuse_if}
+use Rattle.c2_build.specs.Steps.{IsFitted, IsSeat, seat_binding, seat_store_len}
+use Rattle.c2_build.specs.declared.draft.Put.TheVariants as Put
+use Rattle.c2_build.specs.declared.error.BuildError.{BuildError}
+use Rattle.c2_build.specs.declared.error.BuildError.TheVariants.{MediaRefused, NoInstance, OpenBox}
+use Rattle.c2_build.specs.declared.place.Seat.{Seat}
+use Rattle.c2_build.specs.declared.place.Seat.TheVariants as Seat
+
+-- packets are put in under a number that is free
+pub number_fitted : (start en : ℕ) (p : Place) → IsSeat (Seat.Segments start (Some en)) p → IsFitted start (Put.Packets en) p
+number_fitted start en (in_segments segments number) h = record {
+  passed = ap (λ (o : Option ℕ). first_refusal (refuse_if (is_none o) NoInstance ∷ [])) (sym h.1);
+  start = h.0;
+  put = sym h.1;
+}
+number_fitted start en (in_boxes roots) h = absurd h
+
+-- no number is free
+pub number_refused : (start : ℕ) (p : Place) → IsSeat (Seat.Segments start None) p → first_refusal (place_tests p) ≡ Some NoInstance
+number_refused start (in_segments segments number) h = ap (λ (o : Option ℕ). first_refusal (refuse_if (is_none o) NoInstance ∷ [])) (sym h.1)
+number_refused start (in_boxes roots) h = absurd h
+
+-- where a box goes, by whether the last root box is open
+box_place : (o : Option ℕ) (at place : ℕ) → Ok at ≡ place_or o place → (o ≡ None) × (at ≡ place)
+box_place None at place e = let same : at ≡ place = cc (e) in (refl, same)
+box_place (Some n) at place e = absurd (cc (e))
+
+-- a box is put in where the last root box isn't open
+pub box_fitted : (rows : List RootBox) (start : ℕ) (base : List ℕ) (p : Place) → IsPlace base p → IsSeat (Seat.Boxes rows) p → ((file : List ℕ) (r : AreRootsOf file rows) → Ok start ≡ bmff.place_without None r.boxes) → IsFitted start Put.Box p
+box_fitted rows start base (in_segments segments number) at h place = absurd h
+box_fitted rows start base (in_boxes roots) at h place =
+    let found = box_place (open_end (placed_from 0 roots)) start (bmff.insert_place roots) (place base (record { boxes = roots; has_roots = at.1; are = h })) in
+    record {
+      passed = ap (λ (o : Option ℕ). first_refusal (option_to_list (option_map (λ (n : ℕ). refuse_if true (OpenBox n)) o))) found.0;
+      start = found.1;
+      put = tt;
+    }
+
+-- which one is open
+open_place : (o : Option ℕ) (at place : ℕ) → Err (media.BadBox at) ≡ place_or o place → o ≡ Some at
+open_place None at place e = absurd (cc (e))
+open_place (Some n) at place e = let same : at ≡ n = cc (e) in ap Some (sym same)
+
+-- nothing can be put in where it is open
+pub box_refused : (rows : List RootBox) (broken : ℕ) (base : List ℕ) (p : Place) → IsPlace base p → IsSeat (Seat.Boxes rows) p → ((file : List ℕ) (r : AreRootsOf file rows) → Err (media.BadBox broken) ≡ bmff.place_without None r.boxes) → first_refusal (place_tests p) ≡ Some (OpenBox broken)
+box_refused rows broken base (in_segments segments number) at h place = absurd h
+box_refused rows broken base (in_boxes roots) at h place =
+    ap (λ (o : Option ℕ). first_refusal (option_to_list (option_map (λ (n : ℕ). refuse_if true (OpenBox n)) o))) (open_place (open_end (placed_from 0 roots)) broken (bmff.insert_place roots) (place base (record { boxes = roots; has_roots = at.1; are = h })))
+
+-- no other error comes of it
+only_open : {P : Type 0} (o : Option ℕ) (e : MediaError) (place : ℕ) → ((at : ℕ) → e ≡ media.BadBox at → ⊥) → Err e ≡ place_or o place → P
+only_open None e place other h = absurd (cc (h))
+only_open (Some n) e place other h = let same : e ≡ media.BadBox n = cc (h) in absurd (other n same)
+
+-- so none does of a file that has such root boxes
+pub never_refused : (rows : List RootBox) (e : MediaError) (f : BuildError) (base : List ℕ) (p : Place) → IsPlace base p → IsSeat (Seat.Boxes rows) p → ((at : ℕ) → e ≡ media.BadBox at → ⊥) → ((file : List ℕ) (r : AreRootsOf file rows) → Err e ≡ bmff.place_without None r.boxes) → first_refusal (place_tests p) ≡ Some f
+never_refused rows e f base (in_segments segments number) at h other place = absurd h
+never_refused rows e f base (in_boxes roots) at h other place =
+    only_open (open_end (placed_from 0 roots)) e (bmff.insert_place roots) other (place base (record { boxes = roots; has_roots = at.1; are = h }))
+
+-- ---- how many root boxes
+
+-- no test on a JPEG file's place fails for its boxes
+pub no_boxes : (start : ℕ) (number : Option ℕ) (p : Place) → IsSeat (Seat.Segments start number) p → first_refusal (box_tests p) ≡ None
+no_boxes start number (in_segments segments en) h = refl
+no_boxes start number (in_boxes roots) h = absurd h
+
+-- a file has as many as it may have
+pub boxes_refused : (rows : List RootBox) (p : Place) → IsSeat (Seat.Boxes rows) p → MAX_ROOT_BOXES ≤ length rows → first_refusal (box_tests p) ≡ Some (MediaRefused TooManyBoxes MAX_ROOT_BOXES)
+boxes_refused rows (in_segments segments number) h many = absurd h
+boxes_refused rows (in_boxes roots) h many =
+    let count : length rows ≡ length roots = ap length h ∙ length-rows roots in
+    ap (λ (b : Bool). first_refusal (refuse_if b (MediaRefused TooManyBoxes MAX_ROOT_BOXES) ∷ [])) (le-leb MAX_ROOT_BOXES (length roots) (omega (arith, count, many)))
+
+-- it has fewer
+pub boxes_pass : (rows : List RootBox) (p : Place) → IsSeat (Seat.Boxes rows) p → length rows < MAX_ROOT_BOXES → first_refusal (box_tests p) ≡ None
+boxes_pass rows (in_segments segments number) h few = absurd h
+boxes_pass rows (in_boxes roots) h few =
+    let count : length rows ≡ length roots = ap length h ∙ length-rows roots in
+    ap (λ (b : Bool). first_refusal (refuse_if b (MediaRefused TooManyBoxes MAX_ROOT_BOXES) ∷ [])) (lt-leb MAX_ROOT_BOXES (length roots) (omega (arith, count, few)))
+
+-- ---- how long a store is
+
+-- with a blank binding it is as long as its place tells
+pub blank_len : (s : Seat) (c : Content) → bound_len c (seat_binding s 0 0 zero_digest) c.definition.reserve ≡ seat_store_len s c
+blank_len (Seat.Segments start number) c = refl
+blank_len (Seat.Boxes rows) c = refl
+
+-- ---- what is digested
+
+-- of a JPEG file the whole base
+pub segments_digest : (hash : List ℕ → List ℕ) (file d : List ℕ) (start : ℕ) (number : Option ℕ) (p : Place) → d ≡ hash file → IsSeat (Seat.Segments start number) p → d ≡ hash (bound_text file p)
+segments_digest hash file d start number (in_segments segments en) is h = is
+segments_digest hash file d start number (in_boxes roots) is h = absurd h
+
+-- of a BMFF file what its exclusions leave
+pub boxes_digest : (hash : List ℕ → List ℕ) (file d : List ℕ) (rows : List RootBox) (p : Place) → ((boxes : List Box) → HasRoots file boxes → rows ≡ rows_of boxes → d ≡ hash (bmff.built_text boxes)) → IsPlace file p → IsSeat (Seat.Boxes rows) p → d ≡ hash (bound_text file p)
+boxes_digest hash file d rows (in_segments segments en) is at h = absurd h
+boxes_digest hash file d rows (in_boxes roots) is at h = is roots at.1 h

@@ -1,0 +1,19 @@
+use Rattle.std.proofs.Common.{ap, sym, ◌∙◌, subst}
+use Rattle.std.specs.Prelude.{Err}
+use Rattle.c2_base.specs.declared.media.MediaError.{MediaError}
+use Rattle.c2_build.specs.Steps.{IsSeat}
+use Rattle.c2_build.proofs.Seated.{box_fitted, box_refused, never_refused}
+use Rattle.c2_build.proofs.draft.put_at.Goals as goal
+
+-- a box is put in behind root boxes, the last of which isn't open
+pub returns-in-Ok-clause-passed : goal.returns-in-Ok-clause-passed
+returns-in-Ok-clause-passed c = λ base p at seat. box_fitted _ c.in-Ok.start base p at (subst (λ s. IsSeat s p) c.in-Boxes.is seat) c.in-Ok.ensures.place
+
+-- the last one is
+pub returns-in-BadBox-clause-refused : goal.returns-in-BadBox-clause-refused
+returns-in-BadBox-clause-refused c = λ base p at seat. box_refused c.in-Boxes.roots c.in-BadBox.at base p at (subst (λ s. IsSeat s p) c.in-Boxes.is seat)
+    (λ file r. ap (λ (e : MediaError). Err e) (sym c.in-BadBox.is) ∙ c.in-Err.ensures.place file r)
+
+-- nothing else is refused
+pub returns-in_default-clause-refused : goal.returns-in_default-clause-refused
+returns-in_default-clause-refused c = λ base p at seat. never_refused c.in-Boxes.roots c.in-Err.error _ base p at (subst (λ s. IsSeat s p) c.in-Boxes.is seat) c.in_default.not-BadBox c.in-Err.ensures.place
