@@ -1,14 +1,13 @@
 """The tables of crates/c2_rows on `plan` and `embed`, with the rows of build_rows.py, for whole runs.
 
 `builds` has what is built, and what `validate` says of it; `build_refusals` what is refused, and that nothing is written then;
-`build_faults` each object failing at each of its calls. c2 doesn't build films yet: rows of such files are left out but for those of
-WAITING, of which it says so.
+`build_faults` each object failing at each of its calls.
 """
 
 import hashlib
 
 import tables
-from builder import BUILD_REFUSED, NUMBERS, plan
+from builder import NUMBERS, plan
 from build_rows import GROUPS, MADE, RUNS, Computed, definition_text, every_number, fewer_manifests, judges_of, media_named, most_manifests, no_room, room
 from locate import Refused
 from make_store import jpeg
@@ -21,8 +20,6 @@ EMBED, PLAN = "embed J X G OUT", "plan J X"
 EVERY_NUMBER = next(name for name, made in MADE.items() if made is every_number)
 # Long media that a table can say by pieces: their stores, around which it makes a JPEG.
 IN_PIECES = {name for name, made in MADE.items() if made in (most_manifests, fewer_manifests, room, no_room)}
-WAITING = "a film", "a changed film", "a redaction in a film", "an open box before the reserve"
-LATER_ANSWER = BUILD_REFUSED, "build Later"
 # A media or file that is longer is read in long pieces alone.
 SMALL_ENOUGH = 20_000
 STATUS_OF_FAULTS = {"media": 5, "second": 5, "third": 5, "judge": 7, "out": 6, "report": 6}
@@ -76,16 +73,6 @@ def in_pieces(contents):
     return " ".join([*words, folded(contents[at:])])
 
 
-def is_refused(contents):
-    """Whether the media is refused before anything else is looked at."""
-    return plan(contents, b"{}")[1] == "MediaRefused"
-
-
-def waits(media):
-    """Whether c2 doesn't build over a media yet."""
-    return media_named(media)[:2] != b"\xff\xd8"
-
-
 def has_store(media):
     """Whether a media has a store that isn't refused by the tests of the container."""
     contents = media_named(media)
@@ -101,26 +88,19 @@ def is_left_out(media):
 
 
 def answer(each):
-    """Status and line of a row of build_rows.py for `embed` and for `plan`, as c2 has them today; None where the row is left out."""
-    embedded, planned = each.embedded[:2], each.planned[:2]
-    if is_refused(media_named(each.media)) or not waits(each.media):
-        return embedded, planned
-    if embedded[1].startswith("build BadDefinition"):
-        return embedded, planned
-    if embedded[1].startswith("build BadSignature"):
-        return embedded, LATER_ANSWER
-    return (LATER_ANSWER, LATER_ANSWER) if each.what in WAITING else None
+    """Status and line of a row of build_rows.py for `embed` and for `plan`."""
+    return each.embedded[:2], each.planned[:2]
 
 
 def chosen(is_built):
-    """The rows that c2 answers today, those that build a file or the others."""
+    """The rows, those that build a file or the others."""
     for group in GROUPS:
         for each in group():
             if is_left_out(each[1]):
                 continue
             each = Computed(*each)
             answers = answer(each)
-            if answers and (answers[0][1].startswith("embedded")) == is_built:
+            if (answers[0][1].startswith("embedded")) == is_built:
                 yield each, *answers
 
 
@@ -141,16 +121,11 @@ def put(lines, each, embedded, planned):
     judges = " ".join(names)
     is_planned = (*files[:2], judges) == (*(lines.files.get(at) for at in range(2)), lines.known.get("judges"))
     lines.set(judges=judges, words=EMBED + " V" * len(names))
-    lines.row(told(embedded, asked_in(each.embedded, embedded) if names else []) + (new_file(contents) if contents else ""), *files, what=each.what)
+    lines.row(told(embedded, each.embedded[3] if names else []) + (new_file(contents) if contents else ""), *files, what=each.what)
     if is_planned:
         return
     lines.set(words=PLAN + " V" * len(names), room=max(1_000, len(planned[1]) + 1))
-    lines.row(told(planned, asked_in(each.planned, planned) if names else []), *files[:2])
-
-
-def asked_in(computed, answer):
-    """How often each judge is asked: nobody is where a media has to wait."""
-    return [0 if answer == LATER_ANSWER else count for count in computed[3]]
+    lines.row(told(planned, each.planned[3] if names else []), *files[:2])
 
 
 def told(answer, asked):
@@ -161,7 +136,7 @@ def told(answer, asked):
 
 
 def builds():
-    lines = Lines("What `plan` says and `embed` builds of JPEG files.")
+    lines = Lines("What `plan` says and `embed` builds of media files.")
     worked = None
     for each, *answers in chosen(True):
         worked = worked or each.embedded[2]

@@ -3,7 +3,7 @@
 
     chance_rows.py FOLDER COUNT [SEED [KIND]]      writes FOLDER/1.rows, FOLDER/2.rows and so on for COUNT builds
 
-KIND is `fresh` or `signed` as for chance_builds.py, or `all` (the default) for both by turns. A row has what `embed` says and the new
+KIND is `fresh`, `signed` or `film` as for chance_builds.py, or `all` (the default) for each by turns. A row has what `embed` says and the new
 file's length and digest, and how often each judge was asked; the next has what `plan` says. Each new file must be as chance_builds.py
 wants it, or it is told. Prints how often each answer of `embed` came. In the folder of that crate `rt try` runs the tables:
 
@@ -18,12 +18,11 @@ from collections import Counter
 from builder import embed, line_of, plan
 from build_rows import judge_named
 from build_tables import Lines, new_file, told
-from chance_builds import DRAWN, drawn_definition, drawn_message, kind_of, manifests_in, questions_in, wrong_in
+from chance_builds import DRAWN, KINDS, drawn_definition, drawn_message, kind_of, manifests_in, questions_in, wrong_in
 from chance_stores import verdict_files
 from store import JUDGE_FAULT, JudgeFault, verdicts_in
 from told import tell
 
-KINDS = "fresh", "signed"
 # The most bytes of a table, less what a row may have.
 LONGEST_TABLE = 3_000_000
 

@@ -1,11 +1,12 @@
 #!/usr/bin/env python3
-"""A newsroom signs a photograph by c2, and another one signs it again: `plan`, a key outside c2, `embed`, a judge outside c2, `validate`.
+"""A newsroom signs a photograph or a film by c2, and another one signs it again: `plan`, a key outside c2, `embed`, a judge outside c2, `validate`.
 
-    sign_new.py C2 PICTURE..     of each JPEG without a store: plans, signs (ES256, by the package `cryptography`), embeds, asks for the
-                                 questions, judges them with the public keys, and validates. Then the same over the signed picture with
-                                 another key, and over that one with a third key and both older notes redacted. Compares what djpeg
-                                 decodes of each file with the picture, and what it has outside its range; exiftool must find the boxes
-                                 of the manifests, builder.py build the same file, and store.py validate it
+    sign_new.py C2 FILE..        of each JPEG or BMFF file without a store: plans, signs (ES256, by the package `cryptography`), embeds,
+                                 asks for the questions, judges them with the public keys, and validates. Then the same over the signed
+                                 file with another key, and over that one with a third key and both older notes redacted. Compares what
+                                 a decoder makes of each file with what it makes of the first (djpeg, heif-dec, avifdec, else ffmpeg's
+                                 framemd5), and what it has outside its range; exiftool must find the boxes of a JPEG,
+                                 builder.py build the same file, and store.py validate it
 
 Prints a line for each file; the first difference ends the run with status 1.
 """
@@ -54,6 +55,23 @@ def signed(key, tbs):
     return tag(18, array(data(PROTECTED), mapping(), NULL, data(r.to_bytes(32, "big") + s.to_bytes(32, "big"))))
 
 
+def decoded(name, kind, folder):
+    """What a decoder makes of a file of this kind, where one is there; of a film, the sums of its packets."""
+    picture = os.path.join(folder, "decoded.png")
+    heif = shutil.which("heif-dec") or shutil.which("heif-convert")
+    if kind == ".jpg" and shutil.which("djpeg"):
+        return run("djpeg", name)
+    if kind == ".heic" and heif:
+        run(heif, name, picture)
+        return contents_of(picture)
+    if kind == ".avif" and shutil.which("avifdec"):
+        run("avifdec", name, picture)
+        return contents_of(picture)
+    if kind not in (".jpg", ".heic", ".avif") and shutil.which("ffmpeg"):
+        return run("ffmpeg", "-nostdin", "-loglevel", "error", "-i", name, "-map", "0", "-c", "copy", "-f", "framemd5", "-")
+    return None
+
+
 def contents_of(name):
     with open(name, "rb") as file:
         return file.read()
@@ -64,6 +82,8 @@ class Way:
 
     def __init__(self, c2, picture, folder):
         self.c2, self.picture, self.folder, self.notes = c2, picture, folder, {}
+        self.kind = os.path.splitext(picture)[1]
+        self.seen = decoded(picture, self.kind, folder)
         self.media, self.verdicts = picture, []
 
     def path(self, name):
@@ -80,7 +100,7 @@ class Way:
         given = self.write("definition", definition(label, redacted).encode())
         tbs = bytes.fromhex(run(self.c2, "plan", self.media, given, *self.verdicts).decode().split()[1])
         message = self.write("message", signed(key, tbs))
-        new, files = self.path("new.jpg"), (self.media, given, message)
+        new, files = self.path("new") + self.kind, (self.media, given, message)
         embedded = run(self.c2, "embed", *files, new, *self.verdicts)
         again = self.path("again.jpg")
         program = [sys.executable, os.path.join(HERE, "builder.py"), "embed", *files, again, *self.verdicts]
@@ -113,19 +133,19 @@ class Way:
         contents = contents_of(new)
         if contents[:start] + contents[start + length :] != contents_of(self.picture):
             self.end("the new file isn't the picture outside its range")
-        if shutil.which("djpeg") and run("djpeg", self.picture) != run("djpeg", new):
-            self.end("other pixels")
-        if shutil.which("exiftool"):
+        if decoded(new, self.kind, self.folder) != self.seen:
+            self.end("something else is decoded")
+        if self.kind == ".jpg" and shutil.which("exiftool"):
             self.compare_labels(new)
         print(f"{os.path.basename(self.picture)}: {line}")
 
     def compare_labels(self, new):
         """The labels that exiftool finds are those of the picture, and among them those of the store's boxes in their order."""
         found, before = (run("exiftool", "-a", "-s3", "-JUMDLabel", name).decode().split("\n") for name in (new, self.picture))
-        wanted = ["c2pa"]
+        wanted, binding = ["c2pa"], "c2pa.hash.data" if self.kind == ".jpg" else "c2pa.hash.bmff.v2"
         for at, (label, has_note) in enumerate(self.notes.items()):
             notes, parents = [NOTE] * has_note, ["c2pa.ingredient.v3"] * (at > 0)
-            wanted += [label, "c2pa.assertions", "c2pa.actions.v2", *notes, *parents, "c2pa.hash.data", "c2pa.claim.v2", "c2pa.signature"]
+            wanted += [label, "c2pa.assertions", "c2pa.actions.v2", *notes, *parents, binding, "c2pa.claim.v2", "c2pa.signature"]
         at = found.index("c2pa") if "c2pa" in found else len(found)
         if found[at : at + len(wanted)] != wanted or found[:at] + found[at + len(wanted) :] != before:
             self.end(f"exiftool finds the boxes {found}")
@@ -142,7 +162,7 @@ def main():
             way.sign()
             way.sign()
             way.sign(redacted=list(way.notes))
-    print(f"{len(pictures)} pictures are signed three times, put in and accepted")
+    print(f"{len(pictures)} files are signed three times, put in and accepted")
 
 
 if __name__ == "__main__":

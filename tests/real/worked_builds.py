@@ -16,7 +16,7 @@ from manifests import Manifest, manifests_of
 from media import media_of
 from tables import Approving
 from store import report
-from validate_rows import PICTURE, photographed
+from validate_rows import photographed
 
 SMALL = b"\xff\xd8" + APP0 + b"\xff\xd9"
 FILM = built_films.FTYP + built_films.MDAT
@@ -156,8 +156,8 @@ def check_twice(check, out):
 
 
 def check_photograph(check):
-    contents, _ = photographed([None])
-    media = jpeg(contents, rest=PICTURE)
+    media, _ = photographed([None])
+    contents = media_of(media).store
     check.valid("a photograph", media, "valid manifests=1 assertions=4 covered=3145728 outside=0")
     told = embed(media, DEFINITION, MESSAGE, approving())
     check.same("on a photograph, the first manifest", media_of(told[0]).store[38 : len(contents)], contents[38:])

@@ -1,0 +1,50 @@
+#!/usr/bin/env python3
+"""Looks which crates cite lemmas of other crates.
+
+    layers.py      prints a table of the lemma files that crates cite of others; the status is 1 where a crate cites the `proofs/` of a
+                   crate of code
+
+Lemmas of a crate that holds only definitions and laws may be cited; those of any other are its own.
+"""
+
+import os
+import re
+import sys
+from collections import Counter
+
+TOP = os.path.join(os.path.dirname(os.path.abspath(__file__)), "..")
+OPEN = {
+    "c2_spec", "c2_rules", "c2_older", "c2_boxed", "c2_box_rows", "c2_binding", "c2_built", "c2_carried", "c2_succeeding", "c2_films", "c2_media", "c2_places",
+}
+CITES = re.compile(r"\bRattle\.(c2_\w+)\.proofs\.(\w+)")
+
+
+def cited():
+    """How many files of a crate cite a lemma file of another."""
+    found = Counter()
+    for crate in sorted(os.listdir(f"{TOP}/crates")):
+        for part in ("src", "specs", "proofs"):
+            for folder, _, names in os.walk(f"{TOP}/crates/{crate}/{part}"):
+                for name in names:
+                    if not name.endswith((".antt", ".rt")):
+                        continue
+                    with open(os.path.join(folder, name), encoding="utf-8") as file:
+                        for other, lemmas in set(CITES.findall(file.read())):
+                            if other != crate:
+                                found[other, crate, lemmas] += 1
+    return found
+
+
+def main():
+    found = cited()
+    wrong = 0
+    for (other, crate, lemmas), files in sorted(found.items()):
+        code = other not in OPEN
+        wrong += code
+        print(f"{other:16} {lemmas:20} {crate:16} {files:3}{'  of a crate of code' if code else ''}")
+    print(f"{len(found)} cited, {wrong} of crates of code")
+    sys.exit(bool(wrong))
+
+
+if __name__ == "__main__":
+    main()
