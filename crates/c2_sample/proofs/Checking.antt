@@ -12,7 +12,7 @@ use Rattle.c2_rules.specs.declared.answer.Answer.{Answer}
 use Rattle.c2_validate.specs.Validation.{HasAsked}
 use Rattle.c2_media.specs.declared.error.ValidateError.{ValidateError}
 use Rattle.c2_media.specs.declared.error.ValidateError.TheVariants.{ReadFault, JudgeFault, NoMemory}
-use Rattle.c2_sample.specs.Sample.{HasSampleAsked, IsFileSampled, IsLength, sample_error}
+use Rattle.c2_sample.specs.Sample.{HasSampleAsked, IsFileSampled, IsLength, IsSameError}
 use Rattle.c2_sample.specs.declared.types.SampleError.{SampleError}
 use Rattle.c2_sample.specs.declared.types.Sampled.TheVariants.{Checked}
 
@@ -28,10 +28,7 @@ file_sampled hash said media len store file same bytes a copied read counted fou
 }
 
 -- who was asked until the check failed
-pub error_asked : (qs : List Question) (old new : Judges) (e : ValidateError) (f : SampleError) → f ≡ sample_error e → HasAsked {T = Answer} qs old new (Err e) → HasSampleAsked qs old new (Err f)
-error_asked qs old new e f is h = subst (λ (x : SampleError). HasSampleAsked qs old new (Err x)) (sym is) (by e h)
-  where
-    by : (e : ValidateError) → HasAsked {T = Answer} qs old new (Err e) → HasSampleAsked qs old new (Err (sample_error e))
-    by ReadFault h = h
-    by JudgeFault h = h
-    by NoMemory h = h
+pub error_asked : (qs : List Question) (old new : Judges) (e : ValidateError) (f : SampleError) → IsSameError e f → HasAsked {T = Answer} qs old new (Err e) → HasSampleAsked qs old new (Err f)
+error_asked qs old new ReadFault f is h = absurd is
+error_asked qs old new JudgeFault f is h = subst (λ (x : SampleError). HasSampleAsked qs old new (Err x)) (sym is) h
+error_asked qs old new NoMemory f is h = subst (λ (x : SampleError). HasSampleAsked qs old new (Err x)) (sym is) h

@@ -1,7 +1,9 @@
 mod Builds
 mod Checking
 mod EachSample
+mod Faultless
 mod MadeBytes
 mod Making
 mod OneSample
+mod Roomy
 mod WorkedDefinition

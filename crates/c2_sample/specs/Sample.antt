@@ -1,5 +1,5 @@
 -- What `sample` makes, and what that comes to: a JPEG file of so many pieces, the file that is built of it, and the check of that.
-use Rattle.std.specs.Prelude.{◌≡◌, ℕ, zero, suc, ◌+◌, ◌*◌, ◌%◌, Bool, true, false, ⊤, List, [], ◌∷◌, ◌++◌, length, replicate, codes, decimal}
+use Rattle.std.specs.Prelude.{◌≡◌, ◌⊎◌, ℕ, zero, suc, ◌+◌, ◌*◌, ◌%◌, Bool, true, false, ⊤, List, [], ◌∷◌, ◌++◌, length, replicate, codes, decimal}
 use Rattle.std.specs.declared.result.Result.{Result}
 use Rattle.std.specs.declared.result.Result.TheVariants.{Ok, Err}
 use Rattle.c2_base.specs.declared.values.Question.{Question}
@@ -160,6 +160,10 @@ is_refusal build.WriteFault = false
 is_refusal build.NoMemory = false
 is_refusal e = true
 
+-- an error of a build in memory: a refusal, or that memory ran out
+abbrev pub IsSureError : BuildError → Type 0
+IsSureError e = (is_refusal e ≡ true) ⊎ (e ≡ build.NoMemory)
+
 -- what is built of this media, or what is refused
 abbrev pub IsNewFile : (Alg → List ℕ → List ℕ) → List ℕ → NewFile → Type 0
 IsNewFile hash media (new.Built file) = (b : Built) × IsEmbedded hash no_judges media sample_definition sample_message (Ok b) × (file ≡ b.file)
@@ -169,8 +173,14 @@ IsNewFile hash media (new.Refused e) = IsEmbedded hash no_judges media sample_de
 abbrev pub IsLength : List ℕ → ℕ → Type 0
 IsLength file n = (l : Located) × IsLocated file l × (n ≡ store_len l)
 
--- the error of a sample that an error of the check is
-abbrev pub sample_error : ValidateError → SampleError
-sample_error check.ReadFault = NoMemory
-sample_error check.JudgeFault = JudgeFault
-sample_error check.NoMemory = NoMemory
+-- an error of a check in memory: the source doesn't fail
+abbrev pub IsSureFault : ValidateError → Type 0
+IsSureFault check.ReadFault = ⊥
+IsSureFault check.JudgeFault = ⊤
+IsSureFault check.NoMemory = ⊤
+
+-- this error of a sample is that error of the check
+abbrev pub IsSameError : ValidateError → SampleError → Type 0
+IsSameError check.ReadFault f = ⊥
+IsSameError check.JudgeFault f = f ≡ JudgeFault
+IsSameError check.NoMemory f = f ≡ NoMemory

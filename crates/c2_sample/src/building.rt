@@ -1,11 +1,13 @@
 // The build of a media file in memory.
-ghost use Rattle.std.specs.Prelude.{◌≡◌, IfOk, true};
-ghost use Rattle.c2_sample.specs.Sample.{IsNewFile, is_refusal};
+ghost use Rattle.std.specs.Prelude.{◌≡◌, ◌<◌, ◌^◌, IfOk, OnErr, false, length, true};
+ghost use Rattle.c2_spec.specs.Container.{is_bmff};
+ghost use Rattle.c2_build.specs.declared.error.BuildError.TheVariants as build;
+ghost use Rattle.c2_sample.specs.Sample.{IsNewFile, IsSureError, is_refusal};
 
 use crate::inputs::{sample_definition, sample_message};
 use c2_base::limits::MAX_STORE_LEN;
 use c2_base::{Blob, MemSink, NoMemory, SureSource};
-use c2_build::{BuildError, embed};
+use c2_build::{BuildError, a_new_file_meets_the_rules, each_build_comes_to_something, embed};
 use c2_hash::Hashing;
 use c2_jpegseg::segments_len;
 use c2_judge::Judge;
@@ -21,11 +23,16 @@ pub enum NewFile {
     Refused(BuildError),
 }
 
-/// Builds a store into media, with the definition and the message of a sample. The sink has room for the media and the longest
+/// Builds a store into a JPEG file, with the definition and the message of a sample. The sink has room for the media and the longest
 /// store, and no judge is there to be asked.
 pub fn build<H: Hashing>(alloc: Global, hashing: &H, media: Blob) -> Result<NewFile, NoMemory>
+    requires jpeg { is_bmff media ≡ false }
+    requires small { length media < 2 ^ 62 }
     ensures { IfOk result (IsNewFile H.digest_of media) }
 {
+    // Only the prover needs these laws.
+    each_build_comes_to_something();
+    a_new_file_meets_the_rules();
     let room = media
         .as_slice()
         .len()
@@ -49,9 +56,12 @@ pub fn build<H: Hashing>(alloc: Global, hashing: &H, media: Blob) -> Result<NewF
     }
 }
 
-// What is refused; a source, a sink or a judge in memory doesn't fail, so every other error is out of memory.
+// What is refused, or that memory ran out: a source or a sink in memory doesn't fail, and there is no judge.
 fn refused(error: BuildError) -> Result<NewFile, NoMemory>
-    ensures { IfOk result (λ file. (is_refusal error ≡ true) × (file ≡ NewFile.Refused error)) }
+    requires { IsSureError error }
+    ensures refusal { IfOk result (λ file. (is_refusal error ≡ true)
+        × (file ≡ NewFile.Refused error)) }
+    ensures memory { OnErr result (error ≡ build.NoMemory) }
 {
     if is_refusal(&error) {
         return Ok(NewFile::Refused(error));

@@ -3,7 +3,8 @@ ghost use Rattle.std.specs.Prelude.{◌≡◌, [], map, length, IfOk, IfErr, vec
 ghost use Rattle.c2_rules.specs.Validated.{CheckAsks};
 ghost use Rattle.c2_spec.specs.Judges.Panel.{LeavesJudges, judges_of, panel_says};
 ghost use Rattle.c2_base.specs.InMemory.{sure_bytes};
-ghost use Rattle.c2_sample.specs.Sample.{HasAskedThose, IsFileSampled, IsLength, IsSampleCause, IsSampled, SampleAsks, sample_error};
+ghost use Rattle.c2_media.specs.declared.error.ValidateError.TheVariants as check;
+ghost use Rattle.c2_sample.specs.Sample.{HasAskedThose, IsFileSampled, IsLength, IsSameError, IsSampleCause, IsSampled, IsSureFault, SampleAsks};
 
 use crate::building::{NewFile, build};
 use crate::media::sample_media;
@@ -118,13 +119,21 @@ fn store_len(alloc: Global, source: &mut SureSource) -> Result<u64, NoMemory>
         Ok(Opened::Here(media)) => Ok(media.found.store.as_slice().len() as u64),
         Ok(Opened::NoStore(_)) => Ok(0),
         Ok(Opened::Refused(_, _)) => Ok(0),
-        Err(_) => Err(NoMemory),
+        Err(error) => Err(out_of_memory(error)),
     }
+}
+
+// That memory ran out, which is what the error of a search is: a source in memory doesn't fail.
+fn out_of_memory(_error: ValidateError) -> NoMemory
+    requires { _error ≡ check.NoMemory }
+{
+    NoMemory
 }
 
 // What an error of the check is; a source in memory doesn't fail.
 fn sample_error(error: ValidateError) -> SampleError
-    ensures { result ≡ sample_error error }
+    requires { IsSureFault error }
+    ensures { IsSameError error result }
 {
     match error {
         ValidateError::JudgeFault => SampleError::JudgeFault,

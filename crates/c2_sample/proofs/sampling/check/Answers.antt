@@ -1,6 +1,7 @@
 use Rattle.std.proofs.Common.{◌∙◌, refl, ap, map, Some}
 use Rattle.c2_spec.specs.Judges.Panel.{judges_of, panel_says}
 use Rattle.c2_sample.proofs.Checking.{error_asked, file_sampled}
+use Rattle.c2_sample.proofs.Faultless.{check_error}
 use Rattle.c2_sample.proofs.sampling.check.Goals as goal
 
 -- the file comes to its lengths and to what the check answers
@@ -21,3 +22,10 @@ returns-clause-asked g c qs asks =
     let old = judges_of (λ j. (goal.Judge-dyn g (j.vtable, j.value)).says j.value) (λ j. (goal.Judge-dyn g (j.vtable, j.value)).asked_times j.value) (λ j. (goal.Judge-dyn g (j.vtable, j.value)).judge_faults j.value) c.args.judges.now.items in
     let new = judges_of (λ j. (goal.Judge-dyn g (j.vtable, j.value)).says j.value) (λ j. (goal.Judge-dyn g (j.vtable, j.value)).asked_times j.value) (λ j. (goal.Judge-dyn g (j.vtable, j.value)).judge_faults j.value) c.validate.new.judges.items in
     error_asked qs old new c.in-Err.error c.sample_error.result c.sample_error.ensures (c.in-Err.ensures.asked c.args.file (ap (λ bytes. Some bytes) (c.in-Ok.ensures.same ∙ c.new-source.ensures)) qs asks)
+
+-- no error of the check is a fault of the source
+pub sample_error-requires : goal.sample_error-requires
+sample_error-requires g c =
+    let old = judges_of (λ j. (goal.Judge-dyn g (j.vtable, j.value)).says j.value) (λ j. (goal.Judge-dyn g (j.vtable, j.value)).asked_times j.value) (λ j. (goal.Judge-dyn g (j.vtable, j.value)).judge_faults j.value) c.args.judges.now.items in
+    let new = judges_of (λ j. (goal.Judge-dyn g (j.vtable, j.value)).says j.value) (λ j. (goal.Judge-dyn g (j.vtable, j.value)).asked_times j.value) (λ j. (goal.Judge-dyn g (j.vtable, j.value)).judge_faults j.value) c.validate.new.judges.items in
+    check_error old new c.in-Err.error c.in-Err.ensures.cause

@@ -1,0 +1,119 @@
+-- No error of a call over sources and a sink in memory is a fault of theirs.
+use Rattle.std.proofs.Common.{◌≡◌, ◌∙◌, ◌⊎◌, inl, inr, refl, ap, subst, arith, ℕ, ◌+◌, ◌<◌, ◌≤◌, false, List, [], length, map, All, Some, None}
+use Rattle.std.specs.Prelude.{◌-◌, ◌^◌, ◌==◌, take, vec_len, if◌then◌else◌}
+use Rattle.std.specs.declared.result.Result.TheVariants.{Err}
+use Rattle.std.proofs.lemmas.List.{length-take}
+use Rattle.c2_base.specs.Causes.{Rose}
+use Rattle.c2_base.specs.InMemory.{fresh_sink, sink_state}
+use Rattle.c2_base.specs.declared.sinks.MemSink.{MemSink}
+use Rattle.c2_base.specs.declared.values.Question.{Question}
+use Rattle.c2_spec.specs.Container.{is_bmff}
+use Rattle.c2_spec.specs.Judges.Panel.{Judges, SomeRose, panel_says}
+use Rattle.c2_spec.specs.declared.digest.Alg.{Alg}
+use Rattle.c2_spec.specs.declared.panel.Verdict.{Verdict}
+use Rattle.c2_media.specs.Opened.{IsCause}
+use Rattle.c2_media.specs.declared.error.ValidateError.{ValidateError}
+use Rattle.c2_media.specs.declared.error.ValidateError.TheVariants as check
+use Rattle.c2_validate.specs.Validation.{IsFaultCause}
+use Rattle.c2_built.specs.Fresh.{GivesDigests}
+use Rattle.c2_build.specs.Answers.{Faults, HasSpare, IsBuildCause}
+use Rattle.c2_build.specs.Meeting.{BuiltFileMeets, SomeEmbedding}
+use Rattle.c2_build.specs.declared.error.BuildError.{BuildError}
+use Rattle.c2_build.specs.declared.error.BuildError.TheVariants.{MediaRefused, BadDefinition, BadSignature, ParentFails, LabelTaken, RedactionRefused, OpenBox, NoInstance, TooManyManifests, StoreTooLarge, ReserveTooSmall, ReadFault, JudgeFault, WriteFault, NoMemory}
+use Rattle.c2_sample.specs.Sample.{IsSureError, IsSureFault, no_judges, sample_definition, sample_message}
+use Rattle.c2_sample.proofs.MadeBytes.{message_bytes}
+use Rattle.c2_sample.proofs.Roomy.{most_put, result_len}
+use Rattle.c2_sample.proofs.WorkedDefinition.{texts_in}
+
+-- ---- counts
+
+-- a count that stands at zero hasn't risen
+none_rose : Rose 0 0 → ⊥
+none_rose h = omega (arith, h)
+
+-- no source in memory has failed
+no_read_fault : Rose 0 0 ⊎ (Rose 0 0 ⊎ Rose 0 0) → ⊥
+no_read_fault (inl h) = none_rose h
+no_read_fault (inr (inl h)) = none_rose h
+no_read_fault (inr (inr h)) = none_rose h
+
+-- of no counts none has risen
+nobody_rose : {T : Type 0} (faults : T → ℕ) (judges : List T) (now : List ℕ) → judges ≡ [] → SomeRose (map faults judges) now → ⊥
+nobody_rose {T} faults judges now none h =
+    let moved : SomeRose [] now = subst (λ (js : List T). SomeRose (map faults js) now) none h in
+    let within : moved.0 < 0 = moved.1 in
+    omega (arith, within)
+
+-- ---- the sink
+
+-- a sink that was never called, and that fails at no number, states its room as its spare
+room_is_spare : (s : MemSink) (room : ℕ) → sink_state s ≡ fresh_sink room 0 → (if s.fail_at == 0 then Some (vec_len s.bytes - s.used) else None) ≡ Some room
+room_is_spare s room h =
+    let never : s.fail_at ≡ 0 = ap (λ state. state.fail_at) h in
+    let all : vec_len s.bytes ≡ room = ap (λ state. state.room) h in
+    let empty : take s.used s.bytes.items ≡ [] = ap (λ state. state.bytes) h in
+    let none : length (take s.used s.bytes.items) ≡ 0 = ap length empty in
+    let used : s.used ≡ 0 = omega (arith, none, length-take s.used s.bytes.items, s.in_room) in
+    let left : vec_len s.bytes - s.used ≡ room = omega (arith, all, used) in
+    ap (λ (n : ℕ). if n == 0 then Some (vec_len s.bytes - s.used) else None) never ∙ ap (λ (n : ℕ). Some n) left
+
+-- ---- the build
+
+-- What is known of a build in memory: its media is a JPEG file, and the sink has room for it and the longest store.
+pub record InMemory (hash : Alg → List ℕ → List ℕ) (media : List ℕ) (sink : MemSink) : Type 0 where
+  pub comes : SomeEmbedding
+  pub meets : BuiltFileMeets
+  pub digests : GivesDigests hash
+  pub jpeg : is_bmff media ≡ false
+  pub bytes : All (λ b. b < 2 ^ 8) media
+  pub room : ℕ
+  pub sink_is : sink_state sink ≡ fresh_sink room 0
+  pub holds : length media + most_put ≤ room
+
+-- the sink doesn't fail
+no_write_fault : (hash : Alg → List ℕ → List ℕ) (media : List ℕ) (sink : MemSink) → InMemory hash media sink
+    → HasSpare hash no_judges media sample_definition sample_message (if sink.fail_at == 0 then Some (vec_len sink.bytes - sink.used) else None) (Err WriteFault) → ⊥
+no_write_fault hash media sink m spare =
+    let r = m.comes hash no_judges media sample_definition sample_message m.bytes message_bytes in
+    let less = spare m.room (room_is_spare sink m.room m.sink_is) r.0 r.1 in
+    let most = result_len m.meets hash no_judges media sample_definition sample_message r.0 m.digests texts_in m.jpeg r.1 in
+    omega (arith, less, most, m.holds)
+
+-- the counts of a build whose sources are in memory, by that of the sink
+abbrev pub sure_faults : ℕ → Faults
+sure_faults out = record { media = 0; definition = 0; message = 0; out = out }
+
+-- an error of it is a refusal, or memory ran out
+pub sure_error : {T : Type 0} (says : T → Question → Verdict) (faults : T → ℕ) (judges : List T) (now : List ℕ) (hash : Alg → List ℕ → List ℕ) (media : List ℕ) (sink : MemSink) (out : ℕ) (e : BuildError) → judges ≡ [] → InMemory hash media sink
+    → IsBuildCause (sure_faults sink.faults) (sure_faults out) (map faults judges) now e
+    → HasSpare hash (panel_says (map says judges)) media sample_definition sample_message (if sink.fail_at == 0 then Some (vec_len sink.bytes - sink.used) else None) (Err e) → IsSureError e
+sure_error {T} says faults judges now hash media sink out (MediaRefused reason number) none m c s = inl refl
+sure_error {T} says faults judges now hash media sink out (BadDefinition field) none m c s = inl refl
+sure_error {T} says faults judges now hash media sink out (BadSignature part) none m c s = inl refl
+sure_error {T} says faults judges now hash media sink out (ParentFails code uri) none m c s = inl refl
+sure_error {T} says faults judges now hash media sink out (LabelTaken label) none m c s = inl refl
+sure_error {T} says faults judges now hash media sink out (RedactionRefused text code) none m c s = inl refl
+sure_error {T} says faults judges now hash media sink out (OpenBox n) none m c s = inl refl
+sure_error {T} says faults judges now hash media sink out NoInstance none m c s = inl refl
+sure_error {T} says faults judges now hash media sink out (TooManyManifests count) none m c s = inl refl
+sure_error {T} says faults judges now hash media sink out (StoreTooLarge len) none m c s = inl refl
+sure_error {T} says faults judges now hash media sink out (ReserveTooSmall needed) none m c s = inl refl
+sure_error {T} says faults judges now hash media sink out ReadFault none m c s = absurd (no_read_fault c)
+sure_error {T} says faults judges now hash media sink out JudgeFault none m c s = absurd (nobody_rose faults judges now none c)
+sure_error {T} says faults judges now hash media sink out WriteFault none m c s =
+    absurd (no_write_fault hash media sink m (subst (λ (js : List T). HasSpare hash (panel_says (map says js)) media sample_definition sample_message (if sink.fail_at == 0 then Some (vec_len sink.bytes - sink.used) else None) (Err WriteFault)) none s))
+sure_error {T} says faults judges now hash media sink out NoMemory none m c s = inr refl
+
+-- ---- the check
+
+-- an error of the search for a store is that memory ran out
+pub search_error : (e : ValidateError) → IsCause 0 0 e → e ≡ check.NoMemory
+search_error check.ReadFault c = absurd (none_rose c)
+search_error check.JudgeFault c = absurd c
+search_error check.NoMemory c = refl
+
+-- an error of the check isn't a fault of the source
+pub check_error : (old new : Judges) (e : ValidateError) → IsFaultCause 0 0 old new e → IsSureFault e
+check_error old new check.ReadFault c = absurd (none_rose c)
+check_error old new check.JudgeFault c = tt
+check_error old new check.NoMemory c = tt
