@@ -1,17 +1,20 @@
 #!/usr/bin/env python3
 """Refuses memory to c2 at each of its requests in turn: memory.py C2 FILE [VERDICTS].
 
-Each command is run over the file (`compare` over the file and itself, `plan` and `embed` over a small JPEG without a store), first with all the memory that it asks
-for, then with its first request refused, its second, and so on until a run ends as the first did. A run to which memory was refused says so by its status, 8, and has
+Each command is run over the file (`compare` over the file and itself, `plan` and `embed` also over a small JPEG without a store, with a label that the file hasn't), first with all
+the memory that it asks for, then with its first request refused, its second, and so on until a run ends as the first did. A run to which memory was refused says so by its status, 8, and has
 printed nothing or the begin of its report; or it prints the whole report, where it could go on. The new file of `embed` isn't there then or is empty, since memory is
 taken before it is begun; or it is whole, where the line of the report alone had no memory. The requests are those to malloc, calloc and realloc of the C library.
 """
 import os
+import re
 import subprocess
 import sys
 import tempfile
 
 from worked_builds import DEFINITION, MESSAGE, SMALL
+
+OTHER = re.sub(rb"urn:c2pa:[-0-9a-f]+", b"urn:c2pa:99999999-2222-4333-8444-555555555555", DEFINITION)
 
 OUT_OF_MEMORY = 8
 MOST_REQUESTS = 200_000
@@ -116,12 +119,14 @@ def commands(file, verdicts, directory):
         yield [command, file, *verdicts], None
     yield ["compare", file, file, *verdicts], None
     names = [os.path.join(directory, name) for name in ("media", "definition", "message")]
-    for name, contents in zip(names, (SMALL, DEFINITION, MESSAGE)):
+    for name, contents in zip(names, (SMALL, OTHER, MESSAGE)):
         with open(name, "wb") as given:
             given.write(contents)
     out = os.path.join(directory, "out")
     yield ["plan", *names[:2], *verdicts], None
     yield ["embed", *names, out, *verdicts], out
+    yield ["plan", file, names[1], *verdicts], None
+    yield ["embed", file, *names[1:], out, *verdicts], out
 
 
 def main():
