@@ -7,6 +7,7 @@
 import hashlib
 
 import tables
+from built_films import film_in_front
 from builder import NUMBERS, plan
 from build_rows import GROUPS, MADE, RUNS, Computed, definition_text, every_number, fewer_manifests, judges_of, media_named, most_manifests, no_room, room
 from locate import Refused
@@ -14,7 +15,7 @@ from make_store import jpeg
 from media import media_of
 from store import JUDGE_FAULT, JudgeFault, report
 from tables import Approving, folded
-from worked_builds import DEFINITION, LATER, LATER_DEFINITION, MESSAGE, SMALL, changed
+from worked_builds import DEFINITION, FILM, LATER, LATER_DEFINITION, MESSAGE, SMALL, changed
 
 EMBED, PLAN = "embed J X G OUT", "plan J X"
 EVERY_NUMBER = next(name for name, made in MADE.items() if made is every_number)
@@ -222,10 +223,22 @@ def faults():
     files = first.embedded[2].hex(), definition_text(LATER_DEFINITION), folded(MESSAGE)
     lines.set(out=4_000, judges="approved")
     each_fault(lines, Computed("", first.embedded[2], LATER_DEFINITION, MESSAGE, "approved", None), files, 1)
+    film_faults(lines)
     return lines.text
 
 
-def each_fault(lines, built, files, judges):
+def film_faults(lines):
+    """The same over a film, and over one whose store stands in front of another box, so that its own becomes free space."""
+    lines.set(out=2_000, judges="")
+    files = folded(FILM), definition_text(DEFINITION), folded(MESSAGE)
+    each_fault(lines, Computed("", FILM, DEFINITION, MESSAGE, "approved", None), files, 0, " into a film")
+    middle = film_in_front()
+    lines.set(out=5_000, judges="approved")
+    files = folded(middle), definition_text(LATER_DEFINITION), folded(MESSAGE)
+    each_fault(lines, Computed("", middle, LATER_DEFINITION, MESSAGE, "approved", None), files, 1, " into a film")
+
+
+def each_fault(lines, built, files, judges, into=""):
     """A row for each object of `embed` and of `plan` that fails at each of its calls, under so many judges."""
     line, contents = built.embedded[1], built.embedded[2]
     # How many bytes go over each object at least, and how often a judge is asked.
@@ -246,7 +259,7 @@ def each_fault(lines, built, files, judges):
                 least = 1 if name == "judge" else -(-lengths[name] // most)
                 lines.set(fault=name, status=STATUS_OF_FAULTS[name], least=least, part="yes" if name == "report" else "no")
                 shown = files if words == EMBED else files[:2]
-                lines.row(wanted, *shown, what=f"{words.split()[0]}{over}: each call of {named(name)} fails")
+                lines.row(wanted, *shown, what=f"{words.split()[0]}{into}{over}: each call of {named(name)} fails")
 
 
 def named(name):
