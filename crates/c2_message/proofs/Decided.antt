@@ -15,7 +15,6 @@ use Rattle.c2_spec.specs.Cbor.Lookup.{first_value}
 use Rattle.c2_spec.specs.Cbor.Plain.{DiffersFrom, HasPlainKeys, ItemsHavePlainKeys, PairsHavePlainKeys}
 use Rattle.c2_spec.specs.Cbor.Spelling.{Spells}
 use Rattle.c2_spec.specs.declared.cbor.CborError.{CborError}
-use Rattle.c2_sigstruct.specs.Parts.{parts_in_list, untagged}
 use Rattle.c2_message.specs.Message.{IsAccepted, IsRefused}
 use Rattle.c2_message.specs.Tested.{EntriesTested, HeaderTested, PartsTested}
 use Rattle.c2_message.specs.declared.error.SignaturePart.{SignaturePart}
@@ -150,17 +149,20 @@ some_parts protected p (inl plain) (inl own) = let tested = some_header p.unprot
 
 -- ---- the message of bytes
 
--- the parts of the list of a message are its own
-list_parts : (a : List ℕ) (u : Item) (s : List ℕ) → IsMap u → parts_in_list (message_list (record { protected = a; unprotected = u; signature = s })) ≡ Some (record { protected = a; unprotected = u; signature = s })
-list_parts a u s (ps, is) = subst (λ (w : Item). parts_in_list (message_list (record { protected = a; unprotected = w; signature = s })) ≡ Some (record { protected = a; unprotected = w; signature = s })) (sym is) refl
+-- lists of messages that are equal have equal parts
+same_parts : (p q : SignParts) → message_list p ≡ message_list q → p ≡ q
+same_parts p q e =
+    let protected : p.protected ≡ q.protected = cc (e) in
+    let unprotected : p.unprotected ≡ q.unprotected = cc (e) in
+    let signature : p.signature ≡ q.signature = cc (e) in
+    cc (protected, unprotected, signature)
 
--- a message has these parts once its tag is off
-message_parts : (m : Item) (p : SignParts) → IsMessage m p → parts_in_list (untagged m) ≡ Some p
-message_parts m p h = by h.form
-  where
-    by : (m ≡ message_list p) ⊎ (m ≡ tag 18 (message_list p)) → parts_in_list (untagged m) ≡ Some p
-    by (inl e) = ap (λ (v : Item). parts_in_list (untagged v)) e ∙ list_parts p.protected p.unprotected p.signature h.header
-    by (inr e) = ap (λ (v : Item). parts_in_list (untagged v)) e ∙ list_parts p.protected p.unprotected p.signature h.header
+-- an item is the message of one list of parts at most, with its tag or without
+same_form : (m : Item) (p q : SignParts) → (m ≡ message_list p) ⊎ (m ≡ tag 18 (message_list p)) → (m ≡ message_list q) ⊎ (m ≡ tag 18 (message_list q)) → p ≡ q
+same_form m p q (inl a) (inl b) = same_parts p q (sym a ∙ b)
+same_form m p q (inl a) (inr b) = absurd (let bad = sym a ∙ b in cc (bad))
+same_form m p q (inr a) (inl b) = absurd (let bad = sym a ∙ b in cc (bad))
+same_form m p q (inr a) (inr b) = same_parts p q (let both = sym a ∙ b in cc (both))
 
 -- what laws of items and messages say
 pub record MessageLaws : Type 0 where
@@ -173,10 +175,7 @@ pub record MessageLaws : Type 0 where
 one_message : MessageLaws → (s : List ℕ) (p q : SignParts) → SpellsMessage s p → SpellsMessage s q → p ≡ q
 one_message laws s p q h k =
     let same = laws.one_item k.message h.message s k.spelled h.spelled in
-    let first = message_parts h.message p h.is in
-    let second = message_parts h.message q (subst (λ (v : Item). IsMessage v q) same k.is) in
-    let both = sym first ∙ second in
-    cc both
+    same_form h.message p q h.is.form (subst (λ (v : Item). (v ≡ message_list q) ⊎ (v ≡ tag 18 (message_list q))) same k.is.form)
 
 -- bytes that are an item spell a message or none
 known_item : MessageLaws → (s : List ℕ) (v : Item) → HasItem s v → ((p : SignParts) × IsMessage v p) ⊎ ((p : SignParts) → IsMessage v p → ⊥) → ((p : SignParts) × SpellsMessage s p) ⊎ ((p : SignParts) → SpellsMessage s p → ⊥)
