@@ -1,4 +1,4 @@
--- For private clauses: what was found of a binding.
+-- What was found of a binding.
 use Rattle.std.specs.Prelude.{◌≡◌, ℕ, ⊤, not, List, [], ◌∷◌, bytes_eq, Option, Some, None}
 use Rattle.std.specs.declared.result.Result.{Result}
 use Rattle.c2_spec.specs.declared.assertion.FieldError.{FieldError}

@@ -1,4 +1,4 @@
--- For private clauses: which lists of two manifests with one label are equal.
+-- Which lists of two manifests with one label are equal.
 use Rattle.std.specs.Prelude.{ℕ, ◌+◌, nat_lt, List, Option, Some, None, bytes_eq, length, map, if◌then◌else◌}
 use Rattle.c2_rules.specs.Chains.{label_in, place_of}
 use Rattle.c2_rules.specs.Readings.{Reading}

@@ -1,4 +1,4 @@
--- For private clauses: what is counted of a store.
+-- What is counted of a store.
 use Rattle.std.specs.Prelude.{ℕ, Bool, false, not, List, Option, Some, None, length, filter}
 use Rattle.c2_spec.specs.C2pa.Manifest.{Manifest}
 use Rattle.c2_spec.specs.Cover.{covered_count, outside_count}

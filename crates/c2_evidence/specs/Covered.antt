@@ -1,4 +1,4 @@
--- For private clauses: the covered texts of two files.
+-- The covered texts of two files.
 use Rattle.std.specs.Prelude.{◌≡◌, ◌⊎◌, ℕ, ⊤, List, ◌++◌, Option, codes}
 use Rattle.hex.specs.Hex.{encode_lower}
 use Rattle.c2_base.specs.Causes.{Rose}

@@ -1,4 +1,4 @@
--- For private clauses: a difference that was found, as it is printed.
+-- A difference that was found, as it is printed.
 use Rattle.std.specs.Prelude.{◌≡◌, ℕ, List, Option, find, option_map}
 use Rattle.c2_spec.specs.C2pa.Uri.{whole, signature}
 use Rattle.c2_rules.specs.Ingredients.{assertion_uri}

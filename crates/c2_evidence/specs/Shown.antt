@@ -1,4 +1,4 @@
--- For private clauses: what is printed of a pair of lists.
+-- What is printed of a pair of lists.
 use Rattle.std.specs.Prelude.{ℕ, List}
 use Rattle.c2_binding.specs.Evidence.{BoundBy, by_digest, by_signature, ListPair}
 

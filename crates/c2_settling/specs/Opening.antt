@@ -1,4 +1,4 @@
--- For private clauses: accepted files, and what is opened of them.
+-- Accepted files, and what is opened of them.
 use Rattle.std.specs.Prelude.{◌≡◌, ◌⊎◌, ℕ, ⊤, List, Ok, Err}
 use Rattle.std.specs.declared.option.Option.{Option}
 use Rattle.std.specs.declared.result.Result.{Result}

@@ -28,20 +28,24 @@ word_of command.Plan = codes "plan"
 word_of command.Embed = codes "embed"
 word_of command.Sample = codes "sample"
 
--- the words behind it: of one file, of one and judges, of two and judges, of four and judges
+-- the words after it: of one file
 abbrev pub media_words : List Rule
 media_words = one_word (codes "MEDIA") ∷ []
 
+-- of one file and judges
 abbrev pub judged_words : List Rule
 judged_words = one_word (codes "MEDIA") ∷ judge_words ∷ []
 
+-- of two files and judges
 abbrev pub second_words : List Rule
 second_words = one_word (codes "MEDIA") ∷ one_word (codes "SECOND") ∷ judge_words ∷ []
 
+-- of three files, a new one and judges
 abbrev pub out_words : List Rule
 out_words =
     one_word (codes "MEDIA") ∷ one_word (codes "SECOND") ∷ one_word (codes "THIRD") ∷ one_word (codes "OUT") ∷ judge_words ∷ []
 
+-- of a number
 abbrev pub count_words : List Rule
 count_words = one_word (codes "N") ∷ []
 
@@ -81,6 +85,7 @@ top = record (new_shape (codes "c2")) {
   subcommand_required = true;
 }
 
+-- a command line: one of these subcommands
 abbrev pub command_line : App
 command_line = record {
   top = top;
