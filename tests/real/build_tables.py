@@ -9,18 +9,24 @@ import hashlib
 import tables
 from built_films import film_in_front
 from builder import NUMBERS, plan
-from build_rows import GROUPS, MADE, RUNS, Computed, definition_text, every_number, fewer_manifests, judges_of, media_named, most_manifests, no_room, room
+from build_rows import (
+    GROUPS, MADE, RUNS, Computed, definition_text, every_number, fewer_boxes, fewer_manifests, judges_of, largest_store, many_boxes,
+    media_named, most_manifests, most_of_all, no_room, room,
+)
 from locate import Refused
 from make_store import jpeg
 from media import media_of
 from store import JUDGE_FAULT, JudgeFault, report
 from tables import Approving, folded
+from validate_rows import LINES, photograph_text, photographed
 from worked_builds import DEFINITION, FILM, LATER, LATER_DEFINITION, MESSAGE, SMALL, changed
 
 EMBED, PLAN = "embed J X G OUT", "plan J X"
 EVERY_NUMBER = next(name for name, made in MADE.items() if made is every_number)
 # Long media that a table can say by pieces: their stores, around which it makes a JPEG.
-IN_PIECES = {name for name, made in MADE.items() if made in (most_manifests, fewer_manifests, room, no_room)}
+IN_PIECES = {name for name, made in MADE.items() if made in (most_manifests, fewer_manifests, room, no_room, most_of_all, largest_store)}
+# Films of so many root boxes that a table says how many.
+FILMS = {name for name, made in MADE.items() if made in (many_boxes, fewer_boxes)}
 # A media or file that is longer is read in long pieces alone.
 SMALL_ENOUGH = 20_000
 STATUS_OF_FAULTS = {"media": 5, "second": 5, "third": 5, "judge": 7, "out": 6, "report": 6}
@@ -52,10 +58,14 @@ def media_text(media):
         contents = media_of(media_named(media)).store
         assert jpeg(contents) == media_named(media)
         return in_pieces(contents), "none", "63984"
-    if isinstance(media, bytes):
-        return folded(media), "none", ""
+    if isinstance(media, bytes) or media in FILMS:
+        return file_text(media_named(media)), "none", ""
     _, front, size = media.split(" ")
     return front, size, ""
+
+
+def file_text(contents):
+    return photograph_text(contents) if LINES in contents else folded(contents)
 
 
 def in_pieces(contents):
@@ -85,7 +95,7 @@ def has_store(media):
 
 def is_left_out(media):
     """Whether a media is too long for a table."""
-    return not isinstance(media, bytes) and media in MADE and media != EVERY_NUMBER and media not in IN_PIECES
+    return not isinstance(media, bytes) and media in MADE and media != EVERY_NUMBER and media not in IN_PIECES | FILMS
 
 
 def answer(each):
@@ -144,6 +154,7 @@ def builds():
         put(lines, each, *answers)
     accepted(lines, worked)
     succeeded(lines, worked)
+    over_others(lines)
     return lines.text
 
 
@@ -178,6 +189,17 @@ def succeeded(lines, first):
         status, line = validated(contents, named)
         lines.set(judges=judges, words="validate P" + " V" * len(named))
         lines.row(told((status, line), [judge.asked for judge in named]), contents.hex(), what=what)
+
+
+def over_others(lines):
+    """What is built over a film whose store stands between two boxes, and over a photograph with a store that others wrote."""
+    photograph, _ = photographed([None])
+    for what, media in (("a photograph of 3,145,728 bytes beside its store", photograph), ("a film with its store between two boxes", film_in_front())):
+        built = Computed(what, media, LATER_DEFINITION, MESSAGE, "approved", None)
+        put(lines, built, *answer(built))
+        status, line = validated(built.embedded[2], judges := judges_of("approved"))
+        lines.set(words="validate P V", out="none", room=1_000)
+        lines.row(told((status, line), [judge.asked for judge in judges]), file_text(built.embedded[2]), what=f"what is built over {what} is accepted")
 
 
 def validated(contents, judges):

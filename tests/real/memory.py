@@ -118,6 +118,7 @@ def commands(file, verdicts, directory):
     for command in "questions", "validate":
         yield [command, file, *verdicts], None
     yield ["compare", file, file, *verdicts], None
+    yield ["sample", "1"], None
     names = [os.path.join(directory, name) for name in ("media", "definition", "message")]
     for name, contents in zip(names, (SMALL, OTHER, MESSAGE)):
         with open(name, "wb") as given:

@@ -71,6 +71,8 @@ def rows():
 
 # A photograph: a header, a scan of bytes that follow a rule, and the end. With the two bytes before its store it has 3 * 2^20 bytes.
 SCAN = bytes.fromhex("ffda0008010100003f00")
+# What of its picture comes many times.
+LINES = bytes(range(251)) * 12_532
 PICTURE = APP0 + SCAN + bytes(at % 251 for at in range(3_145_696)) + b"\xff\xd9"
 
 
@@ -115,13 +117,16 @@ def photographs():
     return text + photograph_row("a photograph with a range that ends far behind the file", contents)
 
 
+def photograph_text(contents):
+    """A photograph as a table has it, its picture by the piece that comes many times."""
+    at = contents.index(LINES)
+    return f"{contents[:at].hex()} 12532*{LINES[:251].hex()} {contents[at + len(LINES) :].hex()}"
+
+
 def photograph_row(what, contents):
-    line = bytes(range(251))
-    at = contents.index(line * 12_532)
-    files = f"{contents[:at].hex()} 12532*{line.hex()} {contents[at + 12_532 * 251 :].hex()}"
     judge = tables.Approving()
     line, status = report("validate", contents, [judge])
-    return tables.row(what, files, status, line, judge.asked)
+    return tables.row(what, photograph_text(contents), status, line, judge.asked)
 
 
 def changed():
