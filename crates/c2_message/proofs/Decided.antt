@@ -149,13 +149,18 @@ some_parts protected p (inl plain) (inl own) = let tested = some_header p.unprot
 
 -- ---- the message of bytes
 
+-- parts of a message, written short
+abbrev parts : List ℕ → Item → List ℕ → SignParts
+parts protected unprotected signature = record { protected = protected; unprotected = unprotected; signature = signature }
+
 -- lists of messages that are equal have equal parts
 same_parts : (p q : SignParts) → message_list p ≡ message_list q → p ≡ q
 same_parts p q e =
     let protected : p.protected ≡ q.protected = cc (e) in
     let unprotected : p.unprotected ≡ q.unprotected = cc (e) in
     let signature : p.signature ≡ q.signature = cc (e) in
-    cc (protected, unprotected, signature)
+    ap (λ (x : List ℕ). parts x p.unprotected p.signature) protected ∙ ap (λ (x : Item). parts q.protected x p.signature) unprotected
+    ∙ ap (λ (x : List ℕ). parts q.protected q.unprotected x) signature
 
 -- an item is the message of one list of parts at most, with its tag or without
 same_form : (m : Item) (p q : SignParts) → (m ≡ message_list p) ⊎ (m ≡ tag 18 (message_list p)) → (m ≡ message_list q) ⊎ (m ≡ tag 18 (message_list q)) → p ≡ q
