@@ -91,11 +91,6 @@ go_on_one file s (n ∷ ns) r some enters = ap (λ (t : Bool). cond t (on_rows f
 
 -- ---- a box that is passed
 
--- a sibling of another type changes nothing
-pub pass_other : (file : List ℕ) (es : List SharedPath) (i : ℕ) (r : RootBox) (rows : List RootBox) (t : Trail) → bytes_eq r.kind t.step.kind ≡ false → ahead file es i (r ∷ rows) t ≡ ahead file es i rows t
-pass_other file es i r rows t other =
-    ap (λ (b : Bool). of_entry es t.entry (λ (e : SharedPath). list_any (marks_any file e i) (go_on file t.step (drop t.taken e.path) (picks t.coming (cond b (r ∷ of_kind t.step.kind rows) (of_kind t.step.kind rows)))))) other
-
 -- the trail after a sibling of its step's type
 abbrev pub after : Trail → Coming → Trail
 after t c = record { entry = t.entry; taken = t.taken; step = t.step; coming = c }
@@ -134,12 +129,6 @@ not_below n m h = ⊎_elim (λ l. absurd (cc (h, lt-ltb n m l))) (λ g. g) (case
 -- one number is below another
 is_below : (n m : ℕ) → ltb n m ≡ true → n < m
 is_below n m h = ⊎_elim (λ l. l) (λ g. absurd (cc (h, le-ltb n m g))) (cases_lt n m)
-
--- where the path ends, the box is the exclusion's
-pub arrive_end : (file : List ℕ) (es : List SharedPath) (i : ℕ) (r : RootBox) (t : Trail) → has_step es t.entry t.taken ≡ false → arrives file es i r t ≡ through file es i r t.entry
-arrive_end file es i r t ends =
-    of_same es t.entry (λ (e : SharedPath). list_any (marks_any file e i) (go_on file t.step (drop t.taken e.path) (r ∷ []))) (λ (e : SharedPath). marks_any file e i r)
-    (λ e s. ap (λ (steps : List PathStep). list_any (marks_any file e i) (go_on file t.step steps (r ∷ []))) (drop_all t.taken e.path (not_below t.taken (length e.path) (step_there es t.entry t.taken e false s ends))) ∙ or_false' (marks_any file e i r))
 
 -- where it goes on into the box, its next step is taken among the children
 pub arrive_on : (file : List ℕ) (es : List SharedPath) (i : ℕ) (r : RootBox) (t : Trail) → has_step es t.entry t.taken ≡ true → is_entered t.step.kind ≡ true → arrives file es i r t ≡ from_step file es i (kids file r) t.entry t.taken
@@ -184,11 +173,6 @@ turn_joins now old true x below y e = all now ∙ sym (all old)
     all true = refl
     all false = refl
 turn_joins now old false x below y e = or_in now x below ∙ e
-
--- what is marked in a box, and what goes on below it and beside it, joined as they are left
-pub visit_joins : (old here below x y : Bool) → ((here || below) || x) ≡ y → (((old || here) || below) || x) ≡ (old || y)
-visit_joins true here below x y e = refl
-visit_joins false here below x y e = e
 
 -- where no siblings are to come, a trail has nothing ahead
 ahead_none : (file : List ℕ) (es : List SharedPath) (i : ℕ) (t : Trail) → ahead file es i [] t ≡ false

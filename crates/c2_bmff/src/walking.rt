@@ -202,6 +202,7 @@ fn mark_asks<S: Source>(
             return Ok(count);
         }
         count = fill_front(source, ask, row, bytes, count)?;
+        // Matched and not handed up by `?`, here and below: each way out has clauses of its own.
         match mark_row(source, ask, row, &bytes[..count], ranges) {
             Ok(()) => {}
             Err(error) => return Err(error),

@@ -152,6 +152,7 @@ fn check_digest<S: Source, H: Hashing>(
     ensures count { OnOk result (S.faults source.new ≡ S.faults source.old) }
     ensures cause { IfErr result (IsCause (S.faults source.old) (S.faults source.new)) }
 {
+    // Matched and not handed up by `?`, here and below: each way out has clauses of its own.
     let digest = match covered_digest(alloc, hashing, source, &cover, alg) {
         Ok(digest) => digest,
         Err(error) => return Err(error),

@@ -85,20 +85,6 @@ walk_more file parent done rows rest h w same some is end least =
           ∙ ap or_none (onto rows (row_at at h) (child_rows (w.most - 1) (parent.start + parent.header + (done + h.length)) (drop (done + h.length) (payload_at file parent))));
     }
 
--- before the first box
-pub walk_start : (file : List ℕ) (parent : RootBox) → ChildWalk file parent 0 []
-walk_start file parent = record {
-  most = length (payload_at file parent);
-  enough = omega arith;
-  are =
-      let e : parent.start + parent.header ≡ parent.start + parent.header + 0 = omega arith in
-      ap (λ n. or_none (child_rows (length (payload_at file parent)) n (payload_at file parent))) e ∙ ap or_none (same (child_rows (length (payload_at file parent)) (parent.start + parent.header + 0) (payload_at file parent)));
-}
-  where
-    same : (m : Option (List RootBox)) → m ≡ option_map (λ (more : List RootBox). [] ++ more) m
-    same None = refl
-    same (Some xs) = refl
-
 -- after the last
 pub walk_end : (file : List ℕ) (parent : RootBox) (done : ℕ) (rows : List RootBox) → ChildWalk file parent done rows → length (payload_at file parent) ≤ done → rows ≡ kids file parent
 walk_end file parent done rows w end =

@@ -28,11 +28,6 @@ behind_last out (r ∷ s ∷ rs) d some =
     let e : length (r ∷ s ∷ rs) - 1 ≡ suc (length (s ∷ rs) - 1) = omega arith in
     behind_last out (s ∷ rs) d (omega arith) ∙ ap (λ (n : ℕ). place_at (get_or (r ∷ s ∷ rs) n d) out) (sym e)
 
--- no rows
-pub behind_none : (out : ℕ) (rows : List RootBox) → length rows ≡ 0 → place_behind out rows ≡ Ok 0
-behind_none out [] e = refl
-behind_none out (r ∷ rs) e = absurd (omega (arith, e))
-
 -- the room before the last of rows
 pub room_last : (out : ℕ) (rows : List RootBox) (d : RootBox) → 0 < length rows → HasRoom out rows → (out ≤ (get_or rows (length rows - 1) d).start) × ((get_or rows (length rows - 1) d).start + (get_or rows (length rows - 1) d).length < 2 ^ 62)
 room_last out [] d some h = absurd (omega arith)

@@ -181,6 +181,7 @@ fn step<S: Source>(
         Part::Second => Err(MediaError::TwoStores(row.start)),
         Part::TooLarge(total) => Err(MediaError::StoreTooLarge(total)),
         Part::Holds(total) => {
+            // Matched and not handed up by `?`, here and below: each way out has clauses of its own.
             let store = match store_at(alloc, source, row.start + row.header + 37, total) {
                 Ok(store) => store,
                 Err(error) => return Err(error),

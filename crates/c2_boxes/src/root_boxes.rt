@@ -145,6 +145,7 @@ pub(crate) fn walk<S: Source>(
         if rows.len() as u64 >= MAX_ROOT_BOXES {
             return Err(MediaError::TooManyBoxes);
         }
+        // Matched and not handed up by `?`: each way out has clauses of its own.
         let head = match head_at(source, at, size) {
             Ok(head) => head,
             Err(error) => return Err(error),

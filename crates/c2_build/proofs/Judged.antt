@@ -87,11 +87,6 @@ pub read_judges : {T : Type 0} (m n : ℕ) (r : Result T BuildError) → IfErr r
 read_judges m n (Ok x) h = tt
 read_judges m n (Err e) h = λ is. subst (IsReadCause m n) is h
 
--- an answer that says nothing, or what is ready
-pub comes_ready : {B C : Type 0} (Fits : C → B → Type 0) (Is : Result B BuildError → Type 0) (b : B) (r : Result C BuildError) → Is (Ok b) → IfOk r (λ x. Fits x b) → IfErr r SaysNothing → ComesAs Fits Is r
-comes_ready Fits Is b (Ok x) is h k = (b, is, h)
-comes_ready Fits Is b (Err e) is h k = nothing_said e (Is (Err e)) k
-
 -- a message that doesn't fit is refused, and nothing failed
 pub reserve_cause : (m n : ℕ) (js ks : List ℕ) (d : Definition) (p : SignParts) (e : BuildError) → n ≡ m → ks ≡ js → IsReserveRefusal d p e → IsEmbedCause m n js ks e
 reserve_cause m n js ks d p (build.MediaRefused reason number) count same h = absurd h

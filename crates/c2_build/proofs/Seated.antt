@@ -26,20 +26,6 @@ use Rattle.c2_build.specs.declared.error.BuildError.TheVariants.{MediaRefused, N
 use Rattle.c2_build.specs.declared.place.Seat.{Seat}
 use Rattle.c2_build.specs.declared.place.Seat.TheVariants as Seat
 
--- packets are put in under a number that is free
-pub number_fitted : (start en : ℕ) (p : Place) → IsSeat (Seat.Segments start (Some en)) p → IsFitted start (Put.Packets en) p
-number_fitted start en (in_segments segments number) h = record {
-  passed = ap (λ (o : Option ℕ). first_refusal (refuse_if (is_none o) NoInstance ∷ [])) (sym h.1);
-  start = h.0;
-  put = sym h.1;
-}
-number_fitted start en (in_boxes roots) h = absurd h
-
--- no number is free
-pub number_refused : (start : ℕ) (p : Place) → IsSeat (Seat.Segments start None) p → first_refusal (place_tests p) ≡ Some NoInstance
-number_refused start (in_segments segments number) h = ap (λ (o : Option ℕ). first_refusal (refuse_if (is_none o) NoInstance ∷ [])) (sym h.1)
-number_refused start (in_boxes roots) h = absurd h
-
 -- where a box goes, by whether the last root box is open
 box_place : (o : Option ℕ) (at place : ℕ) → Ok at ≡ place_or o place → (o ≡ None) × (at ≡ place)
 box_place None at place e = let same : at ≡ place = cc (e) in (refl, same)
@@ -107,13 +93,3 @@ blank_len (Seat.Segments start number) c = refl
 blank_len (Seat.Boxes rows) c = refl
 
 -- ---- what is digested
-
--- of a JPEG file the whole base
-pub segments_digest : (hash : List ℕ → List ℕ) (file d : List ℕ) (start : ℕ) (number : Option ℕ) (p : Place) → d ≡ hash file → IsSeat (Seat.Segments start number) p → d ≡ hash (bound_text file p)
-segments_digest hash file d start number (in_segments segments en) is h = is
-segments_digest hash file d start number (in_boxes roots) is h = absurd h
-
--- of a BMFF file what its exclusions leave
-pub boxes_digest : (hash : List ℕ → List ℕ) (file d : List ℕ) (rows : List RootBox) (p : Place) → ((boxes : List Box) → HasRoots file boxes → rows ≡ rows_of boxes → d ≡ hash (bmff.built_text boxes)) → IsPlace file p → IsSeat (Seat.Boxes rows) p → d ≡ hash (bound_text file p)
-boxes_digest hash file d rows (in_segments segments en) is at h = absurd h
-boxes_digest hash file d rows (in_boxes roots) is at h = is roots at.1 h

@@ -29,11 +29,6 @@ pub then_none : (w : Option (List ℕ)) → then_written w [] ≡ w
 then_none None = refl
 then_none (Some w) = ap Some (append-nil w)
 
--- a spare that doesn't fall
-spare_none : (s : Option ℕ) → spare_less s 0 ≡ s
-spare_none None = refl
-spare_none (Some s) = let e : s - 0 ≡ s = omega arith in ap Some e
-
 -- two parts of a file, one after the other
 pub parts_join : (file : List ℕ) (from at to : ℕ) → from ≤ at → at ≤ to → piece_of file from at ++ piece_of file at to ≡ piece_of file from to
 parts_join file from at to a b =
@@ -44,10 +39,6 @@ parts_join file from at to a b =
     sym (sym (ap (λ (n : ℕ). take n (drop from file)) two) ∙ all ∙ ap (λ (x : List ℕ). take (at - from) (drop from file) ++ take (to - at) x) back)
 
 -- ---- steps
-
--- nothing was written yet
-pub puts_nothing : {K : Type 0} (written : K → Option (List ℕ)) (spare : K → Option ℕ) (finished : K → Bool) (old : K) → Puts written spare finished [] old old
-puts_nothing written spare finished old = record { all = sym (then_none (written old)); less = sym (spare_none (spare old)); same = refl }
 
 -- two lists, one after the other
 pub puts_both : {K : Type 0} (written : K → Option (List ℕ)) (spare : K → Option ℕ) (finished : K → Bool) (xs ys : List ℕ) (old mid new : K) → Puts written spare finished xs old mid → Puts written spare finished ys mid new → Puts written spare finished (xs ++ ys) old new
@@ -159,28 +150,6 @@ pub piece_none : (file : List ℕ) (at : ℕ) → piece_of file at at ≡ []
 piece_none file at = let none : at - at ≡ 0 = omega arith in ap (λ (n : ℕ). take n (drop at file)) none
 
 -- ---- a file less a range
-
--- what is left of two lists behind the first
-drop_back : (xs ys : List ℕ) (n : ℕ) → length xs ≤ n → drop n (xs ++ ys) ≡ drop (n - length xs) ys
-drop_back [] ys n le = let same : n ≡ n - 0 = omega arith in ap (λ (k : ℕ). drop k ys) same
-drop_back (x ∷ xs) ys zero le = absurd (omega (arith, le))
-drop_back (x ∷ xs) ys (suc n) le = let same : n - length xs ≡ suc n - suc (length xs) = omega arith in drop_back xs ys n (omega (arith, le)) ∙ ap (λ (k : ℕ). drop k ys) same
-
--- and in the first
-drop_front : (xs ys : List ℕ) (n : ℕ) → n ≤ length xs → drop n (xs ++ ys) ≡ drop n xs ++ ys
-drop_front xs ys zero le = refl
-drop_front [] ys (suc n) le = absurd (omega (arith, le))
-drop_front (x ∷ xs) ys (suc n) le = drop_front xs ys n (omega (arith, le))
-
--- a piece of the first of two lists
-piece_front : (xs ys : List ℕ) (from to : ℕ) → from ≤ to → to ≤ length xs → piece_of (xs ++ ys) from to ≡ piece_of xs from to
-piece_front xs ys from to a b = ap (take (to - from)) (drop_front xs ys from (omega (arith, a, b))) ∙ take-append-le (to - from) (drop from xs) ys (omega (arith, a, b, length-drop from xs))
-
--- and of the second
-piece_back : (xs ys : List ℕ) (from to : ℕ) → length xs ≤ from → from ≤ to → piece_of (xs ++ ys) from to ≡ piece_of ys (from - length xs) (to - length xs)
-piece_back xs ys from to a b =
-    let count : to - from ≡ to - length xs - (from - length xs) = omega (arith, a, b) in
-    ap (take (to - from)) (drop_back xs ys from a) ∙ ap (λ (n : ℕ). take n (drop (from - length xs) ys)) count
 
 -- a whole file is a piece of it
 pub whole_piece : (size : ℕ) (file bytes : List ℕ) → size ≡ length file → bytes ≡ piece_of file 0 size → bytes ≡ file

@@ -59,6 +59,7 @@ pub fn copy<S: Source, K: Sink>(
     let mut at = from;
     'pieces: while at < to {
         let len = (to - at).min(buf.len() as u64) as usize;
+        // Matched and not handed up by `?`: each way out has clauses of its own.
         match copy_piece(source, sink, at, &mut buf[..len]) {
             Ok(()) => {}
             Err(error) => return Err(error),

@@ -1,7 +1,7 @@
 // The digest of a whole file.
-ghost use Rattle.std.specs.Prelude.{◌≡◌, ◌<◌, ◌≤◌, length, IfErr, IfOk, OnOk, Ok};
+ghost use Rattle.std.specs.Prelude.{◌≡◌, ◌<◌, ◌≤◌, length, IfOk, OnOk, Ok};
 ghost use Rattle.std.specs.Option.{ForSome};
-ghost use Rattle.c2_base.specs.Source.{FilledAt, StaysSource};
+ghost use Rattle.c2_base.specs.Source.{StaysSource};
 ghost use Rattle.c2_base.specs.Causes.{HasCause};
 ghost use Rattle.c2_spec.specs.Digest.{digest_len};
 ghost use Rattle.c2_build.specs.Steps.{HasTaken};

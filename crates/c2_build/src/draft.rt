@@ -220,6 +220,7 @@ pub fn draft_at(
         → IsContent hash definition.now ground.now.carried c → IsDraft c seat.now size f) }
     ensures quiet { IfErr result IsQuiet }
 {
+    // Matched and not handed up by `?`, here and below: each way out has clauses of its own.
     let (start, put) = match put_at(seat) {
         Ok(at) => at,
         Err(error) => return Err(error),

@@ -9,7 +9,7 @@ ghost use Rattle.c2_spec.specs.Bmff.Writing.{c2pa_box};
 ghost use Rattle.c2_spec.specs.Jpeg.Writing.{IsPacketStore, packets_bytes};
 ghost use Rattle.c2_spec.specs.Judges.Panel.{LeavesJudges, judges_of, panel_says};
 ghost use Rattle.c2_build.specs.Answers.{Faults, HasAskedThose, HasFinish, HasSpare, IsBuildCause, IsEmbedding, LeavesSink, SinkState};
-ghost use Rattle.c2_build.specs.Building.{EmbedAsks, HasNothingToAsk, IsDefinitionRefused, IsEmbedded, IsMediaRefused, IsMessageRefused};
+ghost use Rattle.c2_build.specs.Building.{EmbedAsks, HasNothingToAsk, IsDefinitionRefused, IsMediaRefused, IsMessageRefused};
 ghost use Rattle.c2_build.specs.Meeting.{IsMet};
 ghost use Rattle.c2_build.specs.declared.error.BuildError.TheVariants as build;
 ghost use Rattle.c2_build.specs.Steps.{CanWrite, CanWriteOver, IsCopyCause, IsStep, IsWhole, put_of, ready_file};
@@ -100,6 +100,7 @@ fn write_over<B: Source, K: Sink>(
     ensures later { K.faults out.old ≤ K.faults out.new }
 {
     let draft = ready.draft;
+    // Matched and not handed up by `?`, here and below: each way out has clauses of its own.
     match copy(base, out, 0, draft.start, &mut ready.buffer) {
         Ok(()) => {}
         Err(error) => return Err(error),

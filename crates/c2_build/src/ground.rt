@@ -141,6 +141,7 @@ fn carried_of<'u, H: Hashing>(
     requires { IsStoreOf tree.now store.now }
     ensures { IfOk result (IsCarriedOver (H.digest_of Sha256) definition.now tree.now) }
 {
+    // Matched and not handed up by `?`, here and below: each way out has clauses of its own.
     let redactions = match redactions_of(alloc, definition.redact.as_slice()) {
         Ok(redactions) => redactions,
         Err(NoMemory) => return Err(NoMemory),

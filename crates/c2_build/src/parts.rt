@@ -1,5 +1,5 @@
 // The parts of the new manifest over a media file.
-ghost use Rattle.std.specs.Prelude.{◌≡◌, ◌+◌, ◌<◌, IfErr, IfOk, List, OnOk, length, option_map, ℕ};
+ghost use Rattle.std.specs.Prelude.{◌≡◌, ◌+◌, ◌<◌, IfErr, IfOk, OnOk, length, option_map, ℕ};
 ghost use Rattle.std.specs.Option.{ForSome};
 ghost use Rattle.c2_base.specs.Source.{StaysSource};
 ghost use Rattle.c2_cleared.specs.Clears.{cleared, cleared_len};
@@ -203,6 +203,7 @@ pub fn parts_for<A: Source, H: Hashing>(
     ensures count { OnOk result (A.faults media.new ≡ A.faults media.old) }
     ensures stays { StaysSource A.len A.known A.faults media.old media.new }
 {
+    // Matched and not handed up by `?`: each way out has clauses of its own.
     let digest = match left_digest(alloc, hashing, media, drafted, buf) {
         Ok(digest) => digest,
         Err(error) => return Err(error),

@@ -1,5 +1,5 @@
 // Where a new store goes in a media file without its older store.
-ghost use Rattle.std.specs.Prelude.{◌≡◌, ℕ, ◌<◌, ◌≤◌, List, IfErr, IfOk, OnOk};
+ghost use Rattle.std.specs.Prelude.{◌≡◌, ℕ, ◌<◌, List, IfErr, IfOk, OnOk};
 ghost use Rattle.std.specs.Option.{ForSome};
 ghost use Rattle.c2_base.specs.Source.{StaysSource};
 ghost use Rattle.c2_base.specs.declared.limits.TheConstants.{FILE_LEN_LIMIT};
@@ -156,6 +156,7 @@ fn spot_in<B: Source>(alloc: Global, base: &mut B, form: FileForm) -> Result<Spo
         Ok(size) => size,
         Err(Failed) => return Err(BuildError::ReadFault),
     };
+    // Matched and not handed up by `?`: each way out has clauses of its own.
     match seat_in(alloc, base, form) {
         Ok(seat) => Ok(Spot { size, seat }),
         Err(error) => Err(error),

@@ -86,6 +86,7 @@ fn plan_over<A: Source, H: Hashing>(
         LeavesJudges old new result }
     ensures judges_len { vec_len judges.new ≡ vec_len judges.old }
 {
+    // Matched and not handed up by `?`, here and below: each way out has clauses of its own.
     let drafted = match draft_over(alloc, hashing, media, file, definition, judges) {
         Ok(drafted) => drafted,
         Err(error) => return Err(error),

@@ -99,6 +99,7 @@ fn ready_with<A: Source, H: Hashing>(
     let Ok(mut buffer) = vec![in alloc; 0u8; PIECE_LEN] else {
         return Err(BuildError::NoMemory);
     };
+    // Matched and not handed up by `?`, here and below: each way out has clauses of its own.
     let parts = match parts_for(alloc, hashing, media, definition, &drafted, &mut buffer) {
         Ok(parts) => parts,
         Err(error) => return Err(error),

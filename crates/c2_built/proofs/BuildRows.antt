@@ -42,34 +42,42 @@ fresh = record { definition = defined (codes "0"); carried = none; parent = None
 unfoldable binding : NewAssertion
 binding = data_binding 20 1141 zero_digest
 
+-- the item of the actions takes 31 bytes
 actions_item : length actions.bytes ≡ 31
 unfolding actions
 actions_item = refl
 
+-- the box of the actions takes 88 bytes
 actions_box : length (tree_bytes (assertion_box actions)) ≡ 88
 unfolding actions
 actions_box = refl
 
+-- the item of the binding takes 100 bytes
 binding_item : length binding.bytes ≡ 100
 unfolding binding shortest_head
 binding_item = refl
 
+-- the box of the binding takes 156 bytes
 binding_box : length (tree_bytes (assertion_box binding)) ≡ 156
 unfolding binding shortest_head
 binding_box = refl
 
+-- the assertion store takes 293 bytes
 assertion_store : length (tree_bytes (fresh_box (codes "c2as") (codes "c2pa.assertions") (assertion_boxes (new_assertions no_digest fresh binding)))) ≡ 293
 unfolding fresh defined actions binding shortest_head
 assertion_store = refl
 
+-- the claim takes 352 bytes
 claim : length (new_claim no_digest fresh binding) ≡ 352
 unfolding fresh defined actions binding shortest_head
 claim = refl
 
+-- the claim box takes 407 bytes
 claim_box : length (tree_bytes (item_box (codes "c2cl") (codes "c2pa.claim.v2") (new_claim no_digest fresh binding))) ≡ 407
 unfolding fresh defined actions binding shortest_head
 claim_box = refl
 
+-- the signature box takes 312 bytes
 signature_box : length (tree_bytes (item_box (codes "c2cs") (codes "c2pa.signature") (replicate 256 0))) ≡ 312
 signature_box = refl
 
@@ -78,18 +86,22 @@ signed : length (deterministic (sig_structure (defined (codes "0")).protected (n
 unfolding fresh defined actions binding shortest_head
 signed = refl
 
+-- the first 20 bytes of what is signed are these
 signed_first : take 20 (deterministic (sig_structure (defined (codes "0")).protected (new_claim no_digest fresh binding))) ≡ 0x84 ∷ 0x6A ∷ codes "Signature1" ++ 0x43 ∷ 0xA1 ∷ 0x01 ∷ 0x26 ∷ 0x40 ∷ 0x59 ∷ 0x01 ∷ 0x60 ∷ []
 unfolding fresh defined actions binding shortest_head
 signed_first = refl
 
+-- the manifest takes 1,091 bytes
 manifest : length (tree_bytes (new_manifest no_digest fresh binding (replicate 256 0))) ≡ 1091
 unfolding fresh defined actions binding shortest_head
 manifest = refl
 
+-- the store takes 1,129 bytes
 store : store_size fresh 256 ≡ 1129
 unfolding fresh defined actions shortest_head
 store = refl
 
+-- the new range takes 1,141 bytes
 range : built_len fresh 256 ≡ 1141
 unfolding fresh defined actions shortest_head
 range = refl
@@ -113,22 +125,27 @@ second = record {
 unfoldable second_binding : NewAssertion
 second_binding = data_binding 20 2667 zero_digest
 
+-- the item of the ingredient that the parent is takes 284 bytes
 ingredient : length (deterministic (ingredient_item (parent_ingredient no_digest parent))) ≡ 284
 unfolding parent shortest_head
 ingredient = refl
 
+-- the claim takes 443 bytes
 second_claim : length (new_claim no_digest second second_binding) ≡ 443
 unfolding second parent defined actions second_binding shortest_head
 second_claim = refl
 
+-- the new manifest takes 1,526 bytes
 second_manifest : length (tree_bytes (new_manifest no_digest second second_binding (replicate 256 0))) ≡ 1526
 unfolding second parent defined actions second_binding shortest_head
 second_manifest = refl
 
+-- the store takes 2,655 bytes
 second_store : store_size second 256 ≡ 2655
 unfolding second parent defined actions shortest_head
 second_store = refl
 
+-- the new range takes 2,667 bytes
 second_range : built_len second 256 ≡ 2667
 unfolding second parent defined actions shortest_head
 second_range = refl

@@ -38,6 +38,7 @@ OneLength = (alg : Option (List ℕ)) (g h : List ℕ) (r q : Range) → length 
 no_digest_len : HasDigestLen no_digest
 no_digest_len text = length-replicate {A = ℕ} (digest_len Sha256) 0
 
+-- a new store's length depends neither on its range nor on digests
 pub fixed_size : KeepsLength → OneLength → StoreSizeIsFixed
 fixed_size keeps one hash c start len digest message h n =
     same_size keeps hash no_digest c (data_binding start len digest) (data_binding 0 0 zero_digest) message (replicate (length message) 0) h no_digest_len refl
@@ -45,6 +46,7 @@ fixed_size keeps one hash c start len digest message h n =
 
 -- ---- a new store can go into packets
 
+-- a store that isn't too large can be cut into packets
 pub packet_store : (carried : Trees) (m : Tree) → length (tree_bytes (store_box carried m)) ≤ MAX_STORE_LEN → IsPacketStore (tree_bytes (store_box carried m))
 packet_store carried m small =
     let body : List ℕ = description_bytes (fresh_description (type_uuid (codes "c2pa")) (codes "c2pa")) ++ trees_bytes (trees_then carried m) in
@@ -73,6 +75,7 @@ covers_base start len piece base l e =
     kept_around (range_at start len) (put_in start piece base) (omega (arith, l, e, put_len start piece base))
     ∙ ap (λ n. taken_out start n (put_in start piece base)) e ∙ put_taken start piece base l
 
+-- the built file is this one, where no segment of the base begins a store
 pub file_is : KeepsLength → OneLength → PacketsHoldTheStore → BuiltFileIs
 file_is keeps one hold hash c message base segments en h can none =
     let start : ℕ = insert_place segments in
@@ -107,6 +110,7 @@ same_number numbers file xs ys m n hx hy fx fy =
     let same : Some m ≡ Some n = numbers file (Some m) (Some n) (record { segments = xs; is_of = hx; number_is = fx }) (record { segments = ys; is_of = hy; number_is = fy }) in
     cc
 
+-- and no other file is, with no other range
 pub file_is_one : KeepsLength → OneLength → PacketsHoldTheStore → OneList → OneNumber → BuiltFileIsOne
 file_is_one keeps one hold lists numbers hash c message base f start len segments en h can b =
     let same : b.segments ≡ segments = lists base b.segments segments b.is_of can.is_of in
@@ -130,6 +134,7 @@ file_is_one keeps one hold lists numbers hash c message base f start len segment
 
 -- ---- what a reader finds
 
+-- the built file less the new range is the base
 pub base_is_left : KeepsLength → OneLength → PacketsHoldTheStore → BaseIsLeft
 base_is_left keeps one hold hash c message base segments en h can =
     let start : ℕ = insert_place segments in
@@ -160,6 +165,7 @@ put_located hold base store segments rest en has ends none h free small =
       holds = subst (λ n. HoldsStore (front ++ (packets_of store en ++ back)) (place_after front) n store) held.size held.holds;
     }
 
+-- the built file has the new store in the new range
 pub file_has_store : KeepsLength → OneLength → PacketsHoldTheStore → BuiltFileHasItsStore
 file_has_store keeps one hold hash c message base segments en h can none fits =
     let start : ℕ = insert_place segments in

@@ -41,10 +41,12 @@ box_here t i b bs e =
     let none_more : i + 0 ≡ i = omega arith in
     ap (λ n. get_or (boxes_of t) n d) (sym none_more) ∙ sym (get_or-drop i (boxes_of t) 0 d) ∙ ap (λ (x : List IndexedBox). get_or x 0 d) e
 
+-- the box with an index is that of the tree that stands there
 pub at_box : (t : Tree) (i : ℕ) (s : Tree) → At t i s → (box_at t i).box ≡ node s
 at_box t i (leaf b) h = ap (λ (x : IndexedBox). x.box) (box_here t i _ h.rest h.is)
 at_box t i (super wide d us) h = ap (λ (x : IndexedBox). x.box) (box_here t i _ (record { index = i + 1; place = h.at + head_len wide; depth = h.depth + 1; box = described d } ∷ boxes_from_all (h.at + head_len wide + length (description_bytes d)) (h.depth + 1) (i + 2) us ++ h.rest) h.is)
 
+-- a tree stands in itself at index 0
 pub at_root : (t : Tree) → At t 0 t
 at_root t = record { at = 0; depth = 1; rest = []; is = sym (append-nil (boxes_of t)) }
 
@@ -54,9 +56,11 @@ at_own t i wide d us h =
     ap (λ (x : IndexedBox). x.box) (box_here t (i + 1) (record { index = i + 1; place = h.at + head_len wide; depth = h.depth + 1; box = described d }) (boxes_from_all (h.at + head_len wide + length (description_bytes d)) (h.depth + 1) (i + 2) us ++ h.rest)
     (sym (drop-drop 1 i (boxes_of t)) ∙ ap (drop 1) h.is))
 
+-- the boxes in a superbox stand behind its own box and its description
 at_boxes : (t : Tree) (i : ℕ) (wide : Bool) (d : Description) (us : Trees) → At t i (super wide d us) → AllAt t (i + 2) us
 at_boxes t i wide d us h = record { at = h.at + head_len wide + length (description_bytes d); depth = h.depth + 1; rest = h.rest; is = sym (drop-drop 2 i (boxes_of t)) ∙ ap (drop 2) h.is }
 
+-- of boxes that stand side by side, the first stands at their index
 at_first : (t : Tree) (i : ℕ) (s : Tree) (ss : Trees) → AllAt t i (more s ss) → At t i s
 at_first t i s ss h = record {
   at = h.at;
@@ -65,6 +69,7 @@ at_first t i s ss h = record {
   is = h.is ∙ append_assoc (boxes_from h.at h.depth i s) (boxes_from_all (h.at + length (tree_bytes s)) h.depth (i + tree_count s) ss) h.rest;
 }
 
+-- the others stand behind it, by as many indices as it has boxes
 at_next : (t : Tree) (i : ℕ) (s : Tree) (ss : Trees) → AllAt t i (more s ss) → AllAt t (i + tree_count s) ss
 at_next t i s ss h =
     let own : List IndexedBox = boxes_from h.at h.depth i s in
@@ -85,11 +90,13 @@ Both t [] (s ∷ ss) = ⊥
 Both t (i ∷ is) [] = ⊥
 Both t (i ∷ is) (s ∷ ss) = At t i s × Both t is ss
 
+-- the indices of boxes that stand side by side are those of the boxes, one by one
 both_all : (t : Tree) (i : ℕ) (ss : Trees) → AllAt t i ss → Both t (indices_from i ss) (trees_list ss)
 unfolding Both
 both_all t i none h = tt
 both_all t i (more s ss) h = (at_first t i s ss h, both_all t (i + tree_count s) ss (at_next t i s ss h))
 
+-- an index and its box both go in front of such lists, or neither does
 both_cond : (t : Tree) (b c : Bool) (i : ℕ) (s : Tree) (is : List ℕ) (ss : List Tree) → b ≡ c → At t i s → Both t is ss → Both t (cond b (i ∷ is) is) (cond c (s ∷ ss) ss)
 unfolding Both
 both_cond t true true i s is ss e h k = (h, k)
@@ -97,6 +104,7 @@ both_cond t true false i s is ss e h k = absurd (cc (e))
 both_cond t false true i s is ss e h k = absurd (cc (e))
 both_cond t false false i s is ss e h k = k
 
+-- the indices whose boxes pass a test are those of the boxes that pass it
 both_filter : (t : Tree) (p : AnyBox → Bool) (is : List ℕ) (ss : List Tree) → Both t is ss → Both t (filter (λ i. p (box_at t i).box) is) (filter (λ s. p (node s)) ss)
 unfolding Both
 both_filter t p [] [] h = tt
@@ -104,6 +112,7 @@ both_filter t p [] (s ∷ ss) h = absurd h
 both_filter t p (i ∷ is) [] h = absurd h
 both_filter t p (i ∷ is) (s ∷ ss) h = both_cond t (p (box_at t i).box) (p (node s)) i s _ _ (ap p (at_box t i s h.0)) h.0 (both_filter t p is ss h.1)
 
+-- what is made of each index is what is made of its box, where it is so for every box that stands at an index
 pub both_map : {B : Type 0} (t : Tree) (f : ℕ → B) (g : Tree → B) (is : List ℕ) (ss : List Tree) → ((i : ℕ) (s : Tree) → At t i s → f i ≡ g s) → Both t is ss → map f is ≡ map g ss
 unfolding Both
 both_map t f g [] [] same h = refl
@@ -118,6 +127,7 @@ BothMaybe t None (Some s) = ⊥
 BothMaybe t (Some i) None = ⊥
 BothMaybe t (Some i) (Some s) = At t i s
 
+-- an index and its box are both chosen, or neither is
 maybe_cond : (t : Tree) (b c : Bool) (i : ℕ) (s : Tree) (o : Option ℕ) (p : Option Tree) → b ≡ c → At t i s → BothMaybe t o p → BothMaybe t (cond b (Some i) o) (cond c (Some s) p)
 unfolding BothMaybe
 maybe_cond t true true i s o p e h k = h
@@ -125,6 +135,7 @@ maybe_cond t true false i s o p e h k = absurd (cc (e))
 maybe_cond t false true i s o p e h k = absurd (cc (e))
 maybe_cond t false false i s o p e h k = k
 
+-- the first index whose box passes a test is that of the first box that passes it
 both_find : (t : Tree) (p : AnyBox → Bool) (is : List ℕ) (ss : List Tree) → Both t is ss → BothMaybe t (find (λ i. p (box_at t i).box) is) (find (λ s. p (node s)) ss)
 unfolding Both BothMaybe
 both_find t p [] [] h = tt
@@ -134,13 +145,16 @@ both_find t p (i ∷ is) (s ∷ ss) h = maybe_cond t (p (box_at t i).box) (p (no
 
 -- ---- what is read of a box
 
+-- the indices of the children of a box that stands at an index are told by the box
 children_are : (t : Tree) (i : ℕ) (s : Tree) → At t i s → child_indices t i ≡ children_of i (node s)
 children_are t i s h = ap (children_of i) (at_box t i s h)
 
+-- no indices are those of no boxes
 both_nothing : (t : Tree) → Both t [] []
 unfolding Both
 both_nothing t = tt
 
+-- the indices of the superboxes in a box are those of the superboxes in its tree
 supers_are : (t : Tree) (i : ℕ) (s : Tree) → At t i s → Both t (superboxes t i) (supers_of s)
 supers_are t i (leaf b) h = subst (λ (x : List ℕ). Both t (filter (is_superbox t) x) []) (sym (children_are t i (leaf b) h)) (both_nothing t)
 supers_are t i (super wide d us) h =
@@ -149,6 +163,7 @@ supers_are t i (super wide d us) h =
     (subst (λ b. Both t (cond b ((i + 1) ∷ filter (is_superbox t) (indices_from (i + 2) us)) (filter (is_superbox t) (indices_from (i + 2) us))) (supers_in us)) (sym own)
     (both_filter t (λ b. is_some (any_uuid b)) (indices_from (i + 2) us) (trees_list us) (both_all t (i + 2) us (at_boxes t i wide d us h))))
 
+-- the item of a box by its index is that of its tree
 item_is : (t : Tree) (i : ℕ) (s : Tree) → At t i s → item_at t i ≡ item_of s
 item_is t i (leaf b) h = ap (λ (x : List ℕ). option_and_then (λ j. cbor_contents (box_at t j).box) (slice_get x 1)) (children_are t i (leaf b) h)
 item_is t i (super wide d none) h = ap (λ (x : List ℕ). option_and_then (λ j. cbor_contents (box_at t j).box) (slice_get x 1)) (children_are t i (super wide d none) h)
@@ -156,11 +171,13 @@ item_is t i (super wide d (more u us)) h =
     ap (λ (x : List ℕ). option_and_then (λ j. cbor_contents (box_at t j).box) (slice_get x 1)) (children_are t i (super wide d (more u us)) h)
     ∙ ap cbor_contents (at_box t (i + 2) u (at_first t (i + 2) u us (at_boxes t i wide d (more u us) h)))
 
+-- a box by its index is what the rules see of its tree
 pub boxed_is : (t : Tree) (i : ℕ) (s : Tree) → At t i s → superbox_at t i ≡ superbox_of s
 boxed_is t i s h =
     ap (λ (b : AnyBox). record { label = any_label b; contents = any_contents b; item = item_at t i }) (at_box t i s h)
     ∙ ap (λ (x : Option (List ℕ)). record { label = any_label (node s); contents = any_contents (node s); item = x }) (item_is t i s h)
 
+-- so it is with a box that may be there
 maybe_boxed : (t : Tree) (o : Option ℕ) (p : Option Tree) → BothMaybe t o p → option_map (superbox_at t) o ≡ option_map superbox_of p
 unfolding BothMaybe
 maybe_boxed t None None h = refl
@@ -168,6 +185,7 @@ maybe_boxed t None (Some s) h = absurd h
 maybe_boxed t (Some i) None h = absurd h
 maybe_boxed t (Some i) (Some s) h = ap Some (boxed_is t i s h)
 
+-- the superboxes in a box that may be there are seen alike by their indices and by their trees
 maybe_inside : (t : Tree) (o : Option ℕ) (p : Option Tree) → BothMaybe t o p → map (superbox_at t) (inside t o) ≡ map superbox_of (supers_inside p)
 unfolding BothMaybe
 maybe_inside t None None h = refl
@@ -175,6 +193,7 @@ maybe_inside t None (Some s) h = absurd h
 maybe_inside t (Some i) None h = absurd h
 maybe_inside t (Some i) (Some s) h = both_map t (superbox_at t) superbox_of (superboxes t i) (supers_of s) (boxed_is t) (supers_are t i s h)
 
+-- a manifest by its index is what the rules see of its tree
 pub manifest_is : (t : Tree) (i : ℕ) (s : Tree) → At t i s → manifest_at t (manifest_boxes t i) ≡ manifest_of s
 manifest_is t i s h =
     let supers : Both t (superboxes t i) (supers_of s) = supers_are t i s h in
@@ -186,10 +205,12 @@ manifest_is t i s h =
     ∙ ap (λ (x : Option Superbox). record { label = any_label (node s); contents = any_contents (node s); is_update = has_type (codes "c2um") (node s); claims = (manifest_of s).claims; signature = x; assertions = map (superbox_at t) (inside t (assertion_store_in t (superboxes t i))) }) signed
     ∙ ap (λ (x : List Superbox). record { label = any_label (node s); contents = any_contents (node s); is_update = has_type (codes "c2um") (node s); claims = (manifest_of s).claims; signature = (manifest_of s).signature; assertions = x }) stored
 
+-- what is made of each member in two steps is made of it in one
 map_map : {A B C : Type 0} (f : B → C) (g : A → B) (xs : List A) → map f (map g xs) ≡ map (λ x. f (g x)) xs
 map_map f g [] = refl
 map_map f g (x ∷ xs) = ap (λ (ys : List _). f (g x) ∷ ys) (map_map f g xs)
 
+-- the manifests of a tree are the same by their indices and box by box
 pub same_manifests : (t : Tree) → manifests_of t ≡ tree_manifests t
 same_manifests t = map_map (manifest_at t) (manifest_boxes t) (superboxes t 0) ∙ both_map t (λ i. manifest_at t (manifest_boxes t i)) manifest_of (superboxes t 0) (supers_of t) (manifest_is t) (supers_are t 0 t (at_root t))
 

@@ -76,12 +76,15 @@ pub record Good (d : ℕ) (v : Item) : Type 0 where
   pub plain : HasPlainKeys v
   pub shallow : depth v ≤ d
 
+-- a text in UTF-8 is a good item
 pub good_text : (d : ℕ) (t : List ℕ) → 1 ≤ d → IsUtf8 t → Good d (text t)
 good_text d t l u = record { fits = u; plain = tt; shallow = l }
 
+-- a byte string is a good item
 pub good_bytes : (d : ℕ) (b : List ℕ) → 1 ≤ d → Good d (bytes b)
 good_bytes d b l = record { fits = tt; plain = tt; shallow = l }
 
+-- a number below 2^64 is a good item
 pub good_uint : (d n : ℕ) → 1 ≤ d → n < 2 ^ 64 → Good d (uint n)
 good_uint d n l h = record { fits = h; plain = tt; shallow = l }
 
@@ -122,6 +125,7 @@ pub record IsGoodField (d : ℕ) (f : Item × Item) : Type 0 where
   pub key : Good d f.0
   pub value : Good d f.1
 
+-- a field with a key in UTF-8 and a good item as value is good
 pub good_field : (d : ℕ) (key : List ℕ) (v : Item) → 1 ≤ d → IsUtf8 key → Good d v → IsGoodField d (text key, v)
 good_field d key v l u g = record { key = good_text d key l u; value = g }
 

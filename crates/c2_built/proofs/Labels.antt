@@ -51,6 +51,7 @@ pub record IsLabelText (t : List ℕ) : Type 0 where
 pub written_label : (t : List ℕ) → IsLabelText t → IsWrittenLabel t
 written_label t h = (h.some, label_bytes t h.named)
 
+-- and a manifest with it as label can be named
 pub can_be_named : (t : List ℕ) → IsLabelText t → is_manifest_label (Some t) ≡ true
 can_be_named t h =
     and_from (not (length t == 0)) (not (list_any (λ b. b == 0x2F) t))
@@ -61,6 +62,7 @@ can_be_named t h =
 
 -- ---- labels of manifests
 
+-- a hexadecimal digit is a byte of a label that can be named
 hex_named : (d : ℕ) → d < 16 → IsNamedByte (hex_digit lower d)
 hex_named d small = ⊎_elim (few d) (many d small) (cases_lt d 10)
   where
@@ -70,9 +72,11 @@ hex_named d small = ⊎_elim (few d) (many d small) (cases_lt d 10)
     many : (d : ℕ) → d < 16 → 10 ≤ d → IsNamedByte (hex_digit lower d)
     many d m h = subst IsNamedByte (sym (ap (λ b. cond b (48 + d) (97 + d - 10)) (le-ltb d 10 h))) (record { low = omega (arith, h); no_delete = λ e. omega (arith, e, h, m); no_slash = λ e. omega (arith, e, h, m) })
 
+-- half a byte is below 16
 nibble_small : (xs : List ℕ) (k : ℕ) → nibble xs k < 16
 nibble_small xs k = grind arith
 
+-- each byte of a UUID's text, a digit or a hyphen, is a byte of a label that can be named
 uuid_byte : (u : List ℕ) (k : ℕ) → IsNamedByte (cond (is_hyphen_place k) hyphen (hex_digit lower (nibble u (digit_place k))))
 uuid_byte u k = go (is_hyphen_place k)
   where
@@ -80,11 +84,13 @@ uuid_byte u k = go (is_hyphen_place k)
     go true = record { low = omega arith; no_delete = λ e. omega (arith, e); no_slash = λ e. omega (arith, e) }
     go false = hex_named (nibble u (digit_place k)) (nibble_small u (digit_place k))
 
+-- a text is of such bytes, where the byte at each of its indices is one
 indexed : (n : ℕ) (f : ℕ → ℕ) → ((k : ℕ) → IsNamedByte (f k)) → IsNamed (by_index n f)
 unfolding by_index
 indexed zero f h = tt
 indexed (suc n) f h = each-append IsNamedByte (by_index n f) (f n ∷ []) (indexed n f h) (h n, tt)
 
+-- the text of a UUID is of such bytes
 uuid_named : (u : List ℕ) → IsNamed (hyphenated_text lower u)
 uuid_named u = indexed 36 _ (uuid_byte u)
 
@@ -96,6 +102,7 @@ behind piece text rest = go (starts_with eqb text piece) refl
     go true e h = (starts_is Decides-eqb text piece _ refl).0 e ∙ ap (λ (r : List ℕ). piece ++ r) (cc (h))
     go false e h = absurd (cc (h))
 
+-- a text that is told to be a UUID is of such bytes
 is_uuid_named : (t : List ℕ) → file.is_uuid t ≡ true → IsNamed t
 is_uuid_named t h = go (parsed t) h
   where
@@ -103,6 +110,7 @@ is_uuid_named t h = go (parsed t) h
     go None e = absurd (false≢true e)
     go (Some u) e = subst IsNamed (sym ((bytes_eq-Decides t (hyphenated_text lower u)).0 e)) (uuid_named u)
 
+-- what stands before the UUID in a manifest's label is of such bytes
 scheme_named : IsNamed (codes "urn:c2pa:")
 scheme_named = grind arith
 
@@ -130,6 +138,7 @@ no_barred (b ∷ bs) h =
     at_least : (b : ℕ) → nat_lt b 0x20 ≡ false → 0x20 ≤ b
     at_least b e = ⊎_elim (λ m. absurd (false≢true (sym e ∙ lt-ltb b 0x20 m))) (λ m. m) (cases_lt b 0x20)
 
+-- a text that is told not to be empty has some byte
 positive : (t : List ℕ) → file.is_filled t ≡ true → 0 < length t
 positive t h = go (length t) (eqb-false (length t) 0 (not-true (length t == 0) h))
   where
@@ -141,6 +150,7 @@ pub record IsNewLabel (t : List ℕ) : Type 0 where
   pub text : IsLabelText t
   pub kind : file.is_new_kind (kind_of t) ≡ true
 
+-- a label that passes the test can be named and is of a kind that a definition may have
 pub new_label : (t : List ℕ) → file.is_new_label t ≡ true → IsNewLabel t
 new_label t h =
     let both = and_parts (file.is_filled t && not (list_any file.is_barred t)) (file.is_new_kind (kind_of t)) h in

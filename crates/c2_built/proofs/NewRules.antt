@@ -39,6 +39,7 @@ use Rattle.c2_built.proofs.WrittenStore.{DiffersFrom, AreDifferent}
 abbrev pub Holds : Test → Type 0
 Holds t = t.fails ≡ false
 
+-- conditions that hold one by one hold at each place of the list
 pub all_hold : (ts : List Test) → AllByRecursion Holds ts → AllHold ts
 all_hold [] h i t e = absurd (cc (e))
 all_hold (u ∷ ts) h zero t e = let same : u ≡ t = cc (e) in ap (λ (x : Test). x.fails) (sym same) ∙ h.0
@@ -46,9 +47,11 @@ all_hold (u ∷ ts) h (suc i) t e = all_hold ts h.1 i t e
 
 -- ---- bytes
 
+-- bytes are equal to themselves by the test
 pub same_bytes : (a : List ℕ) → bytes_eq a a ≡ true
 same_bytes a = (bytes_eq-Decides a a).1 refl
 
+-- bytes that differ aren't equal by the test
 other_bytes : (a b : List ℕ) → (a ≡ b → ⊥) → bytes_eq a b ≡ false
 other_bytes a b h = false_from_ne_true (bytes_eq a b) (λ e. h ((bytes_eq-Decides a b).0 e))
 
@@ -73,6 +76,7 @@ pub record Said : Type 0 where
   pub title : Option (List ℕ)
   pub redacted : List (List ℕ)
 
+-- the parts of a claim with this label, what it says beside that, and the references to these assertions
 abbrev pub new_parts : (List ℕ → List ℕ) → List ℕ → Said → List NewAssertion → ClaimParts
 new_parts hash label said as_ = record { label = label; instance = said.instance; generator = said.generator; title = said.title; entries = entries_of hash as_; redacted = said.redacted }
 
@@ -87,6 +91,7 @@ new_reading hash ingredient label said as_ claim message p = record {
 
 -- ---- the lists of entries and boxes
 
+-- of the references to assertions, the first ones are those to the assertions in front
 take_entries : (hash : List ℕ → List ℕ) (pre others : List NewAssertion) → take (length pre) (entries_of hash (pre ++ others)) ≡ entries_of hash pre
 take_entries hash [] others = refl
 take_entries hash (a ∷ pre) others = ap (λ (es : List Ref). entry_of hash a ∷ es) (take_entries hash pre others)
@@ -97,9 +102,11 @@ pub record IsListed (a : NewAssertion) : Type 0 where
   pub no_cloud : is_cloud (kind_of a.label) ≡ false
   pub no_other : is_other_hash (kind_of a.label) ≡ false
 
+-- the reference to a new assertion is read as one to its label
 label_read : UrisAreRead → (m : Manifest) (hash : List ℕ → List ℕ) (a : NewAssertion) → IsListed a → entry_label m (entry_of hash a) ≡ Some a.label
 label_read uris m hash a h = ap (own_assertion m.label) (own_assertion_read uris a.label h.text)
 
+-- where a label differs from those of a list, it differs from that of any member
 differs_from : (label : List ℕ) (pre : List NewAssertion) (a : NewAssertion) (others : List NewAssertion) → DiffersFrom label (pre ++ a ∷ others) → a.label ≢ label
 differs_from label [] a others h = h.0
 differs_from label (x ∷ pre) a others h = differs_from label pre a others h.1
@@ -112,10 +119,12 @@ none_before uris m hash (x ∷ pre) a others h d =
     (ap (λ o. is_given o a.label) (label_read uris m hash x h.0) ∙ other_bytes x.label a.label (λ e. differs_from x.label pre a others d.0 (sym e)))
     (none_before uris m hash pre a others h.1 d.1)
 
+-- the references to assertions list the label of each of them
 lists_it : UrisAreRead → (m : Manifest) (hash : List ℕ → List ℕ) (pre : List NewAssertion) (a : NewAssertion) (others : List NewAssertion) → AllByRecursion IsListed (pre ++ a ∷ others) → lists_label m (entries_of hash (pre ++ a ∷ others)) a.label ≡ true
 lists_it uris m hash [] a others h = or_left (is_given (entry_label m (entry_of hash a)) a.label) (lists_label m (entries_of hash others) a.label) (ap (λ o. is_given o a.label) (label_read uris m hash a h.0) ∙ same_bytes a.label)
 lists_it uris m hash (x ∷ pre) a others h = or_right (is_given (entry_label m (entry_of hash x)) a.label) (lists_label m (entries_of hash (pre ++ a ∷ others)) a.label) (lists_it uris m hash pre a others h.1)
 
+-- the first box with an assertion's label is that assertion's, where the labels differ
 pub box_found : (ingredient : NewAssertion → Parsed Ingredient) (pre : List NewAssertion) (a : NewAssertion) (others : List NewAssertion) → AreDifferent (pre ++ a ∷ others) → find (is_labelled a.label) (new_boxes ingredient (pre ++ a ∷ others)) ≡ Some (new_box ingredient a)
 box_found ingredient [] a others d = ap (λ b. cond b (Some (new_box ingredient a)) (find (is_labelled a.label) (new_boxes ingredient others))) (same_bytes a.label)
 box_found ingredient (x ∷ pre) a others d =
@@ -139,6 +148,7 @@ pub own_names : UrisAreRead → (hash : List ℕ → List ℕ) (label : List ℕ
     → names_signature (written_manifest label as_ claim message) (Some (claim_from (new_parts hash label said as_))) ≡ true
 own_names uris hash label said as_ claim message u = ap (is_signature_in (Some label)) (signature_read uris label u) ∙ ap (λ b. b && true) (same_bytes label)
 
+-- the rules on the claim and its signature hold of a new manifest
 claim_rules : UrisAreRead → (hash : List ℕ → List ℕ) (ingredient : NewAssertion → Parsed Ingredient) (label : List ℕ) (said : Said) (as_ : List NewAssertion) (claim message : List ℕ) (p : SignParts) → IsLabelText label
     → AllByRecursion Holds (claim_tests (new_reading hash ingredient label said as_ claim message p))
 claim_rules uris hash ingredient label said as_ claim message p u =
@@ -206,6 +216,7 @@ no_other_kind s k (a ∷ others) h = (and_right s.is_active (is_other_hash (kind
 abbrev pub labels_of : List NewAssertion → List (List ℕ)
 labels_of as_ = map (λ (a : NewAssertion). a.label) as_
 
+-- of these labels, those of bindings of a known kind
 abbrev pub bindings_of : List NewAssertion → List (List ℕ)
 bindings_of as_ = filter (λ (label : List ℕ). is_binding (kind_of label)) (labels_of as_)
 

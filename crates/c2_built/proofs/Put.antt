@@ -18,6 +18,7 @@ abbrev pub behind_app0 : List Segment → List Segment
 behind_app0 [] = []
 behind_app0 (s ∷ ss) = cond (s.marker == APP0) (behind_app0 ss) (s ∷ ss)
 
+-- where both parts of a list are all of it, they are so with one more segment in front, whichever part has it
 app0_step : (b : Bool) (s : Segment) (ss : List Segment) → leading_app0 ss ++ behind_app0 ss ≡ ss → cond b (s ∷ leading_app0 ss) [] ++ cond b (behind_app0 ss) (s ∷ ss) ≡ s ∷ ss
 app0_step true s ss e = ap (λ (x : List Segment). s ∷ x) e
 app0_step false s ss e = refl

@@ -39,22 +39,27 @@ abbrev mutual
 
 -- ---- heads
 
+-- the shortest head of a number below 24 is one byte, in which the number stands
 in_itself : (m n : ℕ) → n < 24 → shortest_head m n ≡ (32 * m + n) ∷ []
 unfolding shortest_head
 in_itself m n h = rw (lt-ltb n 24 h)
 
+-- a number from 24 and below 256 stands in one byte behind the first
 in_one : (m n : ℕ) → 24 ≤ n → n < 256 → shortest_head m n ≡ (32 * m + 24) ∷ n ∷ []
 unfolding shortest_head
 in_one m n l h = rw (le-ltb n 24 l, lt-ltb n 256 h)
 
+-- a number from 256 and below 65,536 stands in two bytes behind the first
 in_two : (m n : ℕ) → 256 ≤ n → n < 65536 → shortest_head m n ≡ (32 * m + 25) ∷ to_be_bytes w16 n
 unfolding shortest_head
 in_two m n l h = let a : 24 ≤ n = omega arith in rw (le-ltb n 24 a, le-ltb n 256 l, lt-ltb n 65536 h)
 
+-- a number from 65,536 and below 2^32 stands in four bytes behind the first
 in_four : (m n : ℕ) → 65536 ≤ n → n < 4294967296 → shortest_head m n ≡ (32 * m + 26) ∷ to_be_bytes w32 n
 unfolding shortest_head
 in_four m n l h = let a : 24 ≤ n = omega arith in let b : 256 ≤ n = omega arith in rw (le-ltb n 24 a, le-ltb n 256 b, le-ltb n 65536 l, lt-ltb n 4294967296 h)
 
+-- a number from 2^32 on stands in eight bytes behind the first
 in_eight : (m n : ℕ) → 4294967296 ≤ n → shortest_head m n ≡ (32 * m + 27) ∷ to_be_bytes w64 n
 unfolding shortest_head
 in_eight m n l = let a : 24 ≤ n = omega arith in let b : 256 ≤ n = omega arith in let c : 65536 ≤ n = omega arith in rw (le-ltb n 24 a, le-ltb n 256 b, le-ltb n 65536 c, le-ltb n 4294967296 l)

@@ -34,6 +34,7 @@ record SamePairs (ps qs : Pairs) : Type 0 where
   bytes_are : length (preferred_pairs ps) ≡ length (preferred_pairs qs)
   count_is : pairs_len ps ≡ pairs_len qs
 
+-- pairs of one size stay so with one key in front of both, whose values are as long as each other
 same_pair : (k v w : Item) (ps qs : Pairs) → SameLen v w → SamePairs ps qs → SamePairs (pair k v ps) (pair k w qs)
 same_pair k v w ps qs e f = record {
   bytes_are = omega (arith, e, f.bytes_are, length-append (preferred k) (preferred v), length-append (preferred k) (preferred w), length-append (preferred k ++ preferred v) (preferred_pairs ps), length-append (preferred k ++ preferred w) (preferred_pairs qs));
@@ -49,11 +50,13 @@ same_behind (x ∷ xs) ps qs h = same_pair x.0 x.1 x.1 (pairs_of (xs ++ ps)) (pa
 same_all : (ps : Pairs) → SamePairs ps ps
 same_all ps = record { bytes_are = refl; count_is = refl }
 
+-- maps of as many pairs of one length have one length
 same_dict : (ps qs : Pairs) → SamePairs ps qs → SameLen (dict ps) (dict qs)
 same_dict ps qs f =
     length-append (shortest_head 5 (pairs_len ps)) (preferred_pairs ps) ∙ ap (λ n. length (shortest_head 5 n) + length (preferred_pairs ps)) f.count_is ∙ ap (λ n. length (shortest_head 5 (pairs_len qs)) + n) f.bytes_are
     ∙ sym (length-append (shortest_head 5 (pairs_len qs)) (preferred_pairs qs))
 
+-- byte strings of one length have items of one length
 same_bytes : (a b : List ℕ) → length a ≡ length b → SameLen (bytes a) (bytes b)
 same_bytes a b e = length-append (shortest_head 2 (length a)) a ∙ ap (λ n. length (shortest_head 2 n) + n) e ∙ sym (length-append (shortest_head 2 (length b)) b)
 
@@ -65,12 +68,14 @@ record SameRef (r s : Ref) : Type 0 where
   alg : r.alg ≡ s.alg
   hash : length r.hash ≡ length s.hash
 
+-- such references have items of one length
 same_ref : (r s : Ref) → SameRef r s → SameLen (ref_item r) (ref_item s)
 same_ref r s e =
     ap (λ (u : List ℕ). length (preferred (ref_item (record { url = u; hash = r.hash; alg = r.alg })))) e.url ∙ ap (λ (a : Option (List ℕ)). length (preferred (ref_item (record { url = s.url; hash = r.hash; alg = a })))) e.alg
     ∙ same_dict _ _ (same_behind (field_if (codes "alg") text s.alg) (field (codes "url") (text s.url) ∷ field (codes "hash") (bytes r.hash) ∷ []) (field (codes "url") (text s.url) ∷ field (codes "hash") (bytes s.hash) ∷ [])
     (same_pair (text (codes "url")) (text s.url) (text s.url) _ _ refl (same_pair (text (codes "hash")) (bytes r.hash) (bytes s.hash) _ _ (same_bytes r.hash s.hash e.hash) (same_all _))))
 
+-- two lists of as many references are such, one by one
 SameRefs : List Ref → List Ref → Type 0
 SameRefs [] [] = ⊤
 SameRefs [] (s ∷ ss) = ⊥
@@ -81,6 +86,7 @@ SameRefs (r ∷ rs) (s ∷ ss) = SameRef r s × SameRefs rs ss
 abbrev refs_of : List Ref → Items
 refs_of rs = items_of (map ref_item rs)
 
+-- the items of two such lists are as long together, and as many
 same_refs : (rs ss : List Ref) → SameRefs rs ss → (length (preferred_items (refs_of rs)) ≡ length (preferred_items (refs_of ss))) × (items_len (refs_of rs) ≡ items_len (refs_of ss))
 unfolding SameRefs
 same_refs [] [] h = (refl, refl)
@@ -92,6 +98,7 @@ same_refs (r ∷ rs) (s ∷ ss) h =
       ap suc others.1,
     )
 
+-- the lists of their items are as long as each other
 same_list : (rs ss : List Ref) → SameRefs rs ss → SameLen (list (refs_of rs)) (list (refs_of ss))
 same_list rs ss h =
     let e = same_refs rs ss h in
@@ -120,6 +127,7 @@ fields_over c rs = field (codes "alg") (text written_alg) ∷ (field_if (codes "
 abbrev parts_of : List ℕ → List ℕ → List ℕ → Option (List ℕ) → List (List ℕ) → List Ref → ClaimParts
 parts_of label instance generator title redacted rs = record { label = label; instance = instance; generator = generator; title = title; entries = rs; redacted = redacted }
 
+-- the item of a claim of these parts is the map of its fields, the entries among them
 fields_are : (label instance generator : List ℕ) (title : Option (List ℕ)) (redacted : List (List ℕ)) (rs : List Ref)
     → claim_item (parts_of label instance generator title redacted rs) ≡ dict (pairs_of (fields_over (parts_of label instance generator title redacted rs) rs))
 unfolding fields_over
@@ -128,10 +136,12 @@ fields_are label instance generator None (t ∷ ts) rs = refl
 fields_are label instance generator (Some title) [] rs = refl
 fields_are label instance generator (Some title) (t ∷ ts) rs = refl
 
+-- the item of a claim with other entries is the map of its fields with those
 over_is : (c : ClaimParts) (rs : List Ref) → claim_item (over c rs) ≡ dict (pairs_of (fields_over c rs))
 unfolding fields_over
 over_is c rs = fields_are c.label c.instance c.generator c.title c.redacted rs
 
+-- the fields of a claim with either of two such lists of references are as long and as many
 claims_same : (c : ClaimParts) (rs ss : List Ref) → SameRefs rs ss → SamePairs (pairs_of (fields_over c rs)) (pairs_of (fields_over c ss))
 unfolding fields_over
 claims_same c rs ss h =
@@ -140,6 +150,7 @@ claims_same c rs ss h =
     (same_pair (text (codes "instanceID")) (text c.instance) (text c.instance) _ _ refl
     (same_pair (text (codes "created_assertions")) (list (refs_of rs)) (list (refs_of ss)) (pairs_of (behind_entries c)) (pairs_of (behind_entries c)) (same_list rs ss h) (same_all (pairs_of (behind_entries c)))))))
 
+-- the bytes of a claim are as many with either of two such lists of references
 claim_len : KeepsLength → (c : ClaimParts) (rs ss : List Ref) → SameRefs rs ss → length (deterministic (claim_item (over c rs))) ≡ length (deterministic (claim_item (over c ss)))
 claim_len keeps c rs ss h =
     keeps (claim_item (over c rs)) ∙ ap (λ v. length (preferred v)) (over_is c rs)
@@ -165,12 +176,14 @@ assertion_len a = go a.kind a.label a.bytes
     go payload.Cbor label body = one_box_len (codes "cbor") label (codes "cbor") body refl
     go payload.Json label body = one_box_len (codes "json") label (codes "json") body refl
 
+-- two lists of as many assertions are such, one by one
 SameAssertions : List NewAssertion → List NewAssertion → Type 0
 SameAssertions [] [] = ⊤
 SameAssertions [] (b ∷ bs) = ⊥
 SameAssertions (a ∷ as_) [] = ⊥
 SameAssertions (a ∷ as_) (b ∷ bs) = SameAssertion a b × SameAssertions as_ bs
 
+-- the boxes of two such lists of assertions take as many bytes
 boxes_len : (as_ bs : List NewAssertion) → SameAssertions as_ bs → length (trees_bytes (assertion_boxes as_)) ≡ length (trees_bytes (assertion_boxes bs))
 unfolding SameAssertions
 boxes_len [] [] h = refl
@@ -184,6 +197,7 @@ boxes_len (a ∷ as_) (b ∷ bs) h =
 same_digests : (f g : List ℕ → List ℕ) → HasDigestLen f → HasDigestLen g → (s t : List ℕ) → length (f s) ≡ length (g t)
 same_digests f g hf hg s t = hf s ∙ sym (hg t)
 
+-- the references to such assertions are such, whichever hash gives the digests
 same_entries : (f g : List ℕ → List ℕ) (as_ bs : List NewAssertion) → HasDigestLen f → HasDigestLen g → SameAssertions as_ bs → SameRefs (map (entry_of f) as_) (map (entry_of g) bs)
 unfolding SameAssertions SameRefs
 same_entries f g [] [] hf hg h = tt
@@ -194,6 +208,7 @@ same_entries f g (a ∷ as_) (b ∷ bs) hf hg h = (
   same_entries f g as_ bs hf hg h.1,
 )
 
+-- a reference into the parent's manifest has one length, whichever hash gives its digest
 same_by : (f g : List ℕ → List ℕ) → HasDigestLen f → HasDigestLen g → (label : List ℕ) (target : PlainTarget) (contents : List ℕ) → SameLen (ref_item (parent_ref f label target contents)) (ref_item (parent_ref g label target contents))
 same_by f g hf hg label target contents = same_ref (parent_ref f label target contents) (parent_ref g label target contents) (record { url = refl; alg = refl; hash = same_digests f g hf hg contents contents })
 
@@ -201,10 +216,12 @@ same_by f g hf hg label target contents = same_ref (parent_ref f label target co
 parent_fields : (List ℕ → List ℕ) → Parent → List (Item × Item)
 parent_fields f p = field (codes "relationship") (text (codes "parentOf")) ∷ field (codes "activeManifest") (ref_item (parent_ref f p.label whole p.contents)) ∷ field (codes "claimSignature") (ref_item (parent_ref f p.label signature p.signed)) ∷ []
 
+-- the item of a parent's ingredient is the map of these fields
 parent_is : (f : List ℕ → List ℕ) (p : Parent) → ingredient_item (parent_ingredient f p) ≡ dict (pairs_of (parent_fields f p))
 unfolding parent_fields
 parent_is f p = refl
 
+-- these fields are as long and as many, whichever hash gives the digests
 parents_same : (f g : List ℕ → List ℕ) (p : Parent) → HasDigestLen f → HasDigestLen g → SamePairs (pairs_of (parent_fields f p)) (pairs_of (parent_fields g p))
 unfolding parent_fields
 parents_same f g p hf hg =
@@ -212,17 +229,20 @@ parents_same f g p hf hg =
     (same_pair (text (codes "activeManifest")) (ref_item (parent_ref f p.label whole p.contents)) (ref_item (parent_ref g p.label whole p.contents)) _ _ (same_by f g hf hg p.label whole p.contents)
     (same_pair (text (codes "claimSignature")) (ref_item (parent_ref f p.label signature p.signed)) (ref_item (parent_ref g p.label signature p.signed)) _ _ (same_by f g hf hg p.label signature p.signed) (same_all (pairs_of []))))
 
+-- the bytes of the ingredient that a parent is are as many, whichever hash gives the digests
 ingredient_len : KeepsLength → (f g : List ℕ → List ℕ) (p : Parent) → HasDigestLen f → HasDigestLen g → length (deterministic (ingredient_item (parent_ingredient f p))) ≡ length (deterministic (ingredient_item (parent_ingredient g p)))
 ingredient_len keeps f g p hf hg =
     keeps (ingredient_item (parent_ingredient f p)) ∙ ap (λ v. length (preferred v)) (parent_is f p)
     ∙ same_dict (pairs_of (parent_fields f p)) (pairs_of (parent_fields g p)) (parents_same f g p hf hg)
     ∙ ap (λ v. length (preferred v)) (sym (parent_is g p)) ∙ sym (keeps (ingredient_item (parent_ingredient g p)))
 
+-- the parent's assertion and a binding of one label and size are such, whichever hash gives the digests
 same_own : KeepsLength → (f g : List ℕ → List ℕ) (p : Option Parent) (a b : NewAssertion) → HasDigestLen f → HasDigestLen g → SameAssertion a b → SameAssertions (parent_assertions f p ++ a ∷ []) (parent_assertions g p ++ b ∷ [])
 unfolding SameAssertions
 same_own keeps f g None a b hf hg h = (h, tt)
 same_own keeps f g (Some p) a b hf hg h = (record { label = refl; size = ingredient_len keeps f g p hf hg }, (h, tt))
 
+-- with the same assertions in front of both, such lists stay so
 same_more : (xs as_ bs : List NewAssertion) → SameAssertions as_ bs → SameAssertions (xs ++ as_) (xs ++ bs)
 unfolding SameAssertions
 same_more [] as_ bs h = h

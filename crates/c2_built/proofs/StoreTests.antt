@@ -14,13 +14,16 @@ use Rattle.c2_built.specs.Written.{IsStoreBox}
 use Rattle.c2_built.proofs.ByIndex.{Both, at_box, at_root, supers_any}
 use Rattle.c2_built.proofs.Lists.{each-append}
 
+-- a condition on a store holds
 abbrev Passes : StoreTest → Type 0
 Passes t = t.fails ≡ false
 
+-- where each condition holds, none is found that fails
 none_found : (ts : List StoreTest) → AllByRecursion Passes ts → find (λ (t : StoreTest). t.fails) ts ≡ None
 none_found [] h = refl
 none_found (t ∷ ts) h = ap (λ b. cond b (Some t) (find (λ (t : StoreTest). t.fails) ts)) h.0 ∙ none_found ts h.1
 
+-- where boxes may stand in a store, the conditions on their indices hold, and there are as many indices
 each_passes : (t : Tree) (is : List ℕ) (ss : List Tree) → Both t is ss → AllByRecursion IsStoreBox ss → (AllByRecursion Passes (flat_map (manifest_tests t) is)) × (length is ≡ length ss)
 unfolding Both
 each_passes t [] [] h k = (tt, refl)

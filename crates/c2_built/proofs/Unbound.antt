@@ -136,13 +136,16 @@ record IsPlain (a : NewAssertion) : Type 0 where
   text : IsLabelText a.label
   kind : IsPlainKind (kind_of a.label)
 
+-- an assertion whose label a definition may give
 abbrev IsNew : NewAssertion → Type 0
 IsNew a = file.is_new_label a.label ≡ true
 
+-- each assertion of a definition has a label that can be named, and a kind that asks nothing
 plain_each : (as_ : List NewAssertion) → AllByRecursion IsNew as_ → AllByRecursion IsPlain as_
 plain_each [] h = tt
 plain_each (a ∷ others) h = let new = new_label a.label h.0 in (record { text = new.text; kind = inl new.kind }, plain_each others h.1)
 
+-- each of those can be listed: none lies elsewhere, and none is a binding of another kind
 listed_each : (as_ : List NewAssertion) → AllByRecursion IsPlain as_ → AllByRecursion IsListed as_
 listed_each [] h = tt
 listed_each (a ∷ others) h = (
@@ -154,6 +157,7 @@ listed_each (a ∷ others) h = (
   listed_each others h.1,
 )
 
+-- the assertions of a definition and a binding behind them have that one binding
 one_binding : (as_ : List NewAssertion) (b : NewAssertion) → AllByRecursion IsNew as_ → is_binding (kind_of b.label) ≡ true → bindings_of (as_ ++ b ∷ []) ≡ b.label ∷ []
 one_binding [] b h is = ap (λ x. cond x (b.label ∷ []) []) is
 one_binding (a ∷ others) b h is = ap (λ x. cond x (a.label ∷ bindings_of (others ++ b ∷ [])) (bindings_of (others ++ b ∷ []))) (no_binding (kind_of a.label) (new_label a.label h.0).kind) ∙ one_binding others b h.1 is
@@ -162,10 +166,12 @@ one_binding (a ∷ others) b h is = ap (λ x. cond x (a.label ∷ bindings_of (o
 abbrev none_read : NewAssertion → Parsed Ingredient
 none_read a = NoItem
 
+-- the rules on children hold of boxes of which none is read as an ingredient
 no_children : (hash : Alg → List ℕ → List ℕ) (s : Seen) (k : ℕ) (as_ : List NewAssertion) → AllByRecursion Holds (each (λ k b. ingredient_tests hash s b) k (new_boxes none_read as_))
 no_children hash s k [] = tt
 no_children hash s k (a ∷ others) = no_children hash s (k + 1) others
 
+-- the rules on the form of ingredients hold of boxes whose kinds ask nothing
 no_forms : (s : Seen) (k : ℕ) (as_ : List NewAssertion) → AllByRecursion IsPlain as_ → AllByRecursion Holds (each (λ k b. form_tests s b) k (new_boxes none_read as_))
 unfolding rule.label_kind
 no_forms s k [] h = tt
@@ -173,10 +179,12 @@ no_forms s k (a ∷ others) h =
     each-append Holds (form_tests s (new_box none_read a)) (each (λ k b. form_tests s b) (k + 1) (new_boxes none_read others))
     (by_kind (λ x. AllByRecursion Holds (kind_tests s.standing (assertion_uri (label_in s.own) a.label) NoItem x)) tt tt tt tt (kind_of a.label) h.0.kind) (no_forms s (k + 1) others h.1)
 
+-- of boxes of which none is read as an ingredient, none is a parent's
 no_parents : (as_ : List NewAssertion) → filter reads_parent (new_boxes none_read as_) ≡ []
 no_parents [] = refl
 no_parents (a ∷ others) = no_parents others
 
+-- the boxes of assertions whose kinds ask nothing are read, none as an ingredient
 boxes_read : (as_ : List NewAssertion) → AllByRecursion IsPlain as_ → AllZip IsReadBox (map written_assertion as_) (new_boxes none_read as_)
 boxes_read [] h = tt
 boxes_read (a ∷ others) h = (
@@ -189,6 +197,7 @@ boxes_read (a ∷ others) h = (
 
 -- ---- the claim
 
+-- references to assertions whose labels are texts can be written
 refs_good : (hash : List ℕ → List ℕ) (as_ : List NewAssertion) → AllByRecursion (λ (a : NewAssertion). IsText a.label) as_ → AllByRecursion IsGoodRef (entries_of hash as_)
 refs_good hash [] h = tt
 refs_good hash (a ∷ others) h = (record { url = assertion_utf8 a.label h.0.utf8; alg = refl }, refs_good hash others h.1)
@@ -199,6 +208,7 @@ refs_good hash (a ∷ others) h = (record { url = assertion_utf8 a.label h.0.utf
 abbrev fresh_of : Definition → Content
 fresh_of d = record { definition = d; carried = none; parent = None }
 
+-- to carry no box is allowed beside a manifest with any label
 carried_none : (label : List ℕ) → CanBeCarried label none
 carried_none label = record { legal = tt; distinct = tt; new = tt; manifests = tt; few = lit< tt }
 
@@ -206,6 +216,7 @@ carried_none label = record { legal = tt; distinct = tt; new = tt; manifests = t
 abbrev said_by : Definition → Said
 said_by d = record { instance = d.instance_id; generator = d.generator; title = d.title; redacted = d.redact }
 
+-- a title that is a text, or none, is UTF-8
 title_utf8 : (o : Option (List ℕ)) → IfSome o IsText → IfSome o IsUtf8
 title_utf8 None h = tt
 title_utf8 (Some t) h = h.utf8

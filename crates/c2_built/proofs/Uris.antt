@@ -32,10 +32,12 @@ signature_read read label h = read (record { manifest = Some label; target = sig
 pub plain_text : (t : List ℕ) → list_all is_plain_byte t ≡ true → IsUtf8 t
 plain_text t h = (plain_label t h).0
 
+-- the URI of a manifest's signature is UTF-8, where the manifest's label is
 pub signature_utf8 : (label : List ℕ) → IsUtf8 label → IsUtf8 (uri_text (record { manifest = Some label; target = signature }))
 signature_utf8 label h =
     IsUtf8-append scheme ((store_path ++ label) ++ (0x2F ∷ signature_path)) (plain_text scheme refl)
     (IsUtf8-append (store_path ++ label) (0x2F ∷ signature_path) (IsUtf8-append store_path label (plain_text store_path refl) h) (plain_text (0x2F ∷ signature_path) refl))
 
+-- the URI of an assertion of the own manifest is UTF-8, where its label is
 pub assertion_utf8 : (label : List ℕ) → IsUtf8 label → IsUtf8 (uri_text (record { manifest = None; target = assertion label }))
 assertion_utf8 label h = IsUtf8-append scheme (assertions_path ++ label) (plain_text scheme refl) (IsUtf8-append assertions_path label (plain_text assertions_path refl) h)

@@ -33,19 +33,23 @@ pub record IsGoodRef (r : Ref) : Type 0 where
   pub url : IsUtf8 r.url
   pub alg : r.alg ≡ None
 
+-- the item of a reference without an algorithm is good, where its URI is UTF-8
 bare_good : (url hash : List ℕ) → IsUtf8 url → Good 2 (ref_item (record { url = url; hash = hash; alg = None }))
 unfolding shortest_head
 bare_good url hash u =
     good_map 1 (field (codes "url") (text url) ∷ field (codes "hash") (bytes hash) ∷ [])
     (named 1 (codes "url") (text url) refl (lit≤ tt) (good_text 1 url (lit≤ tt) u), (named 1 (codes "hash") (bytes hash) refl (lit≤ tt) (good_bytes 1 hash (lit≤ tt)), tt)) refl
 
+-- the item of a reference that can be written is good
 ref_good : (r : Ref) → IsGoodRef r → Good 2 (ref_item r)
 ref_good r h = subst (λ (o : Option (List ℕ)). Good 2 (ref_item (record { url = r.url; hash = r.hash; alg = o }))) (sym h.alg) (bare_good r.url r.hash h.url)
 
+-- so are those of a list of such references
 refs_good : (rs : List Ref) → AllByRecursion IsGoodRef rs → AllByRecursion (Good 2) (map ref_item rs)
 refs_good [] h = tt
 refs_good (r ∷ rs) h = (ref_good r h.0, refs_good rs h.1)
 
+-- texts in UTF-8 are good items
 texts_good : (ts : List (List ℕ)) → AllByRecursion IsUtf8 ts → AllByRecursion (Good 1) (map text ts)
 texts_good [] h = tt
 texts_good (t ∷ ts) h = (good_text 1 t (lit≤ tt) h.0, texts_good ts h.1)
@@ -61,21 +65,26 @@ pub record AreGoodParts (p : ClaimParts) : Type 0 where
   pub entries : AllByRecursion IsGoodRef p.entries
   pub redacted : AllByRecursion IsUtf8 p.redacted
 
+-- an item that is good to some depth is good to a greater one
 more_deep : (d e : ℕ) (v : Item) → Good d v → d ≤ e → Good e v
 more_deep d e v g l = record { fits = g.fits; plain = g.plain; shallow = omega (arith, g.shallow, l) }
 
+-- the field of a title is good, where the title is UTF-8 or there is none
 title_good : (o : Option (List ℕ)) → IfSome o IsUtf8 → AllByRecursion (IsGoodField 3) (field_if (codes "dc:title") text o)
 title_good None h = tt
 title_good (Some t) h = (named 3 (codes "dc:title") (text t) refl (lit≤ tt) (good_text 3 t (lit≤ tt) h), tt)
 
+-- so is the field of redactions, where all are UTF-8 or there are none
 redactions_good : (ts : List (List ℕ)) → AllByRecursion IsUtf8 ts → AllByRecursion (IsGoodField 3) (redactions_field ts)
 redactions_good [] h = tt
 redactions_good (t ∷ ts) h = (named 3 (codes "redacted_assertions") _ refl (lit≤ tt) (more_deep 2 3 _ (good_list 1 (map text (t ∷ ts)) (texts_good (t ∷ ts) h)) (lit≤ tt)), tt)
 
+-- so is the item of the generator, where its name is UTF-8
 generator_good : (name : List ℕ) → IsUtf8 name → Good 2 (generator_item name)
 unfolding shortest_head
 generator_good name u = good_map 1 (field (codes "name") (text name) ∷ []) (named 1 (codes "name") (text name) refl (lit≤ tt) (good_text 1 name (lit≤ tt) u), tt) refl
 
+-- so is each field of a claim of such parts
 fields_good : (p : ClaimParts) → AreGoodParts p → AllByRecursion (IsGoodField 3) (claim_fields p)
 fields_good p h =
     let middle : List (Item × Item) = field (codes "signature") (text (signature_uri p.label)) ∷ field (codes "instanceID") (text p.instance) ∷ field (codes "created_assertions") (list (items_of (map ref_item p.entries))) ∷ redactions_field p.redacted in
@@ -92,6 +101,7 @@ fields_good p h =
     ))
     (named 3 (codes "claim_generator_info") _ refl (lit≤ tt) (more_deep 2 3 _ (generator_good p.generator h.generator) (lit≤ tt)), tt)
 
+-- the keys of a claim's fields differ
 parts_keys : (label instance generator : List ℕ) (title : Option (List ℕ)) (entries : List Ref) (redacted : List (List ℕ))
     → keys_differ (keys_of (claim_fields (record { label = label; instance = instance; generator = generator; title = title; entries = entries; redacted = redacted }))) ≡ true
 unfolding shortest_head
@@ -104,6 +114,7 @@ parts_keys label instance generator (Some t) entries (r ∷ rs) = refl
 abbrev pub ClaimsAreRead : Type 0
 ClaimsAreRead = (p : ClaimParts) → claim_of (sorted (claim_item p)) ≡ Ok (claim_from p)
 
+-- a written claim of such parts is read as the claim that it was made of
 pub claim_read : KeepsLength → RoundTrip → ClaimsAreRead → (p : ClaimParts) → AreGoodParts p → length (deterministic (claim_item p)) < 2 ^ 64 → IsClaim (deterministic (claim_item p)) (claim_from p)
 claim_read keeps trip back p h short = record {
   item = sorted (claim_item p);
@@ -113,12 +124,14 @@ claim_read keeps trip back p h short = record {
 
 -- ---- the data hash
 
+-- the item of a range is good, where its numbers are below 2^64
 range_good : (r : Range) → r.start < 2 ^ 64 → r.length < 2 ^ 64 → Good 2 (range_item r)
 unfolding shortest_head
 range_good r s l =
     good_map 1 (field (codes "start") (uint r.start) ∷ field (codes "length") (uint r.length) ∷ [])
     (named 1 (codes "start") (uint r.start) refl (lit≤ tt) (good_uint 1 r.start (lit≤ tt) s), (named 1 (codes "length") (uint r.length) refl (lit≤ tt) (good_uint 1 r.length (lit≤ tt) l), tt)) refl
 
+-- so is the item of a data hash with one such range, where the name of its algorithm is UTF-8
 data_good : (alg hash : List ℕ) (r : Range) → IsUtf8 alg → r.start < 2 ^ 64 → r.length < 2 ^ 64 → Good 4 (data_hash_item (one_exclusion (Some alg) hash r))
 unfolding shortest_head
 data_good alg hash r u s l =
@@ -147,6 +160,7 @@ pub record IsDataHash (bytes : List ℕ) (h : DataHash) : Type 0 where
   pub has : HasItem bytes item
   pub is : data_hash_of item ≡ Ok h
 
+-- a written data hash with one such range is read as that data hash
 pub data_read : KeepsLength → RoundTrip → DataIsRead → DataIsSorted → (alg hash : List ℕ) (r : Range) → IsUtf8 alg → r.start < 2 ^ 64 → r.length < 2 ^ 64 → length (deterministic (data_hash_item (one_exclusion (Some alg) hash r))) < 2 ^ 64
     → IsDataHash (deterministic (data_hash_item (one_exclusion (Some alg) hash r))) (one_exclusion (Some alg) hash r)
 data_read keeps trip back in_order alg hash r u s l short = record {

@@ -38,6 +38,7 @@ abbrev pub AreDifferent : List NewAssertion → Type 0
 AreDifferent [] = ⊤
 AreDifferent (a ∷ others) = DiffersFrom a.label others × AreDifferent others
 
+-- a label that the test finds with no assertion differs from those of all
 none_has : (label : List ℕ) (others : List NewAssertion) → list_any (file.has_label label) others ≡ false → DiffersFrom label others
 none_has label [] h = tt
 none_has label (a ∷ others) h =
@@ -55,13 +56,16 @@ tested (a ∷ others) h =
 abbrev IsOwn : NewAssertion → Type 0
 IsOwn a = file.is_new_kind (kind_of a.label) ≡ false
 
+-- an assertion whose label a definition may give
 abbrev IsNew : NewAssertion → Type 0
 IsNew a = file.is_new_label a.label ≡ true
 
+-- a label of a kind that a definition may have differs from those of the builder's own assertions
 own_differ : (label : List ℕ) (others : List NewAssertion) → file.is_new_kind (kind_of label) ≡ true → AllByRecursion IsOwn others → DiffersFrom label others
 own_differ label [] h k = tt
 own_differ label (a ∷ others) h k = (λ e. false≢true (sym k.0 ∙ ap (λ (l : List ℕ). file.is_new_kind (kind_of l)) e ∙ h), own_differ label others h k.1)
 
+-- where the labels of a definition's assertions differ, and so do those of the builder's own, all of them differ
 different_append : (xs ys : List NewAssertion) → AreDifferent xs → AreDifferent ys → AllByRecursion IsNew xs → AllByRecursion IsOwn ys → AreDifferent (xs ++ ys)
 different_append [] ys h k each own = k
 different_append (x ∷ xs) ys h k each own = (
@@ -69,6 +73,7 @@ different_append (x ∷ xs) ys h k each own = (
   different_append xs ys h.1 k each.1 own,
 )
 
+-- a binding of a known kind is of no kind that a definition may have
 binding_own : (k : Kind) → is_binding k ≡ true → file.is_new_kind k ≡ false
 binding_own kinds.DataHash h = refl
 binding_own kinds.BmffHash h = refl
@@ -83,10 +88,12 @@ binding_own kinds.Ordinary h = absurd (false≢true h)
 binding_apart : (k : Kind) → is_binding k ≡ true → k ≡ kinds.Ingredient → ⊥
 binding_apart k h e = false≢true (sym (ap is_binding e) ∙ h)
 
+-- the parent's assertion and the binding are the builder's own, and their labels differ
 own_assertions : (hash : List ℕ → List ℕ) (p : Option Parent) (binding : NewAssertion) → is_binding (kind_of binding.label) ≡ true → (AllByRecursion IsOwn (parent_assertions hash p ++ binding ∷ [])) × AreDifferent (parent_assertions hash p ++ binding ∷ [])
 own_assertions hash None binding h = ((binding_own (kind_of binding.label) h, tt), (tt, tt))
 own_assertions hash (Some p) binding h = ((refl, (binding_own (kind_of binding.label) h, tt)), ((λ e. binding_apart (kind_of binding.label) h (ap kind_of e), tt), (tt, tt)))
 
+-- the labels of a new manifest's assertions differ
 pub all_different : (hash : List ℕ → List ℕ) (c : Content) (binding : NewAssertion) → CanBeWritten c.definition → IsNewBinding binding → AreDifferent (new_assertions hash c binding)
 all_different hash c binding w h =
     let own = own_assertions hash c.parent binding h.kind in
@@ -94,17 +101,21 @@ all_different hash c binding w h =
 
 -- ---- labels in boxes
 
+-- an assertion whose label can stand in a box
 abbrev HasLabel : NewAssertion → Type 0
 HasLabel a = IsLabel a.label
 
+-- the labels of a definition's assertions can stand in boxes
 new_labels : (as_ : List NewAssertion) → AllByRecursion IsNew as_ → AllByRecursion (λ (a : NewAssertion). IsText a.label) as_ → AllByRecursion HasLabel as_
 new_labels [] h k = tt
 new_labels (a ∷ others) h k = (label_of a.label k.0.utf8 (new_label a.label h.0).text.named, new_labels others h.1 k.1)
 
+-- so can those of the parent's assertion and of the binding
 own_labels : (hash : List ℕ → List ℕ) (p : Option Parent) (binding : NewAssertion) → IsLabel binding.label → AllByRecursion HasLabel (parent_assertions hash p ++ binding ∷ [])
 own_labels hash None binding h = (h, tt)
 own_labels hash (Some p) binding h = (plain_label (codes "c2pa.ingredient.v3") refl, (h, tt))
 
+-- so can those of all assertions of a new manifest
 pub all_labelled : (hash : List ℕ → List ℕ) (c : Content) (binding : NewAssertion) → CanBeWritten c.definition → IsNewBinding binding → AllByRecursion HasLabel (new_assertions hash c binding)
 all_labelled hash c binding w h = each-append HasLabel c.definition.assertions (parent_assertions hash c.parent ++ binding ∷ []) (new_labels c.definition.assertions w.formed.labels w.texts.labels) (own_labels hash c.parent binding h.label)
 
@@ -117,6 +128,7 @@ one_legal depth name label kind bytes deep four h small other fits =
     let n = fresh_len name label (more (fresh_leaf kind bytes) none) four in
     fresh_legal depth name label (more (fresh_leaf kind bytes) none) deep four h fits (leaf_legal (depth + 1) kind bytes small other (omega (arith, fits, n, length-append (tree_bytes (fresh_leaf kind bytes)) [])), tt) (tt, tt)
 
+-- the box of an assertion is legal, where its label can stand in a box and it isn't too long
 assertion_legal : (a : NewAssertion) → IsLabel a.label → length (tree_bytes (assertion_box a)) < 2 ^ 32 → IsLegalTree 4 (assertion_box a)
 assertion_legal a h fits = go a.kind a.label a.bytes h fits
   where
@@ -124,25 +136,30 @@ assertion_legal a h fits = go a.kind a.label a.bytes h fits
     go payload.Cbor label bytes h fits = one_legal 4 (codes "cbor") label (codes "cbor") bytes (lit≤ tt) refl h (lit< tt) (λ e. omega (arith, e)) fits
     go payload.Json label bytes h fits = one_legal 4 (codes "json") label (codes "json") bytes (lit≤ tt) refl h (lit< tt) (λ e. omega (arith, e)) fits
 
+-- the boxes of assertions are legal, where their labels can stand in boxes and they aren't too long together
 assertions_legal : (as_ : List NewAssertion) → AllByRecursion HasLabel as_ → length (trees_bytes (assertion_boxes as_)) < 2 ^ 32 → AreLegalTrees 4 (assertion_boxes as_)
 assertions_legal [] h fits = tt
 assertions_legal (a ∷ others) h fits =
     let n = length-append (tree_bytes (assertion_box a)) (trees_bytes (assertion_boxes others)) in
     (assertion_legal a h.0 (omega (arith, fits, n)), assertions_legal others h.1 (omega (arith, fits, n)))
 
+-- a label that no assertion has is new among the labels of their boxes
 label_new : (label : List ℕ) (as_ : List NewAssertion) → DiffersFrom label as_ → IsNewLabel (Some label) (tree_labels (assertion_boxes as_))
 label_new label [] h = tt
 label_new label (a ∷ others) h = (λ e. h.0 (cc (e)), label_new label others h.1)
 
+-- the boxes of assertions whose labels differ have labels that differ
 assertions_distinct : (as_ : List NewAssertion) → AreDifferent as_ → AreDistinctLabels (tree_labels (assertion_boxes as_))
 assertions_distinct [] h = tt
 assertions_distinct (a ∷ others) h = (label_new a.label others h.0, assertions_distinct others h.1)
 
 -- ---- the manifest
 
+-- the box of an item is legal in a manifest, where its label can stand in a box and it isn't too long
 item_legal : (name label bytes : List ℕ) → length name ≡ 4 → IsLabel label → length (tree_bytes (item_box name label bytes)) < 2 ^ 32 → IsLegalTree 3 (item_box name label bytes)
 item_legal name label bytes four h fits = one_legal 3 name label (codes "cbor") bytes (lit≤ tt) four h (lit< tt) (λ e. omega (arith, e)) fits
 
+-- a manifest is legal in a store, where its labels can stand in boxes, those of its assertions differ, and it isn't too long
 pub manifest_legal : (label : List ℕ) (as_ : List NewAssertion) (claim message : List ℕ) → IsLabel label → AllByRecursion HasLabel as_ → AreDifferent as_
     → length (tree_bytes (manifest_box label as_ claim message)) < 2 ^ 32 → IsLegalTree 2 (manifest_box label as_ claim message)
 manifest_legal label as_ claim message h labelled different fits =
@@ -164,6 +181,7 @@ manifest_legal label as_ claim message h labelled different fits =
     )
     ((λ e. cc (e), (λ e. cc (e), tt)), ((λ e. cc (e), tt), (tt, tt)))
 
+-- the box of an assertion is seen as it was written
 assertion_read : (a : NewAssertion) → superbox_of (assertion_box a) ≡ written_assertion a
 assertion_read a = go a.kind a.label a.bytes
   where
@@ -171,10 +189,12 @@ assertion_read a = go a.kind a.label a.bytes
     go payload.Cbor label bytes = refl
     go payload.Json label bytes = refl
 
+-- the boxes of assertions are seen as they were written
 assertions_read : (as_ : List NewAssertion) → map superbox_of (supers_in (assertion_boxes as_)) ≡ map written_assertion as_
 assertions_read [] = refl
 assertions_read (a ∷ others) = ap (λ (b : Superbox). b ∷ map superbox_of (supers_in (assertion_boxes others))) (assertion_read a) ∙ ap (λ (bs : List Superbox). written_assertion a ∷ bs) (assertions_read others)
 
+-- a manifest is seen as it was written
 pub manifest_read : (label : List ℕ) (as_ : List NewAssertion) (claim message : List ℕ) → manifest_of (manifest_box label as_ claim message) ≡ written_manifest label as_ claim message
 manifest_read label as_ claim message =
     ap (λ (bs : List Superbox). record {
@@ -188,6 +208,7 @@ manifest_read label as_ claim message =
 
 -- ---- the store
 
+-- a superbox behind boxes is the last of the superboxes among them
 supers_then : (boxes : Trees) (t : Tree) → is_super t ≡ true → supers_in (trees_then boxes t) ≡ supers_in boxes ++ t ∷ []
 supers_then none t h = ap (λ b. cond b (t ∷ []) []) h
 supers_then (more s ss) t h = step (is_super s) s ss t (supers_then ss t h)
@@ -196,6 +217,7 @@ supers_then (more s ss) t h = step (is_super s) s ss t (supers_then ss t h)
     step true s ss t e = ap (λ (xs : List Tree). s ∷ xs) e
     step false s ss t e = e
 
+-- a new store that isn't too large is a legal tree and a store, with the manifests that are carried and then the new one
 pub store_read : NewStoreIsRead
 store_read hash c binding message w carried h small =
     let d : Definition = c.definition in

@@ -13,13 +13,6 @@ none_shared a (k ∷ ks) = (λ i l. let never : ⊥ = omega (arith, l) in absurd
 pub shares_none : (ks : List (List ℕ)) → SharesFront 0 ks
 shares_none ks = ([], none_shared [] ks)
 
--- one more byte agrees
-pub agree_on : (n : ℕ) (a k : List ℕ) → get_or a n 0 ≡ get_or k n 0 → AgreeBelow n a k → AgreeBelow (n + 1) a k
-agree_on n a k e h = λ i l. elim (ltb i n) as (λ b. ltb i n ≡ b → get_or a i 0 ≡ get_or k i 0) [
-  | true ↦ λ t. h i (ltb-true i n t)
-  | false ↦ λ t. let same : n ≡ i = omega (arith, l, ltb-false i n t) in subst (λ j. get_or a j 0 ≡ get_or k j 0) same e
-] refl
-
 -- what agrees further agrees so far
 agree_less : (n m : ℕ) (a : List ℕ) (ks : List (List ℕ)) → n ≤ m → AllAgree m a ks → AllAgree n a ks
 agree_less n m a [] le h = tt
@@ -39,7 +32,3 @@ shared_on ks a lens rest left i n shared new k lt is all front back le agree h =
     let lk : i < length ks = omega (arith, lt, ap length all, length-map ks (λ k. length k)) in
     let more : AllAgree new a (take i ks ++ get_or ks i [] ∷ []) = agree_push new a (take i ks) (get_or ks i []) (agree_less new shared a (take i ks) le h.1) (subst (AgreeBelow new a) c.0 agree) in
     (c.1, subst (AllAgree new a) (sym (take_more ks i [] lk)) more)
-
--- all are compared
-pub shares_all : (ks : List (List ℕ)) (a lens : List ℕ) (i shared : ℕ) → length lens ≤ i → lens ≡ lengths ks → AllAgree shared a (take i ks) → SharesFront shared ks
-shares_all ks a lens i shared le all h = (a, subst (AllAgree shared a) (take_all i ks (omega (arith, le, ap length all, length-map ks (λ k. length k)))) h)

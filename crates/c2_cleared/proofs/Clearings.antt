@@ -110,13 +110,6 @@ left_is before b after range is from for = go (is_file_end after)
 
 -- ---- the base
 
--- a file without a store is its base
-pub clears_none : (file : List ℕ) → HasNoBmffStore file → ClearsTo file (Cut (record { start = 0; length = 0 }))
-clears_none file h =
-    let nothing : 0 + 0 ≡ 0 = omega arith in
-    let whole : cleared (Cut (record { start = 0; length = 0 })) file ≡ file = ap (λ (n : ℕ). drop n file) nothing in
-    (h.roots, record { boxes = h.roots; has_roots = h.has_roots; are = same h.none refl; bytes = whole ∙ h.has_roots.bytes })
-
 -- a file with a store is cleared to its base
 pub clears_store : (file : List ℕ) (rows : List RootBox) (range : Range) (store : List ℕ) → AreRootsOf file rows → HasBmffStore file range.start range.length store → ClearsTo file (clearing_in range rows)
 clears_store file rows range store r h =

@@ -100,16 +100,6 @@ unmet found roles c i is named none = subst (λ (x : Option Roles). Meets x i) (
 
 -- ---- `plan`
 
--- what a call of `plan` comes to is what its files come to
-as_plan : (said : Question → Verdict) (hash : Alg → List ℕ → List ℕ) (known other last : Option (List ℕ)) (found : Option Roles) (roles : Roles) (a b : List ℕ) (e : Outcome) → found ≡ Some roles → roles.command ≡ command.Plan → known ≡ Some a → other ≡ Some b
-    → IsOutcome found (inputs known other last said hash) e → IsPlanOutcome hash said a b e
-as_plan said hash known other last found roles a b e is named ka kb h =
-    let i = inputs (Some a) (Some b) last said hash in
-    let p = subst (λ (x : Option Roles). IsOutcome x (inputs known other last said hash) e) is h in
-    let q = subst (λ (x : Option (List ℕ)). IsCommandOutcome roles.command roles (inputs x other last said hash) e) ka p in
-    let r = subst (λ (x : Option (List ℕ)). IsCommandOutcome roles.command roles (inputs (Some a) x last said hash) e) kb q in
-    subst (λ (c : Command). IsCommandOutcome c roles i e) named r
-
 -- and the other way round
 of_plan : (said : Question → Verdict) (hash : Alg → List ℕ → List ℕ) (known other last : Option (List ℕ)) (found : Option Roles) (roles : Roles) (a b : List ℕ) (e : Outcome) → found ≡ Some roles → roles.command ≡ command.Plan → known ≡ Some a → other ≡ Some b
     → IsPlanOutcome hash said a b e → IsOutcome found (inputs known other last said hash) e

@@ -138,6 +138,7 @@ two_used : (first second : Bool) (a b c d : ℕ) (third : Type 0) → first ≡ 
 two_used first second a b c d third used other (inl h) = inl (used, h)
 two_used first second a b c d third used other (inr h) = inr (inl (other, h))
 
+-- a failure of one of three files, all of which the call uses
 three_used : (first second third : Bool) (a b c d e f : ℕ) → first ≡ true → second ≡ true → third ≡ true → Rose a b ⊎ (Rose c d ⊎ Rose e f) → HasFailed first a b ⊎ (HasFailed second c d ⊎ HasFailed third e f)
 three_used first second third a b c d e f used other more (inl h) = inl (used, h)
 three_used first second third a b c d e f used other more (inr (inl h)) = inr (inl (other, h))

@@ -30,42 +30,6 @@ use Rattle.c2_cmd.proofs.Written.{prefix_behind, written_behind}
 
 -- ---- statuses of answers
 
--- no answer has the status of a fault of a source
-pub no_input : (a : Answer) → status_of a ≡ InputFault → ⊥
-no_input answer.Done e = cc (e)
-no_input answer.Failing e = cc (e)
-no_input answer.Refused e = cc (e)
-no_input answer.NoStore e = cc (e)
-no_input answer.Usage e = cc (e)
-no_input answer.DifferentClaims e = cc (e)
-no_input answer.Evidence e = cc (e)
-no_input answer.BuildRefused e = cc (e)
-no_input answer.NotAccepted e = cc (e)
-
--- nor that of a fault of the report
-pub no_output : (a : Answer) → status_of a ≡ OutputFault → ⊥
-no_output answer.Done e = cc (e)
-no_output answer.Failing e = cc (e)
-no_output answer.Refused e = cc (e)
-no_output answer.NoStore e = cc (e)
-no_output answer.Usage e = cc (e)
-no_output answer.DifferentClaims e = cc (e)
-no_output answer.Evidence e = cc (e)
-no_output answer.BuildRefused e = cc (e)
-no_output answer.NotAccepted e = cc (e)
-
--- nor that of a fault of a judge
-pub no_judge : (a : Answer) → status_of a ≡ JudgeFault → ⊥
-no_judge answer.Done e = cc (e)
-no_judge answer.Failing e = cc (e)
-no_judge answer.Refused e = cc (e)
-no_judge answer.NoStore e = cc (e)
-no_judge answer.Usage e = cc (e)
-no_judge answer.DifferentClaims e = cc (e)
-no_judge answer.Evidence e = cc (e)
-no_judge answer.BuildRefused e = cc (e)
-no_judge answer.NotAccepted e = cc (e)
-
 -- nor one of a run whose report wasn't whole
 pub no_end : (a : Answer) → HasNoReply (status_of a) → ⊥
 no_end answer.Done h = h
@@ -77,18 +41,6 @@ no_end answer.DifferentClaims h = h
 no_end answer.Evidence h = h
 no_end answer.BuildRefused h = h
 no_end answer.NotAccepted h = h
-
--- words that fit no command have the status of no other answer
-pub usage_alone : (a : Answer) → status_of a ≡ Usage → a ≡ answer.Usage
-usage_alone answer.Done e = absurd (cc (e))
-usage_alone answer.Failing e = absurd (cc (e))
-usage_alone answer.Refused e = absurd (cc (e))
-usage_alone answer.NoStore e = absurd (cc (e))
-usage_alone answer.Usage e = refl
-usage_alone answer.DifferentClaims e = absurd (cc (e))
-usage_alone answer.Evidence e = absurd (cc (e))
-usage_alone answer.BuildRefused e = absurd (cc (e))
-usage_alone answer.NotAccepted e = absurd (cc (e))
 
 -- a run that is done answers that
 pub done_alone : (a : Answer) → status_of a ≡ Done → a ≡ answer.Done
@@ -202,14 +154,17 @@ pub file_input : (file : Option (List ℕ)) (old new : SinkState) → TakesFile 
 file_input None old new h = h
 file_input (Some file) old new h = h
 
+-- where a sink failed, what became of the file is what the status of that fault says
 pub file_output : (file : Option (List ℕ)) (old new : SinkState) → TakesFile file old new (Err Output) → HasFile file old new OutputFault
 file_output None old new h = h
 file_output (Some file) old new h = inl h
 
+-- where a judge failed, it is what the status of that fault says
 pub file_judge : (file : Option (List ℕ)) (old new : SinkState) → TakesFile file old new (Err Judge) → HasFile file old new JudgeFault
 file_judge None old new h = h
 file_judge (Some file) old new h = h
 
+-- and out of memory, what the status for that says
 pub file_memory : (file : Option (List ℕ)) (old new : SinkState) → TakesFile file old new (Err Memory) → HasFile file old new NoMemory
 file_memory None old new h = h
 file_memory (Some file) old new h = h

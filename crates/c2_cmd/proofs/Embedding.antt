@@ -50,24 +50,6 @@ refused_comes JudgeFault claim none h = absurd (cc (none))
 refused_comes WriteFault claim none h = absurd (cc (none))
 refused_comes NoMemory claim none h = absurd (cc (none))
 
--- a refusal leaves all counts
-refused_counts : (before now : Faults) (old new : List ℕ) (e : BuildError) → build_fault e ≡ None → IsBuildCause before now old new e → (now ≡ before) × (new ≡ old)
-refused_counts before now old new (MediaRefused reason number) none h = h
-refused_counts before now old new (BadDefinition field) none h = h
-refused_counts before now old new (BadSignature part) none h = h
-refused_counts before now old new (ParentFails code uri) none h = h
-refused_counts before now old new (LabelTaken label) none h = h
-refused_counts before now old new (RedactionRefused text code) none h = h
-refused_counts before now old new (OpenBox n) none h = h
-refused_counts before now old new NoInstance none h = h
-refused_counts before now old new (TooManyManifests count) none h = h
-refused_counts before now old new (StoreTooLarge len) none h = h
-refused_counts before now old new (ReserveTooSmall needed) none h = h
-refused_counts before now old new ReadFault none h = absurd (cc (none))
-refused_counts before now old new JudgeFault none h = absurd (cc (none))
-refused_counts before now old new WriteFault none h = absurd (cc (none))
-refused_counts before now old new NoMemory none h = absurd (cc (none))
-
 -- and the sink
 refused_sink : (e : BuildError) (claim : Type 0) → build_fault e ≡ None → LeavesSink (Err e) claim → claim
 refused_sink (MediaRefused reason number) claim none h = h
@@ -104,19 +86,9 @@ refused_embedding hash said a b c before now JudgeFault none h = absurd (cc (non
 refused_embedding hash said a b c before now WriteFault none h = absurd (cc (none))
 refused_embedding hash said a b c before now NoMemory none h = absurd (cc (none))
 
--- where there is a reply to an error, the build was refused
-pub on_refused : (claim : Type 0) (e : BuildError) (r : Result Reply Fault) → IfOk r (RepliesTo e) → (build_fault e ≡ None → claim) → OnOk r claim
-on_refused claim e (Ok reply) h to = to h.0
-on_refused claim e (Err f) h to = tt
-
 -- a reply to a refusal says so, and nothing else
 pub says_refused : (e : BuildError) (reply : Reply) → RepliesTo e reply → reply.answer ≡ answer.BuildRefused
 says_refused e reply h = ap (λ (o : Outcome). o.answer) h.1
-
--- it answers no words that fit no command
-pub refused_words : (e : BuildError) (r : Result Reply Fault) → IfOk r (RepliesTo e) → IfOk r (λ reply. reply.answer ≢ answer.Usage)
-refused_words e (Ok reply) h = λ usage. let both = sym (says_refused e reply h) ∙ usage in cc (both)
-refused_words e (Err f) h = tt
 
 -- and not that it is done
 pub not_done : (e : BuildError) (r : Result Reply Fault) (claim : Type 0) → IfOk r (RepliesTo e) → IfOk r (λ reply. reply.answer ≡ answer.Done → claim)
@@ -217,14 +189,6 @@ plan_caused a b c d old new error (Err fault) cause h = fewer fault (embed_cause
     fewer Output h = unrisen h
     fewer Judge h = h
     fewer Memory h = tt
-
--- a reply to a refusal leaves the judges' counts of faults
-pub refused_judges : (before now : Faults) (old new : List ℕ) (e : BuildError) (r : Result Reply Fault) → IsBuildCause before now old new e → IfOk r (RepliesTo e) → OnOk r (new ≡ old)
-refused_judges before now old new e r cause h = on_refused (new ≡ old) e r h (λ none. (refused_counts before now old new e none cause).1)
-
--- so does one of `plan`
-pub unplanned_judges : (a b c d : ℕ) (old new : List ℕ) (e : BuildError) (r : Result Reply Fault) → IsPlanCause (record { media = a; definition = c }) (record { media = b; definition = d }) old new e → IfOk r (RepliesTo e) → OnOk r (new ≡ old)
-unplanned_judges a b c d old new e r cause h = refused_judges _ _ old new e r (plan_as a b c d old new e cause) h
 
 -- ---- who was asked
 
@@ -331,6 +295,7 @@ untaken : (file : Option (List ℕ)) (before now : SinkState) → now ≡ before
 untaken None before now h = h
 untaken (Some file) before now h = inl h
 
+-- a sink that was left as it was has taken nothing of a file, where a judge failed
 untaken_judge : (file : Option (List ℕ)) (before now : SinkState) → now ≡ before → TakesFile file before now (Err Judge)
 untaken_judge None before now h = h
 untaken_judge (Some file) before now h = h

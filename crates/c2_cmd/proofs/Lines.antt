@@ -37,10 +37,6 @@ lines_more said saying asked i one old new same lt is so_far line =
         ∙ sym (append_assoc old (verdict_line says one.label one.question) (verdict_lines says (drop (i + 1) asked)))
         ∙ ap (λ (l : List ℕ). l ++ verdict_lines says (drop (i + 1) asked)) (sym line)
 
--- the whole text
-pub lines_all : (said : Question → Verdict) (asked : List Asked) (text : List ℕ) → verdict_lines said asked ≡ text ++ verdict_lines said (drop (length asked) asked) → text ≡ verdict_lines said asked
-lines_all said asked text so_far = sym (so_far ∙ ap (λ (l : List Asked). text ++ verdict_lines said l) (drop-length asked) ∙ append-nil text)
-
 -- ---- what was asked
 
 -- of one more manifest
@@ -74,10 +70,6 @@ asks_ended T U old between new all qs rest next e said faults so_far is cause h 
         subst (λ (l : List Question). HaveFailed old.said l old.asked new.asked old.faults new.faults) (sym split)
         (failed_more old.said (so_far.front ++ qs) next old.asked new.asked old.faults new.faults
         (failed_append old.said so_far.front qs old.asked between.asked new.asked old.faults new.faults so_far.asked (subst (λ (x : List ℕ). HaveFailed old.said qs between.asked new.asked x new.faults) faults h)))
-
--- all of one manifest's were asked, and memory ran out then
-pub ended_after : (T U : Type 0) (qs : List Question) (old new : Judges) (x : T) → AskedFor qs old new (Ok x) → AskedFor {T = U} qs old new (Err Memory)
-ended_after T U qs old new x h = front_all old.said qs old.asked new.asked h
 
 -- where nothing is asked of all manifests, nothing is asked of this one
 pub no_more : (said : List (Question → Verdict)) (all rest next : List Question) (q : Option Question) (a b : List ℕ) → AsksSoFar said all rest a b → rest ≡ option_to_list q ++ next → all ≡ [] → q ≡ None

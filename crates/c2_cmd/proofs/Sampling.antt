@@ -40,11 +40,6 @@ sampled_words n (sampled.Checked lengths found) (Ok reply) out = λ usage. fits_
 sampled_words n (sampled.Refused e) (Ok reply) out = λ usage. let both = sym (ap (λ (o : Outcome). o.answer) out) ∙ usage in cc (both)
 sampled_words n s (Err e) out = tt
 
--- the line of the files and the line of the check are the report
-pub both_lines : (n : ℕ) (lengths : Lengths) (found : Checked) (told : Reply) (text line : List ℕ) → outcome_of told ≡ answered found → line ≡ sample_line n lengths → text ≡ line ++ string_bytes told.text → reports told.answer text ≡ sample_outcome n (sampled.Checked lengths found)
-both_lines n lengths found told text line out is whole =
-    ap₂ reports (ap (λ (o : Outcome). o.answer) out) (whole ∙ ap₂ (λ (a b : List ℕ). a ++ b) is (ap (λ (o : Outcome). o.report) out))
-
 -- ---- a call
 
 -- a call of `sample` comes to what its pieces come to

@@ -34,24 +34,11 @@ fits_words (checked.Failing failing) e = no_words (is_unsupported failing.code) 
 fits_words (checked.Refused reason number) e = cc (e)
 fits_words checked.NoStore e = cc (e)
 
--- so the reply answers no words that fit no command
-pub answers_no_words : (found : Checked) (reply : Reply) → outcome_of reply ≡ answered found → reply.answer ≢ answer.Usage
-answers_no_words found reply out usage = fits_words found (sym (ap (λ (e : Outcome). e.answer) out) ∙ usage)
-
 -- the reply is the outcome over the file
 pub validated : (hash : Alg → List ℕ → List ℕ) (said : Question → Verdict) (file : List ℕ) (found : Checked) (reply : Reply) → IsAnswered hash said file found → outcome_of reply ≡ answered found → IsValidated hash said file (outcome_of reply)
 validated hash said file found reply is out = (found, is.is, out)
 
 -- ---- faults
-
--- the cause of a fault of the check is that of the run
-pub fault_cause : (before now : ℕ) (old new : Judges) (e : ValidateError) (f : Fault) → f ≡ fault_of e → IsFaultCause before now old new e → IsCause before now old new f
-fault_cause before now old new e f is h = subst (λ (x : Fault). IsCause before now old new x) (sym is) (by e h)
-  where
-    by : (e : ValidateError) → IsFaultCause before now old new e → IsCause before now old new (fault_of e)
-    by ReadFault h = h
-    by JudgeFault h = h
-    by NoMemory h = tt
 
 -- and who was asked until then
 pub fault_asked : (T U : Type 0) (qs : List Question) (old new : Judges) (e : ValidateError) (f : Fault) → f ≡ fault_of e → HasAsked {T = T} qs old new (Err e) → AskedFor {T = U} qs old new (Err f)

@@ -1,6 +1,6 @@
 // The top call.
 ghost use Rattle.std.specs.Prelude.{◌≡◌, ◌⊎◌, ◌<◌, ◌≤◌, map, string_bytes, None, true, false, OnOk, OnErr, IfOk, IfErr, List, [], vec_len};
-ghost use Rattle.c2_base.specs.Causes.{HasCause, Rose};
+ghost use Rattle.c2_base.specs.Causes.{HasCause};
 ghost use Rattle.c2_base.specs.Source.{StaysSource};
 ghost use Rattle.c2_base.specs.Sink.{HasWrittenPrefix};
 ghost use Rattle.c2_base.specs.declared.values.Question.{Question};

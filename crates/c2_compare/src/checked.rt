@@ -44,6 +44,7 @@ fn reopen<S: Source>(
     ensures count { OnOk result (S.faults source.new ≡ S.faults source.old) }
     ensures stays { StaysSource S.len S.known S.faults source.old source.new }
 {
+    // Matched and not handed up by `?`, here and below: each way out has clauses of its own.
     let opened = match find_store(alloc, source) {
         Ok(opened) => opened,
         Err(error) => return Err(error),

@@ -45,21 +45,6 @@ step_below i count one false below same = omega (arith, below, same)
 
 -- ---- labels
 
--- those of one manifest more
-pub labels_more : (rs : List Reading) (i found more all : ℕ) → found ≡ length (downward (kept_labels rs) i) → more ≡ length (kept_labels rs i) → all ≡ found + more → all ≡ length (downward (kept_labels rs) (i + 1))
-labels_more rs i found more all so_far is sum =
-    let next : i + 1 ≡ suc i = omega arith in
-    let step : length (downward (kept_labels rs) (i + 1)) ≡ length (kept_labels rs i) + length (downward (kept_labels rs) i) = ap (λ (n : ℕ). length (downward (kept_labels rs) n)) next ∙ length-append (kept_labels rs i) (downward (kept_labels rs) i) in
-    omega (arith, so_far, is, sum, step)
-
--- the labels of a reached manifest are those of its place
-pub place_reached : {E : Type 0} (rs all : List Reading) (i : ℕ) (r : Reading) (b : Bool) (result : Result ℕ E) → i < length rs → all ≡ rs → r ≡ get_or all i r → b ≡ is_reached rs i → b ≡ true
-    → IfOk result (λ n. n ≡ length (kept_in (is_redacted rs i) r)) → IfOk result (λ n. n ≡ length (kept_labels rs i))
-place_reached rs all i r b (Err e) lt same at is reached h = tt
-place_reached rs all i r b (Ok n) lt same at is reached h =
-    let there : slice_get rs i ≡ Some r = slice_get-get_or rs i r lt ∙ ap (λ (xs : List Reading). Some (get_or xs i r)) (sym same) ∙ ap Some (sym at) in
-    h ∙ sym (ap length (ap (λ (t : Bool). cond t (unredacted_of (is_redacted rs i) (slice_get rs i)) []) (sym is ∙ reached) ∙ ap (unredacted_of (is_redacted rs i)) there))
-
 -- as many labels are kept as entries
 kept_same : (redacted : List ℕ → Bool) (m : Manifest) (es : List Ref) → length (filter (keeps redacted m) es) ≡ length (filter (λ (l : List ℕ). not (redacted l)) (filter_map (entry_label m) es))
 kept_same redacted m [] = refl

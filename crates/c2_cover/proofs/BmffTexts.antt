@@ -58,6 +58,7 @@ record BoxFirst (p : ℕ) (b : Box) (bs : List Box) (file : List ℕ) : Type 0 w
   pub others : drop (p + box_len b) file ≡ flat_map box_bytes bs
   pub inside : p + box_len b ≤ length file
 
+-- where a list of boxes stands, its first box stands first and the others behind it
 box_first : (p : ℕ) (b : Box) (bs : List Box) (file : List ℕ) → IsBox b → p ≤ length file → drop p file ≡ flat_map box_bytes (b ∷ bs) → BoxFirst p b bs file
 box_first p b bs file h l e =
     let len : length (box_bytes b) ≡ box_len b = bytes_size b h in

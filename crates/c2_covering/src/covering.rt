@@ -73,6 +73,7 @@ fn data_text<S: Source>(
     ensures count { OnOk result (S.faults source.new ≡ S.faults source.old) }
     ensures cause { IfErr result (IsCause (S.faults source.old) (S.faults source.new)) }
 {
+    // Matched and not handed up by `?`: each way out has clauses of its own.
     let size = match file_len(source) {
         Ok(size) => size,
         Err(error) => return Err(error),

@@ -33,11 +33,6 @@ pub object_is : (bytes : List ℕ) (v : Data) (t : Bool) → IsUtf8 bytes × (re
 object_is bytes v t was told is =
     sym (ap (kept is_object) (json_is bytes v was.0 was.1) ∙ ap (λ b. cond b (Some v) None) (sym told ∙ is))
 
--- a value that was read and is none
-pub other_value : (bytes : List ℕ) (v : Data) (t : Bool) → IsUtf8 bytes × (read bytes ≡ Some v) → t ≡ is_object v → t ≡ false → ◌≡◌ {A = Option Data} None (object_of bytes)
-other_value bytes v t was told isnt =
-    sym (ap (kept is_object) (json_is bytes v was.0 was.1) ∙ ap (λ b. cond b (Some v) None) (sym told ∙ isnt))
-
 -- no value was read
 pub no_value : (bytes : List ℕ) → (IsUtf8 bytes → read bytes ≡ None) → ◌≡◌ {A = Option Data} None (object_of bytes)
 no_value bytes none = sym (ap (kept is_object) (json_none bytes none))
@@ -51,10 +46,6 @@ too_long file r h long = h.is ∙ ap (λ b. cond b (Err field.Size) (require fie
 -- a file that isn't comes to what its object does
 of_object : (file : List ℕ) (r : Result Definition DefinitionField) (h : IsDefinition file r) → length file ≤ MAX_INPUT_LEN → r ≡ require field.Json (object_of file) (definition_of h.payloads)
 of_object file r h short = h.is ∙ ap (λ b. cond b (Err field.Size) (require field.Json (object_of file) (definition_of h.payloads))) (le-ltb MAX_INPUT_LEN (length file) short)
-
--- without an object
-pub no_object : (file : List ℕ) (r : Result Definition DefinitionField) → IsDefinition file r → length file ≤ MAX_INPUT_LEN → None ≡ object_of file → r ≡ Err field.Json
-no_object file r h short none = of_object file r h short ∙ ap (λ o. require field.Json o (definition_of h.payloads)) (sym none)
 
 -- what is told of a file is told of its object
 told_here : (file : List ℕ) (v : Data) (payloads : Bool) → TellsPayloads payloads file → object_of file ≡ Some v → (payloads ≡ true) ↔ HavePayloads v

@@ -18,30 +18,11 @@ pub record Behind (list : List NewAssertion) (i : ℕ) (behind : Labels) : Type 
 here_and_behind : (list : List NewAssertion) (i : ℕ) (a : NewAssertion) → i < length list → a ≡ get_or list i a → drop i list ≡ a ∷ drop (i + 1) list
 here_and_behind list i a lt at = drop_more list i a lt ∙ ap (λ b. b ∷ drop (i + 1) list) (sym at)
 
--- of two tests either may be first
-either_first : (x y : Bool) → (x || y) ≡ (y || x)
-either_first true true = refl
-either_first true false = refl
-either_first false true = refl
-either_first false false = refl
-
--- a set that has got the label at a place has those from there on
-pub also_here : (list : List NewAssertion) (i : ℕ) (a : NewAssertion) (other : List ℕ) (old : Bool) → i < length list → a ≡ get_or list i a
-    → old ≡ list_any (has_label other) (drop (i + 1) list) → (old || bytes_eq a.label other) ≡ list_any (has_label other) (drop i list)
-also_here list i a other old lt at is =
-    either_first old (bytes_eq a.label other) ∙ ap (λ b. bytes_eq a.label other || b) is
-    ∙ sym (ap (list_any (has_label other)) (here_and_behind list i a lt at))
-
 -- labels differ from a place on where they differ behind it and none there is the one at it
 differ_from : (list : List NewAssertion) (i : ℕ) (a : NewAssertion) (found : Bool) → i < length list → a ≡ get_or list i a
     → found ≡ list_any (has_label a.label) (drop (i + 1) list) → labels_differ (drop (i + 1) list) ≡ true → labels_differ (drop i list) ≡ (not found && true)
 differ_from list i a found lt at is behind =
     ap labels_differ (here_and_behind list i a lt at) ∙ ap (λ b. not b && labels_differ (drop (i + 1) list)) (sym is) ∙ ap (λ b. not found && b) behind
-
--- they do where it isn't found
-pub differ_here : (list : List NewAssertion) (i : ℕ) (a : NewAssertion) (found : Bool) → i < length list → a ≡ get_or list i a
-    → found ≡ list_any (has_label a.label) (drop (i + 1) list) → labels_differ (drop (i + 1) list) ≡ true → found ≡ false → labels_differ (drop i list) ≡ true
-differ_here list i a found lt at is behind none = differ_from list i a found lt at is behind ∙ ap (λ b. not b && true) none
 
 -- labels that all differ do so from each place on
 differ_behind : (list : List NewAssertion) (i : ℕ) → labels_differ list ≡ true → labels_differ (drop i list) ≡ true

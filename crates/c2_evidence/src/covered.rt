@@ -109,6 +109,7 @@ fn write_line<S: Source, W: Sink>(
     ensures unfinished { W.finished report.new ≡ W.finished report.old }
     ensures same_len { length buf.new ≡ length buf.old }
 {
+    // Matched and not handed up by `?`, here and below: each way out has clauses of its own.
     match write_text(source, cover, buf, report) {
         Ok(()) => {}
         Err(error) => return Err(error),

@@ -22,12 +22,6 @@ fill_more file at q le lt byte front =
     ∙ sym (append_assoc (replicate (q - at) 255) (255 ∷ []) (drop (q + 1) file))
     ∙ ap (λ (x : List ℕ). x ++ drop (q + 1) file) (replicate_more (q - at) 255 ∙ ap (λ n. replicate n 255) (sym count))
 
--- nothing but fill
-pub fill_all : (file : List ℕ) (at q : ℕ) → length file ≤ q → q ≤ length file → drop at file ≡ replicate (q - at) 255 ++ drop q file → drop at file ≡ replicate (length file - at) 255
-fill_all file at q le ge front =
-    let same : q ≡ length file = omega arith in
-    front ∙ ap (λ (x : List ℕ). replicate (q - at) 255 ++ x) (drop_all q file le) ∙ append-nil (replicate (q - at) 255) ∙ ap (λ n. replicate (n - at) 255) same
-
 -- where the first byte that isn't fill comes after the place, the rest begins with a marker
 pub marker_split : (file : List ℕ) (at : ℕ) (m : Marker) → at < m.place → m.place < length file → IsMarkerAt file at m → drop at file ≡ marker_bytes (m.place - at - 1) m.code ++ drop (m.place + 1) file
 marker_split file at m lt inside is =

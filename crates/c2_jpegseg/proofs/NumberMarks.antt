@@ -19,10 +19,12 @@ use Rattle.c2_jpegseg.specs.declared.marker.Extent.{Extent}
 use Rattle.c2_jpegseg.specs.declared.packet.Packet.{Packet}
 use Rattle.c2_jpegseg.proofs.Kept.{kept_is}
 
+-- false changes nothing
 or-false : (b : Bool) → (b || false) ≡ b
 or-false true = refl
 or-false false = refl
 
+-- with true it is true
 or-true : (b : Bool) → (b || true) ≡ true
 or-true true = refl
 or-true false = refl
@@ -33,10 +35,6 @@ no-marks taken is = record {
   sized = ap length is ∙ length-replicate 65536 false;
   marks = λ n lt. ap (λ (xs : List Bool). slice_index_or xs n false) is ∙ get_or-replicate 65536 n false false lt;
 }
-
--- a segment that is passed over marks nothing
-pub notes-passed : (file : List ℕ) (e : Extent) (old : List Bool) → Notes file e true old old
-notes-passed file e old = record { sized = refl; marks = λ n lt. sym (or-false (slice_index_or old n false)) }
 
 -- the packet that a segment is marks its number
 pub notes-packet : (file : List ℕ) (e : Extent) (old : List Bool) (packet : Option Packet) → length old ≡ 2 ^ 16 → Reads (segment_of 0 file e) packet → Notes file e false old (noted packet old)

@@ -25,10 +25,6 @@ shown_byte file items from used pos same low high =
     sym (get_or-take used items (pos - from) 0 inside) ∙ ap (λ (x : List ℕ). get_or x (pos - from) 0) same ∙ get_or-take used (drop from file) (pos - from) 0 inside
     ∙ get_or-drop from file (pos - from) 0 ∙ ap (λ n. get_or file n 0) there
 
--- a prefix that was filled
-pub filled_front : (file buf rest : List ℕ) (room pos : ℕ) → length buf ≡ room → buf ≡ take (length buf) (drop pos file) → take room (buf ++ rest) ≡ take room (drop pos file)
-filled_front file buf rest room pos len is = take_at buf rest room len ∙ is ∙ ap (λ n. take n (drop pos file)) len
-
 -- a source that stayed is still shown
 pub shows_same : {W : Type 0} (Shown : ℕ → Option (List ℕ) → W → Type 0) (len len' : ℕ) (known known' : Option (List ℕ)) (w : W) → len ≡ len' → known ≡ known' → Shown len known w → Shown len' known' w
 shows_same Shown len len' known known' w same_len same_told shows = subst (λ n. Shown n known' w) same_len (subst (λ t. Shown len t w) same_told shows)

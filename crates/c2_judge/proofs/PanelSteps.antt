@@ -6,11 +6,6 @@ use Rattle.c2_spec.specs.declared.panel.Verdict.{Verdict}
 use Rattle.c2_spec.specs.declared.panel.Verdict.TheVariants.{Approved, Mismatch, Untrusted, Invalid, Silent}
 use Rattle.c2_spec.specs.Judges.Panel.{first_said, panel_size, Counted, Failing, MovedAt, MovedBelow, FailedAt, SomeRose, NoneFell}
 
--- a fact of a failure, where it is one
-pub on_err : {T E P : Type 0} (r : Result T E) → P → OnErr r P
-on_err (Ok x) p = tt
-on_err (Err e) p = p
-
 -- a verdict other than Silent is the first said
 said_first : (v : Verdict) (vs : List Verdict) → v ≢ Silent → first_said (v ∷ vs) ≡ v
 said_first Approved vs loud = refl
@@ -95,22 +90,9 @@ answer_all said i past so_far = sym (so_far ∙ ap first_said (drop_all i said p
 pub size_all : (said : List Verdict) (i : ℕ) → length said ≤ i → panel_size said ≡ i + panel_size (drop i said) → panel_size said ≡ i
 size_all said i past size = size ∙ ap (λ vs. i + panel_size vs) (drop_all i said past) ∙ add-zero i
 
--- no more judges are asked than there are
-size_bound : (said : List Verdict) → panel_size said ≤ length said
-size_bound [] = omega arith
-size_bound (Silent ∷ vs) = let h : panel_size vs ≤ length vs = size_bound vs in omega arith
-size_bound (Approved ∷ vs) = omega arith
-size_bound (Mismatch ∷ vs) = omega arith
-size_bound (Untrusted ∷ vs) = omega arith
-size_bound (Invalid ∷ vs) = omega arith
-
 -- a failed ask is a fault that rose
 pub SomeRose-at : (i : ℕ) (d e f : List ℕ) → i < length d → e ≡ d → MovedAt Failing i e f → SomeRose d f
 SomeRose-at i d e f lt kept failed = (i, lt, rw kept at failed.moved.rose)
-
--- what rose since a moment with the same counts
-pub rose_before : (d e f : List ℕ) → e ≡ d → SomeRose e f → SomeRose d f
-rose_before d e f kept rose = rw kept at rose
 
 -- counts that moved by steps that don't fall haven't fallen
 pub below_none_fell : (Step : ℕ → ℕ → Type 0) → ((a b : ℕ) → Step a b → a ≤ b) → (n : ℕ) (before now : List ℕ) → MovedBelow Step n before now → NoneFell before now

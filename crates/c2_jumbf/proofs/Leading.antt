@@ -65,10 +65,6 @@ pub record Walked (t : Tree) (start : ℕ) (all : List (List ℕ)) (n at : ℕ) 
   pub down : (j : ℕ) → LabelsLead t at (drop n all) j → LabelsLead t start all j
   pub up : (j : ℕ) → LabelsLead t start all j → LabelsLead t at (drop n all) j
 
--- at the start no label was followed
-pub walked_start : (t : Tree) (start : ℕ) (all : List (List ℕ)) → start < tree_count t → Walked t start all 0 start
-walked_start t start all l = record { inside = l; down = λ j h. h; up = λ j h. h }
-
 -- from a place on a list begins with the member there
 front_label : (all : List (List ℕ)) (n : ℕ) (label : List ℕ) → n < length all → label ≡ get_or all n label → drop n all ≡ label ∷ drop (n + 1) all
 front_label all n label l e = drop_more all n label l ∙ ap (λ (x : List ℕ). x ∷ drop (n + 1) all) (sym e)

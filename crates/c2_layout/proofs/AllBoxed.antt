@@ -45,8 +45,3 @@ made_end f all i out whole le h = sym (append-nil out) ∙ ap (λ d. out ++ map 
 pub two_boxes : (all own defined : List NewAssertion) (v0 v1 v2 : List ℕ) → v0 ≡ [] → defined ≡ all → v1 ≡ v0 ++ trees_bytes (assertion_boxes defined) → v2 ≡ v1 ++ trees_bytes (assertion_boxes own) → v2 ≡ trees_bytes (assertion_boxes (all ++ own))
 two_boxes all own defined v0 v1 v2 h0 e h1 h2 =
     h2 ∙ ap (λ (x : List ℕ). x ++ trees_bytes (assertion_boxes own)) (h1 ∙ ap (λ (x : List ℕ). x ++ trees_bytes (assertion_boxes defined)) h0 ∙ ap (λ (d : List NewAssertion). trees_bytes (assertion_boxes d)) e) ∙ boxes_over all own
-
--- what is made of each of two lists, as a list grows by it
-pub two_made : {B : Type 0} (f : NewAssertion → B) (all own defined : List NewAssertion) (v0 v1 v2 : List B) → v0 ≡ [] → defined ≡ all → v1 ≡ v0 ++ map f defined → v2 ≡ v1 ++ map f own → v2 ≡ map f (all ++ own)
-two_made f all own defined v0 v1 v2 h0 e h1 h2 =
-    h2 ∙ ap (λ x. x ++ map f own) (h1 ∙ ap (λ x. x ++ map f defined) h0 ∙ ap (λ (d : List NewAssertion). map f d) e) ∙ sym (map-append f all own)

@@ -104,9 +104,11 @@ parent_assertion hash p = record { label = codes "c2pa.ingredient.v3"; kind = pa
 data_label : IsWrittenLabel (codes "c2pa.hash.data")
 data_label = written_label (codes "c2pa.hash.data") (record { some = lit< tt; named = grind arith })
 
+-- the label of a binding to boxes can be written
 film_label : IsWrittenLabel (codes "c2pa.hash.bmff.v2")
 film_label = written_label (codes "c2pa.hash.bmff.v2") (record { some = lit< tt; named = grind arith })
 
+-- the label of an ingredient can be written
 pub ingredient_label : IsWrittenLabel (codes "c2pa.ingredient.v3")
 ingredient_label = written_label (codes "c2pa.ingredient.v3") (record { some = lit< tt; named = grind arith })
 
@@ -202,10 +204,6 @@ stored_bound fixed same hash c start len reserve digest digests short =
     ∙ fixed hash c start len digest (replicate reserve 0) digests short ∙ ap (store_size c) (length-replicate {A = ℕ} reserve 0)
 
 -- ---- answers
-
--- the first of two facts of an answer
-pub first_ok : {T E : Type 0} (r : Result T E) (b x : T) (Q : Type 0) → r ≡ Ok b → IfOk r (λ s. (s ≡ x) × Q) → b ≡ x
-first_ok r b x Q e h = (IfOk-at_ok (λ s. (s ≡ x) × Q) e h).0
 
 -- two clauses of one answer together
 pub both_ok : {T E : Type 0} (r : Result T E) (P Q R : T → Type 0) → ((x : T) → P x → Q x → R x) → IfOk r P → IfOk r Q → IfOk r R

@@ -82,10 +82,6 @@ with_old labels kept text h some label = by (bytes_eq text label) refl ∙ sym (
 
 -- ---- the same of places that are kept
 
--- kept places stay right when something without a label is added
-pub none_added : (labels : List (Option (List ℕ))) (p : Places) (o : Option (Bor (List ℕ))) → o ≡ None → ArePlaces labels p → ArePlaces (labels ++ option_map (λ x. x.now) o ∷ []) p
-none_added labels p o none h = subst (λ (x : Option (Bor (List ℕ))). ArePlaces (labels ++ option_map (λ y. y.now) x ∷ []) p) (sym none) (without labels (kept_place p) h)
-
 -- kept places with a new label at the place after all others are right for the list with this label added
 pub new_added : (labels : List (Option (List ℕ))) (p q : Places) (o : Option (Bor (List ℕ))) (text : Bor (List ℕ)) (place : ℕ) (first : Option ℕ) → o ≡ Some text → first ≡ kept_place p text.now → is_none first ≡ true → ((label : List ℕ) → kept_place q label ≡ update bytes_eq (kept_place p) text.now (Some place) label)
     → ArePlaces labels p → place ≡ length labels → ArePlaces (labels ++ option_map (λ x. x.now) o ∷ []) q

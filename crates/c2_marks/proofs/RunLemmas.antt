@@ -302,13 +302,6 @@ join_run file r old new runs last from offset value within front place join =
     ∙ and_swap (holds_test file r (last_test old last)) (holds_at file r (last.offset + from) value) (list_all (holds_test file r) (map (run_test old) runs))
     ∙ ap (λ n. holds_last file r old runs last && holds_at file r n value) place
 
--- a value that no box meets with the last run
-pub differ_run : (file : List ℕ) (r : RootBox) (old : List ℕ) (runs : List Run) (last : Last) (from offset : ℕ) (value : List ℕ) → last.offset + from ≡ offset → Differ last.start from value old → false ≡ (holds_last file r old runs last && holds_at file r offset value)
-differ_run file r old runs last from offset value place differ =
-    sym (ap (λ n. holds_last file r old runs last && holds_at file r n value) (sym place)
-    ∙ sym (and_swap (holds_test file r (last_test old last)) (holds_at file r (last.offset + from) value) (list_all (holds_test file r) (map (run_test old) runs)))
-    ∙ ap (λ b. b && list_all (holds_test file r) (map (run_test old) runs)) (differ file r last.offset))
-
 -- a value of no bytes only asks for a length
 pub holds_nothing : (file : List ℕ) (r : RootBox) (offset : ℕ) (value : List ℕ) → length value ≡ 0 → nat_le (offset + length value) r.length ≡ true → holds_at file r offset value ≡ true
 holds_nothing file r offset [] none fits = and_true (nat_le (offset + 0) r.length) ∙ fits

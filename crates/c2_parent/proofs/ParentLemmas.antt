@@ -97,11 +97,6 @@ thin_signature : (out : List ℕ → Bool) (u : Tree) → is_signature_box (thin
 thin_signature out (leaf b) = refl
 thin_signature out (super wide d us) = refl
 
--- and stays a superbox or none
-thin_super : (out : List ℕ → Bool) (u : Tree) → is_super (thin_store out u) ≡ is_super u
-thin_super out (leaf b) = refl
-thin_super out (super wide d us) = refl
-
 -- one box in front
 find_front : (s g : Bool) (u : Tree) (xs : List Tree) → is_signature_box u ≡ g → find is_signature_box (cond s (u ∷ xs) xs) ≡ cond s (cond g (Some u) (find is_signature_box xs)) (find is_signature_box xs)
 find_front true g u xs e = ap (λ (b : Bool). cond b (Some u) (find is_signature_box xs)) e

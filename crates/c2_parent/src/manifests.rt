@@ -11,7 +11,7 @@ ghost use Rattle.c2_carried.specs.Redacting.{without, thin_boxes};
 use crate::boxes::{append_box, append_front, append_head, first_box};
 use crate::named::{Named, has_named};
 use c2_base::NoMemory;
-use c2_jumbf::{Tree, after, contents, count, label_of, total, uuid_of};
+use c2_jumbf::{Tree, after, contents, label_of, total, uuid_of};
 use c2_spec::kinds::ASSERTIONS_TYPE;
 
 /// Whether a box has the label of an assertion store.

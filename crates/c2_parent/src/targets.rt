@@ -9,7 +9,7 @@ ghost use Rattle.c2_parent.specs.Refused.{still_there};
 use crate::named::{Named, has_named};
 use c2_base::NoMemory;
 use c2_chain::{Labelled, find_box, is_listed, with_labels};
-use c2_reading::{Kept, ReadManifests, is_reached, manifests, place_of};
+use c2_reading::{Kept, ReadManifests, is_reached, place_of};
 use std::alloc::Global;
 
 /// Manifests, each with its boxes and entries by their labels.

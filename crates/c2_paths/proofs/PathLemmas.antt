@@ -28,12 +28,6 @@ next_value ds i value inside digit so_far = sym (digits_value_more 10 ds i insid
 pub next_digit : (ds : List ℕ) (i : ℕ) → i < length ds → is_ascii_digit (get_or ds i 0) ≡ true → list_all is_ascii_digit (take i ds) ≡ true → list_all is_ascii_digit (take (i + 1) ds) ≡ true
 next_digit ds i inside digit so_far = list_all_more is_ascii_digit ds i 0 inside ∙ and_from _ _ so_far digit
 
--- a byte that is no digit
-all_fails : (ds : List ℕ) (i : ℕ) → i < length ds → is_ascii_digit (get_or ds i 0) ≡ false → list_all is_ascii_digit ds ≡ false
-all_fails [] i inside fails = absurd (omega arith)
-all_fails (x ∷ xs) zero inside fails = and_left _ _ fails
-all_fails (x ∷ xs) (suc i) inside fails = and_right _ _ (all_fails xs i (omega arith) fails)
-
 -- the number where four tests pass
 abbrev number_if : Bool → Bool → Bool → Bool → ℕ → Option ℕ
 number_if a b c d n = cond (a && b && c && d) (Some n) None
@@ -53,10 +47,6 @@ last_fails false b c n = refl
 -- by these tests
 by_tests : (ds : List ℕ) → number_of_digits ds ≡ number_if (list_all is_ascii_digit ds) (not (get_or ds 0 0x30 == 0x30)) (leb 1 (digits_value 10 ds)) (leb (digits_value 10 ds) most_nth) (digits_value 10 ds)
 by_tests ds = refl
-
--- a text with a byte that is no digit writes no number in brackets
-pub not_digits : (ds : List ℕ) (i : ℕ) → i < length ds → is_ascii_digit (get_or ds i 0) ≡ false → number_of_digits ds ≡ None
-not_digits ds i inside fails = by_tests ds ∙ ap (λ t. number_if t (not (get_or ds 0 0x30 == 0x30)) (leb 1 (digits_value 10 ds)) (leb (digits_value 10 ds) most_nth) (digits_value 10 ds)) (all_fails ds i inside fails)
 
 -- a leading zero, or no digit
 pub leading_zero : (ds : List ℕ) → get_or ds 0 0x30 ≡ 0x30 → number_of_digits ds ≡ None
@@ -103,33 +93,6 @@ last_is bs some =
     and_true : (b : Bool) → (b && true) ≡ b
     and_true true = refl
     and_true false = refl
-
--- no bracket opens, or none closes
-pub nth_other : (text : List ℕ) → 0 < length text → (get_or text 0 0 ≡ 0x5B → ⊥) → None ≡ nth_of_text text
-nth_other [] some other = absurd (omega arith)
-nth_other (b ∷ bs) some other = sym (ap (λ t. cond (t && bytes_eq (drop (length bs - 1) bs) (0x5D ∷ [])) (nth_number (digits_value 10 (take (length bs - 1) bs)) (take (length bs - 1) bs)) None) (ne_eqb b 0x5B other))
-
--- one byte after a type, even an opening bracket, is no number in brackets
-pub nth_open : (text : List ℕ) → length text ≡ 1 → None ≡ nth_of_text text
-nth_open [] one = absurd (omega arith)
-nth_open (b ∷ []) one = go (b == 0x5B)
-  where
-    go : (t : Bool) → None ≡ cond (t && false) (nth_number 0 []) None
-    go true = refl
-    go false = refl
-nth_open (b ∷ c ∷ cs) one = absurd (omega arith)
-
--- a text after a type whose last byte doesn't close the bracket is no number in brackets
-pub nth_unclosed : (text : List ℕ) (last : ℕ) → 2 ≤ length text → last ≡ length text - 1 → (get_or text last 0 ≡ 0x5D → ⊥) → None ≡ nth_of_text text
-nth_unclosed [] last two e other = absurd (omega arith)
-nth_unclosed (b ∷ bs) last two e other =
-    let at : last ≡ suc (length bs - 1) = omega (arith, e, two) in
-    let no : (get_or bs (length bs - 1) 0 == 0x5D) ≡ false = ne_eqb _ 0x5D (λ h. other (ap (λ n. get_or (b ∷ bs) n 0) at ∙ h)) in
-    sym (ap (λ t. cond ((b == 0x5B) && t) (nth_number (digits_value 10 (take (length bs - 1) bs)) (take (length bs - 1) bs)) None) (last_is bs (omega (arith, two)) ∙ no) ∙ go (b == 0x5B))
-  where
-    go : (t : Bool) → cond (t && false) (nth_number (digits_value 10 (take (length bs - 1) bs)) (take (length bs - 1) bs)) None ≡ None
-    go true = refl
-    go false = refl
 
 -- a number that is neither 0 nor 1
 pub two_or_more : (n : ℕ) → (n == 0) ≡ false → (n ≡ 1 → ⊥) → 2 ≤ n

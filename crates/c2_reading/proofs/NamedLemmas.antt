@@ -28,13 +28,6 @@ position_map f p xs = position_from-zero p (map f xs) ∙ from_map f p 0 xs ∙ 
 pub so_many : (rs : List Reading) (i : ℕ) → i < length rs → i ≡ length (labels_of (take i rs))
 so_many rs i lt = sym (length-map (take i rs) (λ (r : Reading). Some (label_in r)) ∙ length-take-le i rs (omega arith))
 
--- one manifest more
-pub label_more : (rs : List Reading) (i : ℕ) (r : Reading) (label : List ℕ) (p : Places) → i < length rs → r ≡ get_or rs i r → label ≡ label_in r → ArePlaces (labels_of (take i rs) ++ Some label ∷ []) p → ArePlaces (labels_of (take (i + 1) rs)) p
-label_more rs i r label p lt at is h =
-    let one : labels_of (take (i + 1) rs) ≡ labels_of (take i rs) ++ Some (label_in (get_or rs i r)) ∷ [] = ap labels_of (take_more rs i r lt) ∙ map-append (λ (x : Reading). Some (label_in x)) (take i rs) (get_or rs i r ∷ []) in
-    let same : labels_of (take i rs) ++ Some label ∷ [] ≡ labels_of (take i rs) ++ Some (label_in (get_or rs i r)) ∷ [] = ap (λ (l : List ℕ). labels_of (take i rs) ++ Some l ∷ []) (is ∙ ap label_in at) in
-    subst (λ (ls : List (Option (List ℕ))). ArePlaces ls p) (same ∙ sym one) h
-
 -- all of them
 pub all_placed : (rs : List Reading) (p : Places) → ArePlaces (labels_of (take (length rs) rs)) p → FindsPlaces rs p
 all_placed rs p h label = h label ∙ ap (λ (xs : List Reading). position (λ o. is_given o label) (labels_of xs)) (take-length rs) ∙ position_map (λ (r : Reading). Some (label_in r)) (λ o. is_given o label) rs

@@ -100,26 +100,6 @@ or_false : (a : Bool) → a ≡ (a || false)
 or_false true = refl
 or_false false = refl
 
--- sets that stay as they are have gained what no redactions redact
-pub no_texts : (rs : List Reading) (n : ℕ) (sets : List Labels) → AddsTexts rs n sets sets []
-no_texts rs n sets = record { count = refl; says = λ m label lt. or_false (has_at sets m label) }
-
--- sets that gained what some redactions redact, and then what one more does, gained what all of these redact
-pub texts_more : (rs : List Reading) (n : ℕ) (a b c : List Labels) (xs : List (List ℕ)) (x : List ℕ) → AddsTexts rs n a b xs → AddsTexts rs n b c (x ∷ []) → AddsTexts rs n a c (xs ++ x ∷ [])
-texts_more rs n a b c xs x h one = record { count = one.count ∙ h.count; says = says }
-  where
-    says : (m : ℕ) (label : List ℕ) → m < length rs → has_at c m label ≡ (has_at a m label || list_any (λ (text : List ℕ). reaches rs n m && names_at rs m label text) (xs ++ x ∷ []))
-    says m label lt =
-        let p = λ (text : List ℕ). reaches rs n m && names_at rs m label text in
-        one.says m label lt ∙ ap (λ (q : Bool). q || list_any p (x ∷ [])) (h.says m label lt) ∙ or_assoc (has_at a m label) (list_any p xs) (list_any p (x ∷ []))
-        ∙ ap (λ (q : Bool). has_at a m label || q) (sym (list_any-append p xs (x ∷ [])))
-
--- the same of a list's first `i` redactions and the one at place `i`
-pub text_more : (rs : List Reading) (n i : ℕ) (a b c : List Labels) (xs : List (List ℕ)) (x : List ℕ) → i < length xs → x ≡ get_or xs i x → AddsTexts rs n a b (take i xs) → AddsTexts rs n b c (x ∷ []) → AddsTexts rs n a c (take (i + 1) xs)
-text_more rs n i a b c xs x lt at h one =
-    let more : take (i + 1) xs ≡ take i xs ++ x ∷ [] = take_more xs i x lt ∙ ap (λ (y : List ℕ). take i xs ++ y ∷ []) (sym at) in
-    subst (λ (ys : List (List ℕ)). AddsTexts rs n a c ys) (sym more) (texts_more rs n a b c (take i xs) x h one)
-
 -- ---- the redactions of one manifest
 
 -- no member passes a test that fails always
@@ -183,10 +163,6 @@ or_comm true false = refl
 or_comm false true = refl
 or_comm false false = refl
 
--- empty sets, one for each manifest, are what no manifest redacts
-pub below_start : (rs all : List Reading) (sets : List Labels) (count : ℕ) → all ≡ rs → count ≡ length all → AreNone count sets → AreRedactedBelow rs 0 sets
-below_start rs all sets count same is h = record { count = h.many ∙ is ∙ ap (λ (xs : List Reading). length xs) same; says = λ m label lt. h.none m label }
-
 -- sets of what the first `n` manifests redact that gain what the next does are those of the first `n + 1`
 pub below_more : (rs : List Reading) (n : ℕ) (a b : List Labels) → AreRedactedBelow rs n a → AddsOf rs n a b → AreRedactedBelow rs (n + 1) b
 below_more rs n a b h one = record {
@@ -224,24 +200,3 @@ pub none_more : (n : ℕ) (old new : List Labels) (s : Labels) → AreNone n old
 none_more n old new s h e is = subst (λ (x : List Labels). AreNone (n + 1) x) (sym is) (record { many = one_more old s ∙ ap (λ (k : ℕ). k + 1) h.many; none = none_pushed old s h.none e })
 
 -- ---- what is touched
-
--- a bit added at the end leaves those before it as they were
-bit_before : (xs : List Bool) (x : Bool) (n : ℕ) → n < length xs → slice_index_or (xs ++ x ∷ []) n false ≡ slice_index_or xs n false
-bit_before [] x n lt = absurd (omega arith)
-bit_before (y ∷ xs) x zero lt = refl
-bit_before (y ∷ xs) x (suc n) lt = bit_before xs x n (omega arith)
-
--- the bit added at the end stands at the place after the others
-bit_last : (xs : List Bool) (x : Bool) → slice_index_or (xs ++ x ∷ []) (length xs) false ≡ x
-bit_last [] x = refl
-bit_last (y ∷ xs) x = bit_last xs x
-
--- bits that say which of the first `n` manifests are touched, and the next one's bit, say it of the first `n + 1`
-pub touched_more : (rs : List Reading) (n : ℕ) (old new : List Bool) (b : Bool) → AreTouchedBelow rs n old → b ≡ is_touched rs n → new ≡ old ++ b ∷ [] → AreTouchedBelow rs (n + 1) new
-touched_more rs n old new b h here is = subst (λ (x : List Bool). AreTouchedBelow rs (n + 1) x) (sym is) (record { count = one_more old b ∙ ap (λ (k : ℕ). k + 1) h.count; says = says })
-  where
-    says : (m : ℕ) → m < n + 1 → slice_index_or (old ++ b ∷ []) m false ≡ is_touched rs m
-    says m lt = elim (earlier_or_last m n lt) [
-      | inl earlier ↦ let same : length old ≡ n = h.count in bit_before old b m (omega arith) ∙ h.says m earlier
-      | inr last ↦ subst (λ (k : ℕ). slice_index_or (old ++ b ∷ []) k false ≡ is_touched rs k) (h.count ∙ sym last) (bit_last old b ∙ here ∙ ap (is_touched rs) (sym h.count))
-    ]

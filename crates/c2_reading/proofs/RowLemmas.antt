@@ -84,10 +84,6 @@ earlier_or_last zero (suc k) lt = inl (omega arith)
 earlier_or_last (suc n) zero lt = absurd (omega arith)
 earlier_or_last (suc n) (suc k) lt = one_up n k (earlier_or_last n k (omega arith))
 
--- no rows are those before the first manifest
-pub no_rows : (rs : List Reading) → AreRowsBelow rs 0 []
-no_rows rs = record { count = refl; says = λ n m lt inside. absurd (omega arith) }
-
 -- rows of what the first `k` manifests reach, and the next one's row made from them, are those of the first `k + 1`
 pub rows_more : (rs : List Reading) (k : ℕ) (rows given new : List (List Bool)) (row : List Bool) → AreRowsBelow rs k rows → given ≡ rows → row ≡ row_bits given (children rs (length given)) (length rs) → new ≡ rows ++ row ∷ [] → AreRowsBelow rs (k + 1) new
 rows_more rs k rows given new row h same made is = subst (λ (x : List (List Bool)). AreRowsBelow rs (k + 1) x) (sym is) (record { count = pushed_length rows row ∙ ap (λ (n : ℕ). n + 1) h.count; says = says })

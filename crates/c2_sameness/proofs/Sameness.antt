@@ -80,17 +80,6 @@ gives_entries_at rs ss n m l q b t at there h yes' e =
     ∙ ap (λ o. option_map_or (gives_all rs n l ss m) o false) (sym there) in
     subst (λ o. IfSome o (λ r. t ≡ gives_at rs n r ss m)) (sym at) here
 
--- manifests that aren't alike
-pub not_given_at : (rs ss : List Reading) (n m : ℕ) (l q : Reading) (b : Bool) → slice_get rs n ≡ Some l → slice_get ss m ≡ Some q
-    → IfSome (slice_get rs n) (λ r. IfSome (slice_get ss m) (λ s. b ≡ alike rs n r ss m s)) → b ≡ false
-    → IfSome (slice_get rs n) (λ r. false ≡ gives_at rs n r ss m)
-not_given_at rs ss n m l q b at there h no' =
-    let known : alike rs n l ss m q ≡ false = sym (at_both rs ss n m l q b at there h) ∙ no' in
-    let here : false ≡ gives_at rs n l ss m =
-    none_of (is_reached ss m) (bytes_eq (key_at ss m q) (key_at rs n l)) (are_equal (claim_bytes_of l) (claim_bytes_of q)) (entries_given rs n l ss m q) known
-    ∙ ap (λ o. option_map_or (gives_all rs n l ss m) o false) (sym there) in
-    subst (λ o. IfSome o (λ r. false ≡ gives_at rs n r ss m)) (sym at) here
-
 -- ---- a loop over the places of the second store
 
 -- this manifest gives all

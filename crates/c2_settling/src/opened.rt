@@ -94,6 +94,7 @@ fn settle_chains<A: Source, B: Source, W: Sink>(
     ensures later { W.faults report.old ≤ W.faults report.new }
     ensures unfinished { W.finished report.new ≡ W.finished report.old }
 {
+    // Matched and not handed up by `?`, here and below: each way out has clauses of its own.
     let text = match active_text(alloc, first, one, chain) {
         Ok(text) => text,
         Err(error) => return Err(error),

@@ -125,6 +125,7 @@ fn settle_content<A: Source, B: Source, W: Sink>(
     ensures later { W.faults report.old ≤ W.faults report.new }
     ensures unfinished { W.finished report.new ≡ W.finished report.old }
 {
+    // Matched and not handed up by `?`, here and below: each way out has clauses of its own.
     let same = match are_same(alloc, first, one, text, second, two, other) {
         Ok(same) => same,
         Err(error) => return Err(error),

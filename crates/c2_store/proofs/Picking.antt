@@ -67,7 +67,3 @@ pub refusal_next : {X : Type 0} (tests : X → List StoreTest) (xs : List X) (i 
     → first_refusal (flat_map tests xs) ≡ first_refusal (flat_map tests (drop i xs)) → None ≡ first_refusal (tests (get_or xs i d)) → first_refusal (flat_map tests xs) ≡ first_refusal (flat_map tests (drop (i + 1) xs))
 refusal_next tests xs i d lt so_far is =
     so_far ∙ refusal_at tests xs i d lt ∙ ap (λ o. option_or o (first_refusal (flat_map tests (drop (i + 1) xs)))) (sym is)
-
--- at the end nothing is refused
-pub refusal_none : {X : Type 0} (tests : X → List StoreTest) (xs : List X) → first_refusal (flat_map tests xs) ≡ first_refusal (flat_map tests (drop (length xs) xs)) → ◌≡◌ {A = Option StoreError} None (first_refusal (flat_map tests xs))
-refusal_none tests xs so_far = sym (so_far ∙ ap (λ ys. first_refusal (flat_map tests ys)) (drop-length xs))

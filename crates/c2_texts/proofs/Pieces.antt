@@ -65,10 +65,6 @@ claim_written c o0 o1 o2 o3 o4 o5 a b d e f =
     (compact_text (text_or_null c.alg)) (compact_text (array (items_of (map entry_data (c.created ++ c.gathered))))) (compact_text (string c.instance)) (compact_text (array (items_of (map string c.redacted))))
     o0 o1 o2 o3 o4 o5 a b d e f
 
--- a text that has gained this item has gained the item that is there, if it is this one
-written_as : (o0 o5 : List ℕ) (d : Data) (o : Option Data) → o5 ≡ o0 ++ compact_text d → Some d ≡ o → Some o5 ≡ option_map (λ (x : Data). o0 ++ compact_text x) o
-written_as o0 o5 d o e f = ap Some e ∙ ap (option_map (λ (x : Data). o0 ++ compact_text x)) f
-
 -- what was written of a manifest's parts is the text of the manifest at this place, with its claim
 of_parts : (t : Tree) (boxes : List ℕ) (label : List ℕ) (update : Bool) (claim : Option Claim) (o0 o5 : List ℕ) (m : Option ManifestBoxes)
     → Some boxes ≡ option_map (λ (m : ManifestBoxes). m.assertions) m

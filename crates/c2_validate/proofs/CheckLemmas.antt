@@ -122,13 +122,6 @@ cause_of_judges old new before now NoMemory h = tt
 pub cause_later : {T : Type 0} (old new : Judges) (a b c : ℕ) (r : Result T ValidateError) → b ≡ a → IfErr r (IsFaultCause b c old new) → IfErr r (IsFaultCause a c old new)
 cause_later {T} old new a b c r same h = subst (λ (n : ℕ). IfErr r (IsFaultCause n c old new)) same h
 
--- nothing was asked
-pub asked_none : {T : Type 0} (qs : List Question) (js : Judges) (before now : ℕ) (r : Result T ValidateError) → IfErr r (IsCause before now) → (IfOk r (λ x. qs ≡ [])) → HasAsked qs js js r
-asked_none qs js before now (Ok x) cause none = subst (λ (ps : List Question). HaveAsked js.said ps js.asked js.asked) (sym none) refl
-asked_none qs js before now (Err ReadFault) cause none = front_none js.said qs js.asked
-asked_none qs js before now (Err JudgeFault) cause none = absurd cause
-asked_none qs js before now (Err NoMemory) cause none = front_none js.said qs js.asked
-
 -- ---- the active manifest
 
 -- what is asked, by whether the active manifest fails

@@ -47,6 +47,7 @@ fn answer_binding<S: Source, H: Hashing>(
     ensures cause { IfErr result (IsCause (S.faults source.old) (S.faults source.new)) }
 {
     let own = active_manifest(chain);
+    // Matched and not handed up by `?`, here and below: each way out has clauses of its own.
     let bound = match check_binding(alloc, hashing, source, &media.container, own) {
         Ok(bound) => bound,
         Err(error) => return Err(error),

@@ -15,6 +15,7 @@ use Rattle.c2_words.specs.declared.types.Command.TheVariants as command
 use Rattle.c2_words.specs.declared.types.Roles.{Roles}
 use Rattle.c2_words.proofs.Walking.{both, ends_well, goes, goes_well, judges_go, judges_used, judging, level, start}
 
+-- where there is none, there isn't some value
 some≢none : {A : Type 0} (x : A) → None ≡ Some x → ⊥
 some≢none x e = true≢false (sym (ap (λ o. is_some o) e))
 
@@ -46,6 +47,7 @@ takes_questions m (j ∷ js) few =
       ap (λ s. ends_well (built_of c) s.held) go.1 ∙ ap (λ (b : Bool). b && rest_passes c 2 (rows_after c (m ∷ [])) (j ∷ js)) (judges_used false 2 (rows_after c (m ∷ [])) j js (omega (arith, few))),
     )
 
+-- `validate` takes a file and judges
 takes_validate : (m : Text) (js : List Text) → length js ≤ 64 → Takes command.Validate (m ∷ js)
 takes_validate m [] few = (refl, refl)
 takes_validate m (j ∷ js) few =
@@ -65,6 +67,7 @@ takes_compare m s (j ∷ js) few =
       ap (λ s. ends_well (built_of c) s.held) go.1 ∙ ap (λ (b : Bool). b && rest_passes c 3 (rows_after c (m ∷ s ∷ [])) (j ∷ js)) (judges_used false 3 (rows_after c (m ∷ s ∷ [])) j js (omega (arith, few))),
     )
 
+-- `plan` takes two files and judges
 takes_plan : (m s : Text) (js : List Text) → length js ≤ 64 → Takes command.Plan (m ∷ s ∷ js)
 takes_plan m s [] few = (refl, refl)
 takes_plan m s (j ∷ js) few =
@@ -161,6 +164,7 @@ named first c e =
 abbrev whole : App
 whole = built command_line
 
+-- the names of its subcommands
 abbrev names : Names
 names = names_of whole
 
