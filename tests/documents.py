@@ -17,7 +17,7 @@ TOP = os.path.join(os.path.dirname(os.path.abspath(__file__)), "..")
 COLUMNS = {"edit": ("edit",), "test": ("test",), "clause": ("clause", "function", "by")}
 # Functions, types, traits, modules, and the names of clauses and of ghost members.
 DECLARED = r"\b(?:fn|struct|enum|trait|mod|const|ensures|requires|ghost|law) (\w+)"
-DOCUMENTS = [f"{TOP}/README.md", f"{TOP}/examples/README.md", f"{TOP}/tests/README.md", *sorted(glob.glob(f"{TOP}/docs/*.md"))]
+DOCUMENTS = [f"{TOP}/README.md", f"{TOP}/tests/README.md", *sorted(glob.glob(f"{TOP}/examples/**/README.md", recursive=True)), *sorted(glob.glob(f"{TOP}/docs/*.md"))]
 
 
 def cells(line):

@@ -150,6 +150,19 @@ def unsigned():
     return Jpeg().file([below, Manifest("m", Ingredient("d", "parentOf", is_signed=False), DataHash())])
 
 
+def of_version_1():
+    """One whose claims and ingredient are of version 1."""
+    below = old(note(), label="d", version=1)
+    return Jpeg().file([below, Manifest("m", Ingredient("d", "parentOf", label="c2pa.ingredient"), note(), DataHash(), version=1)])
+
+
+def by_sha512():
+    """One whose digests are by SHA-512, but for that of the manifest below, and whose manifest below has all by SHA-384."""
+    below = with_(Manifest("d", note(), DataHash(None)), claim_alg="sha384")
+    above = Manifest("m", with_(Ingredient("d", "parentOf"), algs=["sha256", None]), note(), DataHash(None))
+    return Jpeg().file([below, with_(above, claim_alg="sha512")])
+
+
 def unreached():
     """One with a manifest that nobody names."""
     return Jpeg().file([old(note(), label="d"), Manifest("m", DataHash())])
@@ -376,6 +389,8 @@ def parent_rows():
     yield row("the old store's number is free", None, renumbered(), LATER_DEFINITION)
     yield row("wide boxes and a leaf", None, wide_boxes(), LATER_DEFINITION)
     yield row("a manifest that isn't reached is carried", None, unreached(), LATER_DEFINITION)
+    yield row("a store of version 1", None, of_version_1(), LATER_DEFINITION)
+    yield row("a store by longer digests", None, by_sha512(), LATER_DEFINITION)
     update = [old(label="d"), with_(Manifest("u", Ingredient("d", "parentOf")), is_update=True), Manifest("m", Ingredient("u", "parentOf"), DataHash())]
     yield row("an update below", None, Jpeg().file(update), LATER_DEFINITION)
     yield row("a store of four packets", None, "a store of 200,000 bytes", LATER_DEFINITION)
@@ -410,6 +425,8 @@ def redaction_rows():
     yield row("a redaction below the parent", None, media, redacting(target("d", "test.note")))
     every = target("d", "test.other"), target("m", "test.note"), target("d", "test.note")
     yield row("three redactions", None, media, redacting(*every))
+    yield row("a redaction in a claim of version 1", None, of_version_1(), redacting(target("m", "test.note")))
+    yield row("redactions in a store by longer digests", None, by_sha512(), redacting(target("d", "test.note"), target("m", "test.note")))
     yield row("a redaction in wide boxes", None, wide_boxes(), redacting(target("m", "test.note")))
     once = embed(media, redacting(target("d", "test.note")), MESSAGE, judges_of("approved"))[0]
     again = definition(label=LABEL[:-1] + "2", redact=[target("d", "test.other")])
@@ -604,6 +621,7 @@ def redaction_refusals():
     yield row("a manifest that isn't reached", f"build RedactionRefused {note_below} profile.redaction.target", unreached(), redacting(note_below))
     named = f"build RedactionRefused {note_below} profile.ingredient.signature"
     yield row("an ingredient without a signature", named, unsigned(), redacting(note_below))
+    yield row("an ingredient of version 1", named, of_version_1(), redacting(note_below))
     no_store = target("m", "test.note")
     yield row("no store", f"build RedactionRefused {no_store} profile.redaction.target", given=with_redactions(no_store))
     second = redacting(target("m", "test.note"), "x", target("x", "y"))

@@ -1,11 +1,13 @@
 #!/usr/bin/env python3
-"""Tables of rows for crates/c2_rows, of builds that are drawn as chance_builds.py draws them, with what builder.py says of each.
+"""Tables of rows for crates/c2_rows, of files that are drawn at random, with what the independent programs say of each.
 
-    chance_rows.py FOLDER COUNT [SEED [KIND]]      writes FOLDER/1.rows, FOLDER/2.rows and so on for COUNT builds
+    chance_rows.py FOLDER COUNT [SEED [KIND]]      writes FOLDER/1.rows, FOLDER/2.rows and so on for COUNT files
 
-KIND is `fresh`, `signed` or `film` as for chance_builds.py, or `all` (the default) for each by turns. A row has what `embed` says and the new
-file's length and digest, and how often each judge was asked; the next has what `plan` says. Each new file must be as chance_builds.py
-wants it, or it is told. Prints how often each answer of `embed` came. In the folder of that crate `rt try` runs the tables:
+KIND is `fresh`, `signed` or `film` for builds as chance_builds.py draws them, or `all` (the default) for each by turns. A row has what `embed`
+says and the new file's length and digest, and how often each judge was asked; the next has what `plan` says. Each new file must be as
+chance_builds.py wants it, or it is told. With `stores` or `film stores` the rows have what `show`, `questions` and `validate` say of files as
+validate.py draws them, and with `pairs` what `compare` says of pairs as chance_pairs.py draws them. Prints how often each answer of `embed`,
+`validate` or `compare` came. In the folder of that crate `rt try` runs the tables:
 
     rt try --data 1.rows=FOLDER/1.rows --data 2.rows=FOLDER/2.rows -- 1.rows 2.rows
 """
@@ -15,13 +17,20 @@ import random
 import sys
 from collections import Counter
 
+import hashing
+import pairs
 from builder import embed, line_of, plan
 from build_rows import judge_named
 from build_tables import Lines, new_file, told
 from chance_builds import DRAWN, KINDS, drawn_definition, drawn_message, kind_of, manifests_in, questions_in, wrong_in
-from chance_stores import verdict_files
-from store import JUDGE_FAULT, JudgeFault, verdicts_in
+from chance_pairs import drawn_pair
+from chance_pairs import kind_of_answer as kind_of_comparison
+from chance_stores import changed_file, drawn_file, verdict_files
+from compare_rows import asked_of
+from store import JUDGE_FAULT, JudgeFault, report, verdicts_in
+from tables import Approving
 from told import tell
+from validate import kind_of_answer
 
 # The most bytes of a table, less what a row may have.
 LONGEST_TABLE = 3_000_000
@@ -74,6 +83,26 @@ def put(lines, chance, files, rows):
     return built, planned
 
 
+def put_read(lines, contents, rows):
+    """Appends a row for each command that reads a file, and gives what `validate` says."""
+    for command in "show", "questions", "validate":
+        judges = [judge_of(each) for each in rows] if command != "show" else []
+        try:
+            line, status = report(command, contents, judges)
+        except JudgeFault:
+            line, status = "", JUDGE_FAULT
+        lines.set(judges=" ".join(map(judge_text, rows)) if judges else "", words=f"{command} P" + " V" * len(judges))
+        lines.row(told((status, line.replace("\n", " / ")), [judge.asked for judge in judges]), contents.hex())
+    return line, status
+
+
+def put_pair(lines, first, second):
+    """Appends a row for `compare`, under the sum, and gives what it says."""
+    line, status = pairs.compared(first, second, [Approving()])
+    lines.row(told((status, line.replace("\n", " / ")), [asked_of(first, second)]), first.hex(), second.hex())
+    return line
+
+
 class Tables:
     """The tables of a folder, one after the other."""
 
@@ -82,7 +111,7 @@ class Tables:
         self.begin()
 
     def begin(self):
-        self.lines = Lines("Builds that are drawn at random.")
+        self.lines = Lines("Files that are drawn at random.")
         self.lines.set(room=1_000_000)
 
     def end(self):
@@ -92,9 +121,50 @@ class Tables:
         self.begin()
 
 
+    def put(self, write, *given):
+        """Writes rows into the table that is open, and begins the next where it is long."""
+        made = write(self.lines, *given)
+        if len(self.lines.text) > LONGEST_TABLE:
+            self.end()
+        return made
+
+
+def read_stores(written, chance, count, is_bmff=False):
+    answers = Counter()
+    for number in range(count):
+        contents = drawn_file(chance, is_bmff)
+        if number % 3 == 2:
+            contents = changed_file(chance, contents)
+        written.lines.set(pieces=chance.choice(("65536", "1009")))
+        line, status = written.put(put_read, contents, verdict_files(chance, questions_in(contents)))
+        answers[kind_of_answer(line.encode(), status)] += 1
+    return answers
+
+
+def read_films(written, chance, count):
+    return read_stores(written, chance, count, True)
+
+
+def compare_pairs(written, chance, count):
+    hashing.choose("weak")
+    answers = Counter()
+    for _ in range(count):
+        written.lines.set(words="compare P Q V", hash="weak", judges="approved", pieces=chance.choice(("65536", "1009/7")))
+        answers[kind_of_comparison(written.put(put_pair, *drawn_pair(chance)))] += 1
+    return answers
+
+
+READ = {"stores": read_stores, "film stores": read_films, "pairs": compare_pairs}
+
+
 def main():
     folder, count, *more = sys.argv[1:]
     chance = random.Random(int(more[0]) if more else 1)
+    if more[1:] and more[1] in READ:
+        written = Tables(folder)
+        answers = READ[more[1]](written, chance, int(count))
+        written.end()
+        tell(answers, f"{count} files in {written.count} tables", 0)
     kinds = KINDS if more[1:] in ([], ["all"]) else more[1:]
     written, answers, wrong, chain = Tables(folder), Counter(), 0, None
     for number in range(int(count)):

@@ -18,9 +18,12 @@ from drafts import (
     Ingredient,
     Jpeg,
     Manifest,
+    Written,
+    digest,
     exclusion,
     provenance_box,
     reference,
+    relabelled,
 )
 from locate import Refused
 from make import segment
@@ -38,20 +41,22 @@ from make_store import (
     text,
     uint,
 )
-from manifests import BINDINGS, HASHES, INGREDIENTS, kind_of, manifests_of
+from manifests import BINDINGS, CLAIM_LABELS, HASHES, INGREDIENT_LABELS, INGREDIENTS, base_of, kind_of, manifests_of
 from manifests import Manifest as Read
 from media import media_of
 from vary import varied, varied_store
 
 LABELS = "m", "n", "o", "p", "urn:c2pa:11111111-2222-4333-8444-555555555555", "é", 'x"y', "a b", "M", "c2pa.assertions"
 ORDINARY = "test.note", "test.note__1", "test.note__12", "c2pa.metadata", "é", "a b", "c2pa.thumbnail.claim", "c2pa.hash", "__1"
-NAMES = "sha256", "sha512", "SHA256", "", "sha2567"
+KNOWN = "sha256", "sha384", "sha512"
+NAMES = *KNOWN, "sha1", "SHA256", "SHA-512", "", "sha2567"
 WORDS = "mismatch", "untrusted", "invalid"
 SIGNATURE = "c2pa.signature"
 
 
 class Drawn:
-    """Drafts of the manifests of a store, whose last is the active one, and the media around it."""
+    """Drafts of the manifests of a store, whose last is the active one, and the media around it. Versions of claims and ingredients and algorithms
+    are mixed."""
 
     def __init__(self, chance, is_bmff=False):
         self.chance = chance
@@ -69,7 +74,8 @@ class Drawn:
     def fill(self, at, draft, is_bmff):
         chance = self.chance
         draft.signature = chance.randbytes(4)
-        draft.claim_alg = chance.choice(("sha256", "sha256", None))
+        draft.version = 1 if chance.random() < 0.35 else 2
+        draft.claim_alg = chance.choice(("sha256", None, *KNOWN))
         for label in chance.sample(ORDINARY, chance.choice((0, 0, 1, 1, 2, 3))):
             draft.assertions.append(Assertion(label, data(chance.randbytes(3))))
         if chance.random() < 0.3:
@@ -83,18 +89,25 @@ class Drawn:
         if not draft.is_update:
             chance.shuffle(words)
             binding = BmffHash(some_exclusions(chance)) if is_bmff and chance.random() < 0.85 else DataHash()
-            binding.named_alg = chance.choice(("sha256", None))
+            binding.named_alg = chance.choice(("sha256", None, None, *KNOWN))
             if chance.random() < 0.15:
                 binding.label += "__3"
             if not is_active and chance.random() < 0.2:
                 binding = Assertion("c2pa.hash.boxes")
             draft.assertions.append(binding)
         for number, (other, word) in enumerate(zip(named, words)):
-            label = "c2pa.ingredient.v3" + (f"__{number}" if number else "")
-            draft.assertions.append(Ingredient(self.manifests[other].label, word, chance.random() < 0.8, label))
+            label = self.ingredient_label() + (f"__{number}" if number else "")
+            ingredient = Ingredient(self.manifests[other].label, word, chance.random() < 0.8, label)
+            ingredient.algs = [chance.choice((None, None, *KNOWN)) for _ in range(2)]
+            draft.assertions.append(ingredient)
         if not draft.is_update and chance.random() < 0.08:
-            lone = Ingredient(None, "componentOf", False, "c2pa.ingredient.v3__99")
+            lone = Ingredient(None, "componentOf", False, self.ingredient_label() + "__99")
             draft.assertions.append(lone)
+        for given in draft.assertions:
+            given.alg = chance.choice(KNOWN) if chance.random() < 0.15 else None
+
+    def ingredient_label(self):
+        return INGREDIENT_LABELS[self.chance.choice((1, 2, 3, 3, 3, 3))]
 
     def ingredients(self, draft):
         return [given for given in draft.assertions if isinstance(given, Ingredient)]
@@ -123,7 +136,8 @@ class Drawn:
             for draft in self.manifests:
                 for given in self.ingredients(draft):
                     if given.named == self.manifests[other].label and chance.random() < 0.95:
-                        given.is_signed = True
+                        # only in version 3 an ingredient may name what is redacted
+                        given.is_signed, given.label = True, of_version_3(given.label)
 
     def file(self):
         return self.media.file(self.manifests)
@@ -135,6 +149,11 @@ class Drawn:
 
     def put_fault(self):
         self.chance.choice(FAULTS)(self, self.some())
+
+
+def of_version_3(label):
+    """The label of an ingredient with another version in it."""
+    return INGREDIENT_LABELS[3] + label.removeprefix(base_of(label))
 
 
 def assertion_url(manifest, label):
@@ -210,9 +229,21 @@ def two_claims(drawn, draft):
 
 
 def other_claim_label(drawn, draft):
-    label = drawn.chance.choice(("c2pa.claim", "c2pa.claim.v3", "c2pa.claim.v2__1", None))
+    label = drawn.chance.choice(("c2pa.claim.v1", "c2pa.claim.v3", "c2pa.claim.v2__1", "c2pa.claim.", None))
     encoded = item(b"\xa0")
     draft.change_claims = lambda boxes: [superbox(b"c2cl", label, encoded)]
+
+
+def other_claim_version(drawn, draft):
+    """A claim under the label of the other version."""
+    label = CLAIM_LABELS[3 - draft.version]
+    draft.change_claims = lambda boxes: [relabelled(box, label) for box in boxes]
+
+
+def other_list(drawn, draft):
+    """A claim with a list of the other version besides, which may be absent, or in place of its own."""
+    version, value = drawn.chance.choice((1, 2)), drawn.chance.choice((array(), array(), NULL, UNDEFINED, uint(1)))
+    draft.claim_fields = {"assertions" if version == 1 else "created_assertions": value}
 
 
 def no_claim_item(drawn, draft):
@@ -221,7 +252,8 @@ def no_claim_item(drawn, draft):
 
 
 def other_claim_field(drawn, draft):
-    field = drawn.chance.choice(("instanceID", "signature", "created_assertions", "gathered_assertions", "redacted_assertions", "alg"))
+    lists = "assertions", "created_assertions", "gathered_assertions"
+    field = drawn.chance.choice(("instanceID", "signature", *lists, "redacted_assertions", "alg"))
     value = drawn.chance.choice((uint(1), NULL, array(uint(1)), array(text("x")), mapping(), data(b"a"), text("x"), None))
     draft.claim_fields = {field: value}
 
@@ -296,6 +328,15 @@ def ingredient_varied(drawn, draft, given):
 
 
 @of_kind(INGREDIENTS)
+def ingredient_label(drawn, draft, given):
+    """An ingredient of another version, under a label that fits its form or doesn't."""
+    label = INGREDIENT_LABELS[drawn.chance.choice((1, 2, 3))]
+    if isinstance(given, Ingredient) and drawn.chance.random() < 0.5:
+        given.given = given.spelled(Written())
+    given.label = label + given.label.removeprefix(base_of(given.label))
+
+
+@of_kind(INGREDIENTS)
 def ingredient_relationship(drawn, draft, given):
     if isinstance(given, Ingredient):
         given.relationship = drawn.chance.choice(("parentOf", "parentOf", "parentOf", "inputTo", "childOf"))
@@ -319,17 +360,20 @@ def ingredient_form(drawn, draft):
     url = lambda: f"self#jumbf=/c2pa/{chance.choice(('z', draft.label, *(it.label for it in drawn.manifests)))}"
     named = chance.choice((url(), url() + "/c2pa.signature", "self#jumbf=c2pa.signature", "m"))
     word = text(chance.choice(("parentOf", "componentOf", "inputTo", "x")))
-    pairs = [("relationship", word), ("activeManifest", reference(named, NO_DIGEST))]
+    label = drawn.ingredient_label()
+    fields = ("activeManifest", "c2pa_manifest")
+    field = chance.choice(fields) if chance.random() < 0.2 else fields[label != INGREDIENT_LABELS[3]]
+    pairs = [("relationship", word), (field, reference(named, NO_DIGEST))]
     if chance.random() < 0.5:
         pairs.append(("claimSignature", reference(chance.choice((named, url())) + "/c2pa.signature", NO_DIGEST)))
     if chance.random() < 0.2:
         pairs = [pair for pair in pairs if chance.random() < 0.6]
     encoded = chance.choice((mapping(*pairs), mapping(*pairs), mapping(*pairs), array(), b"\xff", b""))
-    draft.assertions.append(Assertion("c2pa.ingredient.v3__7", encoded))
+    draft.assertions.append(Assertion(label + "__7", encoded))
 
 
 def ingredient_version(drawn, draft):
-    label = drawn.chance.choice(("c2pa.ingredient", "c2pa.ingredient.v2", "c2pa.ingredient.v4__1", "c2pa.ingredientx"))
+    label = drawn.chance.choice(("c2pa.ingredient.v1", "c2pa.ingredient.v20", "c2pa.ingredient.v4__1", "c2pa.ingredientx"))
     draft.assertions.append(Assertion(label))
 
 
@@ -374,7 +418,26 @@ def no_box(drawn, draft, given):
 
 @at_any
 def entry_digest(drawn, draft, given):
-    given.hashed = drawn.chance.choice((NO_DIGEST, b"", NO_DIGEST + b"\0"))
+    given.hashed = drawn.chance.choice((NO_DIGEST, b"", NO_DIGEST + b"\0", bytes(48), bytes(64)))
+
+
+def other_than(chance):
+    """Makes of contents, and of the name of the algorithm that they are to be hashed by, a digest by another one, perhaps cut, or the right one with
+    an end that isn't its own."""
+    other, length = chance.choice((None, *KNOWN)), chance.choice((None, None, 32, 48, 47))
+    more = chance.choice((b"", b"", b"", b"\0", bytes(16)))
+    return lambda contents, name: digest(contents, other or name)[:length] + more
+
+
+@at_any
+def other_digest(drawn, draft, given):
+    given.hashed = other_than(drawn.chance)
+
+
+@of_kind(INGREDIENTS)
+def ingredient_other_digest(drawn, draft, given):
+    if isinstance(given, Ingredient):
+        given.hashes[drawn.chance.randrange(2)] = other_than(drawn.chance)
 
 
 @at_any
@@ -400,7 +463,7 @@ def self_redaction(drawn, draft):
 
 def redaction_kind(drawn, draft):
     actions, hashes = ("c2pa.actions", "c2pa.actions.v2__1", "c2pa.actions.v1"), ("c2pa.hash.data", "c2pa.hash.x")
-    label = drawn.chance.choice((*actions, *hashes, "c2pa.ingredient.v3", "c2pa.ingredient", "x"))
+    label = drawn.chance.choice((*actions, *hashes, *INGREDIENT_LABELS.values(), "c2pa.ingredient.v4", "x"))
     others = [it.label for it in drawn.manifests if it is not draft]
     draft.redactions.append(assertion_url(drawn.chance.choice((*others, "z")), label))
 
@@ -445,7 +508,7 @@ def all_removed(drawn, draft):
 
 
 def second_parent(drawn, draft):
-    draft.assertions.append(Ingredient(None, "parentOf", False, "c2pa.ingredient.v3__8"))
+    draft.assertions.append(Ingredient(None, "parentOf", False, drawn.ingredient_label() + "__8"))
 
 
 def component(drawn, draft):
@@ -565,8 +628,9 @@ def other_store(drawn, draft):
 
 
 FAULTS = [fault for name, fault in list(globals().items()) if callable(fault) and name in """
-    update_active no_claim two_claims other_claim_label no_claim_item other_claim_field varied_claim no_signature other_signature_uri
-    no_message varied_message ingredient_algorithm ingredient_digest ingredient_unsigned ingredient_varied ingredient_relationship
+    update_active no_claim two_claims other_claim_label other_claim_version other_list no_claim_item other_claim_field varied_claim no_signature
+    other_signature_uri no_message varied_message ingredient_algorithm ingredient_digest ingredient_other_digest ingredient_unsigned
+    ingredient_varied ingredient_label ingredient_relationship other_digest
     ingredient_names all_parents ingredient_form ingredient_version entry_url entry_twice cloud entry_algorithm claim_algorithm
     redacted_there no_box entry_digest undeclared unlabelled redaction_uri self_redaction redaction_kind foreign_redaction other_hash
     no_hash second_hash update_with_hash update_parents binding_item binding_content binding_varied binding_merkle

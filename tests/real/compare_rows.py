@@ -17,7 +17,7 @@ import hashing
 import pairs
 import store
 import tables
-from drafts import APP0, Assertion, DataHash, Ingredient, Jpeg, Manifest, Written, write
+from drafts import APP0, Assertion, DataHash, Ingredient, Jpeg, Manifest, Written, relabelled, write
 from make_store import text
 from rule_rows import with_
 from tables import Approving
@@ -31,13 +31,13 @@ FRONT = b"\xff\xd8" + APP0
 REST = b"\xff\xd9"
 
 
-def sha(contents):
-    return hashlib.sha256(contents).digest()
+def sha(contents, name="sha256"):
+    return hashlib.new(name, contents).digest()
 
 
-def weak(contents):
-    """The hash for tests: the sum of the bytes, in the last of 32."""
-    return bytes(31) + bytes([sum(contents) % 256])
+def weak(contents, name="sha256"):
+    """The hash for tests: the sum of the bytes, in the last byte of a digest."""
+    return bytes({"sha256": 31, "sha384": 47, "sha512": 63}[name]) + bytes([sum(contents) % 256])
 
 
 def file_of(digest, *manifests, front=FRONT, rest=REST):
@@ -52,8 +52,8 @@ def note(payload, **given):
     return with_(Assertion("test.note", payload, b"json"), **given)
 
 
-def noted(payload, label=LABEL):
-    return Manifest(label, Assertion("c2pa.actions.v2", drafts.ACTIONS), note(payload), DataHash())
+def noted(payload, label=LABEL, **given):
+    return with_(Manifest(label, Assertion("c2pa.actions.v2", drafts.ACTIONS), note(payload), DataHash()), **given)
 
 
 def titled(title):
@@ -112,25 +112,42 @@ def more_rows():
     changed = bytearray(first)
     changed[15] += 1
     yield "a changed byte of the picture", first, bytes(changed)
-    yield "an active claim of an older version", first, file_of(sha, older())
+    yield "an active claim of a later version", first, file_of(sha, labelled(Manifest("m", DataHash()), "c2pa.claim.v9"))
+    older = file_of(sha, noted(b'"ab"', version=1))
+    yield "a claim of version 1, and itself", older, older
+    yield "the same assertions under claims of both versions", older, file_of(sha, noted(b'"ab"'))
+    yield "a claim of version 1, and its bytes as one of version 2", older, file_of(sha, labelled(noted(b'"ab"', version=1), "c2pa.claim.v2"))
+    yield "a claim of version 2, and its bytes as one of version 1", file_of(sha, noted(b'"ab"')), file_of(sha, labelled(noted(b'"ab"'), "c2pa.claim"))
 
 
-def older():
-    draft = Manifest("m", DataHash())
-    draft.change_claims = lambda boxes: [box.replace(b"c2pa.claim.v2", b"c2pa.claim.v9") for box in boxes]
+def labelled(draft, label):
+    """A manifest whose claim's box has this label in place of its own."""
+    draft.change_claims = lambda boxes: [relabelled(box, label) for box in boxes]
     return draft
+
+
+def weak_rows():
+    """Pairs for the command alone, under the sum: evidence by longer digests, and of what an older ingredient names."""
+    for name in "sha384", "sha512":
+        yield f"other notes under one sum, by {name}", *(file_of(weak, noted(payload, claim_alg=name)) for payload in (b'"ab"', b'"ba"'))
+    yield "other notes under one sum, in a claim of version 1", *(file_of(weak, noted(payload, version=1)) for payload in (b'"ab"', b'"ba"'))
+    active = Manifest("a", Ingredient("m", label="c2pa.ingredient.v2"), DataHash())
+    yield "an ingredient of version 2 that has other contents", *(file_of(weak, noted(payload, "m"), active) for payload in (b'"ab"', b'"ba"'))
 
 
 def run_rows():
     """What a row shows, the hash, the files, the status, the lines of the report, and how often a judge is asked who approves."""
     given = [(what, name, first, second, lines) for what, name, first, second, lines in rows()]
     given += [(what, "sha", first, second, []) for what, first, second in more_rows()]
+    given += [(what, "weak", first, second, []) for what, first, second in weak_rows()]
     for what, name, first, second, lines in given:
         hashing.choose(name)
         text, status = pairs.compared(first, second, [Approving()])
         if lines[1:]:
             assert text.split("\n") == lines, what
         yield what, name, first, second, status, text.split("\n"), asked_of(first, second)
+    # the tables that are written after this one have digests by SHA-2 again
+    hashing.choose("sha")
 
 
 def asked_of(first, second):

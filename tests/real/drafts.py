@@ -28,15 +28,15 @@ from make_store import (
     text,
     uint,
 )
-from manifests import BMFF_HASH, DATA_HASH
+from manifests import BMFF_HASH, CLAIM_LABELS, DATA_HASH, INGREDIENT_LABELS, base_of, version_of
 from media import Binding, media_of
 
 ACTIONS = mapping(("actions", array(mapping(("action", text("c2pa.created"))))))
 NO_DIGEST = bytes(32)
 
 
-def digest(contents):
-    return hashing.digest(contents)
+def digest(contents, name=hashing.DEFAULT):
+    return hashing.digest(contents, name)
 
 
 def fields(*pairs):
@@ -49,11 +49,30 @@ def reference(url, hashed, alg=None):
 
 
 class Written:
-    """What is there of a store that is being written: contents of manifests and signature boxes, and numbers of the binding."""
+    """What is there of a store that is being written: contents of manifests and signature boxes, numbers of the binding, the digest of what it
+    covers (None for zeros), and the name of the algorithm in the claim that is being written."""
 
-    def __init__(self, start=0, length=0, covered=NO_DIGEST):
+    def __init__(self, start=0, length=0, covered=None):
         self.start, self.length, self.covered = start, length, covered
         self.manifests, self.signatures = {}, {}
+        self.claim_alg = None
+
+    def algorithm(self, own):
+        """The name of the algorithm of a reference or binding that has perhaps one of its own. Where it isn't known no digest is right."""
+        name = self.claim_alg if own is None else own
+        return name if hashing.is_known(name) else hashing.DEFAULT
+
+    def digest(self, contents, own, changed=None):
+        """The digest of a reference that has perhaps an algorithm of its own; `changed` is another one, or makes it of contents and algorithm."""
+        name = self.algorithm(own)
+        if callable(changed):
+            return changed(contents, name)
+        return digest(contents, name) if changed is None else changed
+
+    def covered_digest(self, own):
+        """What a binding says of the covered bytes; zeros in one by an algorithm of another length, which isn't that of the active manifest."""
+        length = hashing.LENGTHS[self.algorithm(own)]
+        return self.covered if self.covered is not None and len(self.covered) == length else bytes(length)
 
 
 class Assertion:
@@ -73,11 +92,11 @@ class Assertion:
 
     def entry(self, written):
         url = f"self#jumbf=c2pa.assertions/{self.label}" if self.url is None else self.url
-        return reference(url, digest(self.box(written)[8:]) if self.hashed is None else self.hashed, self.alg)
+        return reference(url, written.digest(self.box(written)[8:], self.alg, self.hashed), self.alg)
 
 
 class Ingredient(Assertion):
-    """An ingredient of version 3, which names a manifest."""
+    """An ingredient, of the version that its label says, which names a manifest."""
 
     def __init__(self, named, relationship="componentOf", is_signed=True, label="c2pa.ingredient.v3"):
         super().__init__(label, self.spelled)
@@ -87,11 +106,13 @@ class Ingredient(Assertion):
     def spelled(self, written):
         references = []
         for number, (known, more) in enumerate(((written.manifests, ""), (written.signatures, "/c2pa.signature"))):
-            hashed = self.hashes[number] or digest(known.get(self.named) or b"")
+            hashed = written.digest(known.get(self.named) or b"", self.algs[number], self.hashes[number])
             references.append(reference(f"self#jumbf=/c2pa/{self.named}{more}", hashed, self.algs[number]))
         signature = references[1] if self.is_signed else None
         manifest_there = references[0] if self.named is not None else None
-        return fields(("relationship", text(self.relationship)), ("activeManifest", manifest_there), ("claimSignature", signature))
+        is_older = version_of(INGREDIENT_LABELS, base_of(self.label)) in (1, 2)
+        named = "c2pa_manifest" if is_older else "activeManifest"
+        return fields(("relationship", text(self.relationship)), (named, manifest_there), ("claimSignature", signature))
 
 
 class DataHash(Assertion):
@@ -105,7 +126,8 @@ class DataHash(Assertion):
         width = lambda number: 4 if number < 1 << 32 else 8
         spelled = [mapping(("start", uint(at, width(at))), ("length", uint(length, width(length)))) for at, length in ranges]
         alg = None if self.named_alg is None else text(self.named_alg)
-        return fields(("alg", alg), ("hash", data(written.covered)), ("exclusions", array(*spelled)), *self.more)
+        hashed = data(written.covered_digest(self.named_alg))
+        return fields(("alg", alg), ("hash", hashed), ("exclusions", array(*spelled)), *self.more)
 
 
 class BmffHash(Assertion):
@@ -115,7 +137,13 @@ class BmffHash(Assertion):
 
     def spelled(self, written):
         alg = None if self.named_alg is None else text(self.named_alg)
-        return fields(("exclusions", array(*self.exclusions)), ("alg", alg), ("hash", data(written.covered)), *self.more)
+        hashed = data(written.covered_digest(self.named_alg))
+        return fields(("exclusions", array(*self.exclusions)), ("alg", alg), ("hash", hashed), *self.more)
+
+
+def relabelled(claims, label):
+    """A claim box under another label."""
+    return claim_box(claims[claims.index(b"cbor") - 4 :], label=label)
 
 
 def exclusion(xpath, *pairs):
@@ -137,10 +165,11 @@ ALL_EXCLUDED = PROVENANCE_BOX, exclusion("/ftyp"), exclusion("/mfra")
 
 
 class Manifest:
-    """A manifest: its assertions, claim and signature. What a draft changes of the boxes of claim and signature is a function."""
+    """A manifest: its assertions, its claim, of version 1 or 2, and signature. What a draft changes of the boxes of claim and signature is a function.
+    In a claim of version 1 no assertion is gathered."""
 
-    def __init__(self, label, *given, update=False):
-        self.label, self.assertions, self.is_update = label, list(given), update
+    def __init__(self, label, *given, update=False, version=2):
+        self.label, self.assertions, self.is_update, self.version = label, list(given), update, version
         self.redactions, self.claim_alg, self.gathered = [], "sha256", 0
         self.claim_fields, self.extra_entries = {}, []
         self.signature = b"\x5a" * 4
@@ -148,14 +177,23 @@ class Manifest:
         self.change_boxes = lambda boxes: boxes
         self.store_label, self.store_type = "c2pa.assertions", b"c2as"
 
-    def claim(self, written):
-        entries = [given.entry(written) for given in self.assertions if given.is_listed] + self.extra_entries
+    def lists(self, entries):
+        """The fields that a claim has for its entries."""
+        if self.version == 1:
+            return {"assertions": array(*entries)}
         split = len(entries) - self.gathered
+        gathered = array(*entries[split:]) if self.gathered else None
+        return {"created_assertions": array(*entries[:split]), "gathered_assertions": gathered}
+
+    def claim(self, written):
+        written.claim_alg = self.claim_alg
+        entries = [given.entry(written) for given in self.assertions if given.is_listed] + self.extra_entries
+        older = {"claim_generator": text("a camera"), "dc:format": text("image/jpeg")}
         spelled = {
+            **(older if self.version == 1 else {}),
             "instanceID": text("i"),
             "signature": text("self#jumbf=c2pa.signature"),
-            "created_assertions": array(*entries[:split]),
-            "gathered_assertions": array(*entries[split:]) if self.gathered else None,
+            **self.lists(entries),
             "redacted_assertions": array(*map(text, self.redactions)) if self.redactions else None,
             "alg": None if self.claim_alg is None else text(self.claim_alg),
             **self.claim_fields,
@@ -163,10 +201,11 @@ class Manifest:
         return self.change_claim(fields(*spelled.items()))
 
     def write(self, written):
+        written.claim_alg = self.claim_alg
         boxes = [given.box(written) for given in self.assertions if given.is_there]
         kept = superbox(self.store_type, self.store_label, *self.change_boxes(boxes))
         message = self.change_message(tag(18, sign1(signature=self.signature)))
-        claims = self.change_claims([claim_box(item(self.claim(written)))])
+        claims = self.change_claims([claim_box(item(self.claim(written)), label=CLAIM_LABELS[self.version])])
         signatures = self.change_signatures([signature_box(item(message))])
         contents = manifest(self.label, kept, *claims, *signatures, update=self.is_update)
         written.manifests.setdefault(self.label, contents[8:])
@@ -189,12 +228,14 @@ class Around:
         """The file. What its binding covers is computed as rules.py does it, from the file without a right digest."""
         length = len(self.around(write(manifests, Written()))) - len(self.front) - len(self.rest)
         written = Written(len(self.front), length)
+        written.claim_alg = manifests[-1].claim_alg
         for given in manifests[-1].assertions:
             if isinstance(given, (DataHash, BmffHash)):
                 kind = BMFF_HASH if isinstance(given, BmffHash) else DATA_HASH
                 try:
                     without = media_of(self.around(write(manifests, Written(written.start, length))))
-                    written.covered = Binding(kind, cbor.read_whole(given.encoded(written)), without).cover(without)[0]
+                    binding = Binding(kind, cbor.read_whole(given.encoded(written)), without)
+                    written.covered, *_ = binding.cover(without, written.algorithm(binding.alg))
                 except (BadBinding, cbor.NotCbor, Refused):
                     pass
         return self.around(write(manifests, Written(written.start, length, written.covered)))

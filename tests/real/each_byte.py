@@ -4,7 +4,7 @@
     each_byte.py C2 [jpeg|bmff]      every reading command on the prefixes, `questions` and `validate` on the others; the verdict file
                                      approves the questions of the whole file
 
-The files have one manifest, two, and four of which one redacts. Prints each difference; the status is 1 where there is one.
+The files have one manifest, two, two of the older versions and by longer digests, and four of which one redacts. Prints each difference; the status is 1 where there is one.
 """
 
 import os
@@ -24,6 +24,10 @@ def drafted(is_bmff):
     binding = lambda: BmffHash(ALL_EXCLUDED) if is_bmff else DataHash()
     yield [Manifest("m", Assertion("c2pa.actions.v2", ACTIONS), binding())]
     yield [Manifest("d", binding()), Manifest("m", Ingredient("d", "parentOf"), binding())]
+    older = Manifest("d", binding(), version=1), Manifest("m", Ingredient("d", label="c2pa.ingredient.v2"), binding(), version=1)
+    for draft, name in zip(older, ("sha384", "sha512")):
+        draft.claim_alg = name
+    yield list(older)
     redacting = Manifest("B", Ingredient("D"), binding())
     redacting.redactions = ["self#jumbf=/c2pa/D/c2pa.assertions/test.note"]
     note = Assertion("test.note")

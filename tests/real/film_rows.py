@@ -63,6 +63,7 @@ def valid(assertions, covered, outside):
 
 
 def changed(contents, place):
+    place %= len(contents)
     return contents[:place] + bytes([contents[place] + 1]) + contents[place + 1 :]
 
 
@@ -118,4 +119,7 @@ def rows():
     tests = plus(exclusion("/mdat/free"), exclusion("/mdat", ("flags", data(b""))))
     yield "a test that isn't known before a path", failing("unsupported.exclusionTest"), bound(tests)
     yield "a path through another box before the algorithm", failing("unsupported.exclusionPath"), bound(plus(exclusion("/mdat/free")), named_alg="md5")
+    for name in "sha384", "sha512":
+        yield f"a BMFF hash by {name}", valid(1, REST, len(FTYP)), bound(named_alg=name)
+        yield f"a covered byte of it changed: {name}", failing("assertion.bmffHash.mismatch"), changed(bound(named_alg=name), -1)
     yield "an algorithm that isn't known", failing("algorithm.unsupported"), bound(named_alg="md5")

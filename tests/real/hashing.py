@@ -1,25 +1,32 @@
-"""The hash by which boxes and covered texts are bound: SHA-256, or in its place the sum of c2's tests, under which pairs of different
-lists with one digest are easily made. The ids of questions are SHA-256 always.
+"""The hashes by which boxes and covered texts are bound: SHA-256, SHA-384 and SHA-512 (FIPS 180-4), or in their place the sum of c2's tests,
+under which pairs of different lists with one digest are easily made. The ids of questions are SHA-256 always.
 """
 
 import hashlib
 
+# The algorithms that are known, by the names of C2PA; the first is meant where nothing names one.
+LENGTHS = {"sha256": 32, "sha384": 48, "sha512": 64}
+DEFAULT = "sha256"
+
 
 class Sum:
-    """The sum of the bytes modulo 256, in the last of 32 bytes."""
+    """The sum of the bytes modulo 256, in the last byte of a digest."""
 
-    def __init__(self, contents=b""):
-        self.sum = 0
+    def __init__(self, length, contents=b""):
+        self.length, self.sum = length, 0
         self.update(contents)
 
     def update(self, contents):
         self.sum += sum(contents)
 
     def digest(self):
-        return bytes(31) + bytes([self.sum % 256])
+        return bytes(self.length - 1) + bytes([self.sum % 256])
 
 
-KINDS = {"sha": hashlib.sha256, "weak": Sum}
+KINDS = {
+    "sha": lambda name, contents: hashlib.new(name, contents),
+    "weak": lambda name, contents: Sum(LENGTHS[name], contents),
+}
 chosen = "sha"
 
 
@@ -28,10 +35,14 @@ def choose(name):
     chosen = name
 
 
-def begin(contents=b""):
-    """A hash that has taken these bytes."""
-    return KINDS[chosen](contents)
+def is_known(name):
+    return name in LENGTHS
 
 
-def digest(contents):
-    return begin(contents).digest()
+def begin(contents=b"", name=DEFAULT):
+    """A hash by the algorithm of a name that has taken these bytes."""
+    return KINDS[chosen](name, contents)
+
+
+def digest(contents, name=DEFAULT):
+    return begin(contents, name).digest()

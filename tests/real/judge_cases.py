@@ -94,6 +94,10 @@ class Cases:
         direct = self.root.certify("Signer", self.keys["P-256"].public_key())
         yield "one certificate, right below the anchor", Signed(self.signer(chain=[direct]), JPEG)
         yield "a BMFF file", Signed(self.signer(), BMFF)
+        for media, what in (JPEG, "a JPEG"), (BMFF, "a BMFF file"):
+            yield f"{what} with a claim of version 1", Signed(self.signer(), media, version=1)
+            yield f"{what} with digests by SHA-384", Signed(self.signer(), media, digests="sha384")
+            yield f"{what} of version 1 with digests by SHA-512", Signed(self.signer("ES512"), media, version=1, digests="sha512")
 
     def wrong(self):
         """Other causes, the word of each, and its file."""
@@ -135,6 +139,9 @@ class Cases:
         yield ["approved", "approved"], "signed twice", Signed(later, JPEG, earlier).bytes
         yield ["untrusted", "approved"], "signed twice, first by a stranger", Signed(later, JPEG, other).bytes
         yield ["approved", "untrusted"], "signed twice, at last by a stranger", Signed(strange, JPEG, earlier).bytes
+        for earlier_version, version in (1, 1), (1, 2), (2, 1):
+            earlier = Signed(self.signer(), JPEG, version=earlier_version, digests="sha512")
+            yield ["approved", "approved"], f"version {version} over version {earlier_version}", Signed(later, JPEG, earlier, version).bytes
         yield ["approved", "approved"], "a BMFF file that was signed twice", Signed(later, BMFF, Signed(self.signer(), BMFF)).bytes
 
     def changed_media(self):

@@ -7,7 +7,6 @@ The writers of CBOR (RFC 8949) take members that are spelled already and keep th
 each way, the wrong ones too. Boxes are those of ISO/IEC 19566-5, in the types and labels of the C2PA Technical Specification.
 """
 
-import hashlib
 import math
 import os
 import sys
@@ -123,15 +122,15 @@ def hashed_uri(url, digest=b"\0", alg=None):
     return mapping(*pairs, *([] if alg is None else [("alg", text(alg))]))
 
 
-def assertion_uri(superbox_bytes, label):
-    """The hashed URI of an assertion box of a 4-byte length: the digest covers the box behind its header."""
-    return hashed_uri(f"self#jumbf=c2pa.assertions/{label}", hashlib.sha256(superbox_bytes[8:]).digest(), "sha256")
-
-
 def claim(*pairs, instance="i", signature=CLAIM_URI, created=()):
     """A claim with the fields that it must have, and further pairs behind them."""
     needed = [("instanceID", text(instance)), ("signature", text(signature)), ("created_assertions", array(*created))]
     return mapping(*needed, *pairs)
+
+
+def older_claim(*pairs, signature=CLAIM_URI, listed=()):
+    """A claim of version 1 with the fields that it must have, and further pairs behind them."""
+    return mapping(("signature", text(signature)), ("assertions", array(*listed)), *pairs)
 
 
 def sign1(protected=ES256, unprotected=b"\xa0", payload=NULL, signature=b"\x5a" * 4):

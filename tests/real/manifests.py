@@ -19,9 +19,13 @@ ACTIONS, CLOUD, ORDINARY = "actions", "cloud data", "ordinary"
 BINDINGS = DATA_HASH, BMFF_HASH
 HASHES = DATA_HASH, BMFF_HASH, OTHER_HASH
 INGREDIENTS = INGREDIENT, OTHER_INGREDIENT
+# Versions of claims and of ingredients that can be read, by the labels of their boxes.
+CLAIM_LABELS = {1: "c2pa.claim", 2: "c2pa.claim.v2"}
+INGREDIENT_LABELS = {1: "c2pa.ingredient", 2: "c2pa.ingredient.v2", 3: "c2pa.ingredient.v3"}
 
 HashedUri = namedtuple("HashedUri", "url hash alg")
-Claim = namedtuple("Claim", "encoded alg instance signature entries redacted")
+# A claim of version 1 or 2; one of version 1 may lack its instance.
+Claim = namedtuple("Claim", "version encoded alg instance signature entries redacted")
 Sign1 = namedtuple("Sign1", "protected unprotected signature")
 # A JUMBF URI: the manifest (None where it is relative), what it names in it, and the label of an assertion.
 Uri = namedtuple("Uri", "manifest target label")
@@ -62,14 +66,24 @@ def assertion_named(text, manifest):
     return uri.label if is_named else None
 
 
-def kind_of(label):
-    """The kind of an assertion, by its label less the number of an instance (`__2`)."""
+def version_of(labels, label):
+    """The version that a label means, or None."""
+    return next((version for version, each in labels.items() if each == label), None)
+
+
+def base_of(label):
+    """A label less the number of an instance (`__2`)."""
     numbered = re.fullmatch("(.*)__[0-9]+", label, re.DOTALL)
-    base = numbered[1] if numbered else label
+    return numbered[1] if numbered else label
+
+
+def kind_of(label):
+    """The kind of an assertion, by the base of its label."""
+    base = base_of(label)
     whole = {
         "c2pa.hash.data": DATA_HASH,
         "c2pa.hash.bmff.v2": BMFF_HASH,
-        "c2pa.ingredient.v3": INGREDIENT,
+        **dict.fromkeys(INGREDIENT_LABELS.values(), INGREDIENT),
         "c2pa.actions": ACTIONS,
         "c2pa.actions.v2": ACTIONS,
         "c2pa.cloud-data": CLOUD,
@@ -136,6 +150,8 @@ def item_of(store, box):
 
 # Items
 
+NO_LIST = "list", ()
+
 
 def is_a(kind, item):
     return item is not None and item[0] == kind
@@ -159,19 +175,65 @@ def hashed_uris(item):
     return None if None in found else found
 
 
-def read_claim(encoded, item):
-    """The fields of a claim that c2 reads; None where one isn't as it must be. A null counts as absent."""
-    none = ("list", ())
+def is_text(item):
+    return is_a("text", item)
+
+
+def are_texts(item):
+    return is_list_of("text", item)
+
+
+def are_references(item):
+    return hashed_uris(item) is not None
+
+
+def or_absent(test):
+    return lambda item: item is None or test(item)
+
+
+def is_absent(item):
+    return item is None
+
+
+# The tests of a claim's fields by its version, in their order. Neither version may have the list of the other, so that no item is a claim
+# under both labels.
+CLAIM_TESTS = {
+    1: {
+        "signature": is_text,
+        "assertions": are_references,
+        "redacted_assertions": or_absent(are_texts),
+        "alg": or_absent(is_text),
+        "created_assertions": is_absent,
+    },
+    2: {
+        "instanceID": is_text,
+        "signature": is_text,
+        "created_assertions": are_references,
+        "gathered_assertions": or_absent(are_references),
+        "redacted_assertions": or_absent(are_texts),
+        "alg": or_absent(is_text),
+        "assertions": is_absent,
+    },
+}
+
+
+def wrong_in_claim(version, item):
+    """The fields of a claim of a version that aren't as they must be, in the order of the tests. A null counts as absent, and fields without a
+    test pass unread."""
+    if not is_a("map", item):
+        return ["whole"]
+    return [key for key, holds in CLAIM_TESTS[version].items() if not holds(cbor.field(item, key))]
+
+
+def read_claim(version, encoded, item):
+    """The fields of a claim of a version that c2 reads; None where one isn't as it must be."""
+    if wrong_in_claim(version, item):
+        return None
     alg, instance, signature = (cbor.field(item, key) for key in ("alg", "instanceID", "signature"))
-    created = hashed_uris(cbor.field(item, "created_assertions"))
-    gathered = hashed_uris(cbor.field(item, "gathered_assertions") or none)
-    redacted = cbor.field(item, "redacted_assertions") or none
-    if not is_a("text", instance) or not is_a("text", signature) or not (alg is None or is_a("text", alg)):
-        return None
-    if created is None or gathered is None or not is_list_of("text", redacted):
-        return None
-    texts = [text for _, text in redacted[1]]
-    return Claim(encoded, alg and alg[1], instance[1], signature[1], created + gathered, texts)
+    lists = ("created_assertions", "gathered_assertions") if version == 2 else ("assertions",)
+    entries = [entry for key in lists for entry in hashed_uris(cbor.field(item, key) or NO_LIST)]
+    redacted = [text for _, text in (cbor.field(item, "redacted_assertions") or NO_LIST)[1]]
+    return Claim(version, encoded, alg and alg[1], instance[1] if is_text(instance) else None, signature[1], entries, redacted)
 
 
 def claim_boxes_of(manifest):
@@ -179,18 +241,20 @@ def claim_boxes_of(manifest):
 
 
 def claim_or_code(store, manifest):
-    """The claim of a manifest, version 2 (C2PA Technical Specification, claims), and None; or None and why there isn't one."""
+    """The claim of a manifest (C2PA Technical Specification, claims), by the version that its box's label says, and None; or None and why there
+    isn't one."""
     boxes = claim_boxes_of(manifest)
     if not boxes:
         return None, "claim.missing"
     if len(boxes) > 1:
         return None, "claim.multiple"
-    if boxes[0].label != "c2pa.claim.v2":
+    version = version_of(CLAIM_LABELS, boxes[0].label)
+    if version is None:
         return None, "unsupported.claimVersion"
     item = item_of(store, boxes[0])
     if item is None:
         return None, "claim.cbor.invalid"
-    claim = read_claim(encoded_item(store, boxes[0]), item)
+    claim = read_claim(version, encoded_item(store, boxes[0]), item)
     return claim, None if claim else "profile.claim.fields"
 
 
@@ -224,14 +288,17 @@ def question_id(claim, sign):
 
 
 def read_ingredient(store, box):
-    """An ingredient assertion (version 3) by its box; the code says why it can't be read."""
-    if kind_of(box.label) == OTHER_INGREDIENT:
+    """An ingredient assertion by its box; the code says why it can't be read. Only in version 3 it may refer to a signature."""
+    version = version_of(INGREDIENT_LABELS, base_of(box.label))
+    if version is None:
         return Ingredient(box, "unsupported.ingredientVersion")
     item = item_of(store, box)
     if item is None:
         return Ingredient(box, "assertion.cbor.invalid")
     wrong = Ingredient(box, "profile.ingredient.form")
-    relationship, *references = (cbor.field(item, key) for key in ("relationship", "activeManifest", "claimSignature"))
+    relationship = cbor.field(item, "relationship")
+    keys = ("activeManifest", "claimSignature") if version == 3 else ("c2pa_manifest",)
+    references = [*(cbor.field(item, key) for key in keys), None][:2]
     if not is_a("text", relationship) or relationship[1] not in RELATIONSHIPS:
         return wrong
     manifest, signature = (None if reference is None else hashed_uri(reference) for reference in references)

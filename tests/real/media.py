@@ -64,10 +64,10 @@ class Binding:
         pieces = (view[start:end] for start, end in kept_by(self.exclusions, len(view)))
         return pieces, data_counts(self.exclusions, media)
 
-    def cover(self, media):
-        """The digest of the covered text, and the two numbers."""
+    def cover(self, media, algorithm):
+        """The digest of the covered text by an algorithm, and the two numbers."""
         pieces, numbers = self.covered(media)
-        state = hashing.begin()
+        state = hashing.begin(name=algorithm)
         for piece in pieces:
             state.update(piece)
         return state.digest(), *numbers

@@ -35,6 +35,9 @@ def variants(data):
     yield "in_packets", front.file([manifest(thumbnail)]), valid(1, 3, len(data), 0)
     chain = [Manifest(OLDER, DataHash()), manifest(Ingredient(OLDER, "parentOf"))]
     yield "twice_signed", front.file(chain), valid(2, 4, len(data), 0)
+    older = Manifest(LABEL, Assertion("c2pa.actions", ACTIONS), Ingredient(OLDER, "parentOf", label="c2pa.ingredient"), DataHash(None), version=1)
+    older.claim_alg = "sha512"
+    yield "of_version_1", front.file([Manifest(OLDER, DataHash(), version=1), older]), valid(2, 4, len(data), 0)
     part = manifest()
     part.assertions[-1].ranges = [(0, 2), None]
     yield "in_part", front.file([part]), valid(1, 2, len(data) - 2, 2)

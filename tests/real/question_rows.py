@@ -17,6 +17,7 @@ from make_store import (
     item,
     manifest,
     mapping,
+    older_claim,
     open_array,
     open_map,
     sign1,
@@ -69,6 +70,8 @@ def questions():
     yield "empty protected bytes and an empty signature", asked(sign1(protected=b"", signature=b""))
     long = sign1(protected=b"\x11" * 24, signature=bytes(range(64)))
     yield "protected bytes of 24 and a signature of 64", asked(long)
+    older = claim_box(item(older_claim()), label="c2pa.claim")
+    yield "a claim of version 1", store(manifest("m", older, SIGNATURE))
 
 
 def headers():
@@ -110,7 +113,8 @@ def refused_boxes():
     yield "no claim and no signature", []
     yield "no claim box", [SIGNATURE]
     yield "two claim boxes", [CLAIM, claim_box(item(claim()), label="c2pa.claim.v2__1"), SIGNATURE]
-    yield "a claim box of the first version", [claim_box(item(claim()), label="c2pa.claim"), SIGNATURE]
+    yield "a claim of version 2 under the label of version 1", [claim_box(item(claim()), label="c2pa.claim"), SIGNATURE]
+    yield "a claim of version 1 under the label of version 2", [claim_box(item(older_claim())), SIGNATURE]
     yield "a claim box without an item", [claim_box(), SIGNATURE]
     yield "a claim box whose first content box is json", [claim_box(box(b"json", claim()), item(claim())), SIGNATURE]
     yield "the claim isn't CBOR", [claim_box(item(b"\xff")), SIGNATURE]
@@ -207,6 +211,8 @@ def chains():
     yield "a manifest that names a later one", chain(Manifest("d", Ingredient("m")), Manifest("m"))
     yield "two that name each other", chain(Manifest("d", Ingredient("m")), Manifest("m", Ingredient("d")))
     yield "a manifest that isn't there", chain(Manifest("d"), Manifest("m", Ingredient("z")))
+    for label in "c2pa.ingredient", "c2pa.ingredient.v2", "c2pa.ingredient.v2__1":
+        yield f"a box labelled {label} is followed", chain(Manifest("d", version=1), Manifest("m", Ingredient("d", label=label)))
     yield "labels with characters of two to four bytes", chain(Manifest("é日本"), Manifest("\U0001f4f7 \"x\"", Ingredient("é日本")))
     yield from other_ingredients()
 
@@ -214,8 +220,8 @@ def chains():
 def other_ingredients():
     """Boxes that aren't read as ingredients: nothing is followed."""
     for label in (
-        "c2pa.ingredient",
-        "c2pa.ingredient.v2__1",
+        "c2pa.ingredient.v1",
+        "c2pa.ingredient.v20__1",
         "c2pa.ingredient.v4",
         "c2pa.ingredient.v3__",
         "c2pa.ingredient.v3__1__2",
@@ -240,6 +246,8 @@ def other_ingredients():
     ):
         yield f"an ingredient that {what}", chain(Manifest("d"), given("m", encoded))
     good = mapping(parent, ("activeManifest", named))
+    older = Manifest("m", Assertion("c2pa.ingredient.v2", good), Assertion("c2pa.ingredient.v3", mapping(parent, ("c2pa_manifest", named))))
+    yield "each version has a field of its own for the manifest", chain(Manifest("d"), older)
     yield "the second of two ingredients", chain(Manifest("d"), given("m", b"\xff", good))
     json = Ingredient("d")
     json.content = b"json"

@@ -9,7 +9,21 @@ A judge approves all questions, but for those of a signature box whose signature
 import sys
 
 import jumbf
-from drafts import ACTIONS, ALL_EXCLUDED, NO_DIGEST, Assertion, BmffHash, DataHash, Ingredient, Jpeg, Manifest, digest, exclusion, reference
+from drafts import (
+    ACTIONS,
+    ALL_EXCLUDED,
+    NO_DIGEST,
+    Assertion,
+    BmffHash,
+    DataHash,
+    Ingredient,
+    Jpeg,
+    Manifest,
+    digest,
+    exclusion,
+    reference,
+    relabelled,
+)
 from make_store import (
     NULL,
     UNDEFINED,
@@ -27,7 +41,7 @@ from make_store import (
     text,
     uint,
 )
-from manifests import RELATIONSHIPS, manifests_of
+from manifests import CLAIM_LABELS, INGREDIENT_LABELS, RELATIONSHIPS, manifests_of
 from manifests import Manifest as Read
 from media import media_of
 from store import report
@@ -35,6 +49,7 @@ from store import report
 REFUSED = {b"mism": "mismatch", b"untr": "untrusted", b"inva": "invalid", b"sile": "silent"}
 URL = "self#jumbf=/c2pa/"
 CLAIM = "/c2pa.claim.v2"
+OLDER_CLAIM = "/c2pa.claim"
 SIGNATURE = "/c2pa.signature"
 STORE = "/c2pa.assertions"
 INGREDIENT = STORE + "/c2pa.ingredient.v3"
@@ -59,6 +74,9 @@ def rows():
         binding_rows,
         order_rows,
         shared_rows,
+        older_claim_rows,
+        older_ingredient_rows,
+        digest_rows,
     ):
         yield from group()
 
@@ -117,7 +135,7 @@ def valid_rows():
     yield "a claim with other fields, an open map and nulls", valid(1, 2), one(note(), claim_fields=spelled)
     stamped = lambda _: tag(18, sign1(unprotected=mapping(("sigTst", mapping(("tstTokens", array()))), ("pad", data(b"\0")))))
     yield "a time stamp in the message's header", valid(1, 1), one(change_message=stamped)
-    yield "the references' own algorithm holds", valid(1, 2), [with_(Manifest("m", own, binding), claim_alg="sha512")]
+    yield "the references' own algorithm holds", valid(1, 2), [with_(Manifest("m", own, binding), claim_alg="md5")]
     yield "no exclusions but null", "failing assertion.dataHash.mismatch " + URL + "m" + HASH, [
         Manifest("m", with_(DataHash(), ranges=[], more=[("exclusions", NULL)], change=without_exclusions))
     ]
@@ -156,8 +174,8 @@ def claim_rows():
     none, two = (lambda boxes: []), (lambda boxes: [*boxes, superbox(b"c2cl", "c2pa.claim.v2__1", item(b"\xa0"))])
     yield "no claim box", failing("claim.missing", "m"), one(change_claims=none)
     yield "two claim boxes", failing("claim.multiple", "m"), one(change_claims=two)
-    older = lambda boxes: [claim_box(item(b"\xa0"), label="c2pa.claim")]
-    yield "a claim of the first version", failing("unsupported.claimVersion", "m"), one(change_claims=older)
+    later = lambda boxes: [claim_box(item(b"\xa0"), label="c2pa.claim.v3")]
+    yield "a claim of the third version", failing("unsupported.claimVersion", "m"), one(change_claims=later)
     unnamed = lambda boxes: [superbox(b"c2cl", None, item(b"\xa0"))]
     yield "a claim box without a label", failing("unsupported.claimVersion", "m"), one(change_claims=unnamed)
     yield "a claim box without an item", failing("claim.cbor.invalid", "m" + CLAIM), one(change_claims=lambda _: [claim_box()])
@@ -211,9 +229,9 @@ def verdict_rows():
 
 def child_rows():
     unknown = failing("algorithm.unsupported", "m" + INGREDIENT)
-    yield "the algorithm of activeManifest", unknown, pair(with_(Ingredient("d"), algs=["sha512", None]))
-    yield "the algorithm of claimSignature", unknown, pair(with_(Ingredient("d"), algs=[None, "sha512"]))
-    yield "the claim's algorithm", unknown, pair(Ingredient("d"), claim_alg="sha512")
+    yield "the algorithm of activeManifest", unknown, pair(with_(Ingredient("d"), algs=["sha1", None]))
+    yield "the algorithm of claimSignature", unknown, pair(with_(Ingredient("d"), algs=[None, "sha1"]))
+    yield "the claim's algorithm", unknown, pair(Ingredient("d"), claim_alg="sha512/256")
     wrong = failing("profile.ingredient.signature", "m" + INGREDIENT)
     yield "another digest of the signature", wrong, pair(with_(Ingredient("d"), hashes=[None, NO_DIGEST]))
     without = old(change_signatures=lambda _: [])
@@ -328,12 +346,14 @@ def update_rows():
     yield "an update of a component", wrong, updated(Ingredient("d"))
     yield "an update with two ingredients", wrong, updated(parent, Ingredient("d", label="c2pa.ingredient.v3__1"))
     yield "an update whose ingredient can't be read", wrong, updated(with_(Ingredient("d"), given=b"\xff"))
-    other, version = updated(parent, note("c2pa.ingredient")), "unsupported.ingredientVersion"
-    yield "an update with an older ingredient besides", failing(version, "u" + STORE + "/c2pa.ingredient"), other
+    other, version = updated(parent, note("c2pa.ingredient.v4")), "unsupported.ingredientVersion"
+    yield "an update with a later ingredient besides", failing(version, "u" + STORE + "/c2pa.ingredient.v4"), other
+    older = updated(parent, Ingredient("d", label="c2pa.ingredient"))
+    yield "an update with an older ingredient besides", wrong, older
 
 
 def ingredient_rows():
-    for label in "c2pa.ingredient", "c2pa.ingredient.v2__1", "c2pa.ingredient.v4", "c2pa.ingredients":
+    for label in "c2pa.ingredient.v1", "c2pa.ingredient.v20", "c2pa.ingredient.v4__1", "c2pa.ingredients":
         yield f"an ingredient labelled {label}", failing("unsupported.ingredientVersion", f"m{STORE}/{label}"), one(note(label))
     given = lambda encoded: one(with_(Ingredient("d"), given=encoded))
     yield "an ingredient that is no CBOR", failing("assertion.cbor.invalid", "m" + INGREDIENT), given(b"\xff")
@@ -423,10 +443,10 @@ def order_rows():
 def shared_rows():
     """A has ingredients B and C, each of these has D; B redacts in D."""
 
-    def shared(redactor="B", is_there=False, has_c=True, is_signed=True, label="test.note"):
+    def shared(redactor="B", is_there=False, has_c=True, is_signed=True, label="test.note", version=3):
         first = Manifest("D", note(label, is_there=is_there), DataHash())
         second = Manifest("B", Ingredient("D", is_signed=is_signed), DataHash())
-        third = Manifest("C", *([Ingredient("D")] if has_c else []), DataHash())
+        third = Manifest("C", *([Ingredient("D", label=INGREDIENT_LABELS[version])] if has_c else []), DataHash())
         (second if redactor == "B" else third).redactions = [f"{URL}D{STORE}/{label}"]
         last = Manifest("A", Ingredient("B"), Ingredient("C", label="c2pa.ingredient.v3__1"), DataHash())
         return [first, second, third, last]
@@ -435,9 +455,107 @@ def shared_rows():
     yield "redacted and there", failing("assertion.notRedacted", f"D{STORE}/test.note"), shared(is_there=True)
     yield "by a manifest that doesn't reach it", failing("assertion.missing", f"D{STORE}/test.note"), shared("C", has_c=False)
     yield "without claimSignature", failing("profile.ingredient.signature", "B" + INGREDIENT), shared(is_signed=False)
+    older = failing("profile.ingredient.signature", f"C{STORE}/c2pa.ingredient.v2")
+    yield "the same with an ingredient of version 2", older, shared(version=2)
+    whole = shared(is_there=True, version=2)
+    whole[1].redactions = []
+    yield "whole, with an ingredient of version 2", valid(4, 9), whole
     # the redaction's own rule comes before what it does, since its manifest comes first
     actions = shared(is_there=True, label="c2pa.actions")
     yield "actions, by the redactor's own rule", failing("assertion.action.redacted", f"D{STORE}/c2pa.actions"), actions
+
+
+def older_claim_rows():
+    """Claims of version 1, and what isn't one."""
+    one_older = lambda *given, **changed: one(*given, version=1, **changed)
+    actions, numbered = Assertion("c2pa.actions", ACTIONS), {"instanceID": uint(1)}
+    yield "a claim of version 1", valid(1, 3), one_older(actions, note())
+    yield "a claim of version 1 without an instance", valid(1, 1), one_older(claim_fields={"instanceID": None})
+    yield "a claim of version 1 whose instance is a number", valid(1, 1), one_older(claim_fields=numbered)
+    yield "a claim of version 1 with what version 2 gathers", valid(1, 1), one_older(claim_fields={"gathered_assertions": uint(1)})
+    form = failing("profile.claim.fields", "m" + OLDER_CLAIM)
+    for field, value in (
+        ("signature", NULL),
+        ("assertions", NULL),
+        ("assertions", array(uint(1))),
+        ("redacted_assertions", text("x")),
+        ("alg", uint(1)),
+    ):
+        yield f"a claim of version 1: {field}", form, one_older(claim_fields={field: value})
+    yield "a claim of version 1 with both lists", form, one_older(claim_fields={"created_assertions": array()})
+    yield "a claim of version 1 with a null in the other list", valid(1, 1), one_older(claim_fields={"created_assertions": NULL})
+    both = one(claim_fields={"assertions": array()})
+    yield "a claim of version 2 with both lists", failing("profile.claim.fields", "m" + CLAIM), both
+    yield "a claim of version 2 with a null in the other list", valid(1, 1), one(claim_fields={"assertions": NULL})
+    for version, label in CLAIM_LABELS.items():
+        other = one(version=3 - version, change_claims=lambda boxes, label=label: [relabelled(boxes[0], label)])
+        yield f"a claim under the label {label} of the other version", failing("profile.claim.fields", f"m/{label}"), other
+    absent = old(note(is_there=False), version=1)
+    yield "a redaction in a claim of version 1", valid(2, 3), pair(Ingredient("d"), below=absent, redactions=[f"{URL}d{STORE}/test.note"])
+    redactor = pair(Ingredient("d"), below=old(note(is_there=False)), redactions=[f"{URL}d{STORE}/test.note"], version=1)
+    yield "a redaction by a claim of version 1", valid(2, 3), redactor
+    undeclared = failing("assertion.undeclared", "m" + STORE + "/x")
+    yield "a box that no entry of a claim of version 1 lists", undeclared, one_older(note("x", is_listed=False))
+
+
+def older_ingredient_rows():
+    """Ingredients of the versions 1 and 2."""
+    for version in 1, 2:
+        label = INGREDIENT_LABELS[version]
+        named = f"m{STORE}/{label}"
+        given = lambda *pairs, label=label: one(Assertion(label, mapping(("relationship", text("parentOf")), *pairs)))
+        yield f"an ingredient of version {version}", valid(2, 3), pair(Ingredient("d", label=label))
+        yield f"an ingredient of version {version} in a claim of version 1", valid(2, 3), pair(Ingredient("d", label=label), version=1)
+        wrong = with_(Ingredient("d", label=label), hashes=[NO_DIGEST, None])
+        yield f"another digest, version {version}", failing("ingredient.manifest.mismatch", named), pair(wrong)
+        unread = with_(Ingredient("d", label=label), hashes=[None, NO_DIGEST])
+        yield f"another digest of the signature, version {version}", valid(2, 3), pair(unread)
+        yield f"a claimSignature that is a number, version {version}", valid(1, 2), given(("claimSignature", uint(1)))
+        yield f"an activeManifest, version {version}", valid(1, 2), given(("activeManifest", uint(1)))
+        touched = pair(Ingredient("d", label=label), below=old(note(is_there=False)), redactions=[f"{URL}d{STORE}/test.note"])
+        yield f"a touched manifest, version {version}", failing("profile.ingredient.signature", named), touched
+        form = failing("profile.ingredient.form", named)
+        yield f"a manifest that is no reference, version {version}", form, given(("c2pa_manifest", text("self#jumbf=/c2pa/d")))
+        signature = reference("self#jumbf=/c2pa/d/c2pa.signature", NO_DIGEST)
+        yield f"a manifest that is a signature, version {version}", form, given(("c2pa_manifest", signature))
+        missing = failing("ingredient.manifest.missing", named)
+        yield f"a manifest that isn't there, version {version}", missing, one(Ingredient("z", label=label))
+    older = reference("self#jumbf=/c2pa/z", NO_DIGEST)
+    later = Assertion("c2pa.ingredient.v3", mapping(("relationship", text("inputTo")), ("c2pa_manifest", older)))
+    yield "the older field in version 3", valid(1, 2), one(later)
+    parents = [Ingredient("d", "parentOf", label=label) for label in INGREDIENT_LABELS.values()]
+    yield "a parent in each of two versions", failing("manifest.multipleParents", "m"), pair(*parents[:2])
+    updated = [old(), Manifest("u", parents[1], update=True, version=1), *one(Ingredient("u"))]
+    yield "an update by an ingredient of version 2", valid(3, 4), updated
+    redaction = f"{URL}z{STORE}/c2pa.ingredient.v2"
+    kept = failing("unsupported.redactIngredient", f"z{STORE}/c2pa.ingredient.v2")
+    yield "a redaction of an ingredient of version 2", kept, redacting(redaction)
+
+
+def digest_rows():
+    """Digests by each algorithm, and by one in place of another."""
+    entry = failing("assertion.hashedURI.mismatch", "m" + STORE + "/test.note")
+    contents = note().box(None)[8:]
+    for name, other in ("sha384", "sha512"), ("sha512", "sha384"):
+        inherited = with_(Manifest("m", Ingredient("d"), note(), DataHash(None)), claim_alg=name)
+        yield f"all by {name}, which the claim names", valid(2, 4), [old(), inherited]
+        yield f"a binding by {name}, in a claim by sha256", valid(1, 1), [Manifest("m", DataHash(name))]
+        yield f"an entry by {name}", valid(1, 2), one(note(alg=name))
+        yield f"a reference to a manifest by {name}", valid(2, 3), pair(with_(Ingredient("d"), algs=[name, None]))
+        yield f"a reference to a signature by {name}", valid(2, 3), pair(with_(Ingredient("d"), algs=[None, name]))
+        older = with_(Ingredient("d", label="c2pa.ingredient"), algs=[name, None])
+        yield f"a reference of version 1 by {name}", valid(2, 3), pair(older)
+        yield f"a manifest by {name} below one by sha256", valid(2, 3), pair(Ingredient("d"), below=old(claim_alg=name))
+        cut = note(alg=name, hashed=digest(contents, name)[:32])
+        yield f"32 bytes of a digest by {name}", entry, one(cut)
+        yield f"a digest by {other} as one by {name}", entry, one(note(alg=name, hashed=digest(contents, other)))
+        yield f"a digest by sha256 as one by {name}", entry, one(note(alg=name, hashed=digest(contents)))
+    yield "48 bytes of a digest by sha512 as one by sha384", entry, one(note(alg="sha384", hashed=digest(contents, "sha512")[:48]))
+    longer = note(hashed=digest(contents) + bytes(32))
+    yield "zeros behind a digest", entry, one(longer)
+    name = failing("algorithm.unsupported", "m" + STORE + "/test.note")
+    for other in "sha1", "SHA-512", "sha512/256", "sha3-384":
+        yield f"an entry by {other}", name, one(note(alg=other))
 
 
 def verdicts_on(contents):

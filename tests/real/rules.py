@@ -84,11 +84,12 @@ class CheckList:
             if self.reaches(at, place):
                 yield target.label, place
 
-    def digest(self, box):
-        """The digest of a box's contents, behind its own header."""
-        if box.start not in self.digests:
-            self.digests[box.start] = hashing.digest(self.store[box.inside : box.end])
-        return self.digests[box.start]
+    def has_digest(self, box, manifest, reference):
+        """Whether a reference in a manifest, whose algorithm is known, has the digest of a box's contents, behind the box's own header."""
+        named = box.start, manifest.algorithm(reference.alg)
+        if named not in self.digests:
+            self.digests[named] = hashing.digest(self.store[box.inside : box.end], named[1])
+        return self.digests[named] == reference.hash
 
     # What `questions` and `validate` say
 
@@ -156,13 +157,13 @@ class CheckList:
             child, signature = self.manifests[place], ingredient.signature
             named = assertion_uri(manifest, ingredient.box.label)
             references = [reference for reference in (ingredient.manifest, signature) if reference is not None]
-            if any(manifest.algorithm(reference.alg) != "sha256" for reference in references):
+            if not all(hashing.is_known(manifest.algorithm(reference.alg)) for reference in references):
                 yield "algorithm.unsupported", named
-            if signature is not None and (child.signature is None or self.digest(child.signature) != signature.hash):
+            if signature is not None and (child.signature is None or not self.has_digest(child.signature, manifest, signature)):
                 yield "profile.ingredient.signature", named
             if signature is None and self.touched[place]:
                 yield "profile.ingredient.signature", named
-            if not self.touched[place] and self.digest(child.box) != ingredient.manifest.hash:
+            if not self.touched[place] and not self.has_digest(child.box, manifest, ingredient.manifest):
                 yield "ingredient.manifest.mismatch", named
 
     def entries_rule(self, at, manifest):
@@ -175,14 +176,14 @@ class CheckList:
             named, box = assertion_uri(manifest, label), manifest.labelled.get(label)
             if kind_of(label) == CLOUD:
                 yield "unsupported.cloudData", named
-            if manifest.algorithm(entry.reference.alg) != "sha256":
+            if not hashing.is_known(manifest.algorithm(entry.reference.alg)):
                 yield "algorithm.unsupported", named
             if label in self.redacted[at]:
                 if box is not None:
                     yield "assertion.notRedacted", named
             elif box is None:
                 yield "assertion.missing", named
-            elif self.digest(box) != entry.reference.hash:
+            elif not self.has_digest(box, manifest, entry.reference):
                 yield "assertion.hashedURI.mismatch", named
 
     def boxes_rule(self, _, manifest):
@@ -247,9 +248,10 @@ class CheckList:
             yield "assertion.cbor.invalid", named
         try:
             binding = Binding(kind, item, media)
-            if manifest.algorithm(binding.alg) != "sha256":
+            algorithm = manifest.algorithm(binding.alg)
+            if not hashing.is_known(algorithm):
                 yield "algorithm.unsupported", named
-            digest, *self.counts = binding.cover(media)
+            digest, *self.counts = binding.cover(media, algorithm)
         except BadBinding as bad:
             yield bad.code, named
         if digest != binding.hash:

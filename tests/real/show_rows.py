@@ -17,6 +17,7 @@ from make_store import (
     item,
     manifest,
     mapping,
+    older_claim,
     open_array,
     open_map,
     signature_box,
@@ -34,6 +35,8 @@ def rows():
         yield what, claimed(encoded)
     for what, encoded in claim_spellings():
         yield what, claimed(encoded)
+    for what, encoded in older_values():
+        yield what, claimed(encoded, "c2pa.claim")
     for what, encoded in refused_fields():
         yield f"no claim: {what}", claimed(encoded)
     for what, encoded in refused_items():
@@ -47,9 +50,9 @@ def rows():
     yield from refused_trees()
 
 
-def claimed(encoded):
-    """A store of one manifest, whose claim box holds an item."""
-    return store(manifest("m", claim_box(item(encoded))))
+def claimed(encoded, label="c2pa.claim.v2"):
+    """A store of one manifest, whose claim box of a label holds an item."""
+    return store(manifest("m", claim_box(item(encoded), label=label)))
 
 
 def fields(**changed):
@@ -85,7 +88,29 @@ def claim_values():
     yield "gathered entries alone", fields(gathered_assertions=array(*entries))
     unknown = array(hashed_uri("u", b"", ""))
     yield "an entry may name any algorithm, and a claim too", fields(created_assertions=unknown, alg=text("x"))
+    yield "a null list of version 1 counts as absent", fields(assertions=NULL)
     yield "empty texts", fields(instanceID=text(""), redacted_assertions=array(text("")))
+
+
+def older_values():
+    """Claims of version 1, and what isn't one."""
+    listed = "assertions", array(hashed_uri("self#jumbf=c2pa.assertions/a", b"\0\x0f", "sha384"), hashed_uri("u", b""))
+    redacted = "redacted_assertions", array(text("self#jumbf=/c2pa/n/c2pa.assertions/x"))
+    read = listed, ("instanceID", text("i")), ("signature", text("s")), ("alg", text("sha512")), redacted
+    unread = ("claim_generator", text("a camera/1")), ("dc:format", text("image/jpeg")), ("dc:title", text("t"))
+    yield "a claim of version 1 with all fields", mapping(*unread, *read)
+    yield "the least claim of version 1: there is no instance", older_claim()
+    yield "a claim of version 1 whose instanceID is null", older_claim(("instanceID", NULL))
+    yield "a claim of version 1 whose instanceID is a number, which is none", older_claim(("instanceID", uint(1)))
+    yield "a claim of version 1 may not gather, so this passes unread", older_claim(("gathered_assertions", array(hashed_uri("u"))))
+    yield "a null list of version 2 in a claim of version 1", older_claim(("created_assertions", NULL))
+    yield "no claim: a list of version 2 besides", older_claim(("created_assertions", array()))
+    yield "no claim: version 2 under the label of version 1", fields()
+    yield "no claim: version 1 without assertions", mapping(("signature", text("s")))
+    yield "no claim: version 1 whose assertions are null", mapping(("signature", text("s")), ("assertions", NULL))
+    yield "no claim: version 1 without a signature", mapping(("assertions", array()))
+    yield "no claim: version 1 with an alg that is a number", older_claim(("alg", uint(1)))
+    yield "no claim: version 1 with a redaction of bytes", older_claim(("redacted_assertions", array(data(b"u"))))
 
 
 def claim_spellings():
@@ -145,6 +170,8 @@ def refused_fields():
     yield "redacted_assertions is a text", fields(redacted_assertions=text("u"))
     yield "redacted_assertions has bytes", fields(redacted_assertions=array(text("u"), data(b"u")))
     yield "redacted_assertions has null", fields(redacted_assertions=array(NULL))
+    yield "a list of version 1 besides", fields(assertions=array())
+    yield "a number in place of the list of version 1", fields(assertions=uint(1))
     yield "alg is a number", fields(alg=uint(1))
     yield "alg is false", fields(alg=b"\xf4")
     yield "alg is undefined, which isn't null", fields(alg=UNDEFINED)
@@ -176,12 +203,13 @@ def claim_boxes():
     held, json = item(fields()), box(b"json", fields())
     good = claim_box(held)
     yield "no claim box, one of another type that has its label", [superbox(b"c2cs", "c2pa.claim.v2", held)]
-    yield "a claim box of the first version", [claim_box(held, label="c2pa.claim")]
+    yield "a claim box of the third version", [claim_box(held, label="c2pa.claim.v3")]
+    yield "a claim box labelled for version 1 by its number", [claim_box(item(older_claim()), label="c2pa.claim.v1")]
     yield "a claim box with another label", [claim_box(held, label="c2pa.claim.v2__1")]
     yield "a claim box with an empty label", [claim_box(held, label="")]
     yield "a claim box without a label", [claim_box(held, label=None)]
     yield "two claim boxes", [good, claim_box(held, label="c2pa.claim.v2__1")]
-    yield "two claim boxes, one of the first version", [claim_box(held, label="c2pa.claim"), good]
+    yield "two claim boxes, one of each version", [claim_box(item(older_claim()), label="c2pa.claim"), good]
     yield "a claim box without a content box", [claim_box()]
     yield "a claim box whose one content box is json", [claim_box(json)]
     yield "a claim box whose first content box is json", [claim_box(json, held)]

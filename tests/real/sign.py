@@ -169,8 +169,8 @@ def last_place(picture):
 
 
 def check_chain(run, picture, key):
-    """The signed picture signed again, by another key: two questions, and what fails where one isn't approved."""
-    later = Signed(Signer(key, [certificate_of(key)]), picture.media, picture)
+    """The signed picture signed again, by another key: two questions, and what fails where one isn't approved. Version and digests stay."""
+    later = Signed(Signer(key, [certificate_of(key)]), picture.media, picture, picture.version, picture.digests)
     run.write("later.jpg", later.bytes)
     rows = [verdict_row(later), verdict_row(picture)]
     lines = [f"{row.split()[0]} {label} approved\n" for row, label in zip(rows, (LATER_LABEL, LABEL))]
@@ -184,7 +184,7 @@ def check_chain(run, picture, key):
     run.check_failing("the earlier isn't trusted", ["later.jpg", "refused"], "signingCredential.untrusted", "c2pa.signature")
     changed = later.bytes.replace(picture.claim, picture.claim.replace(b"A picture", b"B picture"))
     run.write("changed.jpg", changed)
-    place = "c2pa.assertions/c2pa.ingredient.v3"
+    place = "c2pa.assertions/c2pa.ingredient" + ("" if picture.version == 1 else ".v3")
     run.check_failing("the earlier claim is another", ["changed.jpg", "both"], "ingredient.manifest.mismatch", place, LATER_LABEL)
 
 
@@ -195,13 +195,15 @@ def main():
         with open(sys.argv[2], "rb") as file:
             picture = file.read()
     keys = [ec.generate_private_key(ec.SECP256R1()) for _ in range(2)]
-    signed = Signed(Signer(keys[0], [certificate_of(keys[0])]), picture)
     with tempfile.TemporaryDirectory() as folder:
         run = Run(os.path.abspath(program), folder)
-        first = check_signed(run, signed)
-        check_changed_claim(run, signed, first)
-        check_changed_bytes(run, signed)
-        check_chain(run, signed, keys[1])
+        for version, digests in (2, "sha256"), (1, "sha512"):
+            print(f"a claim of version {version}, digests by {digests}:")
+            signed = Signed(Signer(keys[0], [certificate_of(keys[0])]), picture, version=version, digests=digests)
+            first = check_signed(run, signed)
+            check_changed_claim(run, signed, first)
+            check_changed_bytes(run, signed)
+            check_chain(run, signed, keys[1])
     print(f"all as it should be, asked of {program}" + ("" if run.has_validate else ", which has no command validate yet"))
 
 

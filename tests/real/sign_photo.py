@@ -1,10 +1,11 @@
 #!/usr/bin/env python3
 """Signs a JPEG or a BMFF file, apart from c2: puts a C2PA manifest store with one manifest into it.
 
-    sign_photo.py --key KEY.pem --chain CHAIN.pem [--alg ES256] MEDIA SIGNED
+    sign_photo.py --key KEY.pem --chain CHAIN.pem [--alg ES256] [--version 2] [--digests sha256] MEDIA SIGNED
 
 CHAIN.pem has the signer's certificate and then those above it. The algorithm is one of ES256, ES384, ES512, PS256, PS384,
-PS512 and EdDSA. A store that MEDIA has already isn't looked for.
+PS512 and EdDSA. The claim is of version 1 or 2, and digests are by sha256, sha384 or sha512. A store that MEDIA has already
+isn't looked for.
 """
 
 import argparse
@@ -20,7 +21,6 @@ from make import after_app0
 from make_store import (
     array,
     assertion,
-    assertion_uri,
     assertions,
     box,
     claim_box,
@@ -37,6 +37,7 @@ from make_store import (
     text,
     uint,
 )
+from manifests import CLAIM_LABELS
 
 LABEL = "urn:c2pa:11111111-2222-4333-8444-555555555555"
 LATER_LABEL = "urn:c2pa:22222222-2222-4333-8444-555555555555"
@@ -84,11 +85,12 @@ class Signer:
 class Signed:
     """A signed media file, and the parts that its signature stands on.
 
-    `parent` is the same media as somebody has signed it before: its manifest stays as it is and becomes the ingredient.
+    `parent` is the same media as somebody has signed it before: its manifest stays as it is and becomes the ingredient. With a claim
+    of version 1 the ingredient is of version 1 too, which refers to no signature. `digests` names the algorithm of all digests.
     """
 
-    def __init__(self, signer, media, parent=None):
-        self.signer, self.media, self.parent = signer, media, parent
+    def __init__(self, signer, media, parent=None, version=2, digests="sha256"):
+        self.signer, self.media, self.parent, self.version, self.digests = signer, media, parent, version, digests
         self.label = LABEL if parent is None else LATER_LABEL
         self.is_bmff = media[4:8] == b"ftyp"
         # the bytes of the media that the binding covers, and those that it leaves out
@@ -101,12 +103,12 @@ class Signed:
         place = after_app0(self.media)
         packets = lambda contents: jpeg(contents, self.media[:place], self.media[place:])
         # The store is as long with every number and digest, so its length is known from a first try.
-        length = len(packets(self.store(data_hash(place, 0, bytes(32))))) - len(self.media)
-        return packets(self.store(data_hash(place, length, hashlib.sha256(self.media).digest())))
+        length = len(packets(self.store(self.data_hash(place, 0)))) - len(self.media)
+        return packets(self.store(self.data_hash(place, length)))
 
     def bmff_file(self):
         """The store stands last, before an index of fragments, which is looked for at the end of a file."""
-        contents = self.store(bmff_hash(self.media))
+        contents = self.store(self.bmff_hash())
         start, kind, _ = list(root_boxes(self.media))[-1]
         place = start if kind == b"mfra" else len(self.media)
         own = box(b"uuid", C2PA_BMFF_BOX + bytes(4) + b"manifest\0" + bytes(8) + contents)
@@ -115,59 +117,61 @@ class Signed:
     def store(self, binding):
         actions = assertion("c2pa.actions.v2", mapping(("actions", array(mapping(("action", text("c2pa.created")))))))
         listed = {"c2pa.actions.v2": actions, **self.ingredient(), **dict([binding])}
-        self.claim = claim_of(self.label, *(assertion_uri(contents, label) for label, contents in listed.items()))
+        self.claim = self.claim_of(*(self.reference(f"c2pa.assertions/{label}", contents) for label, contents in listed.items()))
         self.signed_bytes = signed_bytes(self.signer.protected, self.claim)
         self.signature = self.signer.signature(self.signed_bytes)
         message = tag(18, sign1(self.signer.protected, self.signer.unprotected, signature=self.signature))
         self.signature_box = signature_box(item(message))
-        self.manifest = manifest(self.label, assertions(*listed.values()), claim_box(item(self.claim)), self.signature_box)
+        claims = claim_box(item(self.claim), label=CLAIM_LABELS[self.version])
+        self.manifest = manifest(self.label, assertions(*listed.values()), claims, self.signature_box)
         return store(*([self.parent.manifest] if self.parent else []), self.manifest)
 
     def ingredient(self):
-        """The parent as an assertion, by the digests of its manifest and of its signature."""
+        """The parent as an assertion, by the digest of its manifest, and in version 3 by that of its signature too."""
         if self.parent is None:
             return {}
-        uri = f"self#jumbf=/c2pa/{self.parent.label}"
-        named = [
-            (field, hashed_uri(uri + more, hashlib.sha256(contents[8:]).digest()))
-            for field, more, contents in (
-                ("activeManifest", "", self.parent.manifest),
-                ("claimSignature", "/c2pa.signature", self.parent.signature_box),
-            )
-        ]
-        label = "c2pa.ingredient.v3"
-        return {label: assertion(label, mapping(("dc:title", text(TITLE)), ("relationship", text("parentOf")), *named))}
+        named = [("activeManifest", "", self.parent.manifest), ("claimSignature", "/c2pa.signature", self.parent.signature_box)]
+        if self.version == 1:
+            named = [("c2pa_manifest", "", self.parent.manifest)]
+        uri = f"/c2pa/{self.parent.label}"
+        fields = [(field, self.reference(uri + more, contents)) for field, more, contents in named]
+        label = "c2pa.ingredient" if self.version == 1 else "c2pa.ingredient.v3"
+        return {label: assertion(label, mapping(("dc:title", text(TITLE)), ("relationship", text("parentOf")), *fields))}
 
+    def reference(self, place, contents):
+        """The hashed URI of a box of a 4-byte length: the digest covers the box behind its header."""
+        return hashed_uri(f"self#jumbf={place}", self.digest(contents[8:]), self.digests)
 
-def claim_of(label, *created):
-    """A claim over assertions, its keys in no order of encoding."""
-    return mapping(
-        ("instanceID", text("xmp:iid:11111111-2222-4333-8444-555555555555")),
-        ("claim_generator_info", mapping(("name", text("A newsroom's tool")))),
-        ("signature", text(f"self#jumbf=/c2pa/{label}/c2pa.signature")),
-        ("created_assertions", array(*created)),
-        ("dc:title", text(TITLE)),
-        ("alg", text("sha256")),
-    )
+    def digest(self, contents):
+        return hashlib.new(self.digests, contents).digest()
 
+    def claim_of(self, *listed):
+        """A claim over assertions, its keys in no order of encoding."""
+        made_by = {1: ("claim_generator", text("A camera")), 2: ("claim_generator_info", mapping(("name", text("A newsroom's tool"))))}
+        more = [("dc:format", text("image/jpeg"))] if self.version == 1 else []
+        return mapping(
+            ("instanceID", text("xmp:iid:11111111-2222-4333-8444-555555555555")),
+            made_by[self.version],
+            ("signature", text(f"self#jumbf=/c2pa/{self.label}/c2pa.signature")),
+            ("assertions" if self.version == 1 else "created_assertions", array(*listed)),
+            ("dc:title", text(TITLE)),
+            *more,
+            ("alg", text(self.digests)),
+        )
 
-def data_hash(start, length, digest):
-    """The hard binding to all but one range; it is as long with every number."""
-    exclusions = array(mapping(("start", uint(start, 8)), ("length", uint(length, 8))))
-    fields = ("exclusions", exclusions), ("alg", text("sha256")), ("hash", data(digest)), ("pad", data(b""))
-    return "c2pa.hash.data", assertion("c2pa.hash.data", mapping(*fields))
+    def data_hash(self, start, length):
+        """The hard binding to all but one range; it is as long with every number."""
+        exclusions = array(mapping(("start", uint(start, 8)), ("length", uint(length, 8))))
+        fields = ("exclusions", exclusions), ("alg", text(self.digests)), ("hash", data(self.digest(self.media))), ("pad", data(b""))
+        return "c2pa.hash.data", assertion("c2pa.hash.data", mapping(*fields))
 
-
-def bmff_hash(media):
-    """The hard binding to a BMFF file: each root box but `ftyp`, `mfra` and the store's own, after its place in 8 bytes."""
-    own = array(mapping(("value", data(C2PA_BMFF_BOX)), ("offset", uint(8))))
-    exclusions = mapping(("data", own), ("xpath", text("/uuid"))), mapping(("xpath", text("/ftyp"))), mapping(("xpath", text("/mfra")))
-    digest = hashlib.sha256()
-    for start, kind, contents in root_boxes(media):
-        if kind not in UNCOVERED:
-            digest.update(start.to_bytes(8, "big") + contents)
-    fields = ("alg", text("sha256")), ("hash", data(digest.digest())), ("exclusions", array(*exclusions))
-    return "c2pa.hash.bmff.v2", assertion("c2pa.hash.bmff.v2", mapping(*fields))
+    def bmff_hash(self):
+        """The hard binding to a BMFF file: each root box but `ftyp`, `mfra` and the store's own, after its place in 8 bytes."""
+        own = array(mapping(("value", data(C2PA_BMFF_BOX)), ("offset", uint(8))))
+        exclusions = mapping(("data", own), ("xpath", text("/uuid"))), mapping(("xpath", text("/ftyp"))), mapping(("xpath", text("/mfra")))
+        covered = [start.to_bytes(8, "big") + contents for start, kind, contents in root_boxes(self.media) if kind not in UNCOVERED]
+        fields = ("alg", text(self.digests)), ("hash", data(self.digest(b"".join(covered)))), ("exclusions", array(*exclusions))
+        return "c2pa.hash.bmff.v2", assertion("c2pa.hash.bmff.v2", mapping(*fields))
 
 
 def root_boxes(media):
@@ -199,6 +203,8 @@ def main():
     parser.add_argument("--key", required=True)
     parser.add_argument("--chain", required=True)
     parser.add_argument("--alg", choices=ALGORITHMS, default="ES256")
+    parser.add_argument("--version", type=int, choices=CLAIM_LABELS, default=2)
+    parser.add_argument("--digests", choices=("sha256", "sha384", "sha512"), default="sha256")
     parser.add_argument("media")
     parser.add_argument("signed")
     given = parser.parse_args()
@@ -207,7 +213,8 @@ def main():
     with open(given.media, "rb") as file:
         media = file.read()
     with open(given.signed, "wb") as file:
-        file.write(Signed(Signer(key, certificates_of(given.chain), given.alg), media).bytes)
+        signer = Signer(key, certificates_of(given.chain), given.alg)
+        file.write(Signed(signer, media, version=given.version, digests=given.digests).bytes)
 
 
 if __name__ == "__main__":

@@ -1,7 +1,7 @@
 #!/usr/bin/env python3
 """What c2 must print of the C2PA manifest store of a media file, computed apart from c2, and the status it must exit with.
 
-    store.py digest FILE                      the range of the store and the digest of all else
+    store.py digest FILE [ALG]                the range of the store and the digest of all else
     store.py list FILE                        the boxes of the store
     store.py show FILE                        its manifests and claims, as JSON
     store.py questions FILE [VERDICTFILE..]   the questions on the signatures, and what the verdict files say
@@ -16,6 +16,7 @@ import json
 import re
 import sys
 
+import hashing
 import jumbf
 from locate import Refused
 from manifests import assertions_of, claim_or_code, is_of, manifests_of
@@ -66,8 +67,8 @@ def verdict_of(judges, identity):
     return "silent"
 
 
-def digest(media):
-    state = hashlib.sha256(media.data[: media.start])
+def digest(media, algorithm):
+    state = hashlib.new(algorithm, media.data[: media.start])
     state.update(media.data[media.start + media.length :])
     return f"{media.start} {media.length} {state.hexdigest()}", DONE
 
@@ -120,14 +121,14 @@ def validated(check_list, media):
     return "valid manifests={} assertions={} covered={} outside={}".format(*check_list.summary()), DONE
 
 
-def report(command, data, judges=()):
-    """What a command prints of a file's bytes, and its status."""
+def report(command, data, judges=(), algorithm=hashing.DEFAULT):
+    """What a command prints of a file's bytes, and its status; `algorithm` is that of `digest`."""
     try:
         media = media_of(data)
         if media is None:
             return "none", NO_STORE
         if command == "digest":
-            return digest(media)
+            return digest(media, algorithm)
         root = jumbf.read(media.store)
         if command == "list":
             return listing(media.store, root)
@@ -139,15 +140,16 @@ def report(command, data, judges=()):
         return f"refused {refused.reason} {refused.number}", REFUSED
 
 
-def answer(command, name, *verdict_files):
+def answer(command, name, *more):
     """The bytes that words must print, and the status."""
-    if command not in COMMANDS:
+    algorithms = more if command == "digest" and more else (hashing.DEFAULT,)
+    if command not in COMMANDS or len(algorithms) > 1 or not hashing.is_known(algorithms[0]):
         return b"", USAGE
-    judges = [read_verdicts(verdicts) for verdicts in verdict_files]
+    judges = [] if command == "digest" else [read_verdicts(verdicts) for verdicts in more]
     try:
         with open(name, "rb") as file:
             data = file.read()
-        text, status = report(command, data, judges)
+        text, status = report(command, data, judges, *algorithms)
     except OSError:
         return b"", INPUT_FAULT
     except JudgeFault:

@@ -17,6 +17,7 @@ import sys
 import tempfile
 from collections import Counter
 
+import hashing
 import store
 from chance_stores import changed_file, drawn_file, questions_in, verdict_files
 from told import tell, write
@@ -29,11 +30,14 @@ class Comparison:
         self.program, self.folder = program, folder
         self.media = os.path.join(folder, "media")
         self.commands = [command for command in store.COMMANDS if self.has(command)]
+        # a program that doesn't know the word for an algorithm isn't given one
+        named = [[name] for name in hashing.LENGTHS if self.has("digest", name)]
+        self.algorithms = [[], *named]
         self.runs, self.differences, self.answers = Counter(), 0, Counter()
 
-    def has(self, command):
+    def has(self, command, *more):
         write(self.media, b"")
-        return self.program is None or self.told([command, self.media])[1] != store.USAGE
+        return self.program is None or self.told([command, self.media, *more])[1] != store.USAGE
 
     def told(self, words):
         done = subprocess.run([self.program, *words], stdout=subprocess.PIPE, check=False)
@@ -54,6 +58,9 @@ class Comparison:
             if command not in JUDGED and not with_all:
                 continue
             words = [command, self.media, *(names if command in JUDGED else ())]
+            if command == "digest":
+                # without an algorithm, and by each one, in turn
+                words += self.algorithms[self.runs[command] % len(self.algorithms)]
             self.runs[command] += 1
             expected, told = store.answer(*words), self.told(words)
             if told != expected:
@@ -62,10 +69,10 @@ class Comparison:
     def tell_difference(self, words, told, expected):
         self.differences += 1
         for path in words[1:]:
-            if os.path.exists(path):
+            if os.path.isfile(path):
                 kept = f"differs-{self.differences}" + ("" if path == self.media else "." + os.path.basename(path))
                 shutil.copy(path, kept)
-        print(f"differs-{self.differences}: {words[0]} with {len(words) - 2} verdict files")
+        print(f"differs-{self.differences}: {words[0]} with {len(words) - 2} words behind the file")
         print(f"  c2       {told[1]} {told[0][:300]}")
         print(f"  rules.py {expected[1]} {expected[0][:300]}")
 

@@ -51,6 +51,26 @@ a redaction of c2pa.hash.boxes
 a redaction of c2pa.ingredient.v9__2
 a redaction of x
 a claim cut short
+a claim of version 1 without an instance
+a claim of version 1 with both lists
+a claim of version 2 with both lists
+a claim under the label c2pa.claim of the other version
+a redaction by a claim of version 1
+an ingredient of version 1 in a claim of version 1
+another digest of the signature, version 2
+another digest, version 1
+an update by an ingredient of version 2
+an update with an older ingredient besides
+the older field in version 3
+all by sha384, which the claim names
+all by sha512, which the claim names
+a binding by sha384, in a claim by sha256
+an entry by sha512
+a reference to a manifest by sha384
+a manifest by sha512 below one by sha256
+32 bytes of a digest by sha512
+48 bytes of a digest by sha512 as one by sha384
+zeros behind a digest
 """.strip().split("\n")
 
 
@@ -76,8 +96,8 @@ LINES = bytes(range(251)) * 12_532
 PICTURE = APP0 + SCAN + bytes(at % 251 for at in range(3_145_696)) + b"\xff\xd9"
 
 
-def photographed(ranges):
-    """A photograph with a store as a camera's program may write it, and what `validate` says."""
+def photographed(ranges, version=2):
+    """A photograph with a store as a camera's program may write it, its claim of a version, and what `validate` says."""
     stamped = mapping(("sigTst", mapping(("tstTokens", array(mapping(("val", data(b"\0"))))))), ("pad", data(bytes(8))))
     draft = Manifest(
         "m",
@@ -85,14 +105,16 @@ def photographed(ranges):
         Assertion("c2pa.actions.v2", ACTIONS),
         Assertion("c2pa.metadata", b'{"dc:title":"a photograph"}', b"json"),
         rule_rows.with_(DataHash(), ranges=ranges),
+        version=version,
     )
-    draft.claim_fields = {
+    later = {
         "dc:title": NULL,
         "claim_generator_info": open_map(("version", text("1")), ("name", text("a camera"))),
         "gathered_assertions": NULL,
         "redacted_assertions": NULL,
         "alg": NULL,
     }
+    draft.claim_fields = later if version == 2 else {}
     draft.change_message = lambda _: tag(18, sign1(unprotected=stamped))
     contents = Jpeg(rest=PICTURE).file([draft])
     return contents, report("validate", contents, [rule_rows.verdicts_on(contents)])
@@ -112,6 +134,9 @@ def photographs():
     at = len(contents) - 3_145_709
     other = contents[:at] + bytes([contents[at] + 1]) + contents[at + 1 :]
     text += photograph_row("a photograph whose header has another last byte", other)
+    older, told = photographed([None], version=1)
+    assert told == ("valid manifests=1 assertions=4 covered=3145728 outside=0", 0), told
+    text += photograph_row("a photograph whose claim is of version 1", older)
     contents, told = photographed([(0, 1 << 63)])
     assert told == (rule_rows.failing("profile.hash.form", "m" + rule_rows.HASH), 1), told
     return text + photograph_row("a photograph with a range that ends far behind the file", contents)

@@ -38,8 +38,8 @@ MESSAGE = signature_box(item(sign1()))
 SIGNED = hashlib.sha256(MESSAGE[8:]).digest()
 
 
-def digest(contents):
-    return hashlib.sha256(contents).digest()
+def digest(contents, name="sha256"):
+    return hashlib.new(name, contents).digest()
 
 
 def short(number):
@@ -55,9 +55,9 @@ def assertion(label, encoded):
     return superbox(b"cbor", label, box(b"cbor", encoded))
 
 
-def ingredient(named, contents, signed=None):
+def ingredient(named, contents, signed=None, alg=None):
     """An ingredient that names a manifest by its digest, and with a digest of its signature where one is given."""
-    pairs = [("relationship", text("inputTo")), ("activeManifest", hashed_uri(f"self#jumbf=/c2pa/{named}", contents))]
+    pairs = [("relationship", text("inputTo")), ("activeManifest", hashed_uri(f"self#jumbf=/c2pa/{named}", contents, alg))]
     if signed is not None:
         pairs.append(("claimSignature", hashed_uri(f"self#jumbf=/c2pa/{named}/c2pa.signature", signed)))
     return mapping(*pairs)
@@ -79,7 +79,7 @@ class Store:
             claim.append(("redacted_assertions", array(*redactions)))
         contents = manifest(label, assertions(*boxes), claim_box(item(mapping(*claim))), MESSAGE, *extra)
         self.manifests.append(contents)
-        self.digests[label] = digest(contents[8:])
+        self.contents, self.digests[label] = contents[8:], digest(contents[8:])
 
     def add_bound(self, label, boxes=(), entries=(), redactions=(), extra=()):
         """A manifest with a binding of a file that it isn't the active manifest of."""
@@ -101,14 +101,20 @@ class Store:
 
 
 def one_child(count):
-    """One manifest of 16 MB, named by as many ingredients as fit beside it."""
-    for name, signed in ("named_by_digest", None), ("named_by_signature", SIGNED):
+    """One manifest of 16 MB, named by as many ingredients as fit beside it, also by each algorithm in turn."""
+    names = "sha256", "sha384", "sha512"
+    for name, fitting, is_signed, algs in (
+        ("named_by_digest", 66_000, False, [None]),
+        ("named_by_signature", 46_000, True, [None]),
+        ("named_by_three_algorithms", 59_000, False, names),
+    ):
         made = Store()
         made.add_bound("d", extra=[superbox(b"c2vc", "x", box(b"bidb", bytes(count(16_000_000))))])
-        number = count(66_000 if signed is None else 46_000)
+        number = count(fitting)
         labels = [f"c2pa.ingredient.v3__{at}" for at in range(number)]
-        encoded = ingredient("d", made.digests["d"], signed)
-        boxes = [assertion(label, encoded) for label in labels]
+        hashed = [digest(made.contents, alg or names[0]) for alg in algs]
+        items = [ingredient("d", each, SIGNED if is_signed else None, alg) for each, alg in zip(hashed, algs)]
+        boxes = [assertion(label, items[at % len(items)]) for at, label in enumerate(labels)]
         answer = f"valid manifests=2 assertions={number + 2} covered=4 outside=0"
         yield name, made.file("m", boxes, map(listed, labels, boxes)), answer
 

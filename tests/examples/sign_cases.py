@@ -1,0 +1,192 @@
+#!/usr/bin/env python3
+"""The example examples/sign with c2: each algorithm, media that is signed already, redactions, and what is refused.
+
+    sign_cases.py [C2]      runs the example with C2 (the repository's ./c2)
+
+Keys and certificates are openssl's, the verdicts are those of examples/judge, and valid is what c2 says is.
+"""
+
+import json
+import os
+import shlex
+import shutil
+import subprocess
+import sys
+import tempfile
+import unittest
+
+HERE = os.path.dirname(os.path.abspath(__file__))
+TOP = os.path.join(HERE, "..", "..")
+sys.path.insert(0, os.path.join(TOP, "examples", "judge"))
+import cbor
+
+C2 = os.path.abspath(sys.argv[1] if len(sys.argv) > 1 else os.path.join(TOP, "c2"))
+ALGORITHMS = {
+    "ES256": ["ec", "-pkeyopt", "ec_paramgen_curve:P-256"],
+    "ES384": ["ec", "-pkeyopt", "ec_paramgen_curve:P-384"],
+    "PS256": ["rsa:2048"],
+    "EdDSA": ["ed25519"],
+}
+AUTHORITY = "-addext basicConstraints=critical,CA:TRUE -addext keyUsage=critical,keyCertSign"
+SIGNER = (
+    "-addext basicConstraints=critical,CA:FALSE -addext keyUsage=critical,digitalSignature -addext extendedKeyUsage=emailProtection"
+)
+PICTURE = b"\xff\xd8\xff\xe0\0\x10JFIF\0\1\2\0\0\1\0\1\0\0\xff\xfe\0\x08a tree\xff\xd9"
+FILM = bytes.fromhex("00000010 66747970 69736f6d 00000000 0000000e 6d646174") + b"a tree"
+PARENT = "self#jumbf=c2pa.assertions/c2pa.ingredient.v3"
+
+
+def certificate(folder, name, key, above=None, extensions=SIGNER):
+    """A key and a certificate, which the one above has signed, or the key itself."""
+    signed = ["-CA", f"{above}.pem", "-CAkey", f"{above}.key"] if above else []
+    words = [
+        "openssl",
+        "req",
+        "-x509",
+        *signed,
+        "-newkey",
+        *key,
+        "-noenc",
+        "-days",
+        "30",
+        "-subj",
+        f"/CN=A {name}",
+        *extensions.split(),
+    ]
+    subprocess.run([*words, "-keyout", f"{name}.key", "-out", f"{name}.pem"], cwd=folder, check=True, stderr=subprocess.DEVNULL)
+
+
+class Signing(unittest.TestCase):
+    @classmethod
+    def setUpClass(cls):
+        cls.made = tempfile.TemporaryDirectory()
+        certificate(cls.made.name, "root", ALGORITHMS["ES256"], extensions=AUTHORITY)
+        certificate(cls.made.name, "office", ALGORITHMS["ES384"], "root", AUTHORITY)
+        for name, key in ALGORITHMS.items():
+            certificate(cls.made.name, name, key, "office")
+            with open(os.path.join(cls.made.name, f"{name}.chain"), "wb") as chain:
+                chain.write(b"".join(cls.contents(cls.made.name, f"{part}.pem") for part in (name, "office")))
+        cls.addClassCleanup(cls.made.cleanup)
+
+    def setUp(self):
+        self.folder = tempfile.mkdtemp()
+        self.addCleanup(shutil.rmtree, self.folder)
+        shutil.copytree(self.made.name, self.folder, dirs_exist_ok=True)
+        self.write("photo.jpg", PICTURE)
+        self.write("film.mp4", FILM)
+        self.write("place.json", b'{"place":"a street"}')
+
+    @staticmethod
+    def contents(folder, name):
+        with open(os.path.join(folder, name), "rb") as file:
+            return file.read()
+
+    def write(self, name, contents):
+        with open(os.path.join(self.folder, name), "wb") as file:
+            file.write(contents)
+
+    def run_in(self, *words):
+        return subprocess.run(words, cwd=self.folder, capture_output=True, text=True)
+
+    def sign(self, media, out, *options, signer="ES256", anchors=("--anchors", "root.pem")):
+        program = os.path.join(TOP, "examples", "sign", "sign.py")
+        return self.run_in(
+            sys.executable,
+            program,
+            "--c2",
+            C2,
+            "--key",
+            f"{signer}.key",
+            "--chain",
+            f"{signer}.chain",
+            *anchors,
+            *options,
+            media,
+            out,
+        )
+
+    def signed(self, *words, **how):
+        """The last line of a signing that is done."""
+        done = self.sign(*words, **how)
+        self.assertEqual((done.returncode, done.stderr), (0, ""), done.stdout)
+        return done.stdout.splitlines()[-1]
+
+    def refused(self, wanted, media, out, *options, **how):
+        """Asserts that a signing ends with these words and makes no file."""
+        done = self.sign(media, out, *options, **how)
+        self.assertNotEqual(done.returncode, 0)
+        self.assertIn(wanted, done.stdout + done.stderr)
+        self.assertFalse(os.path.exists(os.path.join(self.folder, out)))
+
+    def shown(self, media):
+        return json.loads(self.run_in(C2, "show", media).stdout)
+
+    def test_each_algorithm(self):
+        for name in ALGORITHMS:
+            line = self.signed("photo.jpg", f"{name}.jpg", "--title", "It's a tree", "--room", "100", signer=name)
+            self.assertEqual(line, f"valid manifests=1 assertions=2 covered={len(PICTURE)} outside=0")
+            made, verdicts = self.contents(self.folder, f"{name}.jpg"), f"{name}.jpg.steps/new-verdicts"
+            self.write("changed.jpg", made.replace(b"a tree\xff", b"a free\xff"))
+            self.assertIn("failing assertion.dataHash.mismatch", self.run_in(C2, "validate", "changed.jpg", verdicts).stdout)
+            self.assertEqual(made.count(b"It's a tree"), 1)
+            message = len(self.contents(self.folder, f"{name}.jpg.steps/message"))
+            with open(os.path.join(self.folder, f"{name}.jpg.steps/definition.json"), encoding="utf-8") as file:
+                self.assertEqual(json.load(file)["reserve"], message + 100)
+
+    def test_a_film_signed_again_and_redacted(self):
+        self.assertEqual(
+            self.signed("film.mp4", "1.mp4", "--assertion", "org.example.place=place.json"),
+            "valid manifests=1 assertions=3 covered=14 outside=16",
+        )
+        self.assertEqual(
+            self.signed("1.mp4", "2.mp4", "--action", "c2pa.cropped", signer="EdDSA"),
+            "valid manifests=2 assertions=6 covered=14 outside=16",
+        )
+        uri = f"self#jumbf=/c2pa/{self.shown('1.mp4')['active']}/c2pa.assertions/org.example.place"
+        self.assertEqual(self.signed("2.mp4", "3.mp4", "--redact", uri), "valid manifests=3 assertions=8 covered=14 outside=16")
+        self.assertIn(b'"a street"', self.contents(self.folder, "2.mp4"))
+        self.assertNotIn(b'"a street"', self.contents(self.folder, "3.mp4"))
+        self.assertEqual(self.shown("3.mp4")["manifests"][-1]["claim"]["redacted"], [uri])
+
+    def test_the_action_refers_to_the_parent(self):
+        self.signed("photo.jpg", "1.jpg")
+        self.signed("1.jpg", "2.jpg", "--action", "c2pa.edited")
+        claim = self.shown("2.jpg")["manifests"][-1]["claim"]
+        hashed = next(entry["hash"] for entry in claim["assertions"] if entry["url"] == PARENT)
+        with open(os.path.join(self.folder, "2.jpg.steps", "definition.json"), encoding="utf-8") as file:
+            actions = cbor.read_whole(bytes.fromhex(json.load(file)["assertions"][0]["hex"]))
+        opened, edited = cbor.field(actions, "actions")[1]
+        reference = cbor.field(cbor.field(opened, "parameters"), "ingredients")[1][0]
+        self.assertEqual([cbor.field(action, "action")[1] for action in (opened, edited)], ["c2pa.opened", "c2pa.edited"])
+        self.assertEqual((cbor.field(reference, "url")[1], cbor.field(reference, "hash")[1].hex()), (PARENT, hashed))
+
+    def test_the_printed_steps_can_be_typed(self):
+        printed = self.sign("photo.jpg", "a signed one.jpg", "--title", "A 'quoted' title; $HOME").stdout
+        typed = [line[2:] for line in printed.splitlines() if line.startswith("+ ")]
+        first = self.contents(self.folder, "a signed one.jpg")
+        os.remove(os.path.join(self.folder, "a signed one.jpg"))
+        self.assertEqual(
+            [shlex.split(line)[1] for line in typed if shlex.split(line)[0] == C2], ["list", "plan", "embed", "validate"]
+        )
+        done = self.run_in("sh", "-c", "\n".join(typed))
+        self.assertEqual(done.stdout.splitlines()[-1], f"valid manifests=1 assertions=2 covered={len(PICTURE)} outside=0")
+        self.assertEqual(len(self.contents(self.folder, "a signed one.jpg")), len(first))
+
+    def test_what_is_refused(self):
+        self.refused("the key isn't that of the signer's certificate", "photo.jpg", "no.jpg", "--key", "ES384.key")
+        self.refused("has no certificate in PEM", "photo.jpg", "no.jpg", "--chain", "ES256.key")
+        self.refused("LABEL=FILE is wanted", "photo.jpg", "no.jpg", "--assertion", "org.example.place")
+        self.refused("there is no file absent.jpg", "absent.jpg", "no.jpg")
+        self.refused("build BadDefinition label", "photo.jpg", "no.jpg", "--label", "a")
+        self.signed("photo.jpg", "1.jpg")
+        self.refused("--anchors or --verdicts is wanted", "1.jpg", "no.jpg", anchors=())
+        self.refused("build RedactionRefused x profile.redaction.uri", "1.jpg", "no.jpg", "--redact", "x")
+        self.write("changed.jpg", self.contents(self.folder, "1.jpg").replace(b"a tree\xff", b"a free\xff"))
+        self.refused("build ParentFails assertion.dataHash.mismatch", "changed.jpg", "no.jpg")
+        before = self.contents(self.folder, "1.jpg")
+        self.assertIn("is there already", self.sign("photo.jpg", "1.jpg").stderr)
+        self.assertEqual(self.contents(self.folder, "1.jpg"), before)
+
+
+if __name__ == "__main__":
+    unittest.main(argv=sys.argv[:1])

@@ -1,0 +1,411 @@
+#!/usr/bin/env python3
+"""Makes the test vectors of vectors/: media, definitions, messages, verdict files, and what each command must say of them.
+
+    vectors.py write [FOLDER]      writes the vectors into a folder, vectors/ where none is named
+    vectors.py check [FOLDER]      fails where a file there isn't the one that would be written, or is missing, or is there besides
+
+The answers are those of store.py, pairs.py and builder.py, beside those that are written by hand where the files are made
+(vector_files.py, vector_builds.py, and the rows that these take), which must be the same. Nothing is asked of c2.
+"""
+
+import functools
+import hashlib
+import json
+import pathlib
+import re
+import sys
+
+import bmff
+import builder
+import jumbf
+import pairs
+import rule_rows
+import store
+import tables
+import vector_builds
+import vector_files
+from build_rows import Vast
+from locate import LARGEST_STORE, Refused
+from manifests import Manifest as Read
+from manifests import manifests_of
+from media import media_of
+from store import DONE, INPUT_FAULT, JUDGE_FAULT, USAGE, JudgeFault, printable
+from vector_builds import whole
+from worked_builds import DEFINITION, LATER_DEFINITION, MESSAGE
+
+TOP = pathlib.Path(__file__).resolve().parent.parent.parent
+PLACE = TOP / "vectors"
+# A film of a million root boxes is read once and not for each command.
+bmff.root_boxes = functools.lru_cache(maxsize=2)(bmff.root_boxes)
+# Written by hand.
+KEPT = {"README.md", "run"}
+# Longer files are told by pieces.
+LONGEST = 90_000
+# Longer files that are told by pieces put no question.
+MOST_ASKED = 5_000_000
+READERS = "digest", "list", "show"
+JUDGE, APPROVING = "verdicts/judge", "verdicts/approving"
+BROKEN = "verdicts/no-verdict-file"
+ALGORITHMS = "sha256", "sha384", "sha512"
+WORDS = "mismatch", "untrusted", "invalid"
+ODD_FILES = "the-first-row-holds", "upper-case-digits", "no-line-feed-at-the-end"
+USUAL = {DEFINITION: "plain", LATER_DEFINITION: "later", MESSAGE: "plain"}
+GROUPS = {
+    "valid": "Valid",
+    "failing": "A rule fails",
+    "refused": "Refused",
+    "none": "No store",
+    "reading": "Spellings, for `list`, `show` and `questions`",
+}
+
+
+class Files:
+    """The files of the folder by their names: bytes, or pieces."""
+
+    def __init__(self):
+        self.contents, self.pieces, self.names = {}, {}, {}
+
+    def put(self, folder, what, kind, contents):
+        """The name of a file: the one that it has where it was put into a folder of that group before."""
+        key = folder.split("/")[0], contents if isinstance(contents, bytes) else repr(contents)
+        if key not in self.names:
+            pieces = pieces_of(contents)
+            name = self.free_name(f"{'made' if pieces else folder}/{slug(what)}", kind)
+            self.names[key] = name
+            if pieces:
+                self.pieces[name] = pieces
+            else:
+                self.contents[name] = contents
+        return self.names[key]
+
+    def free_name(self, name, kind):
+        numbers = (f"{name}{'' if number == 1 else f'-{number}'}.{kind}" for number in range(1, 1_000))
+        return next(each for each in numbers if each not in self.contents and each not in self.pieces)
+
+
+def slug(what):
+    """A name of lower case letters, digits and hyphens for what a file shows."""
+    words = re.sub("[^a-z0-9.]+", "-", what.lower()).strip("-.")
+    return words[:90].strip("-.")
+
+
+def pieces_of(contents):
+    """Pieces of a file that is too long to be kept; none for another."""
+    if isinstance(contents, list):
+        return [spelled_piece(piece) for piece in contents]
+    if len(contents) <= LONGEST:
+        return None
+    pieces, at = [], 0
+    for run in re.finditer(rb"(.{1,2}?)\1{499,}", contents, re.DOTALL):
+        pieces += [(contents[at : run.start()], 1), (run[1], len(run[0]) // len(run[1]))]
+        at = run.end()
+    return [spelled_piece(piece) for piece in [*pieces, (contents[at:], 1)] if piece[0]]
+
+
+def spelled_piece(piece):
+    if isinstance(piece, int):
+        return {"size": piece}
+    contents, times = piece
+    if isinstance(times, range):
+        at = contents.index(b"##")
+        return {"hex": (contents[:at] + bytes(2) + contents[at + 2 :]).hex(), "numbers": [times[0], times[-1]], "at": at}
+    return {"hex": contents.hex(), "times": times}
+
+
+class Vectors:
+    """All files, and all runs in their order."""
+
+    def __init__(self):
+        self.files, self.runs = Files(), []
+        # what each shows: the names of its files, and what else it takes
+        self.media, self.pairs, self.builds = [], [], []
+        # the verdicts on all questions that any file puts: the judge's, by signature, and those of one who approves
+        self.verdicts = {"judge": {}, "approving": {}}
+        self.collect()
+        self.put_verdicts()
+        self.read_media()
+        self.read_judged()
+        self.read_digests()
+        self.compare()
+        self.build()
+        self.run_words()
+
+    # What there is
+
+    def collect(self):
+        for kind, what, known, contents in vector_files.media():
+            self.add_media(kind, what, known, contents)
+        for what, *files in vector_files.pairs():
+            names = (self.files.put("pairs", f"{what}-{place}", ending(given), given) for place, given in zip(("first", "second"), files))
+            self.pairs.append((what, *names))
+            for contents in files:
+                self.ask(contents)
+        for each in vector_builds.rows():
+            self.add_build(each)
+
+    def add_media(self, kind, what, known, contents):
+        """A media file, in a folder that says what `validate` answers."""
+        data = whole(contents)
+        verdicts = self.ask(data)
+        is_long = isinstance(data, bytes) and len(data) > MOST_ASKED
+        line = known if is_long else store.report("validate", data, [verdicts])[0]
+        assert known in (None, line), (what, line, known)
+        answer, *more = line.split(" ")
+        group, _, name = what.rpartition(": ") if ": " in what else ("", "", what)
+        folder = f"{answer}/{more[0]}" if answer in ("failing", "refused") else answer
+        if group in ("shown", "asked"):
+            folder = "reading"
+        elif group not in ("none", *vector_builds.REASONS):
+            name = what
+        kind = ending(data) if kind == "pieces" else kind
+        self.media.append((self.files.put(folder, name, kind, contents), folder.split("/")[0], name, line, data))
+
+    def add_build(self, each):
+        """A build, unless its new file is too long to be kept."""
+        data, new = whole(each.media), None
+        self.ask(data)
+        if not str(each.known).startswith("build "):
+            _, _, new = answered(builder.embed, data, each.definition, each.message, [tables.Approving()])
+        if new is not None and len(new) > LONGEST:
+            return
+        names = [self.files.put("build", each.what, ending(data), each.media)]
+        for folder, contents, kind in ("definitions", each.definition, "json"), ("messages", each.message, "cose"):
+            names.append(self.files.put(folder, USUAL.get(contents, each.what), kind, contents))
+        name = None
+        if new is not None:
+            self.ask(new)
+            name = self.files.put("built", each.what, ending(new), new)
+        self.builds.append((each, names, name))
+
+    def ask(self, contents):
+        """The verdicts on the questions of a file, by its signatures, which are kept."""
+        if isinstance(contents, Vast) or MOST_ASKED < len(contents) < LARGEST_STORE:
+            return {}
+        try:
+            found = rule_rows.verdicts_on(contents)
+        except (Refused, AttributeError):
+            return {}
+        self.verdicts["judge"] |= found
+        for identity, _, _ in questions_of(contents):
+            self.verdicts["approving"][identity] = "approved"
+        return found
+
+    def put_verdicts(self):
+        """The verdict files, once all questions are known."""
+        lines = lambda rows: "".join(f"{identity} {word}\n" for identity, word in sorted(rows.items())).encode()
+        files = {name: lines(rows) for name, rows in self.verdicts.items()}
+        for word in WORDS:
+            files[f"all-{word}"] = lines(dict.fromkeys(self.verdicts["approving"], word))
+        first, *_ = self.media[0]
+        (identity,) = rule_rows.verdicts_on(self.files.contents[first])
+        files |= {
+            "empty": b"",
+            "no-verdict-file": b"approved\n",
+            "upper-case-digits": f"{identity.upper()} approved\n".encode(),
+            "no-line-feed-at-the-end": f"{identity} approved".encode(),
+            "the-first-row-holds": f"{identity} untrusted\n{identity} approved\n".encode(),
+        }
+        self.files.contents |= {f"verdicts/{name}": contents for name, contents in files.items()}
+
+    # What is said of it
+
+    def judges(self, names):
+        """The judges of verdict files, as store.py has them."""
+        return [store.verdicts_in(self.files.contents[name]) if name in self.files.contents else None for name in names]
+
+    def run(self, told, *words, new=None):
+        line, status = told
+        kept = {"words": list(words), "status": status, "report": None if line is None else f"{line}\n" if line else ""}
+        self.runs.append(kept | ({} if new is None else {"new": new}))
+
+    def judged(self, data, name, *judges, commands=("questions", "validate")):
+        """Runs of commands that read one file, under judges."""
+        for command in commands:
+            try:
+                told = store.report(command, data, self.judges(judges))
+            except JudgeFault:
+                told = "", JUDGE_FAULT
+            self.run(told, command, name, *judges)
+
+    def read_media(self):
+        """What each reading command says of each file, without a judge and under the judge; of files that fail `list` and `show` are left out."""
+        for name, (line, data) in {name: more for name, _, _, *more in self.media}.items():
+            if isinstance(data, bytes) and len(data) > MOST_ASKED:
+                # these take the readers in Python minutes: what is written by hand stands
+                self.run((line, store.REFUSED), "digest", name)
+                continue
+            self.judged(data, name, commands=READERS[:1] if name.startswith("failing/") else READERS)
+            self.judged(data, name)
+            self.judged(data, name, JUDGE)
+
+    def read_judged(self):
+        """Judges in their order, over a valid file and over one with an older manifest."""
+        files = {what: (name, data) for name, _, what, _, data in self.media}
+        alone = [f"verdicts/{name}" for name in ("empty", *(f"all-{word}" for word in WORDS), *ODD_FILES)]
+        several = ["verdicts/empty", APPROVING], ["verdicts/all-untrusted", APPROVING], [APPROVING, BROKEN], ["verdicts/empty", BROKEN]
+        for name, data in files["a data hash alone"], files["an ingredient"]:
+            for judges in [*([each] for each in alone), *several, [BROKEN], ["verdicts/not-there"]]:
+                self.judged(data, name, *judges)
+
+    def read_digests(self):
+        """The digest of what stands around a store by each algorithm; another name of one doesn't fit."""
+        for name, data in {name: data for name, group, _, _, data in self.media if group == "valid" and len(data) < 2_000}.items():
+            media = media_of(data)
+            for algorithm in ALGORITHMS:
+                state = hashlib.new(algorithm, data[: media.start] + data[media.start + media.length :])
+                self.run((f"{media.start} {media.length} {state.hexdigest()}", DONE), "digest", name, algorithm)
+        self.run((None, USAGE), "digest", self.media[0][0], "md5")
+
+    def compare(self):
+        for _, *names in self.pairs:
+            for judges in [APPROVING], []:
+                self.run(pairs.compared(*map(self.files.contents.get, names), self.judges(judges)), "compare", *names, *judges)
+        _, *names = self.pairs[0]
+        self.run(("", JUDGE_FAULT), "compare", *names, BROKEN)
+
+    def build(self):
+        """`plan`, `embed`, and what is said of the files that are built."""
+        for each, (media, definition, message), built in self.builds:
+            data, judges = whole(each.media), self.judges(each.judges)
+            if isinstance(data, bytes) and len(data) > MOST_ASKED:
+                self.run((each.known, builder.BUILD_REFUSED), "embed", media, definition, message, "OUT", *each.judges)
+                continue
+            if media not in self.files.pieces:
+                self.run(answered(builder.plan, data, each.definition, judges)[:2], "plan", media, definition, *each.judges)
+            line, status, new = answered(builder.embed, data, each.definition, each.message, judges)
+            assert each.known in (None, line, status), (each.what, line, each.known)
+            built = None if new is None else built
+            assert new is None or self.files.contents[built] == new, each.what
+            self.run((line, status), "embed", media, definition, message, "OUT", *each.judges, new=built)
+        for name, contents in list(self.files.contents.items()):
+            if name.startswith("built/"):
+                self.judged(contents, name, commands=READERS)
+                self.judged(contents, name, APPROVING)
+                assert self.runs[-1]["status"] == DONE, name
+
+    def run_words(self):
+        """Words that don't fit, for which the usage line isn't compared, and a file that isn't there."""
+        valid, *_ = self.media[0]
+        for words in [], ["check", valid], ["digest"], ["list", valid, valid], ["digest", f"-{valid}"], ["show", ""], ["sample", "0"], ["sample", "007"]:
+            self.run((None, USAGE), *words)
+        self.run((None, USAGE), "validate", valid, *(["verdicts/empty"] * 65))
+        for command in (*READERS, "questions", "validate"):
+            self.run(("", INPUT_FAULT), command, "valid/not-there.jpg")
+
+
+def questions_of(contents):
+    """The questions of all manifests of a file, reached or not."""
+    media = media_of(contents)
+    for found in manifests_of(jumbf.read(media.store)):
+        question = Read(media.store, found).question()
+        if question is not None:
+            yield question, None, None
+
+
+def ending(contents):
+    return "mp4" if contents[4:8] == b"ftyp" else "jpg"
+
+
+def answered(call, *given):
+    """Line, status and new file of `plan` or `embed`."""
+    try:
+        told = call(*given)
+    except JudgeFault:
+        return "", JUDGE_FAULT, None
+    return *builder.line_of(told), told[0] if isinstance(told[0], bytes) else None
+
+
+# What is written
+
+
+def page(vectors):
+    """The page that says what each file shows."""
+    lines = ["# What each vector shows", "", "Written by `tests/real/vectors.py`: not to be edited. [README.md](README.md) says how to read it."]
+    for group, title in GROUPS.items():
+        rows = [(f"`{name}`", what, line) for name, of, what, line, _ in vectors.media if of == group]
+        lines += table(title, ("File", "Shows", "`validate` under `verdicts/judge`"), rows)
+    reports = {tuple(run["words"]): run for run in vectors.runs}
+    told = lambda *words: reports[words]["report"].split("\n")[0] or f"status {reports[words]['status']}"
+    rows = [(f"`{first}` `{second}`", what, told("compare", first, second, APPROVING)) for what, first, second in vectors.pairs]
+    lines += table("Pairs", ("Files", "Show", "`compare` under `verdicts/approving`"), rows)
+    rows = [("`" + "` `".join((*names, *each.judges)) + "`", each.what, told("embed", *names, "OUT", *each.judges)) for each, names, _ in vectors.builds]
+    lines += table("Builds", ("Media, definition, message, judges", "Show", "`embed`"), rows)
+    return "\n".join(lines) + "\n"
+
+
+def table(title, heads, rows):
+    line = lambda cells: f"| {' | '.join(cells)} |"
+    return ["", f"## {title}", "", line(heads), line("---" for _ in heads), *(line((name, *map(cell, more))) for name, *more in rows)]
+
+
+def cell(text):
+    text = printable(text)
+    return (text if len(text) <= 160 else text[:157] + "..").replace("|", "\\|")
+
+
+def written():
+    """Names and contents of all files."""
+    vectors = Vectors()
+    files = dict(vectors.files.contents)
+    files["runs.jsonl"] = lines_of(vectors.runs)
+    files["pieces.jsonl"] = lines_of({"name": name, "pieces": pieces} for name, pieces in vectors.files.pieces.items())
+    files["LIST.md"] = page(vectors).encode()
+    return files
+
+
+def lines_of(values):
+    return "".join(json.dumps(value, ensure_ascii=False, separators=(",", ":")) + "\n" for value in values).encode()
+
+
+def there(folder):
+    """The files of a folder that aren't written by hand."""
+    found = (path.relative_to(folder).as_posix() for path in folder.rglob("*") if path.is_file())
+    return {name for name in found if name not in KEPT}
+
+
+def write(folder):
+    files = written()
+    for name in there(folder) - set(files):
+        (folder / name).unlink()
+    for name, contents in files.items():
+        path = folder / name
+        path.parent.mkdir(parents=True, exist_ok=True)
+        path.write_bytes(contents)
+    print(f"{len(files)} files, {sum(map(len, files.values()))} bytes, {files['runs.jsonl'].count(bytes([10]))} runs")
+    return 0
+
+
+def check(folder):
+    files = written()
+    wrong = sorted(name for name in set(files) | there(folder) if not (folder / name).is_file() or files.get(name) != (folder / name).read_bytes())
+    for name in wrong:
+        print(f"{name} isn't what would be written")
+    missing = sorted(unshown(files))
+    for name in missing:
+        print(f"no vector shows {name}")
+    print(f"{len(files)} files, {len(wrong)} differences")
+    return 1 if wrong or missing else 0
+
+
+def unshown(files):
+    """The codes of docs/CHECKS.md and the reasons of docs/FORMATS.md that no report tells."""
+    reports = files["runs.jsonl"].decode()
+    checks = (TOP / "docs" / "CHECKS.md").read_text()
+    codes = {code for row in re.findall(r"^\|.*\|$", checks, re.MULTILINE) for code in re.findall(r"`([a-zA-Z]+(?:\.[a-zA-Z]+)+)`", row)}
+    codes = {code for code in codes if not code.startswith("c2pa.")}
+    reasons = vector_builds.REASONS | {f"build {name}" for name in vector_builds.REFUSALS}
+    for code in codes:
+        if f"failing {code} " not in reports:
+            yield code
+    for reason in reasons:
+        if f"refused {reason} " not in reports and f'"{reason}' not in reports:
+            yield reason
+
+
+def main():
+    command, *folder = sys.argv[1:]
+    return {"write": write, "check": check}[command](pathlib.Path(*folder) if folder else PLACE)
+
+
+if __name__ == "__main__":
+    sys.exit(main())
