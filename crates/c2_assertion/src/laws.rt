@@ -1,13 +1,16 @@
 //! What is read of the items that are written.
 
-ghost use Rattle.std.specs.Prelude.{◌≡◌, ◌↔◌, ◌≤◌, All, List, Ok, Option, Some, codes, length, true, ℕ};
+ghost use Rattle.std.specs.Prelude.{◌≡◌, ◌↔◌, ◌+◌, ◌≤◌, All, List, Ok, Option, Some, length, true, ℕ};
 ghost use Rattle.c2_base.specs.declared.values.Range.{Range};
 ghost use Rattle.c2_spec.specs.Bmff.Hash.{BmffHash, bmff_hash_of};
 ghost use Rattle.c2_spec.specs.C2pa.Assertion.{data_hash_of, ingredient_of, most_exclusions, references_agree};
 ghost use Rattle.c2_spec.specs.Cbor.Deterministic.{deterministic, sorted};
 ghost use Rattle.c2_spec.specs.Cbor.Plain.{HasPlainKeys};
+ghost use Rattle.c2_spec.specs.Digest.{alg_name, digest_len};
 ghost use Rattle.c2_spec.specs.declared.assertion.DataHash.{DataHash};
 ghost use Rattle.c2_spec.specs.declared.assertion.Ingredient.{Ingredient};
+ghost use Rattle.c2_spec.specs.declared.assertion.IngredientVersion.TheVariants.{V3};
+ghost use Rattle.c2_spec.specs.declared.digest.Alg.{Alg};
 ghost use Rattle.c2_assertion.specs.ReadBack.{IsReadable};
 ghost use Rattle.c2_assertion.specs.Written.{bmff_hash_item, data_hash_item, ingredient_item, one_exclusion};
 
@@ -17,9 +20,9 @@ pub fn a_written_data_hash_is_read()
         ↔ (length h.exclusions ≤ most_exclusions) }
 {}
 
-/// The item of an ingredient is read as that ingredient exactly where its references agree.
+/// The item of an ingredient is read as that ingredient of version 3 exactly where its references agree.
 pub fn a_written_ingredient_is_read()
-    ensures { (i : Ingredient) → (ingredient_of (ingredient_item i) ≡ Ok i)
+    ensures { (i : Ingredient) → (ingredient_of V3 (ingredient_item i) ≡ Ok i)
         ↔ (references_agree i.manifest i.signature ≡ true) }
 {}
 
@@ -30,13 +33,15 @@ pub fn a_written_bmff_hash_is_read()
 {}
 
 /// The deterministic bytes of the item of a data hash with one exclusion have one length for all numbers of the exclusion and all
-/// digests of a length: 100 bytes with an algorithm of six letters and a digest of 32 bytes, as with SHA-256.
+/// digests of a length: 68 bytes and those of the digest with an algorithm that is known. So it has 100 bytes by SHA-256, 116 by
+/// SHA-384 and 132 by SHA-512.
 pub fn a_written_data_hash_has_one_length()
     ensures any { (alg : Option (List ℕ)) (g h : List ℕ) (r q : Range) → length g ≡ length h
         → length (deterministic (data_hash_item (one_exclusion alg g r)))
         ≡ length (deterministic (data_hash_item (one_exclusion alg h q))) }
-    ensures sha256 { (hash : List ℕ) (r : Range) → length hash ≡ 32 → length (deterministic
-        (data_hash_item (one_exclusion (Some (codes "sha256")) hash r))) ≡ 100 }
+    ensures known { (alg : Alg) (hash : List ℕ) (r : Range) → length hash ≡ digest_len alg
+        → length (deterministic (data_hash_item (one_exclusion (Some (alg_name alg)) hash r)))
+        ≡ 68 + digest_len alg }
 {}
 
 /// No map of the items has two keys with the same bytes: so what `encode` writes of one is read again.

@@ -1,9 +1,20 @@
 -- Manifests of two stores that correspond to each other and have one claim: the fact that is kept on the
 -- way from the active manifests to those that are reached from them.
 use Rattle.std.specs.Prelude.{◌≡◌, ℕ, true, false, List, Some, slice_get}
+use Rattle.c2_spec.specs.C2pa.Manifest.{claim_version_of}
+use Rattle.c2_spec.specs.declared.claim.Claim.{Claim}
 use Rattle.c2_rules.specs.Chains.{label_in, is_active, is_reached}
-use Rattle.c2_rules.specs.Readings.{Reading}
+use Rattle.c2_rules.specs.Readings.{Reading, claim_in}
 use Rattle.c2_binding.specs.ChainContent.{claim_bytes_of}
+
+-- Two manifests have one claim, whose version is the one that the labels of both claim boxes say. Accepted manifests with equal
+-- claim bytes have one, though no signature covers the label.
+pub record HaveSameClaim (r q : Reading) : Type 0 where
+  pub claim : Claim
+  pub first : claim_in r ≡ Some claim
+  pub second : claim_in q ≡ Some claim
+  pub first_version : claim.version ≡ claim_version_of r.manifest.claims
+  pub second_version : claim.version ≡ claim_version_of q.manifest.claims
 
 -- The manifests at these places, one of each store, stand for each other: they are reached, active both or
 -- named alike, and have one claim.

@@ -10,21 +10,35 @@ ghost use Rattle.c2_spec.specs.declared.digest.Alg.{Alg};
 ghost use Rattle.c2_spec.specs.declared.panel.Verdict.{Verdict};
 ghost use Rattle.c2_rules.specs.Chains.{IsChild, Reached, is_redacted};
 ghost use Rattle.c2_rules.specs.CheckList.{StoreReading};
+ghost use Rattle.c2_rules.specs.Readings.{Reading as AnyReading};
 ghost use Rattle.c2_rules.specs.Validated.{IsAnswer, CheckAsks};
 ghost use Rattle.c2_rules.specs.declared.answer.Answer.{Answer as AnyAnswer};
 ghost use Rattle.c2_rules.specs.declared.answer.Answer.TheVariants as answer;
 ghost use Rattle.c2_rules.specs.declared.answer.Summary.{Summary as Counted};
 ghost use Rattle.c2_binding.specs.Accepted.{IsAccepted, HaveOneClaim, AreSame, summary_in};
-ghost use Rattle.c2_binding.specs.ChainContent.{SameContent};
+ghost use Rattle.c2_binding.specs.ChainContent.{SameContent, claim_bytes_of};
 ghost use Rattle.c2_binding.specs.Comparison.{IsOpenedOnce, IsComparison, CompareAsks};
-ghost use Rattle.c2_binding.specs.Correspondence.{Correspond};
+ghost use Rattle.c2_binding.specs.Correspondence.{Correspond, HaveSameClaim};
 ghost use Rattle.c2_binding.specs.Deciding.{has_same_content};
 ghost use Rattle.c2_binding.specs.Differences.{ingredients_at, all_ingredients, first_difference};
 ghost use Rattle.c2_binding.specs.Evidence.{ListPair, do_differ, IsReal};
-ghost use Rattle.c2_binding.specs.Lists.{IsListOf};
+ghost use Rattle.c2_binding.specs.Lists.{IsListOf, IsReachedAt};
 ghost use Rattle.c2_binding.specs.declared.compared.Compared.{Compared as AnyCompared};
 
 use c2_cbor::one_item;
+
+/// Equal claim bytes of reached manifests of accepted files are one claim, under one version. No signature covers the label that
+/// says the version, so it has to follow from the bytes.
+pub fn equal_claim_bytes_are_one_claim()
+    ensures { (hash : Alg → List ℕ → List ℕ) (said : Question → Verdict)
+        (first second : List ℕ) (s t : StoreReading) → IsAccepted hash said first s
+        → IsAccepted hash said second t → (n m : ℕ) (r q : AnyReading)
+        → IsReachedAt s.readings n r → IsReachedAt t.readings m q
+        → claim_bytes_of r ≡ claim_bytes_of q → HaveSameClaim r q }
+{
+    // Only the prover needs this law.
+    one_item();
+}
 
 /// The step. Where no pair differs that leads from a manifest to its ingredients, each of its children
 /// corresponds to a child of the manifest that it corresponds to, with equal claim bytes; and the other way

@@ -11,5 +11,5 @@ pub use compared::{Compared, EvidenceKind, Side};
 pub use laws::{
     a_difference_is_found, a_first_difference_is_real, a_step_keeps_equal_claims,
     a_test_decides_content, accepted_is_valid, each_comparison, each_reached_manifest_corresponds,
-    one_claim_binds_or_there_is_evidence, one_comparison,
+    equal_claim_bytes_are_one_claim, one_claim_binds_or_there_is_evidence, one_comparison,
 };

@@ -6,7 +6,6 @@ use Rattle.c2_spec.specs.C2pa.Manifest.{manifests_of}
 use Rattle.c2_spec.specs.Jumbf.Tree.{Tree, Trees, none, trees_bytes}
 use Rattle.c2_spec.specs.Located.{Opening, here, refused}
 use Rattle.c2_spec.specs.declared.digest.Alg.{Alg}
-use Rattle.c2_spec.specs.declared.digest.Alg.TheVariants.{Sha256}
 use Rattle.c2_spec.specs.declared.panel.Verdict.{Verdict}
 use Rattle.c2_spec.specs.declared.reason.Reason.{Reason}
 use Rattle.c2_rules.specs.CheckList.{StoreReading, answer_of, check_list, summary_of}
@@ -22,7 +21,7 @@ use Rattle.c2_definition.specs.declared.types.Definition.{Definition}
 use Rattle.c2_built.specs.Fresh.{fresh_content}
 use Rattle.c2_built.specs.Manifests.{supers_in}
 use Rattle.c2_layout.specs.Parts.{AreRefs, HasRefs, IsContent}
-use Rattle.c2_built.specs.Store.{Content, Parent}
+use Rattle.c2_built.specs.Store.{Content, Parent, new_alg}
 use Rattle.c2_layout.specs.declared.carried.Carried.{Carried}
 use Rattle.c2_layout.specs.declared.carried.ParentRefs.{ParentRefs}
 use Rattle.c2_carried.specs.Carrying.{SomeContentOver}
@@ -181,7 +180,7 @@ over_stage hash said media d start len t e p h =
 
 -- where none does, it is built over what is left of the media
 pub over_ground : SomeContentOver → (hash : Alg → List ℕ → List ℕ) (said : Question → Verdict) (media : List ℕ) (d : Definition) (start len : ℕ) (t : Tree) (clearing : Clearing) (k : KeptGround) (p : IsPast hash said media t) → IsMediaStage media (Ok (stored start len t)) → IsLeft media start len (cleared clearing media)
-    → IsOver (hash Sha256) d t clearing p.reading.readings k → (g : Ground) × IsGroundStage hash said media d (stored start len t) (Ok g) × IsGround (hash Sha256) media d k g
+    → IsOver (hash (new_alg d)) d t clearing p.reading.readings k → (g : Ground) × IsGroundStage hash said media d (stored start len t) (Ok g) × IsGround (hash (new_alg d)) media d k g
 over_ground law hash said media d start len t clearing k p m left h =
     let s : StoreReading = p.reading in
     let rs : List Reading = s.readings in
@@ -197,7 +196,7 @@ over_ground law hash said media d start len t clearing k p m left h =
       (s, p.reads, unless_passes (first_refusal (older_tests d rs (first_failing (check_list hash said s)))) (IsGroundOver media d start len t rs) (Ok g) none (c, content.1, (cleared clearing media, left, refl))),
       record {
         base = ap (λ (x : Clearing). cleared x media) (sym h.clears);
-        content = subst (IsContent (hash Sha256) d k.carried) (sym same) h.carried.is;
+        content = subst (IsContent (hash (new_alg d)) d k.carried) (sym same) h.carried.is;
         manifests = sym h.manifests;
       },
     )
@@ -205,8 +204,8 @@ over_ground law hash said media d start len t clearing k p m left h =
 -- what is built over a file with this store, by what its tests behind the check answered
 pub stored_over : SomeContentOver → OneOpened → (hash : Alg → List ℕ → List ℕ) (said : Question → Verdict) (media : List ℕ) (d : Definition) (start len : ℕ) (t : Tree) (clearing : Clearing) → IsMediaStage media (Ok (stored start len t)) → IsLeft media start len (cleared clearing media)
     → IsChecked hash said media → (r : Result KeptGround BuildError)
-    → ((rs : List Reading) → AreReadings (manifests_of t) rs → IfOk r (IsOver (hash Sha256) d t clearing rs)) → ((rs : List Reading) → AreReadings (manifests_of t) rs → IfErr r (IsOverRefusal d rs))
-    → ComesAs (IsGround (hash Sha256) media d) (IsGroundStage hash said media d (stored start len t)) r
+    → ((rs : List Reading) → AreReadings (manifests_of t) rs → IfOk r (IsOver (hash (new_alg d)) d t clearing rs)) → ((rs : List Reading) → AreReadings (manifests_of t) rs → IfErr r (IsOverRefusal d rs))
+    → ComesAs (IsGround (hash (new_alg d)) media d) (IsGroundStage hash said media d (stored start len t)) r
 stored_over law one hash said media d start len t clearing m left checked (Ok k) over bad =
     let p = is_past one hash said media start len t (opened_here media start len t m) checked in
     over_ground law hash said media d start len t clearing k p m left (over p.reading.readings p.reads.reads.each)

@@ -11,7 +11,6 @@ use Rattle.c2_spec.specs.Jumbf.Tree.{Tree, tree_bytes}
 use Rattle.c2_spec.specs.Located.{absent, here}
 use Rattle.c2_spec.specs.PutIn.{taken_out}
 use Rattle.c2_spec.specs.declared.digest.Alg.{Alg}
-use Rattle.c2_spec.specs.declared.digest.Alg.TheVariants.{Sha256}
 use Rattle.c2_spec.specs.declared.panel.Verdict.{Verdict}
 use Rattle.c2_rules.specs.CheckList.{IsValid, answer_of, check_list, questions, summary_of}
 use Rattle.c2_rules.specs.Tests.{first_failing}
@@ -26,7 +25,7 @@ use Rattle.c2_definition.specs.declared.types.Definition.{Definition}
 use Rattle.c2_definition.specs.declared.types.DefinitionField.{DefinitionField}
 use Rattle.c2_message.specs.Signed.{IsSigned}
 use Rattle.c2_built.specs.Fresh.{GivesDigests, IsFresh, Meets, fresh_content}
-use Rattle.c2_built.specs.Store.{Content, new_claim}
+use Rattle.c2_built.specs.Store.{Content, new_claim, new_alg}
 use Rattle.c2_built.specs.Written.{CanBeWritten}
 use Rattle.c2_carried.specs.Carrying.{FirstIsRefused}
 use Rattle.c2_carried.specs.Parents.{IsContentOver}
@@ -68,7 +67,7 @@ record Known (hash : Alg → List ℕ → List ℕ) (said : Question → Verdict
   signed : List ℕ
   is_signed : IsSigned parts ground.content.definition.reserve signed
   bytes : List ℕ
-  put : put_bytes place (tree_bytes (place_store (hash Sha256) ground.content signed ground.base place)) ≡ Some bytes
+  put : put_bytes place (tree_bytes (place_store (hash (new_alg ground.content.definition)) ground.content signed ground.base place)) ≡ Some bytes
   same : b ≡ built_of ground place bytes
 
 -- so much is known
@@ -138,10 +137,10 @@ planned_of hash said media definition message b k =
 
 -- the bytes that the new question is about are those
 same_signed : (hash : Alg → List ℕ → List ℕ) (g : Ground) (p : Place) (message : List ℕ) (parts : SignParts) → parts.protected ≡ g.content.definition.protected → length message ≡ g.content.definition.reserve
-    → signed_bytes hash g p ≡ (place_question (hash Sha256) g.content (length message) g.base p parts).tbs
+    → signed_bytes hash g p ≡ (place_question (hash (new_alg g.content.definition)) g.content (length message) g.base p parts).tbs
 same_signed hash g p message parts protected filled =
-    ap (λ (n : ℕ). deterministic (sig_structure g.content.definition.protected (new_claim (hash Sha256) g.content (place_binding (hash Sha256) g.content n g.base p)))) (sym filled)
-    ∙ ap (λ (x : List ℕ). deterministic (sig_structure x (new_claim (hash Sha256) g.content (place_binding (hash Sha256) g.content (length message) g.base p)))) (sym protected)
+    ap (λ (n : ℕ). deterministic (sig_structure g.content.definition.protected (new_claim (hash (new_alg g.content.definition)) g.content (place_binding (hash (new_alg g.content.definition)) g.content n g.base p)))) (sym filled)
+    ∙ ap (λ (x : List ℕ). deterministic (sig_structure x (new_claim (hash (new_alg g.content.definition)) g.content (place_binding (hash (new_alg g.content.definition)) g.content (length message) g.base p)))) (sym protected)
 
 -- ---- by the media
 
@@ -151,8 +150,8 @@ record MeetsOver (hash : Alg → List ℕ → List ℕ) (said : Question → Ver
   older : List Question
   asked : AreQuestions media older
   approved : AreApproved said older
-  meets : Meets hash (place_file g.base p bytes) (place_start p) (range_len p g.content (length message)) (place_store (hash Sha256) g.content message g.base p)
-      (place_question (hash Sha256) g.content (length message) g.base p read ∷ older)
+  meets : Meets hash (place_file g.base p bytes) (place_start p) (range_len p g.content (length message)) (place_store (hash (new_alg g.content.definition)) g.content message g.base p)
+      (place_question (hash (new_alg g.content.definition)) g.content (length message) g.base p read ∷ older)
 
 -- a definition none of whose redactions is refused without a store has none
 no_redactions : FirstIsRefused → (d : Definition) → first_refusal (redaction_tests d []) ≡ None → d.redact ≡ []
@@ -168,7 +167,7 @@ no_redactions law d h = by d.redact refl
 -- over each ground
 met_over : MetLaws → (hash : Alg → List ℕ → List ℕ) (said : Question → Verdict) (media : List ℕ) (d : Definition) (kind : MediaKind) (g : Ground) (p : Place) (bytes message : List ℕ) (read : SignParts)
     → GivesDigests hash → IsMediaStage media (Ok kind) → IsGroundStage hash said media d kind (Ok g) → CanBeWritten d → g.manifests ≤ MAX_MANIFESTS → CanPut g.content (length message) g.base p
-    → SpellsMessage message read → put_bytes p (tree_bytes (place_store (hash Sha256) g.content message g.base p)) ≡ Some bytes → MeetsOver hash said media g p bytes message read
+    → SpellsMessage message read → put_bytes p (tree_bytes (place_store (hash (new_alg g.content.definition)) g.content message g.base p)) ≡ Some bytes → MeetsOver hash said media g p bytes message read
 met_over l hash said media d fresh g p bytes message read digests m h w few can spelled put =
     let is = unless_passed (first_refusal (redaction_tests d [])) (λ r. r ≡ Ok (fresh_ground media d)) g h in
     let same : g ≡ fresh_ground media d = cc (is.1) in
@@ -234,8 +233,8 @@ meets_of l hash said media definition message b digests texts k =
     let met = met_over l hash said media d k.kind g p k.bytes k.signed read digests k.is_media k.is_ground writable numbers.few can k.is_signed.spelled k.put in
     let taken = read_taken d.protected message k.parts k.is_parts in
     let header : read.protected ≡ c.definition.protected = taken.accepted.1.1.1.0 k.parts taken.spelled ∙ ap (λ (x : Definition). x.protected) (sym own) in
-    let q : Question = place_question (hash Sha256) c (length k.signed) g.base p read in
-    let store : Tree = place_store (hash Sha256) c k.signed g.base p in
+    let q : Question = place_question (hash (new_alg c.definition)) c (length k.signed) g.base p read in
+    let store : Tree = place_store (hash (new_alg c.definition)) c k.signed g.base p in
     let meets : Meets hash (place_file g.base p k.bytes) (place_start p) (new_range_len p c) store (q ∷ met.older) =
     subst (λ (n : ℕ). Meets hash (place_file g.base p k.bytes) (place_start p) (range_len p c n) store (q ∷ met.older)) filled met.meets in
     record {
@@ -261,7 +260,7 @@ meets_of l hash said media definition message b digests texts k =
       signed = subst (λ (x : List ℕ). IsPlanned hash said media definition (Ok x)) (same_signed hash g p k.signed read header filled) (planned_of hash said media definition message b k);
       asked = met.asked;
       approved = met.approved;
-      base = subst (λ (n : ℕ). taken_out (place_start p) (range_len p c n) (place_file g.base p k.bytes) ≡ g.base) filled (l.base (hash Sha256) c k.signed g.base k.bytes p (λ text. (digests Sha256 text).sized) can k.put);
+      base = subst (λ (n : ℕ). taken_out (place_start p) (range_len p c n) (place_file g.base p k.bytes) ≡ g.base) filled (l.base (hash (new_alg c.definition)) c k.signed g.base k.bytes p (λ text. (digests (new_alg c.definition) text).sized) can k.put);
       accepted = accepted_if l.valid hash (place_file g.base p k.bytes) (place_start p) (new_range_len p c) store (q ∷ met.older) meets;
     }
 

@@ -16,7 +16,6 @@ use Rattle.c2_spec.specs.Jumbf.Writing.{fresh_description}
 use Rattle.c2_spec.specs.Digest.{digest_len}
 use Rattle.c2_spec.specs.PutIn.{put_in}
 use Rattle.c2_spec.specs.declared.digest.Alg.{Alg}
-use Rattle.c2_spec.specs.declared.digest.Alg.TheVariants.{Sha256}
 use Rattle.c2_spec.specs.declared.panel.Verdict.{Verdict}
 use Rattle.c2_definition.specs.declared.types.Definition.{Definition}
 use Rattle.c2_definition.specs.declared.types.NewAssertion.{NewAssertion}
@@ -25,7 +24,7 @@ use Rattle.c2_message.specs.Signed.{FillsOrNeedsMore, IsSigned}
 use Rattle.c2_built.specs.Built.{HasDigestLen, StoreSizeIsFixed, bound_len, no_digest, store_size}
 use Rattle.c2_built.specs.FreshBoxes.{store_box, trees_then}
 use Rattle.c2_layout.specs.Parts.{AreParts, IsContent}
-use Rattle.c2_built.specs.Store.{Content, data_binding, new_claim, new_manifest, new_store}
+use Rattle.c2_built.specs.Store.{Content, data_binding, new_claim, new_manifest, new_store, new_alg}
 use Rattle.c2_built.specs.Unbound.{IsKnownBinding}
 use Rattle.c2_layout.specs.declared.carried.Carried.{Carried}
 use Rattle.c2_layout.specs.declared.parts.NewParts.{NewParts}
@@ -49,33 +48,35 @@ use Rattle.c2_build.specs.declared.error.BuildError.TheVariants as build
 use Rattle.c2_build.proofs.Drafted.{first_passes}
 use Rattle.c2_build.proofs.Outside.{nothing_said}
 use Rattle.c2_build.proofs.Drawn.{then_next, unless_fails, unless_passes}
+use Rattle.c2_spec.proofs.Digests.{zero_len}
 
 -- ---- what is signed
 
 -- the binding of a seat is that of its place
-seat_with : (s : Seat) (p : Place) (start len : ℕ) (digest : List ℕ) → IsSeat s p → start ≡ place_start p → seat_binding s start len digest ≡ binding_with p len digest
-seat_with (Seat.Segments at number) (in_segments segments en) start len digest h is = ap (λ (n : ℕ). data_binding n len digest) is
-seat_with (Seat.Segments at number) (in_boxes roots) start len digest h is = absurd h
-seat_with (Seat.Boxes rows) (in_segments segments en) start len digest h is = absurd h
-seat_with (Seat.Boxes rows) (in_boxes roots) start len digest h is = refl
+seat_with : (alg : Alg) (s : Seat) (p : Place) (start len : ℕ) (digest : List ℕ) → IsSeat s p → start ≡ place_start p → seat_binding alg s start len digest ≡ binding_with alg p len digest
+seat_with alg (Seat.Segments at number) (in_segments segments en) start len digest h is = ap (λ (n : ℕ). data_binding alg n len digest) is
+seat_with alg (Seat.Segments at number) (in_boxes roots) start len digest h is = absurd h
+seat_with alg (Seat.Boxes rows) (in_segments segments en) start len digest h is = absurd h
+seat_with alg (Seat.Boxes rows) (in_boxes roots) start len digest h is = refl
 
 -- the binding of a draft is that of its place
 same_binding : (hash : List ℕ → List ℕ) (known : Option (List ℕ)) (media : List ℕ) (d : Definition) (w : Drafted) (g : Ground) (p : Place) (parts : NewParts) → IsGround hash media d w.ground g → IsPlace g.base p → IsSeat w.seat p → IsNumbered w.draft g p
     → (new : AreNewParts hash known d w parts) → known ≡ Some (cleared w.ground.clearing media)
-    → seat_binding w.seat w.draft.start w.draft.length new.digest ≡ place_binding hash g.content g.content.definition.reserve g.base p
+    → seat_binding (new_alg d) w.seat w.draft.start w.draft.length new.digest ≡ place_binding hash g.content g.content.definition.reserve g.base p
 same_binding hash known media d w g p parts ground at seat numbers new is =
     let digest : new.digest ≡ hash (bound_text (cleared w.ground.clearing media) p) = new.is_digest (cleared w.ground.clearing media) is p (subst (λ (b : List ℕ). IsPlace b p) ground.base at) seat in
-    seat_with w.seat p w.draft.start w.draft.length new.digest seat numbers.start ∙ ap (λ (n : ℕ). binding_with p n new.digest) numbers.length
-    ∙ ap (binding_with p (new_range_len p g.content)) (digest ∙ ap (λ (b : List ℕ). hash (bound_text b p)) (sym ground.base))
+    seat_with (new_alg d) w.seat p w.draft.start w.draft.length new.digest seat numbers.start ∙ ap (λ (n : ℕ). binding_with (new_alg d) p n new.digest) numbers.length
+    ∙ ap (binding_with (new_alg d) p (new_range_len p g.content)) (digest ∙ ap (λ (b : List ℕ). hash (bound_text b p)) (sym ground.base))
+    ∙ ap (λ (x : Definition). binding_with (new_alg x) p (new_range_len p g.content) (hash (bound_text g.base p))) (sym ground.content.definition)
 
 -- the bytes that were made over the claim
-pub signed_is : (hash : Alg → List ℕ → List ℕ) (media : List ℕ) (d : Definition) (w : Drafted) (g : Ground) (p : Place) (parts : NewParts) (known : Option (List ℕ)) (claim tbs : List ℕ) → IsGround (hash Sha256) media d w.ground g → IsPlace g.base p → IsSeat w.seat p → IsNumbered w.draft g p
-    → AreNewParts (hash Sha256) known d w parts → known ≡ Some (cleared w.ground.clearing media) → claim ≡ parts.claim → tbs ≡ deterministic (sig_structure d.protected claim) → tbs ≡ signed_bytes hash g p
+pub signed_is : (hash : Alg → List ℕ → List ℕ) (media : List ℕ) (d : Definition) (w : Drafted) (g : Ground) (p : Place) (parts : NewParts) (known : Option (List ℕ)) (claim tbs : List ℕ) → IsGround (hash (new_alg d)) media d w.ground g → IsPlace g.base p → IsSeat w.seat p → IsNumbered w.draft g p
+    → AreNewParts (hash (new_alg d)) known d w parts → known ≡ Some (cleared w.ground.clearing media) → claim ≡ parts.claim → tbs ≡ deterministic (sig_structure d.protected claim) → tbs ≡ signed_bytes hash g p
 signed_is hash media d w g p parts known claim tbs ground at seat numbers new is same made =
-    let binding = same_binding (hash Sha256) known media d w g p parts ground at seat numbers new is in
+    let binding = same_binding (hash (new_alg d)) known media d w g p parts ground at seat numbers new is in
     let own = new.parts g.content ground.content in
-    made ∙ ap (λ (x : List ℕ). deterministic (sig_structure d.protected x)) (same ∙ own.claim ∙ ap (new_claim (hash Sha256) g.content) binding)
-    ∙ ap (λ (x : Definition). deterministic (sig_structure x.protected (new_claim (hash Sha256) g.content (place_binding (hash Sha256) g.content g.content.definition.reserve g.base p)))) (sym ground.content.definition)
+    made ∙ ap (λ (x : List ℕ). deterministic (sig_structure d.protected x)) (same ∙ own.claim ∙ ap (new_claim (hash (new_alg d)) g.content) binding)
+    ∙ ap (λ (x : Definition). deterministic (sig_structure x.protected (new_claim (hash (new_alg x)) g.content (place_binding (hash (new_alg x)) g.content g.content.definition.reserve g.base p)))) (sym ground.content.definition)
 
 -- ---- the message
 
@@ -120,13 +121,15 @@ reserve_outside hash said media kind d parts g p build.NoMemory h own r = tt
 
 -- a file is built where no test fails
 pub built_over : FillsOrNeedsMore → (hash : Alg → List ℕ → List ℕ) (said : Question → Verdict) (media : List ℕ) (kind : MediaKind) (d : Definition) (parts : SignParts) (g : Ground) (p : Place) (message bytes : List ℕ) → IsPassed hash said media d kind g p → g.content.definition ≡ d
-    → put_bytes p (tree_bytes (place_store (hash Sha256) g.content message g.base p)) ≡ Some bytes → IsSigned parts d.reserve message → IsEmbeddedOver hash said media kind d parts (Ok (built_of g p bytes))
+    → put_bytes p (tree_bytes (place_store (hash (new_alg d)) g.content message g.base p)) ≡ Some bytes → IsSigned parts d.reserve message → IsEmbeddedOver hash said media kind d parts (Ok (built_of g p bytes))
 built_over law hash said media kind d parts g p message bytes h own put signed =
     let filled : IsSigned parts g.content.definition.reserve message = subst (λ (x : Definition). IsSigned parts x.reserve message) (sym own) signed in
+    let own_put : put_bytes p (tree_bytes (place_store (hash (new_alg g.content.definition)) g.content message g.base p)) ≡ Some bytes =
+    subst (λ (x : Definition). put_bytes p (tree_bytes (place_store (hash (new_alg x)) g.content message g.base p)) ≡ Some bytes) (sym own) put in
     let none = first_passes (ground_tests g p) (reserve_tests g.content.definition parts) None h.numbers (fits law g.content.definition parts message filled) in
     then_next (IsGroundStage hash said media d kind) (IsEmbeddedOn hash parts) g (Ok (built_of g p bytes)) h.ground
     (then_next (IsPlaceStage g.base) _ p (Ok (built_of g p bytes)) h.stage
-    (unless_passes (first_refusal (late_tests g parts p)) (IsBuilt hash g p parts) (Ok (built_of g p bytes)) none (message, filled, (bytes, put, refl))))
+    (unless_passes (first_refusal (late_tests g parts p)) (IsBuilt hash g p parts) (Ok (built_of g p bytes)) none (message, filled, (bytes, own_put, refl))))
 
 -- a store was made of these parts
 abbrev pub IsMade : Definition → Carried → NewParts → List ℕ → List ℕ → Type 0
@@ -140,16 +143,16 @@ put_is Put.Box (in_segments segments number) store h = absurd h
 put_is Put.Box (in_boxes roots) store h = refl
 
 -- it is ready to be written
-pub ready_is : (hash : Alg → List ℕ → List ℕ) (media : List ℕ) (d : Definition) (w : Drafted) (parts : NewParts) (known : Option (List ℕ)) (message : List ℕ) (r : Ready) → r.draft ≡ w.draft → r.clearing ≡ w.ground.clearing → AreNewParts (hash Sha256) known d w parts
+pub ready_is : (hash : Alg → List ℕ → List ℕ) (media : List ℕ) (d : Definition) (w : Drafted) (parts : NewParts) (known : Option (List ℕ)) (message : List ℕ) (r : Ready) → r.draft ≡ w.draft → r.clearing ≡ w.ground.clearing → AreNewParts (hash (new_alg d)) known d w parts
     → known ≡ Some (cleared w.ground.clearing media) → length message ≡ d.reserve → IsMade d w.ground.carried parts message r.store
-    → (g : Ground) (p : Place) → IsGround (hash Sha256) media d w.ground g → IsPlace g.base p → IsSeat w.seat p → IsNumbered w.draft g p → IsPutReady (hash Sha256) media r g p message
+    → (g : Ground) (p : Place) → IsGround (hash (new_alg d)) media d w.ground g → IsPlace g.base p → IsSeat w.seat p → IsNumbered w.draft g p → IsPutReady (hash (new_alg d)) media r g p message
 ready_is hash media d w parts known message r draft clearing new is filled store g p ground at seat numbers =
-    let binding = same_binding (hash Sha256) known media d w g p parts ground at seat numbers new is in
+    let binding = same_binding (hash (new_alg d)) known media d w g p parts ground at seat numbers new is in
     let reserve : length message ≡ g.content.definition.reserve = filled ∙ ap (λ (x : Definition). x.reserve) (sym ground.content.definition) in
-    let own : r.store ≡ tree_bytes (place_store (hash Sha256) g.content message g.base p) =
-    store (hash Sha256) g.content (seat_binding w.seat w.draft.start w.draft.length new.digest) ground.content (new.parts g.content ground.content)
-    ∙ ap (λ (b : NewAssertion). tree_bytes (new_store (hash Sha256) g.content b message)) binding
-    ∙ ap (λ (n : ℕ). tree_bytes (new_store (hash Sha256) g.content (place_binding (hash Sha256) g.content n g.base p) message)) (sym reserve) in
+    let own : r.store ≡ tree_bytes (place_store (hash (new_alg d)) g.content message g.base p) =
+    store (hash (new_alg d)) g.content (seat_binding (new_alg d) w.seat w.draft.start w.draft.length new.digest) ground.content (new.parts g.content ground.content)
+    ∙ ap (λ (b : NewAssertion). tree_bytes (new_store (hash (new_alg d)) g.content b message)) binding
+    ∙ ap (λ (n : ℕ). tree_bytes (new_store (hash (new_alg d)) g.content (place_binding (hash (new_alg d)) g.content n g.base p) message)) (sym reserve) in
     let base : g.base ≡ cleared r.clearing media = ground.base ∙ ap (λ (c : Clearing). cleared c media) (sym clearing) in
     let start : place_start p ≡ r.draft.start = sym numbers.start ∙ ap (λ (f : Draft). f.start) (sym draft) in
     let put : IsPut r.draft.put p = subst (λ (f : Draft). IsPut f.put p) (sym draft) numbers.put in
@@ -190,42 +193,43 @@ seat_size_is (Seat.Segments start number) c = refl
 seat_size_is (Seat.Boxes rows) c = refl
 
 -- it is so long whatever its range and its digests
-pub seat_fixed : StoreSizeIsFixed → FilmSizeIsFixed → (hash : List ℕ → List ℕ) (c : Content) (s : Seat) (start len : ℕ) (digest message : List ℕ) → HasDigestLen hash → length digest ≡ digest_len Sha256
-    → length (tree_bytes (new_store hash c (seat_binding s start len digest) message)) ≡ seat_size s c (length message)
+pub seat_fixed : StoreSizeIsFixed → FilmSizeIsFixed → (hash : List ℕ → List ℕ) (c : Content) (s : Seat) (start len : ℕ) (digest message : List ℕ) → HasDigestLen (new_alg c.definition) hash → length digest ≡ digest_len (new_alg c.definition)
+    → length (tree_bytes (new_store hash c (seat_binding (new_alg c.definition) s start len digest) message)) ≡ seat_size s c (length message)
 seat_fixed law film hash c (Seat.Segments at number) start len digest message digests sized = law hash c start len digest message digests sized
 seat_fixed law film hash c (Seat.Boxes rows) start len digest message digests sized = film hash c digest message digests sized
 
--- digests of zero bytes have their length
-no_digests : HasDigestLen no_digest
-no_digests text = length-replicate {A = ℕ} (digest_len Sha256) 0
-
 -- and so with no digest beside the binding's
-pub seat_bound : StoreSizeIsFixed → FilmSizeIsFixed → (c : Content) (s : Seat) (start len : ℕ) (digest : List ℕ) (reserve : ℕ) → length digest ≡ digest_len Sha256
-    → bound_len c (seat_binding s start len digest) reserve ≡ seat_size s c reserve
-seat_bound law film c s start len digest reserve sized =
-    seat_fixed law film no_digest c s start len digest (replicate reserve 0) no_digests sized ∙ ap (seat_size s c) (length-replicate {A = ℕ} reserve 0)
+pub seat_bound : StoreSizeIsFixed → FilmSizeIsFixed → (c : Content) (d : Definition) → c.definition ≡ d → (s : Seat) (start len : ℕ) (digest : List ℕ) (reserve : ℕ) → length digest ≡ digest_len (new_alg d)
+    → bound_len c (seat_binding (new_alg d) s start len digest) reserve ≡ seat_size s c reserve
+seat_bound law film c d is s start len digest reserve sized =
+    subst (λ (x : Definition). length digest ≡ digest_len (new_alg x) → bound_len c (seat_binding (new_alg x) s start len digest) reserve ≡ seat_size s c reserve) is
+    (λ (n : length digest ≡ digest_len (new_alg c.definition)).
+    seat_fixed law film (no_digest (new_alg c.definition)) c s start len digest (replicate reserve 0) (λ text. zero_len (new_alg c.definition)) n ∙ ap (seat_size s c) (length-replicate {A = ℕ} reserve 0)) sized
 
 -- its binding is of a kind that is known
-pub seat_known : (s : Seat) (start len : ℕ) (digest : List ℕ) → IsKnownBinding (seat_binding s start len digest)
-seat_known (Seat.Segments at number) start len digest = record { label = inl refl; item = refl }
-seat_known (Seat.Boxes rows) start len digest = record { label = inr refl; item = refl }
+pub seat_known : (alg : Alg) (s : Seat) (start len : ℕ) (digest : List ℕ) → IsKnownBinding (seat_binding alg s start len digest)
+seat_known alg (Seat.Segments at number) start len digest = record { label = inl refl; item = refl }
+seat_known alg (Seat.Boxes rows) start len digest = record { label = inr refl; item = refl }
 
 -- and so can that of a draft
-pub store_packs : StoreSizeIsFixed → FilmSizeIsFixed → (hash : List ℕ → List ℕ) (known : Option (List ℕ)) (len : ℕ) (d : Definition) (w : Drafted) (parts : NewParts) (message store : List ℕ) → HasDigestLen hash → AreNewParts hash known d w parts → length message ≡ d.reserve → IsSmall hash len d w
+pub store_packs : StoreSizeIsFixed → FilmSizeIsFixed → (hash : List ℕ → List ℕ) (known : Option (List ℕ)) (len : ℕ) (d : Definition) (w : Drafted) (parts : NewParts) (message store : List ℕ) → HasDigestLen (new_alg d) hash → AreNewParts hash known d w parts → length message ≡ d.reserve → IsSmall hash len d w
     → IsMade d w.ground.carried parts message store → IsPacketStore store
 store_packs law film hash known len d w parts message store digests new filled small is =
     let c : Content = small.content in
-    let binding : NewAssertion = seat_binding w.seat w.draft.start w.draft.length new.digest in
+    let own : c.definition ≡ d = small.is.definition in
+    let binding : NewAssertion = seat_binding (new_alg d) w.seat w.draft.start w.draft.length new.digest in
     let tree : List ℕ = tree_bytes (new_store hash c binding message) in
-    let size : length tree ≡ seat_size w.seat c (length message) = seat_fixed law film hash c w.seat w.draft.start w.draft.length new.digest message digests new.sized in
-    let reserved : seat_size w.seat c (length message) ≡ seat_store_len w.seat c = ap (seat_size w.seat c) (filled ∙ ap (λ (x : Definition). x.reserve) (sym small.is.definition)) ∙ seat_size_is w.seat c in
+    let size : length tree ≡ seat_size w.seat c (length message) =
+    subst (λ (x : Definition). HasDigestLen (new_alg x) hash → length new.digest ≡ digest_len (new_alg x) → length (tree_bytes (new_store hash c (seat_binding (new_alg x) w.seat w.draft.start w.draft.length new.digest) message)) ≡ seat_size w.seat c (length message)) own
+    (seat_fixed law film hash c w.seat w.draft.start w.draft.length new.digest message) digests new.sized in
+    let reserved : seat_size w.seat c (length message) ≡ seat_store_len w.seat c = ap (seat_size w.seat c) (filled ∙ ap (λ (x : Definition). x.reserve) (sym own)) ∙ seat_size_is w.seat c in
     subst IsPacketStore (sym (is hash c binding small.is (new.parts c small.is))) (packet_store c.carried (new_manifest hash c binding message) (omega (arith, size, reserved, small.small)))
 
 -- ---- what comes of it
 
 -- what is ready is the new file
 pub ready_built : FillsOrNeedsMore → (hash : Alg → List ℕ → List ℕ) (said : Question → Verdict) (media : List ℕ) (kind : MediaKind) (d : Definition) (parts : SignParts) (w : Drafted) (at : IsDrafted hash said media d kind w) (message : List ℕ) (r : Result Ready BuildError) → IsSigned parts d.reserve message
-    → IfOk r (λ x. IsPutReady (hash Sha256) media x at.ground at.place message) → IfErr r SaysNothing → ComesAs (IsReady media) (IsEmbeddedOver hash said media kind d parts) r
+    → IfOk r (λ x. IsPutReady (hash (new_alg d)) media x at.ground at.place message) → IfErr r SaysNothing → ComesAs (IsReady media) (IsEmbeddedOver hash said media kind d parts) r
 ready_built law hash said media kind d parts w at message (Ok x) signed h k =
     (built_of at.ground at.place h.bytes, built_over law hash said media kind d parts at.ground at.place message h.bytes at.passed at.is.content.definition h.are signed, h.is)
 ready_built law hash said media kind d parts w at message (Err e) signed h k = nothing_said e _ k

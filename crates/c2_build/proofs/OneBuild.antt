@@ -12,7 +12,6 @@ use Rattle.c2_spec.specs.Container.{Container, IsContainer, begins_jpeg, bmff, i
 use Rattle.c2_spec.specs.Jumbf.Tree.{Tree, tree_bytes}
 use Rattle.c2_spec.specs.Located.{Opening}
 use Rattle.c2_spec.specs.declared.digest.Alg.{Alg}
-use Rattle.c2_spec.specs.declared.digest.Alg.TheVariants.{Sha256}
 use Rattle.c2_spec.specs.declared.panel.Verdict.{Verdict}
 use Rattle.c2_rules.specs.Binding.{IsMedia, Media}
 use Rattle.c2_rules.specs.CheckList.{IsStoreReading, StoreReading, check_list}
@@ -26,7 +25,7 @@ use Rattle.c2_definition.specs.declared.types.DefinitionField.{DefinitionField}
 use Rattle.c2_message.specs.Message.{RefusedForOne}
 use Rattle.c2_message.specs.Signed.{FillsOrNeedsMore}
 use Rattle.c2_message.specs.declared.error.SignaturePart.{SignaturePart}
-use Rattle.c2_built.specs.Store.{Content}
+use Rattle.c2_built.specs.Store.{Content, new_alg}
 use Rattle.c2_carried.specs.Carrying.{ContentIsOne}
 use Rattle.c2_places.specs.Laws.{OneLeft, OnePlace}
 use Rattle.c2_places.specs.Places.{Place, place_store, put_bytes}
@@ -164,7 +163,7 @@ one_place law base r s h k = h.2 ∙ ap (λ (p : Place). Ok p) (law base h.0 k.0
 one_built : FillsOrNeedsMore → (hash : Alg → List ℕ → List ℕ) (g : Ground) (p : Place) (m : SignParts) → IsOne (IsBuilt hash g p m)
 one_built fills hash g p m r s h k =
     let message : h.0 ≡ k.0 = fills.one m g.content.definition.reserve h.0 k.0 h.1 k.1 in
-    let store = ap (λ (x : List ℕ). put_bytes p (tree_bytes (place_store (hash Sha256) g.content x g.base p))) message in
+    let store = ap (λ (x : List ℕ). put_bytes p (tree_bytes (place_store (hash (new_alg g.content.definition)) g.content x g.base p))) message in
     let bytes : h.2.0 ≡ k.2.0 = same_Some h.2.0 k.2.0 (sym h.2.1 ∙ store ∙ k.2.1) in
     h.2.2 ∙ ap (λ (b : List ℕ). Ok (built_of g p b)) bytes ∙ sym k.2.2
 

@@ -4,7 +4,6 @@ use Rattle.std.specs.Prelude.{Ok}
 use Rattle.c2_base.specs.declared.values.Question.{Question}
 use Rattle.c2_spec.specs.Container.{is_bmff}
 use Rattle.c2_spec.specs.declared.digest.Alg.{Alg}
-use Rattle.c2_spec.specs.declared.digest.Alg.TheVariants.{Sha256}
 use Rattle.c2_spec.specs.declared.panel.Verdict.{Verdict}
 use Rattle.c2_rules.specs.Tests.{first_failing}
 use Rattle.c2_rules.specs.CheckList.{check_list}
@@ -29,6 +28,7 @@ use Rattle.c2_build.proofs.OneBuild.{ground_of}
 use Rattle.c2_build.proofs.Outside.{outside_map}
 use Rattle.c2_build.proofs.SomeBuild.{opened_here}
 use Rattle.c2_build.proofs.Stages.{unless_passed}
+use Rattle.c2_built.specs.Store.{new_alg}
 
 -- what is built over has the form of the media
 form_moves : (f : FileForm) (file base : List ℕ) → is_bmff base ≡ is_bmff file → IsForm file f → IsForm base f
@@ -50,7 +50,7 @@ ground_form law hash said media d (stored start len t) g f m h form =
 pub record IsPlaced (hash : Alg → List ℕ → List ℕ) (said : Question → Verdict) (media : List ℕ) (d : Definition) (kind : MediaKind) (k : KeptGround) (s : Seat) (size : ℕ) : Type 0 where
   pub ground : Ground
   pub stage : IsGroundStage hash said media d kind (Ok ground)
-  pub is : IsGround (hash Sha256) media d k ground
+  pub is : IsGround (hash (new_alg d)) media d k ground
   pub place : Place
   pub is_place : IsPlace ground.base place
   pub seat : IsSeat s place
@@ -58,7 +58,7 @@ pub record IsPlaced (hash : Alg → List ℕ → List ℕ) (said : Question → 
 
 -- so it is found
 pub placed : (hash : Alg → List ℕ → List ℕ) (said : Question → Verdict) (media : List ℕ) (d : Definition) (kind : MediaKind) (k : KeptGround) (s : Seat) (size : ℕ) (g : Ground)
-    → IsGroundStage hash said media d kind (Ok g) → IsGround (hash Sha256) media d k g → HasSeat (cleared k.clearing media) s → size ≡ length (cleared k.clearing media) → IsPlaced hash said media d kind k s size
+    → IsGroundStage hash said media d kind (Ok g) → IsGround (hash (new_alg d)) media d k g → HasSeat (cleared k.clearing media) s → size ≡ length (cleared k.clearing media) → IsPlaced hash said media d kind k s size
 placed hash said media d kind k s size g stage is seat long = record {
   ground = g;
   stage = stage;

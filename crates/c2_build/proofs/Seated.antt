@@ -14,8 +14,8 @@ use Rattle.c2_spec.specs.declared.reason.Reason.TheVariants.{TooManyBoxes}
 use Rattle.c2_boxes.specs.Roots.{AreRootsOf}
 use Rattle.c2_box_rows.specs.Rows.{rows_of}
 use Rattle.c2_box_rows.proofs.Lists.{length-rows}
-use Rattle.c2_built.specs.Built.{bound_len, zero_digest}
-use Rattle.c2_built.specs.Store.{Content}
+use Rattle.c2_built.specs.Built.{bound_len}
+use Rattle.c2_built.specs.Store.{Content, new_alg}
 use Rattle.c2_box_rows.specs.declared.row.RootBox.{RootBox}
 use Rattle.c2_places.specs.Places.{IsPlace, Place, bound_text, in_boxes, in_segments}
 use Rattle.c2_build.specs.Refusals.{box_tests, first_refusal, place_tests, refuse_if}
@@ -25,6 +25,7 @@ use Rattle.c2_build.specs.declared.error.BuildError.{BuildError}
 use Rattle.c2_build.specs.declared.error.BuildError.TheVariants.{MediaRefused, NoInstance, OpenBox}
 use Rattle.c2_build.specs.declared.place.Seat.{Seat}
 use Rattle.c2_build.specs.declared.place.Seat.TheVariants as Seat
+use Rattle.c2_spec.specs.Digest.{zero_digest}
 
 -- where a box goes, by whether the last root box is open
 box_place : (o : Option ℕ) (at place : ℕ) → Ok at ≡ place_or o place → (o ≡ None) × (at ≡ place)
@@ -88,7 +89,7 @@ boxes_pass rows (in_boxes roots) h few =
 -- ---- how long a store is
 
 -- with a blank binding it is as long as its place tells
-pub blank_len : (s : Seat) (c : Content) → bound_len c (seat_binding s 0 0 zero_digest) c.definition.reserve ≡ seat_store_len s c
+pub blank_len : (s : Seat) (c : Content) → bound_len c (seat_binding (new_alg c.definition) s 0 0 (zero_digest (new_alg c.definition))) c.definition.reserve ≡ seat_store_len s c
 blank_len (Seat.Segments start number) c = refl
 blank_len (Seat.Boxes rows) c = refl
 

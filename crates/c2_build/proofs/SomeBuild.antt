@@ -8,7 +8,6 @@ use Rattle.c2_spec.specs.C2pa.Manifest.{store_refusal}
 use Rattle.c2_spec.specs.Jumbf.Tree.{IsLegalTree, Tree, tree_bytes}
 use Rattle.c2_spec.specs.Located.{Located, Opening, absent, here, refused}
 use Rattle.c2_spec.specs.declared.digest.Alg.{Alg}
-use Rattle.c2_spec.specs.declared.digest.Alg.TheVariants.{Sha256}
 use Rattle.c2_spec.specs.declared.panel.Verdict.{Verdict}
 use Rattle.c2_spec.specs.declared.panel.Verdict.TheVariants.{Approved}
 use Rattle.c2_rules.specs.Opened.{IsBoxTree, IsManifestStore, IsManifestTree, IsOpened, Opens}
@@ -38,6 +37,7 @@ use Rattle.c2_build.proofs.Rooms.{pass_numbers, some_bytes}
 use Rattle.c2_build.proofs.Stages.{Something, none_fails, none_of_both, some_then, some_unless, unless_passed}
 use Rattle.c2_build.specs.declared.error.BuildError.TheVariants.{LabelTaken, RedactionRefused, ReserveTooSmall}
 use Rattle.std.specs.Option.{option_to_list}
+use Rattle.c2_built.specs.Store.{new_alg}
 
 -- ---- what laws of other crates say
 
@@ -273,7 +273,7 @@ some_built fills hash bytes g p m taken formed none =
   where
     by : (first_refusal (ground_tests g p) ≡ None) × (first_refusal (reserve_tests g.content.definition m) ≡ None) → ((message : List ℕ) × IsSigned m g.content.definition.reserve message) ⊎ NeedsMore m g.content.definition.reserve → Something (IsBuilt hash g p m)
     by both (inl s) =
-        let bytes = some_bytes p (pass_numbers g p both.0).room (tree_bytes (place_store (hash Sha256) g.content s.0 g.base p)) in
+        let bytes = some_bytes p (pass_numbers g p both.0).room (tree_bytes (place_store (hash (new_alg g.content.definition)) g.content s.0 g.base p)) in
         (Ok (built_of g p bytes.0), (s.0, s.1, (bytes.0, bytes.1, refl)))
     by both (inr n) = absurd (no_more g.content.definition m both.1 n)
 

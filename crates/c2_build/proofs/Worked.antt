@@ -33,7 +33,6 @@ use Rattle.c2_message.specs.Refusals.{reserve_needed}
 use Rattle.c2_message.specs.Signed.{FillsOrNeedsMore, IsSigned, NeedsMore}
 use Rattle.c2_built.specs.Written.{HasTexts}
 use Rattle.c2_spec.specs.Jumbf.Tree.{tree_bytes}
-use Rattle.c2_spec.specs.declared.digest.Alg.TheVariants.{Sha256}
 use Rattle.c2_places.specs.Places.{IsPlace, Place, in_segments, place_store}
 use Rattle.c2_build.specs.Building.{Built, IsBuilt, IsDefinitionStage, IsEmbedded, IsEmbeddedOn, IsGroundStage, IsMediaStage, IsMessageStage, IsPlaceStage, built_of, fresh, fresh_ground}
 use Rattle.c2_build.specs.Meeting.{HasTextsIn, SomeBuildSucceeds}
@@ -42,6 +41,7 @@ use Rattle.c2_build.proofs.OneBuild.{OneDefinition, OneItem, same_message}
 use Rattle.c2_build.proofs.Drawn.{then_next, unless_passes}
 use Rattle.c2_build.proofs.Rooms.{pass_numbers, some_bytes}
 use Rattle.c2_build.proofs.Stages.{none_of_both}
+use Rattle.c2_built.specs.Store.{new_alg}
 
 -- ---- the definition
 
@@ -233,7 +233,7 @@ worked_in one fills hash said file p absent at none =
     let filled = signed fills in
     let g : Ground = fresh_ground file defined in
     let numbers = none_of_both (ground_tests g p) (reserve_tests defined parts) none in
-    let bytes = some_bytes p (pass_numbers g p numbers.0).room (tree_bytes (place_store (hash Sha256) g.content filled.0 g.base p)) in
+    let bytes = some_bytes p (pass_numbers g p numbers.0).room (tree_bytes (place_store (hash (new_alg g.content.definition)) g.content filled.0 g.base p)) in
     let b : Built = built_of g p bytes.0 in
     let is_built : IsBuilt hash g p parts (Ok b) = (filled.0, filled.1, (bytes.0, bytes.1, refl)) in (
       b,

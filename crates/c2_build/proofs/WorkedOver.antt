@@ -34,7 +34,7 @@ use Rattle.c2_definition.specs.Json.{object_of}
 use Rattle.c2_definition.specs.declared.types.Definition.{Definition}
 use Rattle.c2_definition.specs.declared.types.NewAssertion.{NewAssertion}
 use Rattle.c2_message.specs.Signed.{FillsOrNeedsMore, IsSigned}
-use Rattle.c2_built.specs.Built.{HasDigestLen, no_digest, zero_digest}
+use Rattle.c2_built.specs.Built.{HasDigestLen, no_digest}
 use Rattle.c2_built.specs.Fresh.{GivesDigests, Meets, fresh_content}
 use Rattle.c2_built.specs.FreshBoxes.{contents_of, item_box, store_box}
 use Rattle.c2_built.specs.Manifests.{manifest_of}
@@ -61,6 +61,7 @@ use Rattle.c2_build.proofs.Rooms.{PassNumbers, pass_numbers, some_bytes}
 use Rattle.c2_build.proofs.SomeBuild.{AreWellFormed}
 use Rattle.c2_build.proofs.Stages.{none_of_both}
 use Rattle.c2_build.proofs.Worked.{accepted, defined, definition_file, is_defined, message, parts, signed, spelled, texts}
+use Rattle.c2_spec.specs.Digest.{zero_digest}
 
 -- what laws say, of other crates and of this one
 pub record OverLaws : Type 0 where
@@ -137,15 +138,15 @@ older hash padded file p = place_store hash first padded file p
 
 -- the first file without its store is the media of the first build
 abbrev pub IsLeftAgain : List ℕ → Place → Type 0
-IsLeftAgain file p = (hash : List ℕ → List ℕ) (padded bytes : List ℕ) → HasDigestLen hash → CanPut first (length padded) file p → put_bytes p (tree_bytes (older hash padded file p)) ≡ Some bytes
+IsLeftAgain file p = (hash : List ℕ → List ℕ) (padded bytes : List ℕ) → HasDigestLen Sha256 hash → CanPut first (length padded) file p → put_bytes p (tree_bytes (older hash padded file p)) ≡ Some bytes
     → IsLeft (place_file file p bytes) (place_start p) (range_len p first (length padded)) file
 
 -- ---- lengths
 
 -- a binding in such a place without a digest
 abbrev pub no_binding : Place → NewAssertion
-no_binding (in_segments segments number) = data_binding 0 0 zero_digest
-no_binding (in_boxes roots) = film_binding zero_digest
+no_binding (in_segments segments number) = data_binding Sha256 0 0 (zero_digest Sha256)
+no_binding (in_boxes roots) = film_binding Sha256 (zero_digest Sha256)
 
 -- that of a store of so many bytes
 abbrev pub range_of : Place → ℕ → ℕ
@@ -162,11 +163,11 @@ content p m = record { definition = second; carried = more m none; parent = Some
 
 -- the first manifest without digests
 abbrev first_manifest : NewAssertion → Tree
-first_manifest b = new_manifest no_digest first b (replicate 64 0)
+first_manifest b = new_manifest (no_digest Sha256) first b (replicate 64 0)
 
 -- the second manifest without digests, which doesn't depend on what is carried
 abbrev second_manifest : NewAssertion → Parent → Tree → Tree
-second_manifest b p m = new_manifest no_digest (content p m) b (replicate 64 0)
+second_manifest b p m = new_manifest (no_digest Sha256) (content p m) b (replicate 64 0)
 
 -- how many bytes the second store has
 abbrev pub total : NewAssertion → ℕ
@@ -275,7 +276,7 @@ is_over hash padded file p = record {
 -- ---- its length
 
 -- a store's length in such a place is that of one with no digest in its binding
-length_in : (p : Place) (c : Content) (reserve : ℕ) → store_len p c reserve ≡ length (tree_bytes (store_box c.carried (new_manifest no_digest c (no_binding p) (replicate reserve 0))))
+length_in : (p : Place) (c : Content) (reserve : ℕ) → store_len p c reserve ≡ length (tree_bytes (store_box c.carried (new_manifest (no_digest Sha256) c (no_binding p) (replicate reserve 0))))
 length_in (in_segments segments number) c reserve = refl
 length_in (in_boxes roots) c reserve = refl
 

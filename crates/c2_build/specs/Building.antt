@@ -11,7 +11,6 @@ use Rattle.c2_spec.specs.Cbor.Deterministic.{deterministic}
 use Rattle.c2_spec.specs.Jumbf.Tree.{Tree, tree_bytes}
 use Rattle.c2_spec.specs.Located.{Opening, refused, absent, here}
 use Rattle.c2_spec.specs.declared.digest.Alg.{Alg}
-use Rattle.c2_spec.specs.declared.digest.Alg.TheVariants.{Sha256}
 use Rattle.c2_spec.specs.declared.panel.Verdict.{Verdict}
 use Rattle.c2_rules.specs.CheckList.{StoreReading, check_list}
 use Rattle.c2_rules.specs.Opened.{IsOpened}
@@ -24,7 +23,7 @@ use Rattle.c2_definition.specs.declared.types.DefinitionField.{DefinitionField}
 use Rattle.c2_message.specs.Message.{IsAccepted, IsRefused}
 use Rattle.c2_message.specs.Signed.{IsSigned}
 use Rattle.c2_message.specs.declared.error.SignaturePart.{SignaturePart}
-use Rattle.c2_built.specs.Store.{Content, new_claim}
+use Rattle.c2_built.specs.Store.{Content, new_claim, new_alg}
 use Rattle.c2_built.specs.Fresh.{fresh_content}
 use Rattle.c2_carried.specs.Parents.{IsContentOver}
 use Rattle.c2_places.specs.Bases.{IsLeft}
@@ -145,8 +144,8 @@ IsPlaceStage base r = (p : Place) × IsPlace base p × (r ≡ Ok p)
 -- the new range
 abbrev pub signed_bytes : (Alg → List ℕ → List ℕ) → Ground → Place → List ℕ
 signed_bytes hash g p =
-    deterministic (sig_structure g.content.definition.protected (new_claim (hash Sha256) g.content
-    (place_binding (hash Sha256) g.content g.content.definition.reserve g.base p)))
+    deterministic (sig_structure g.content.definition.protected (new_claim (hash (new_alg g.content.definition)) g.content
+    (place_binding (hash (new_alg g.content.definition)) g.content g.content.definition.reserve g.base p)))
 
 -- A new file, and the range of its store.
 pub record Built : Type 0 where
@@ -166,7 +165,7 @@ built_of g p bytes = record {
 abbrev pub IsBuilt : (Alg → List ℕ → List ℕ) → Ground → Place → SignParts → Result Built BuildError → Type 0
 IsBuilt hash g p parts r =
     (message : List ℕ) × IsSigned parts g.content.definition.reserve message
-    × ((bytes : List ℕ) × (put_bytes p (tree_bytes (place_store (hash Sha256) g.content message g.base p)) ≡ Some bytes)
+    × ((bytes : List ℕ) × (put_bytes p (tree_bytes (place_store (hash (new_alg g.content.definition)) g.content message g.base p)) ≡ Some bytes)
     × (r ≡ Ok (built_of g p bytes)))
 
 -- ---- the two calls

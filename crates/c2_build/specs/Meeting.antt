@@ -10,7 +10,6 @@ use Rattle.c2_spec.specs.Container.{is_bmff}
 use Rattle.c2_spec.specs.Jumbf.Tree.{Tree}
 use Rattle.c2_spec.specs.PutIn.{taken_out}
 use Rattle.c2_spec.specs.declared.digest.Alg.{Alg}
-use Rattle.c2_spec.specs.declared.digest.Alg.TheVariants.{Sha256}
 use Rattle.c2_spec.specs.declared.panel.Verdict.{Verdict}
 use Rattle.c2_spec.specs.declared.panel.Verdict.TheVariants.{Approved}
 use Rattle.c2_rules.specs.CheckList.{IsValid, StoreReading, questions, unjudged_list}
@@ -29,6 +28,7 @@ use Rattle.c2_build.specs.Building.{Built, IsEmbedded, IsGroundStage, IsMediaSta
 use Rattle.c2_build.specs.Refusals.{Ground}
 use Rattle.c2_build.specs.declared.error.BuildError.{BuildError}
 use Rattle.c2_build.specs.declared.types.Embedded.{Embedded}
+use Rattle.c2_built.specs.Store.{new_alg}
 
 -- ---- one outcome
 
@@ -85,7 +85,7 @@ pub record IsNewStore (hash : Alg → List ℕ → List ℕ) (said : Question �
   pub filled : IsSigned parts new.reserve padded
   pub place : Place
   pub placed : IsPlace ground.base place
-  pub is : store ≡ place_store (hash Sha256) ground.content padded ground.base place
+  pub is : store ≡ place_store (hash (new_alg ground.content.definition)) ground.content padded ground.base place
 
 -- The file has its new store in the new range, and all rules hold of it apart from verdicts. It asks the question of the new manifest,
 -- over the bytes that `plan` gives, and then those of the media file, which the judges of the build approve. Without the new range it

@@ -22,7 +22,6 @@ use Rattle.c2_spec.specs.Jumbf.Tree.{Tree, tree_bytes}
 use Rattle.c2_spec.specs.Located.{here}
 use Rattle.c2_spec.specs.PutIn.{put_in}
 use Rattle.c2_spec.specs.declared.digest.Alg.{Alg}
-use Rattle.c2_spec.specs.declared.digest.Alg.TheVariants.{Sha256}
 use Rattle.c2_spec.specs.declared.panel.Verdict.{Verdict}
 use Rattle.c2_rules.specs.Opened.{IsManifestStore}
 use Rattle.c2_rules.specs.Readings.{Reading}
@@ -34,7 +33,7 @@ use Rattle.c2_message.specs.Refusals.{reserve_needed}
 use Rattle.c2_definition.specs.declared.types.NewAssertion.{NewAssertion}
 use Rattle.c2_built.specs.Built.{built_len, store_size}
 use Rattle.c2_layout.specs.Parts.{AreParts, IsContent}
-use Rattle.c2_built.specs.Store.{Content, data_binding}
+use Rattle.c2_built.specs.Store.{Content, data_binding, new_alg}
 use Rattle.c2_layout.specs.declared.parts.NewParts.{NewParts}
 use Rattle.c2_layout.specs.declared.carried.Carried.{Carried}
 use Rattle.c2_carried.specs.Parents.{IsContentOver}
@@ -216,10 +215,10 @@ abbrev pub seat_range_len : Seat → Content → ℕ
 seat_range_len (Seat.Segments start number) c = built_len c c.definition.reserve
 seat_range_len (Seat.Boxes roots) c = film_len c c.definition.reserve
 
--- the new binding, to a range or by a digest alone
-abbrev pub seat_binding : Seat → ℕ → ℕ → List ℕ → NewAssertion
-seat_binding (Seat.Segments at number) start len digest = data_binding start len digest
-seat_binding (Seat.Boxes roots) start len digest = film_binding digest
+-- the new binding by this algorithm, to a range or by a digest alone
+abbrev pub seat_binding : Alg → Seat → ℕ → ℕ → List ℕ → NewAssertion
+seat_binding alg (Seat.Segments at number) start len digest = data_binding alg start len digest
+seat_binding alg (Seat.Boxes roots) start len digest = film_binding alg digest
 
 -- what is put in at a place is put in so
 abbrev pub IsPut : Put → Place → Type 0
@@ -266,7 +265,7 @@ pub record IsDrafted (hash : Alg → List ℕ → List ℕ) (said : Question →
   pub ground : Ground
   pub place : Place
   pub passed : IsPassed hash said media d kind ground place
-  pub is : IsGround (hash Sha256) media d w.ground ground
+  pub is : IsGround (hash (new_alg d)) media d w.ground ground
   pub numbers : IsNumbered w.draft ground place
   pub seat : IsSeat w.seat place
 
@@ -288,8 +287,8 @@ IsStoreRefusal len e = ⊥
 -- the parts of the new manifest, made with a digest that is the one of what is bound of the base, where that is known
 pub record AreNewParts (hash : List ℕ → List ℕ) (known : Option (List ℕ)) (d : Definition) (w : Drafted) (p : NewParts) : Type 0 where
   pub digest : List ℕ
-  pub sized : length digest ≡ digest_len Sha256
-  pub parts : (c : Content) → IsContent hash d w.ground.carried c → AreParts hash c (seat_binding w.seat w.draft.start w.draft.length digest) p
+  pub sized : length digest ≡ digest_len (new_alg d)
+  pub parts : (c : Content) → IsContent hash d w.ground.carried c → AreParts hash c (seat_binding (new_alg d) w.seat w.draft.start w.draft.length digest) p
   pub is_digest : ForSome known (λ base. (place : Place) → IsPlace base place → IsSeat w.seat place → digest ≡ hash (bound_text base place))
 
 -- ---- what is ready to be written
@@ -341,8 +340,8 @@ piece_of file from to = take (to - from) (drop from file)
 -- a running hash has taken further bytes, behind what it had taken: those of a file from one place to another, where they are known
 abbrev pub HasTaken : {S : Type 0} → (S → Alg → List ℕ → Type 0) → Option (List ℕ) → ℕ → ℕ → S → S → Type 0
 HasTaken holds known from to old new =
-    (list : List ℕ) → holds old Sha256 list
-    → (bytes : List ℕ) × holds new Sha256 (list ++ bytes) × ForSome known (λ file. bytes ≡ piece_of file from to)
+    (alg : Alg) (list : List ℕ) → holds old alg list
+    → (bytes : List ℕ) × holds new alg (list ++ bytes) × ForSome known (λ file. bytes ≡ piece_of file from to)
 
 -- ---- writing
 

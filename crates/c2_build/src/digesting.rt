@@ -36,9 +36,10 @@ fn hash_piece<S: Source, H: Hashing>(
     Ok(())
 }
 
-/// The SHA-256 digest of a whole file of this size, read through a buffer that isn't empty.
+/// The digest by this algorithm of a whole file of this size, read through a buffer that isn't empty.
 pub fn hash_all<S: Source, H: Hashing>(
     hashing: &H,
+    alg: Alg,
     source: &mut S,
     size: u64,
     buf: &mut [u8],
@@ -46,12 +47,12 @@ pub fn hash_all<S: Source, H: Hashing>(
     requires size { size ≡ S.len source.old }
     requires room { 0 < length buf.old }
     ensures digest { IfOk result (λ d. ForSome (S.known source.old) (λ file.
-        d ≡ H.digest_of Alg.Sha256 file)) }
-    ensures len { IfOk result (λ d. length d ≡ digest_len Alg.Sha256) }
+        d ≡ H.digest_of alg file)) }
+    ensures len { IfOk result (λ d. length d ≡ digest_len alg) }
     ensures stays { StaysSource S.len S.known S.faults source.old source.new }
     ensures cause { HasCause (S.faults source.old) (S.faults source.new) result }
 {
-    let mut state = hashing.start(Alg::Sha256);
+    let mut state = hashing.start(alg);
     hash_piece(hashing, &mut state, source, 0, size, buf)?;
     Ok(hashing.finish(state))
 }

@@ -6,12 +6,11 @@ ghost use Rattle.c2_base.specs.declared.limits.TheConstants as limits;
 ghost use Rattle.c2_cleared.specs.Clears.{cleared_len};
 ghost use Rattle.c2_spec.specs.Jpeg.Writing as jpeg;
 ghost use Rattle.c2_spec.specs.Judges.Panel.{LeavesJudges, judges_of, panel_says};
-ghost use Rattle.c2_spec.specs.declared.digest.Alg.TheVariants.{Sha256};
+ghost use Rattle.c2_spec.specs.Digest.{zero_digest};
 ghost use Rattle.c2_spec.specs.declared.packets.TheConstants.{LEAST_STORE_LEN};
 ghost use Rattle.c2_definition.specs.DefinitionFile.{IsWellFormed};
-ghost use Rattle.c2_built.specs.Built.{zero_digest};
 ghost use Rattle.c2_layout.specs.Parts.{IsContent};
-ghost use Rattle.c2_built.specs.Store.{Content};
+ghost use Rattle.c2_built.specs.Store.{Content, new_alg};
 ghost use Rattle.c2_places.specs.Places.{IsPlace, Place};
 ghost use Rattle.c2_build.specs.Answers.{HasAskedThose, WithoutFault};
 ghost use Rattle.c2_build.specs.Building.{IsMediaStage, KindAsks, MediaKind};
@@ -27,16 +26,13 @@ use c2_base::{MediaError, NoMemory, Range, Source};
 use c2_boxes::insert_place;
 use c2_definition::{Definition, NewAssertion};
 use c2_film_binding::film_binding;
-use c2_hash::Hashing;
+use c2_hash::{Alg, Digest, Hashing};
 use c2_jpegseg::segments_len;
 use c2_judge::Judge;
 use c2_layout::{Carried, bound_size, data_binding};
 use c2_places::each_media_has_a_place;
 use c2_spec::Reason;
 use std::alloc::Global;
-
-// What stands for a digest that isn't known yet.
-const NO_DIGEST: [u8; 32] = [0; 32];
 
 // What stands for a range that isn't known yet.
 const NO_RANGE: Range = Range {
@@ -110,13 +106,15 @@ fn put_at(seat: &Seat) -> Result<(u64, Put), BuildError>
     }
 }
 
-// The new binding at this place, while neither a range nor a digest is known.
-fn blank_binding(alloc: Global, seat: &Seat) -> Result<NewAssertion, NoMemory>
-    ensures { IfOk result (λ a. a ≡ seat_binding seat.now 0 0 zero_digest) }
+// The new binding by this algorithm at this place, while neither a range nor a digest is known.
+fn blank_binding(alloc: Global, alg: Alg, seat: &Seat) -> Result<NewAssertion, NoMemory>
+    ensures { IfOk result (λ a. a ≡ seat_binding alg seat.now 0 0 (zero_digest alg)) }
 {
+    let blank = Digest::zeros(alg);
+    let digest = blank.as_slice();
     match seat {
-        Seat::Segments { .. } => data_binding(alloc, NO_RANGE, &NO_DIGEST),
-        Seat::Boxes(_) => film_binding(alloc, &NO_DIGEST),
+        Seat::Segments { .. } => data_binding(alloc, alg, NO_RANGE, digest),
+        Seat::Boxes(_) => film_binding(alloc, alg, digest),
     }
 }
 
@@ -132,7 +130,7 @@ fn store_len(
         → n ≡ min (seat_store_len seat.now c) (2 ^ 64 - 1)) }
     ensures least { IfOk result (λ n. LEAST_STORE_LEN ≤ n) }
 {
-    let binding = blank_binding(alloc, seat)?;
+    let binding = blank_binding(alloc, Alg::Sha256, seat)?;
     bound_size(alloc, definition, carried, binding)
 }
 
@@ -267,7 +265,7 @@ pub fn draft_over<A: Source, H: Hashing>(
         IfErr result (λ e. ForSome (A.known media.old) (λ bytes. (kind : MediaKind)
         → IsMediaStage bytes (Ok kind) → IsKind bytes file kind
         → WithoutFault e (IsRefusedPlace H.digest_of said bytes definition.now kind e))) }
-    ensures small { IfOk result (λ w. IsSmall (H.digest_of Sha256)
+    ensures small { IfOk result (λ w. IsSmall (H.digest_of (new_alg definition.now))
         (cleared_len w.ground.clearing (A.len media.old)) definition.now w) }
     ensures asked { let said = panel_says (map (λ j. says j) judges.old.items) in
         let old = judges_of (λ j. says j) (λ j. asked_times j) (λ j. judge_faults j)

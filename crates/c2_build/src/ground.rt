@@ -5,7 +5,7 @@ ghost use Rattle.c2_base.specs.Source.{StaysSource};
 ghost use Rattle.c2_base.specs.declared.values.Question.{Question};
 ghost use Rattle.c2_spec.specs.Jumbf.Tree.{Tree as AnyTree};
 ghost use Rattle.c2_spec.specs.Located.{here};
-ghost use Rattle.c2_spec.specs.declared.digest.Alg.{Alg};
+ghost use Rattle.c2_spec.specs.declared.digest.Alg.{Alg as AnyAlg};
 ghost use Rattle.c2_spec.specs.declared.panel.Verdict.{Verdict};
 ghost use Rattle.c2_rules.specs.Opened.{IsManifestStore};
 ghost use Rattle.c2_rules.specs.Validated.{CheckAsks};
@@ -13,7 +13,7 @@ ghost use Rattle.c2_cleared.specs.Clears.{cleared};
 ghost use Rattle.c2_build.specs.declared.error.BuildError.TheVariants.{LabelTaken};
 ghost use Rattle.c2_spec.specs.C2pa.Manifest.{IsStoreOf, manifests_of};
 ghost use Rattle.c2_spec.specs.Judges.Panel.{LeavesJudges, judges_of, panel_says};
-ghost use Rattle.c2_spec.specs.declared.digest.Alg.TheVariants.{Sha256};
+ghost use Rattle.c2_built.specs.Store.{new_alg};
 ghost use Rattle.c2_rules.specs.Readings.{AreReadings, Reading};
 ghost use Rattle.c2_build.specs.Answers.{HasAskedThose, WithoutFault};
 ghost use Rattle.c2_build.specs.Building.{IsGroundStage, IsMediaStage, KindAsks, MediaKind, fresh};
@@ -26,7 +26,7 @@ use c2_carried::a_valid_store_is_carried;
 use c2_chain::{labels_of_a_store_differ, of_store, one_reading, readings};
 use c2_cleared::Clearing;
 use c2_definition::Definition;
-use c2_hash::Hashing;
+use c2_hash::{Alg, Hashing};
 use c2_judge::Judge;
 use c2_jumbf::{Tree, count};
 use c2_layout::{Carried, ParentRefs};
@@ -59,8 +59,9 @@ fn fresh_ground(
     definition: &Definition,
     clearing: Clearing,
 ) -> Result<KeptGround, BuildError>
-    ensures ground { (hash : Alg → List ℕ → List ℕ) (said : Question → Verdict) (file : List ℕ)
-        → cleared clearing file ≡ file → ComesAs (IsGround (hash Sha256) file definition.now)
+    ensures ground { (hash : AnyAlg → List ℕ → List ℕ) (said : Question → Verdict) (file : List ℕ)
+        → cleared clearing file ≡ file → ComesAs (IsGround (hash (new_alg definition.now)) file
+        definition.now)
         (IsGroundStage hash said file definition.now fresh) result }
     ensures some { (hash : List ℕ → List ℕ)
         → IfOk result (IsSomeGround hash definition.now) }
@@ -139,7 +140,8 @@ fn carried_of<'u, H: Hashing>(
     definition: &'u Definition,
 ) -> Result<Carried, NoMemory>
     requires { IsStoreOf tree.now store.now }
-    ensures { IfOk result (IsCarriedOver (H.digest_of Sha256) definition.now tree.now) }
+    ensures { IfOk result (IsCarriedOver (H.digest_of (new_alg definition.now)) definition.now
+        tree.now) }
 {
     // Matched and not handed up by `?`, here and below: each way out has clauses of its own.
     let redactions = match redactions_of(alloc, definition.redact.as_slice()) {
@@ -147,7 +149,7 @@ fn carried_of<'u, H: Hashing>(
         Err(NoMemory) => return Err(NoMemory),
     };
     // The parent first: its contents are let go before the boxes are copied.
-    let parent = match parent_digests(alloc, hashing, tree, store, &redactions) {
+    let parent = match parent_digests(alloc, hashing, Alg::Sha256, tree, store, &redactions) {
         Ok(parent) => parent,
         Err(NoMemory) => return Err(NoMemory),
     };
@@ -174,10 +176,12 @@ fn over_tree<H: Hashing>(
 ) -> Result<KeptGround, BuildError>
     requires { IsStoreOf tree.now store.now }
     ensures over { (rs : List Reading) → AreReadings (manifests_of tree.now) rs
-        → IfOk result (IsOver (H.digest_of Sha256) definition.now tree.now clearing rs) }
+        → IfOk result (IsOver (H.digest_of (new_alg definition.now)) definition.now tree.now
+        clearing rs) }
     ensures refused { IfErr result (λ e. (rs : List Reading)
         → AreReadings (manifests_of tree.now) rs → IsOverRefusal definition.now rs e) }
-    ensures some { IfOk result (IsSomeGround (H.digest_of Sha256) definition.now) }
+    ensures some { IfOk result (IsSomeGround (H.digest_of (new_alg definition.now))
+        definition.now) }
     ensures quiet { IfErr result IsQuiet }
 {
     // Only the prover needs these laws, and the count: it takes from here that the tree is legal.
@@ -233,13 +237,14 @@ fn over_store<H: Hashing>(
         → IsManifestStore found.now.start found.now.length found.now.store
         (here found.now.start found.now.length t)
         → AreReadings (manifests_of t) rs
-        → IfOk result (IsOver (H.digest_of Sha256) definition.now t clearing rs) }
+        → IfOk result (IsOver (H.digest_of (new_alg definition.now)) definition.now t clearing rs) }
     ensures refused { (t : AnyTree) (rs : List Reading)
         → IsManifestStore found.now.start found.now.length found.now.store
         (here found.now.start found.now.length t)
         → AreReadings (manifests_of t) rs
         → IfErr result (IsOverRefusal definition.now rs) }
-    ensures some { IfOk result (IsSomeGround (H.digest_of Sha256) definition.now) }
+    ensures some { IfOk result (IsSomeGround (H.digest_of (new_alg definition.now))
+        definition.now) }
     ensures quiet { IfErr result IsQuiet }
 {
     // Only the prover needs this law.
@@ -272,9 +277,10 @@ pub fn grounded<A: Source, H: Hashing>(
     ensures ground { let said = panel_says (map (λ j. says j) judges.old.items) in
         ForSome (A.known media.old) (λ bytes. (kind : MediaKind)
         → IsMediaStage bytes (Ok kind) → IsKind bytes file kind
-        → ComesAs (IsGround (H.digest_of Sha256) bytes definition.now)
+        → ComesAs (IsGround (H.digest_of (new_alg definition.now)) bytes definition.now)
         (IsGroundStage H.digest_of said bytes definition.now kind) result) }
-    ensures some { IfOk result (IsSomeGround (H.digest_of Sha256) definition.now) }
+    ensures some { IfOk result (IsSomeGround (H.digest_of (new_alg definition.now))
+        definition.now) }
     ensures asked { let said = panel_says (map (λ j. says j) judges.old.items) in
         let old = judges_of (λ j. says j) (λ j. asked_times j) (λ j. judge_faults j)
         judges.old.items in

@@ -4,10 +4,9 @@ ghost use Rattle.std.specs.Option.{ForSome};
 ghost use Rattle.c2_base.specs.Source.{StaysSource};
 ghost use Rattle.c2_cleared.specs.Clears.{cleared, cleared_len};
 ghost use Rattle.c2_spec.specs.Digest.{digest_len};
-ghost use Rattle.c2_spec.specs.declared.digest.Alg.TheVariants.{Sha256};
 ghost use Rattle.c2_definition.specs.DefinitionFile.{IsWellFormed};
 ghost use Rattle.c2_layout.specs.Parts.{AreParts, IsContent, parts_size};
-ghost use Rattle.c2_built.specs.Store.{Content};
+ghost use Rattle.c2_built.specs.Store.{Content, new_alg};
 ghost use Rattle.c2_places.specs.Places.{IsPlace, Place, bound_text};
 ghost use Rattle.c2_build.specs.Steps.{AreNewParts, IsReadCause, IsSeat, IsSeatIn, IsSmall, SaysNothing, seat_binding, seat_store_len};
 
@@ -17,42 +16,44 @@ use crate::draft::Drafted;
 use crate::place::Seat;
 use c2_base::{Failed, NoMemory, Range, Source};
 use c2_built::a_new_store_has_one_length;
-use c2_cleared::{Cleared, Clearing, Named};
+use c2_cleared::{Cleared, Named};
 use c2_definition::{Definition, NewAssertion};
 use c2_film_binding::film_binding;
 use c2_film_hash::{FilmError, film_digest};
 use c2_films::a_new_film_store_has_one_length;
-use c2_hash::{Digest, Hashing};
+use c2_hash::{Alg, Digest, Hashing};
 use c2_layout::{NewParts, bound_parts, data_binding};
 use std::alloc::Global;
 use std::marker::Brand;
 
-// The digest of what the new binding binds of a base of this size, read through a buffer that isn't empty.
+// The digest of what the new binding binds of the base of a draft, by the definition's algorithm, read through a buffer that isn't empty.
 fn digest_of<B: Source, H: Hashing>(
     alloc: Global,
     hashing: &H,
     base: &mut B,
-    seat: &Seat,
-    size: u64,
+    definition: &Definition,
+    drafted: &Drafted,
     buf: &mut [u8],
 ) -> Result<Digest, BuildError>
-    requires size { size ≡ B.len base.old }
-    requires inside { IsSeatIn size seat.now }
+    requires size { drafted.now.draft.size ≡ B.len base.old }
+    requires inside { IsSeatIn drafted.now.draft.size drafted.now.seat }
     requires room { 0 < length buf.old }
     ensures digest { IfOk result (λ d. ForSome (B.known base.old) (λ file. (p : Place)
-        → IsPlace file p → IsSeat seat.now p → d ≡ H.digest_of Sha256 (bound_text file p))) }
-    ensures len { IfOk result (λ d. length d ≡ digest_len Sha256) }
+        → IsPlace file p → IsSeat drafted.now.seat p
+        → d ≡ H.digest_of (new_alg definition.now) (bound_text file p))) }
+    ensures len { IfOk result (λ d. length d ≡ digest_len (new_alg definition.now)) }
     ensures nothing { IfErr result SaysNothing }
     ensures cause { IfErr result (IsReadCause (B.faults base.old) (B.faults base.new)) }
     ensures count { OnOk result (B.faults base.new ≡ B.faults base.old) }
     ensures stays { StaysSource B.len B.known B.faults base.old base.new }
 {
-    match seat {
-        Seat::Segments { .. } => match hash_all(hashing, base, size, buf) {
+    let alg = Alg::Sha256;
+    match &drafted.seat {
+        Seat::Segments { .. } => match hash_all(hashing, alg, base, drafted.draft.size, buf) {
             Ok(digest) => Ok(digest),
             Err(Failed) => Err(BuildError::ReadFault),
         },
-        Seat::Boxes(roots) => match film_digest(alloc, hashing, base, roots, buf) {
+        Seat::Boxes(roots) => match film_digest(alloc, hashing, alg, base, roots, buf) {
             Ok(digest) => Ok(digest),
             Err(FilmError::ReadFault) => Err(BuildError::ReadFault),
             Err(FilmError::NoMemory) => Err(BuildError::NoMemory),
@@ -65,30 +66,31 @@ fn digest_left<'m, A: Source, K: Named, H: Hashing>(
     alloc: Global,
     hashing: &H,
     media: &'m mut A,
-    clearing: Clearing,
-    seat: &Seat,
-    size: u64,
+    definition: &Definition,
+    drafted: &Drafted,
     buf: &mut [u8],
     found: &mut Result<Digest, BuildError>,
 ) -> &'m mut A
     requires name { media.ghost_name ≡ K.name }
     requires len { A.len media.old ≡ K.len }
     requires known { A.known media.old ≡ K.known }
-    requires size { size ≡ cleared_len clearing (A.len media.old) }
-    requires inside { IsSeatIn size seat.now }
+    requires size { drafted.now.draft.size
+        ≡ cleared_len drafted.now.ground.clearing (A.len media.old) }
+    requires inside { IsSeatIn drafted.now.draft.size drafted.now.seat }
     requires room { 0 < length buf.old }
     ensures same { result.ghost_name ≡ media.entry.ghost_name }
     ensures digest { IfOk found.new (λ d. ForSome (A.known media.old) (λ file. (p : Place)
-        → IsPlace (cleared clearing file) p → IsSeat seat.now p
-        → d ≡ H.digest_of Sha256 (bound_text (cleared clearing file) p))) }
-    ensures digest_len { IfOk found.new (λ d. length d ≡ digest_len Sha256) }
+        → IsPlace (cleared drafted.now.ground.clearing file) p → IsSeat drafted.now.seat p
+        → d ≡ H.digest_of (new_alg definition.now)
+        (bound_text (cleared drafted.now.ground.clearing file) p))) }
+    ensures digest_len { IfOk found.new (λ d. length d ≡ digest_len (new_alg definition.now)) }
     ensures nothing { IfErr found.new SaysNothing }
     ensures cause { IfErr found.new (IsReadCause (A.faults media.old) (A.faults result.now)) }
     ensures count { OnOk found.new (A.faults result.now ≡ A.faults media.old) }
     ensures stays { StaysSource A.len A.known A.faults media.old result.now }
 {
-    let mut base = Cleared::<A, K>::new(media, clearing);
-    *found = digest_of(alloc, hashing, &mut base, seat, size, buf);
+    let mut base = Cleared::<A, K>::new(media, drafted.ground.clearing);
+    *found = digest_of(alloc, hashing, &mut base, definition, drafted, buf);
     base.into_media()
 }
 
@@ -97,6 +99,7 @@ fn left_digest<A: Source, H: Hashing>(
     alloc: Global,
     hashing: &H,
     media: &mut A,
+    definition: &Definition,
     drafted: &Drafted,
     buf: &mut [u8],
 ) -> Result<Digest, BuildError>
@@ -106,42 +109,35 @@ fn left_digest<A: Source, H: Hashing>(
     requires room { 0 < length buf.old }
     ensures digest { IfOk result (λ d. ForSome (A.known media.old) (λ file. (p : Place)
         → IsPlace (cleared drafted.now.ground.clearing file) p → IsSeat drafted.now.seat p
-        → d ≡ H.digest_of Sha256 (bound_text (cleared drafted.now.ground.clearing file) p))) }
-    ensures len { IfOk result (λ d. length d ≡ digest_len Sha256) }
+        → d ≡ H.digest_of (new_alg definition.now)
+        (bound_text (cleared drafted.now.ground.clearing file) p))) }
+    ensures len { IfOk result (λ d. length d ≡ digest_len (new_alg definition.now)) }
     ensures nothing { IfErr result SaysNothing }
     ensures cause { IfErr result (IsReadCause (A.faults media.old) (A.faults media.new)) }
     ensures count { OnOk result (A.faults media.new ≡ A.faults media.old) }
     ensures stays { StaysSource A.len A.known A.faults media.old media.new }
 {
     let mut found = Err(BuildError::NoMemory);
-    let clearing = drafted.ground.clearing;
-    let size = drafted.draft.size;
     let _media = digest_left::<A, Brand, H>(
-        alloc,
-        hashing,
-        media,
-        clearing,
-        &drafted.seat,
-        size,
-        buf,
-        &mut found,
+        alloc, hashing, media, definition, drafted, buf, &mut found,
     );
     found
 }
 
-// The new binding at this place, to a file outside this range, by this digest.
+// The new binding at this place, to a file outside this range, by this digest by an algorithm.
 fn binding_at(
     alloc: Global,
+    alg: Alg,
     seat: &Seat,
     range: Range,
     digest: &Digest,
 ) -> Result<NewAssertion, NoMemory>
     ensures { IfOk result (λ a. a
-        ≡ seat_binding seat.now range.start range.length digest.now) }
+        ≡ seat_binding alg seat.now range.start range.length digest.now) }
 {
     match seat {
-        Seat::Segments { .. } => data_binding(alloc, range, digest.as_slice()),
-        Seat::Boxes(_) => film_binding(alloc, digest.as_slice()),
+        Seat::Segments { .. } => data_binding(alloc, alg, range, digest.as_slice()),
+        Seat::Boxes(_) => film_binding(alloc, alg, digest.as_slice()),
     }
 }
 
@@ -154,14 +150,18 @@ fn parts_with<H: Hashing>(
     digest: &Digest,
 ) -> Result<NewParts, NoMemory>
     requires formed { IsWellFormed definition.now }
-    requires small { (len : ℕ) × IsSmall (H.digest_of Sha256) len definition.now drafted.now }
-    requires digest { length digest.now ≡ digest_len Sha256 }
+    requires small { (len : ℕ) × IsSmall (H.digest_of (new_alg definition.now)) len definition.now
+        drafted.now }
+    requires digest { length digest.now ≡ digest_len (new_alg definition.now) }
     ensures parts { IfOk result (λ p. (c : Content)
-        → IsContent (H.digest_of Sha256) definition.now drafted.now.ground.carried c
-        → AreParts (H.digest_of Sha256) c (seat_binding drafted.now.seat
+        → IsContent (H.digest_of (new_alg definition.now)) definition.now drafted.now.ground.carried
+        c
+        → AreParts (H.digest_of (new_alg definition.now)) c (seat_binding (new_alg definition.now)
+        drafted.now.seat
         drafted.now.draft.start drafted.now.draft.length digest.now) p) }
     ensures size { IfOk result (λ p. (c : Content)
-        → IsContent (H.digest_of Sha256) definition.now drafted.now.ground.carried c
+        → IsContent (H.digest_of (new_alg definition.now)) definition.now drafted.now.ground.carried
+        c
         → length drafted.now.ground.carried.boxes
         + parts_size definition.now.label p definition.now.reserve
         ≡ seat_store_len drafted.now.seat c) }
@@ -173,7 +173,7 @@ fn parts_with<H: Hashing>(
         start: drafted.draft.start,
         length: drafted.draft.length,
     };
-    let binding = binding_at(alloc, &drafted.seat, range, digest)?;
+    let binding = binding_at(alloc, Alg::Sha256, &drafted.seat, range, digest)?;
     bound_parts(alloc, hashing, definition, &drafted.ground.carried, binding)
 }
 
@@ -187,14 +187,15 @@ pub fn parts_for<A: Source, H: Hashing>(
     buf: &mut [u8],
 ) -> Result<NewParts, BuildError>
     requires formed { IsWellFormed definition.now }
-    requires small { IsSmall (H.digest_of Sha256)
+    requires small { IsSmall (H.digest_of (new_alg definition.now))
         (cleared_len drafted.now.ground.clearing (A.len media.old)) definition.now drafted.now }
     requires room { 0 < length buf.old }
-    ensures parts { IfOk result (AreNewParts (H.digest_of Sha256)
+    ensures parts { IfOk result (AreNewParts (H.digest_of (new_alg definition.now))
         (option_map (cleared drafted.now.ground.clearing) (A.known media.old))
         definition.now drafted.now) }
     ensures size { IfOk result (λ p. (c : Content)
-        → IsContent (H.digest_of Sha256) definition.now drafted.now.ground.carried c
+        → IsContent (H.digest_of (new_alg definition.now)) definition.now drafted.now.ground.carried
+        c
         → length drafted.now.ground.carried.boxes
         + parts_size definition.now.label p definition.now.reserve
         ≡ seat_store_len drafted.now.seat c) }
@@ -204,7 +205,7 @@ pub fn parts_for<A: Source, H: Hashing>(
     ensures stays { StaysSource A.len A.known A.faults media.old media.new }
 {
     // Matched and not handed up by `?`: each way out has clauses of its own.
-    let digest = match left_digest(alloc, hashing, media, drafted, buf) {
+    let digest = match left_digest(alloc, hashing, media, definition, drafted, buf) {
         Ok(digest) => digest,
         Err(error) => return Err(error),
     };

@@ -7,7 +7,7 @@ ghost use Rattle.c2_spec.specs.C2pa.Message.{CanBePadded};
 ghost use Rattle.c2_spec.specs.C2pa.Sign1.{parts_of};
 ghost use Rattle.c2_spec.specs.Cbor.Item.{Pairs};
 ghost use Rattle.c2_spec.specs.Judges.Panel.{LeavesJudges, judges_of, panel_says};
-ghost use Rattle.c2_spec.specs.declared.digest.Alg.TheVariants.{Sha256};
+ghost use Rattle.c2_built.specs.Store.{new_alg};
 ghost use Rattle.c2_definition.specs.DefinitionFile.{IsWellFormed};
 ghost use Rattle.c2_message.specs.Signed.{IsSigned};
 ghost use Rattle.c2_places.specs.Places.{IsPlace, Place};
@@ -80,13 +80,13 @@ fn ready_with<A: Source, H: Hashing>(
     message: &[u8],
 ) -> Result<Ready, BuildError>
     requires formed { IsWellFormed definition.now }
-    requires small { IsSmall (H.digest_of Sha256)
+    requires small { IsSmall (H.digest_of (new_alg definition.now))
         (cleared_len drafted.ground.clearing (A.len media.old)) definition.now drafted }
     requires filled { length message.now ≡ definition.now.reserve }
     ensures ready { IfOk result (λ r. ForSome (A.known media.old) (λ file. (g : Ground) (p : Place)
-        → IsGround (H.digest_of Sha256) file definition.now drafted.ground g
+        → IsGround (H.digest_of (new_alg definition.now)) file definition.now drafted.ground g
         → IsPlace g.base p → IsSeat drafted.seat p → IsNumbered drafted.draft g p
-        → IsPutReady (H.digest_of Sha256) file r g p message.now)) }
+        → IsPutReady (H.digest_of (new_alg definition.now)) file r g p message.now)) }
     ensures nothing { IfErr result SaysNothing }
     ensures can_write { IfOk result (CanWrite (A.len media.old)) }
     ensures cause { IfErr result (IsReadCause (A.faults media.old) (A.faults media.new)) }

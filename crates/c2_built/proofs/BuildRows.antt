@@ -9,7 +9,9 @@ use Rattle.c2_assertion.specs.Written.{ingredient_item}
 use Rattle.c2_definition.specs.declared.types.Definition.{Definition}
 use Rattle.c2_definition.specs.declared.types.NewAssertion.{NewAssertion}
 use Rattle.c2_definition.specs.declared.types.Payload.TheVariants as payload
-use Rattle.c2_built.specs.Built.{built_len, no_digest, store_size, zero_digest}
+use Rattle.c2_spec.specs.Digest.{zero_digest}
+use Rattle.c2_spec.specs.declared.digest.Alg.TheVariants.{Sha256}
+use Rattle.c2_built.specs.Built.{built_len, no_digest, store_size}
 use Rattle.c2_built.specs.FreshBoxes.{fresh_box, item_box}
 use Rattle.c2_built.specs.Store.{Content, Parent, assertion_box, assertion_boxes, data_binding, new_assertions, new_claim, new_manifest, parent_ingredient}
 
@@ -40,7 +42,7 @@ unfoldable fresh : Content
 fresh = record { definition = defined (codes "0"); carried = none; parent = None }
 
 unfoldable binding : NewAssertion
-binding = data_binding 20 1141 zero_digest
+binding = data_binding Sha256 20 1141 (zero_digest Sha256)
 
 -- the item of the actions takes 31 bytes
 actions_item : length actions.bytes ≡ 31
@@ -63,17 +65,17 @@ unfolding binding shortest_head
 binding_box = refl
 
 -- the assertion store takes 293 bytes
-assertion_store : length (tree_bytes (fresh_box (codes "c2as") (codes "c2pa.assertions") (assertion_boxes (new_assertions no_digest fresh binding)))) ≡ 293
+assertion_store : length (tree_bytes (fresh_box (codes "c2as") (codes "c2pa.assertions") (assertion_boxes (new_assertions (no_digest Sha256) fresh binding)))) ≡ 293
 unfolding fresh defined actions binding shortest_head
 assertion_store = refl
 
 -- the claim takes 352 bytes
-claim : length (new_claim no_digest fresh binding) ≡ 352
+claim : length (new_claim (no_digest Sha256) fresh binding) ≡ 352
 unfolding fresh defined actions binding shortest_head
 claim = refl
 
 -- the claim box takes 407 bytes
-claim_box : length (tree_bytes (item_box (codes "c2cl") (codes "c2pa.claim.v2") (new_claim no_digest fresh binding))) ≡ 407
+claim_box : length (tree_bytes (item_box (codes "c2cl") (codes "c2pa.claim.v2") (new_claim (no_digest Sha256) fresh binding))) ≡ 407
 unfolding fresh defined actions binding shortest_head
 claim_box = refl
 
@@ -82,17 +84,17 @@ signature_box : length (tree_bytes (item_box (codes "c2cs") (codes "c2pa.signatu
 signature_box = refl
 
 -- what is signed: its first bytes are an array of four, "Signature1", the protected header, no bytes, and the claim's 352
-signed : length (deterministic (sig_structure (defined (codes "0")).protected (new_claim no_digest fresh binding))) ≡ 372
+signed : length (deterministic (sig_structure (defined (codes "0")).protected (new_claim (no_digest Sha256) fresh binding))) ≡ 372
 unfolding fresh defined actions binding shortest_head
 signed = refl
 
 -- the first 20 bytes of what is signed are these
-signed_first : take 20 (deterministic (sig_structure (defined (codes "0")).protected (new_claim no_digest fresh binding))) ≡ 0x84 ∷ 0x6A ∷ codes "Signature1" ++ 0x43 ∷ 0xA1 ∷ 0x01 ∷ 0x26 ∷ 0x40 ∷ 0x59 ∷ 0x01 ∷ 0x60 ∷ []
+signed_first : take 20 (deterministic (sig_structure (defined (codes "0")).protected (new_claim (no_digest Sha256) fresh binding))) ≡ 0x84 ∷ 0x6A ∷ codes "Signature1" ++ 0x43 ∷ 0xA1 ∷ 0x01 ∷ 0x26 ∷ 0x40 ∷ 0x59 ∷ 0x01 ∷ 0x60 ∷ []
 unfolding fresh defined actions binding shortest_head
 signed_first = refl
 
 -- the manifest takes 1,091 bytes
-manifest : length (tree_bytes (new_manifest no_digest fresh binding (replicate 256 0))) ≡ 1091
+manifest : length (tree_bytes (new_manifest (no_digest Sha256) fresh binding (replicate 256 0))) ≡ 1091
 unfolding fresh defined actions binding shortest_head
 manifest = refl
 
@@ -123,20 +125,20 @@ second = record {
 }
 
 unfoldable second_binding : NewAssertion
-second_binding = data_binding 20 2667 zero_digest
+second_binding = data_binding Sha256 20 2667 (zero_digest Sha256)
 
 -- the item of the ingredient that the parent is takes 284 bytes
-ingredient : length (deterministic (ingredient_item (parent_ingredient no_digest parent))) ≡ 284
+ingredient : length (deterministic (ingredient_item (parent_ingredient (no_digest Sha256) parent))) ≡ 284
 unfolding parent shortest_head
 ingredient = refl
 
 -- the claim takes 443 bytes
-second_claim : length (new_claim no_digest second second_binding) ≡ 443
+second_claim : length (new_claim (no_digest Sha256) second second_binding) ≡ 443
 unfolding second parent defined actions second_binding shortest_head
 second_claim = refl
 
 -- the new manifest takes 1,526 bytes
-second_manifest : length (tree_bytes (new_manifest no_digest second second_binding (replicate 256 0))) ≡ 1526
+second_manifest : length (tree_bytes (new_manifest (no_digest Sha256) second second_binding (replicate 256 0))) ≡ 1526
 unfolding second parent defined actions second_binding shortest_head
 second_manifest = refl
 

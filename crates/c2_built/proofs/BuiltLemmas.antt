@@ -5,10 +5,12 @@ use Rattle.std.specs.Prelude.{Option}
 use Rattle.std.specs.Int.{w32, to_be_bytes}
 use Rattle.c2_base.specs.declared.limits.TheConstants.{MAX_STORE_LEN, FILE_LEN_LIMIT}
 use Rattle.c2_base.specs.declared.values.Range.{Range}
+use Rattle.c2_spec.proofs.Digests.{zero_len}
+use Rattle.c2_spec.specs.declared.digest.Alg.{Alg}
 use Rattle.c2_spec.specs.C2pa.Manifest.{type_uuid}
 use Rattle.c2_spec.specs.Cbor.Deterministic.{deterministic}
 use Rattle.c2_spec.specs.Cover.{data_text}
-use Rattle.c2_spec.specs.Digest.{alg_name, digest_len}
+use Rattle.c2_spec.specs.Digest.{alg_name, digest_len, zero_digest}
 use Rattle.c2_spec.specs.Jpeg.Segments.{Segment, HasSegments, EndsSegments, place_after}
 use Rattle.c2_spec.specs.Jpeg.Packets.{is_store_start}
 use Rattle.c2_spec.specs.Jpeg.Places.{IsOfSegments, HasNumber}
@@ -17,13 +19,12 @@ use Rattle.c2_spec.specs.Jpeg.Writing.{IsPacketStore, packets_of, packets_bytes,
 use Rattle.c2_spec.specs.Jumbf.Tree.{Tree, Trees, tree_bytes, trees_bytes, description_bytes}
 use Rattle.c2_spec.specs.Jumbf.Writing.{fresh_description}
 use Rattle.c2_spec.specs.PutIn.{put_in, taken_out}
-use Rattle.c2_spec.specs.declared.digest.Alg.TheVariants.{Sha256}
 use Rattle.c2_spec.proofs.Kept.{kept_around}
 use Rattle.c2_assertion.specs.Written.{data_hash_item, one_exclusion}
 use Rattle.c2_jpegseg.specs.Laws.{PacketsHold, PacketsHoldTheStore}
-use Rattle.c2_built.specs.Built.{zero_digest, no_digest, store_size, built_len, built_store, built_file, HasDigestLen, StoreSizeIsFixed, BuiltFileIs, BuiltFileIsOne, BaseIsLeft, BuiltFileHasItsStore}
+use Rattle.c2_built.specs.Built.{no_digest, store_size, built_len, built_store, built_file, HasDigestLen, StoreSizeIsFixed, BuiltFileIs, BuiltFileIsOne, BaseIsLeft, BuiltFileHasItsStore}
 use Rattle.c2_built.specs.FreshBoxes.{store_box, trees_then}
-use Rattle.c2_built.specs.Store.{Content, data_binding, new_manifest, new_store, range_at}
+use Rattle.c2_built.specs.Store.{Content, data_binding, new_manifest, new_store, range_at, new_alg}
 use Rattle.c2_built.proofs.Lists.{each-front, each-back}
 use Rattle.c2_built.proofs.Put.{behind_app0, app0_split, taken_back, put_between, place_inside, put_len, put_taken}
 use Rattle.c2_built.proofs.StoreSize.{KeepsLength, same_size, store_len}
@@ -35,14 +36,14 @@ abbrev pub OneLength : Type 0
 OneLength = (alg : Option (List ℕ)) (g h : List ℕ) (r q : Range) → length g ≡ length h → length (deterministic (data_hash_item (one_exclusion alg g r))) ≡ length (deterministic (data_hash_item (one_exclusion alg h q)))
 
 -- a digest of zero bytes is as long as any
-no_digest_len : HasDigestLen no_digest
-no_digest_len text = length-replicate {A = ℕ} (digest_len Sha256) 0
+no_digest_len : (alg : Alg) → HasDigestLen alg (no_digest alg)
+no_digest_len alg text = zero_len alg
 
 -- a new store's length depends neither on its range nor on digests
 pub fixed_size : KeepsLength → OneLength → StoreSizeIsFixed
 fixed_size keeps one hash c start len digest message h n =
-    same_size keeps hash no_digest c (data_binding start len digest) (data_binding 0 0 zero_digest) message (replicate (length message) 0) h no_digest_len refl
-    (one (Some (alg_name Sha256)) digest zero_digest (range_at start len) (range_at 0 0) (n ∙ sym (length-replicate {A = ℕ} (digest_len Sha256) 0))) (sym (length-replicate {A = ℕ} (length message) 0))
+    same_size keeps hash (no_digest (new_alg c.definition)) c (data_binding (new_alg c.definition) start len digest) (data_binding (new_alg c.definition) 0 0 (zero_digest (new_alg c.definition))) message (replicate (length message) 0) h (no_digest_len (new_alg c.definition)) refl
+    (one (Some (alg_name (new_alg c.definition))) digest (zero_digest (new_alg c.definition)) (range_at start len) (range_at 0 0) (n ∙ sym (zero_len (new_alg c.definition)))) (sym (length-replicate {A = ℕ} (length message) 0))
 
 -- ---- a new store can go into packets
 
@@ -60,12 +61,12 @@ packet_store carried m small =
     }
 
 -- a store over any range and digest has packets of one length
-pub packets_len : KeepsLength → OneLength → PacketsHoldTheStore → (hash : List ℕ → List ℕ) (c : Content) (start len en : ℕ) (digest message : List ℕ) → HasDigestLen hash → length digest ≡ digest_len Sha256 → store_size c (length message) ≤ MAX_STORE_LEN → en < 2 ^ 16
-    → length (packets_bytes (tree_bytes (new_store hash c (data_binding start len digest) message)) en) ≡ built_len c (length message)
+pub packets_len : KeepsLength → OneLength → PacketsHoldTheStore → (hash : List ℕ → List ℕ) (c : Content) (start len en : ℕ) (digest message : List ℕ) → HasDigestLen (new_alg c.definition) hash → length digest ≡ digest_len (new_alg c.definition) → store_size c (length message) ≤ MAX_STORE_LEN → en < 2 ^ 16
+    → length (packets_bytes (tree_bytes (new_store hash c (data_binding (new_alg c.definition) start len digest) message)) en) ≡ built_len c (length message)
 packets_len keeps one hold hash c start len en digest message h n small le =
     let size = fixed_size keeps one hash c start len digest message h n in
-    let t : Tree = new_store hash c (data_binding start len digest) message in
-    (hold (tree_bytes t) en [] [] (packet_store c.carried (new_manifest hash c (data_binding start len digest) message) (omega (arith, size, small))) le tt tt refl).size ∙ ap segments_len size
+    let t : Tree = new_store hash c (data_binding (new_alg c.definition) start len digest) message in
+    (hold (tree_bytes t) en [] [] (packet_store c.carried (new_manifest hash c (data_binding (new_alg c.definition) start len digest) message) (omega (arith, size, small))) le tt tt refl).size ∙ ap segments_len size
 
 -- ---- the file
 
@@ -91,7 +92,7 @@ file_is keeps one hold hash c message base segments en h can none =
       en = en;
       number = can.number;
       store = t;
-      store_is = ap (λ (x : List ℕ). new_store hash c (data_binding start len (hash x)) message) (sym covered);
+      store_is = ap (λ (x : List ℕ). new_store hash c (data_binding (new_alg c.definition) start len (hash x)) message) (sym covered);
       size = sym size;
       put = refl;
     }
@@ -123,8 +124,8 @@ file_is_one keeps one hold lists numbers hash c message base f start len segment
     let inside : start ≤ length base = subst (λ n. n ≤ length base) (sym place) (place_inside base segments can.is_of.rest can.is_of.begins) in
     let covered : data_text (range_at start len ∷ []) f ≡ base = ap (data_text (range_at start len ∷ [])) b.put ∙ covers_base start len (packets_bytes (tree_bytes b.store) b.en) base inside b.size in
     let store : b.store ≡ built_store hash c message base (insert_place segments) =
-    b.store_is ∙ ap (λ (x : List ℕ). new_store hash c (data_binding start len (hash x)) message) covered ∙ ap (λ n. new_store hash c (data_binding n len (hash base)) message) place
-    ∙ ap (λ n. new_store hash c (data_binding (insert_place segments) n (hash base)) message) count in
+    b.store_is ∙ ap (λ (x : List ℕ). new_store hash c (data_binding (new_alg c.definition) start len (hash x)) message) covered ∙ ap (λ n. new_store hash c (data_binding (new_alg c.definition) n len (hash base)) message) place
+    ∙ ap (λ n. new_store hash c (data_binding (new_alg c.definition) (insert_place segments) n (hash base)) message) count in
     record {
       bytes = b.put ∙ ap (λ n. put_in n (packets_bytes (tree_bytes b.store) b.en) base) place ∙ ap (λ (t : Tree). put_in (insert_place segments) (packets_bytes (tree_bytes t) b.en) base) store
           ∙ ap (λ n. put_in (insert_place segments) (packets_bytes (tree_bytes (built_store hash c message base (insert_place segments))) n) base) number;
@@ -169,7 +170,7 @@ put_located hold base store segments rest en has ends none h free small =
 pub file_has_store : KeepsLength → OneLength → PacketsHoldTheStore → BuiltFileHasItsStore
 file_has_store keeps one hold hash c message base segments en h can none fits =
     let start : ℕ = insert_place segments in
-    let binding = data_binding start (built_len c (length message)) (hash base) in
+    let binding = data_binding (new_alg c.definition) start (built_len c (length message)) (hash base) in
     let t : Tree = built_store hash c message base start in
     let size : length (tree_bytes t) ≡ store_size c (length message) = fixed_size keeps one hash c start (built_len c (length message)) (hash base) message h (h base) in
     subst (λ n. HasJpegStore (built_file hash c message base segments en) start (segments_len n) (tree_bytes t)) size

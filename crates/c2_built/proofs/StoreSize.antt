@@ -1,6 +1,7 @@
 -- How long written boxes are; and that a new store's length depends neither on its range nor on digests.
 use Rattle.std.proofs.Common.{◌≡◌, ℕ, suc, ◌+◌, List, [], ◌∷◌, ◌++◌, length, map, Option, Some, None, refl, sym, ap, ◌∙◌, arith, codes, length-append}
 use Rattle.std.specs.Prelude.{⊤}
+use Rattle.c2_spec.specs.declared.digest.Alg.{Alg}
 use Rattle.c2_spec.specs.C2pa.Uri.{PlainTarget, whole, signature, assertion, uri_text}
 use Rattle.c2_spec.specs.Cbor.Deterministic.{shortest_head, preferred, preferred_items, preferred_pairs, deterministic}
 use Rattle.c2_spec.specs.Cbor.Item.{Item, bytes, text, list, dict, Items, items_len, Pairs, pair, pairs_len}
@@ -9,14 +10,14 @@ use Rattle.c2_spec.specs.Cbor.Writing.{field, field_if, ref_item}
 use Rattle.c2_spec.specs.Jumbf.Tree.{Tree, Trees, none, more, tree_bytes, trees_bytes}
 use Rattle.c2_spec.specs.declared.cbor.Ref.{Ref}
 use Rattle.c2_assertion.specs.Written.{ingredient_item}
-use Rattle.c2_claim.specs.Written.{claim_item, redactions_field, generator_item, signature_uri, written_alg}
+use Rattle.c2_claim.specs.Written.{claim_item, redactions_field, generator_item, signature_uri}
 use Rattle.c2_claim.specs.declared.writing.ClaimParts.{ClaimParts}
 use Rattle.c2_definition.specs.declared.types.NewAssertion.{NewAssertion}
 use Rattle.c2_definition.specs.declared.types.Payload.{Payload}
 use Rattle.c2_definition.specs.declared.types.Payload.TheVariants as payload
 use Rattle.c2_built.specs.Built.{HasDigestLen}
 use Rattle.c2_built.specs.FreshBoxes.{fresh_leaf, fresh_box, item_box, store_box, trees_then}
-use Rattle.c2_built.specs.Store.{Content, Parent, assertion_box, assertion_boxes, entry_of, parent_ingredient, parent_ref, parent_assertions, new_assertions, claim_parts, new_claim, manifest_box, new_manifest, new_store}
+use Rattle.c2_built.specs.Store.{Content, Parent, assertion_box, assertion_boxes, entry_of, parent_ingredient, parent_ref, parent_assertions, new_assertions, claim_parts, new_claim, manifest_box, new_manifest, new_store, new_alg}
 use Rattle.c2_built.proofs.BoxLemmas.{fresh_len, then_len}
 
 -- ---- items of one size
@@ -109,7 +110,7 @@ same_list rs ss h =
 
 -- a claim with other entries
 abbrev over : ClaimParts → List Ref → ClaimParts
-over c rs = record { label = c.label; instance = c.instance; generator = c.generator; title = c.title; entries = rs; redacted = c.redacted }
+over c rs = record { label = c.label; instance = c.instance; generator = c.generator; title = c.title; alg = c.alg; entries = rs; redacted = c.redacted }
 
 -- the fields behind the entries
 abbrev behind_entries : ClaimParts → List (Item × Item)
@@ -121,31 +122,31 @@ from_signature c rs = field (codes "signature") (text (signature_uri c.label)) �
 
 -- the fields of a claim
 fields_over : ClaimParts → List Ref → List (Item × Item)
-fields_over c rs = field (codes "alg") (text written_alg) ∷ (field_if (codes "dc:title") text c.title ++ from_signature c rs)
+fields_over c rs = field (codes "alg") (text c.alg) ∷ (field_if (codes "dc:title") text c.title ++ from_signature c rs)
 
 -- a claim of these parts
-abbrev parts_of : List ℕ → List ℕ → List ℕ → Option (List ℕ) → List (List ℕ) → List Ref → ClaimParts
-parts_of label instance generator title redacted rs = record { label = label; instance = instance; generator = generator; title = title; entries = rs; redacted = redacted }
+abbrev parts_of : List ℕ → List ℕ → List ℕ → Option (List ℕ) → List ℕ → List (List ℕ) → List Ref → ClaimParts
+parts_of label instance generator title alg redacted rs = record { label = label; instance = instance; generator = generator; title = title; alg = alg; entries = rs; redacted = redacted }
 
 -- the item of a claim of these parts is the map of its fields, the entries among them
-fields_are : (label instance generator : List ℕ) (title : Option (List ℕ)) (redacted : List (List ℕ)) (rs : List Ref)
-    → claim_item (parts_of label instance generator title redacted rs) ≡ dict (pairs_of (fields_over (parts_of label instance generator title redacted rs) rs))
+fields_are : (label instance generator : List ℕ) (title : Option (List ℕ)) (alg : List ℕ) (redacted : List (List ℕ)) (rs : List Ref)
+    → claim_item (parts_of label instance generator title alg redacted rs) ≡ dict (pairs_of (fields_over (parts_of label instance generator title alg redacted rs) rs))
 unfolding fields_over
-fields_are label instance generator None [] rs = refl
-fields_are label instance generator None (t ∷ ts) rs = refl
-fields_are label instance generator (Some title) [] rs = refl
-fields_are label instance generator (Some title) (t ∷ ts) rs = refl
+fields_are label instance generator None alg [] rs = refl
+fields_are label instance generator None alg (t ∷ ts) rs = refl
+fields_are label instance generator (Some title) alg [] rs = refl
+fields_are label instance generator (Some title) alg (t ∷ ts) rs = refl
 
 -- the item of a claim with other entries is the map of its fields with those
 over_is : (c : ClaimParts) (rs : List Ref) → claim_item (over c rs) ≡ dict (pairs_of (fields_over c rs))
 unfolding fields_over
-over_is c rs = fields_are c.label c.instance c.generator c.title c.redacted rs
+over_is c rs = fields_are c.label c.instance c.generator c.title c.alg c.redacted rs
 
 -- the fields of a claim with either of two such lists of references are as long and as many
 claims_same : (c : ClaimParts) (rs ss : List Ref) → SameRefs rs ss → SamePairs (pairs_of (fields_over c rs)) (pairs_of (fields_over c ss))
 unfolding fields_over
 claims_same c rs ss h =
-    same_pair (text (codes "alg")) (text written_alg) (text written_alg) _ _ refl (same_behind (field_if (codes "dc:title") text c.title) (from_signature c rs) (from_signature c ss)
+    same_pair (text (codes "alg")) (text c.alg) (text c.alg) _ _ refl (same_behind (field_if (codes "dc:title") text c.title) (from_signature c rs) (from_signature c ss)
     (same_pair (text (codes "signature")) (text (signature_uri c.label)) (text (signature_uri c.label)) _ _ refl
     (same_pair (text (codes "instanceID")) (text c.instance) (text c.instance) _ _ refl
     (same_pair (text (codes "created_assertions")) (list (refs_of rs)) (list (refs_of ss)) (pairs_of (behind_entries c)) (pairs_of (behind_entries c)) (same_list rs ss h) (same_all (pairs_of (behind_entries c)))))))
@@ -194,23 +195,23 @@ boxes_len (a ∷ as_) (b ∷ bs) h =
     omega (arith, boxes_len as_ bs h.1, assertion_len a, assertion_len b, l, h.0.size, length-append (tree_bytes (assertion_box a)) (trees_bytes (assertion_boxes as_)), length-append (tree_bytes (assertion_box b)) (trees_bytes (assertion_boxes bs)))
 
 -- two hashes give digests of one length
-same_digests : (f g : List ℕ → List ℕ) → HasDigestLen f → HasDigestLen g → (s t : List ℕ) → length (f s) ≡ length (g t)
-same_digests f g hf hg s t = hf s ∙ sym (hg t)
+same_digests : (alg : Alg) (f g : List ℕ → List ℕ) → HasDigestLen alg f → HasDigestLen alg g → (s t : List ℕ) → length (f s) ≡ length (g t)
+same_digests alg f g hf hg s t = hf s ∙ sym (hg t)
 
 -- the references to such assertions are such, whichever hash gives the digests
-same_entries : (f g : List ℕ → List ℕ) (as_ bs : List NewAssertion) → HasDigestLen f → HasDigestLen g → SameAssertions as_ bs → SameRefs (map (entry_of f) as_) (map (entry_of g) bs)
+same_entries : (alg : Alg) (f g : List ℕ → List ℕ) (as_ bs : List NewAssertion) → HasDigestLen alg f → HasDigestLen alg g → SameAssertions as_ bs → SameRefs (map (entry_of f) as_) (map (entry_of g) bs)
 unfolding SameAssertions SameRefs
-same_entries f g [] [] hf hg h = tt
-same_entries f g [] (b ∷ bs) hf hg h = absurd h
-same_entries f g (a ∷ as_) [] hf hg h = absurd h
-same_entries f g (a ∷ as_) (b ∷ bs) hf hg h = (
-  record { url = ap (λ (l : List ℕ). uri_text (record { manifest = None; target = assertion l })) h.0.label; alg = refl; hash = same_digests f g hf hg _ _ },
-  same_entries f g as_ bs hf hg h.1,
+same_entries alg f g [] [] hf hg h = tt
+same_entries alg f g [] (b ∷ bs) hf hg h = absurd h
+same_entries alg f g (a ∷ as_) [] hf hg h = absurd h
+same_entries alg f g (a ∷ as_) (b ∷ bs) hf hg h = (
+  record { url = ap (λ (l : List ℕ). uri_text (record { manifest = None; target = assertion l })) h.0.label; alg = refl; hash = same_digests alg f g hf hg _ _ },
+  same_entries alg f g as_ bs hf hg h.1,
 )
 
 -- a reference into the parent's manifest has one length, whichever hash gives its digest
-same_by : (f g : List ℕ → List ℕ) → HasDigestLen f → HasDigestLen g → (label : List ℕ) (target : PlainTarget) (contents : List ℕ) → SameLen (ref_item (parent_ref f label target contents)) (ref_item (parent_ref g label target contents))
-same_by f g hf hg label target contents = same_ref (parent_ref f label target contents) (parent_ref g label target contents) (record { url = refl; alg = refl; hash = same_digests f g hf hg contents contents })
+same_by : (alg : Alg) (f g : List ℕ → List ℕ) → HasDigestLen alg f → HasDigestLen alg g → (label : List ℕ) (target : PlainTarget) (contents : List ℕ) → SameLen (ref_item (parent_ref f label target contents)) (ref_item (parent_ref g label target contents))
+same_by alg f g hf hg label target contents = same_ref (parent_ref f label target contents) (parent_ref g label target contents) (record { url = refl; alg = refl; hash = same_digests alg f g hf hg contents contents })
 
 -- the fields of the ingredient that a parent is
 parent_fields : (List ℕ → List ℕ) → Parent → List (Item × Item)
@@ -222,25 +223,25 @@ unfolding parent_fields
 parent_is f p = refl
 
 -- these fields are as long and as many, whichever hash gives the digests
-parents_same : (f g : List ℕ → List ℕ) (p : Parent) → HasDigestLen f → HasDigestLen g → SamePairs (pairs_of (parent_fields f p)) (pairs_of (parent_fields g p))
+parents_same : (alg : Alg) (f g : List ℕ → List ℕ) (p : Parent) → HasDigestLen alg f → HasDigestLen alg g → SamePairs (pairs_of (parent_fields f p)) (pairs_of (parent_fields g p))
 unfolding parent_fields
-parents_same f g p hf hg =
+parents_same alg f g p hf hg =
     same_pair (text (codes "relationship")) (text (codes "parentOf")) (text (codes "parentOf")) _ _ refl
-    (same_pair (text (codes "activeManifest")) (ref_item (parent_ref f p.label whole p.contents)) (ref_item (parent_ref g p.label whole p.contents)) _ _ (same_by f g hf hg p.label whole p.contents)
-    (same_pair (text (codes "claimSignature")) (ref_item (parent_ref f p.label signature p.signed)) (ref_item (parent_ref g p.label signature p.signed)) _ _ (same_by f g hf hg p.label signature p.signed) (same_all (pairs_of []))))
+    (same_pair (text (codes "activeManifest")) (ref_item (parent_ref f p.label whole p.contents)) (ref_item (parent_ref g p.label whole p.contents)) _ _ (same_by alg f g hf hg p.label whole p.contents)
+    (same_pair (text (codes "claimSignature")) (ref_item (parent_ref f p.label signature p.signed)) (ref_item (parent_ref g p.label signature p.signed)) _ _ (same_by alg f g hf hg p.label signature p.signed) (same_all (pairs_of []))))
 
 -- the bytes of the ingredient that a parent is are as many, whichever hash gives the digests
-ingredient_len : KeepsLength → (f g : List ℕ → List ℕ) (p : Parent) → HasDigestLen f → HasDigestLen g → length (deterministic (ingredient_item (parent_ingredient f p))) ≡ length (deterministic (ingredient_item (parent_ingredient g p)))
-ingredient_len keeps f g p hf hg =
+ingredient_len : KeepsLength → (alg : Alg) (f g : List ℕ → List ℕ) (p : Parent) → HasDigestLen alg f → HasDigestLen alg g → length (deterministic (ingredient_item (parent_ingredient f p))) ≡ length (deterministic (ingredient_item (parent_ingredient g p)))
+ingredient_len keeps alg f g p hf hg =
     keeps (ingredient_item (parent_ingredient f p)) ∙ ap (λ v. length (preferred v)) (parent_is f p)
-    ∙ same_dict (pairs_of (parent_fields f p)) (pairs_of (parent_fields g p)) (parents_same f g p hf hg)
+    ∙ same_dict (pairs_of (parent_fields f p)) (pairs_of (parent_fields g p)) (parents_same alg f g p hf hg)
     ∙ ap (λ v. length (preferred v)) (sym (parent_is g p)) ∙ sym (keeps (ingredient_item (parent_ingredient g p)))
 
 -- the parent's assertion and a binding of one label and size are such, whichever hash gives the digests
-same_own : KeepsLength → (f g : List ℕ → List ℕ) (p : Option Parent) (a b : NewAssertion) → HasDigestLen f → HasDigestLen g → SameAssertion a b → SameAssertions (parent_assertions f p ++ a ∷ []) (parent_assertions g p ++ b ∷ [])
+same_own : KeepsLength → (alg : Alg) (f g : List ℕ → List ℕ) (p : Option Parent) (a b : NewAssertion) → HasDigestLen alg f → HasDigestLen alg g → SameAssertion a b → SameAssertions (parent_assertions f p ++ a ∷ []) (parent_assertions g p ++ b ∷ [])
 unfolding SameAssertions
-same_own keeps f g None a b hf hg h = (h, tt)
-same_own keeps f g (Some p) a b hf hg h = (record { label = refl; size = ingredient_len keeps f g p hf hg }, (h, tt))
+same_own keeps alg f g None a b hf hg h = (h, tt)
+same_own keeps alg f g (Some p) a b hf hg h = (record { label = refl; size = ingredient_len keeps alg f g p hf hg }, (h, tt))
 
 -- with the same assertions in front of both, such lists stay so
 same_more : (xs as_ bs : List NewAssertion) → SameAssertions as_ bs → SameAssertions (xs ++ as_) (xs ++ bs)
@@ -273,13 +274,13 @@ pub store_len : (carried : Trees) (m : Tree) → length (tree_bytes (store_box c
 store_len carried m = omega (arith, fresh_len (codes "c2pa") (codes "c2pa") (trees_then carried m) refl, then_len carried m)
 
 -- stores with bindings of one size and messages of one length have one length
-pub same_size : KeepsLength → (f g : List ℕ → List ℕ) (c : Content) (a b : NewAssertion) (m n : List ℕ) → HasDigestLen f → HasDigestLen g → a.label ≡ b.label → length a.bytes ≡ length b.bytes → length m ≡ length n
+pub same_size : KeepsLength → (f g : List ℕ → List ℕ) (c : Content) (a b : NewAssertion) (m n : List ℕ) → HasDigestLen (new_alg c.definition) f → HasDigestLen (new_alg c.definition) g → a.label ≡ b.label → length a.bytes ≡ length b.bytes → length m ≡ length n
     → length (tree_bytes (new_store f c a m)) ≡ length (tree_bytes (new_store g c b n))
 same_size keeps f g c a b m n hf hg el eb em =
     let as_ : List NewAssertion = new_assertions f c a in
     let bs : List NewAssertion = new_assertions g c b in
-    let same : SameAssertions as_ bs = same_more c.definition.assertions _ _ (same_own keeps f g c.parent a b hf hg (record { label = el; size = eb })) in
-    let claims : length (new_claim f c a) ≡ length (new_claim g c b) = claim_len keeps (claim_parts f c a) (map (entry_of f) as_) (map (entry_of g) bs) (same_entries f g as_ bs hf hg same) in
+    let same : SameAssertions as_ bs = same_more c.definition.assertions _ _ (same_own keeps (new_alg c.definition) f g c.parent a b hf hg (record { label = el; size = eb })) in
+    let claims : length (new_claim f c a) ≡ length (new_claim g c b) = claim_len keeps (claim_parts f c a) (map (entry_of f) as_) (map (entry_of g) bs) (same_entries (new_alg c.definition) f g as_ bs hf hg same) in
     let one = manifest_len c.definition.label as_ (new_claim f c a) m in
     let two = manifest_len c.definition.label bs (new_claim g c b) n in
     omega (arith, store_len c.carried (new_manifest f c a m), store_len c.carried (new_manifest g c b n), one, two, claims, boxes_len as_ bs same, em)

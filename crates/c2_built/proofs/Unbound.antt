@@ -8,6 +8,7 @@ use Rattle.std.specs.List.{AllByRecursion, AllZip, list_any}
 use Rattle.std.specs.Str.{IsUtf8}
 use Rattle.std.proofs.lemmas.Bool.{and_right, or_from, false≢true}
 use Rattle.c2_base.specs.declared.limits.TheConstants.{MAX_STORE_LEN}
+use Rattle.c2_spec.specs.declared.claim.ClaimVersion.TheVariants.{V2}
 use Rattle.c2_spec.specs.C2pa.Assertion.{kind_of, ingredient_of}
 use Rattle.c2_spec.specs.C2pa.Claim.{IsClaim}
 use Rattle.c2_spec.specs.C2pa.Manifest.{Manifest}
@@ -20,11 +21,10 @@ use Rattle.c2_spec.specs.declared.assertion.Ingredient.{Ingredient}
 use Rattle.c2_spec.specs.declared.assertion.Kind.{Kind}
 use Rattle.c2_spec.specs.declared.assertion.Kind.TheVariants as kinds
 use Rattle.c2_spec.specs.declared.digest.Alg.{Alg}
-use Rattle.c2_spec.specs.declared.digest.Alg.TheVariants.{Sha256}
 use Rattle.c2_rules.specs.Binding.{Binding, HasBinding, IsItemOf, IsLabelledBinding, binding_payload, bound_tests, bound_to_tests, media_tests}
 use Rattle.c2_rules.specs.Chains.{is_redacted, is_reached, reaches, redacts, names_assertion, label_in}
 use Rattle.c2_rules.specs.CheckList.{HasBindingOf, StoreReading, active_tests, chain_tests, last_tests, unjudged_list}
-use Rattle.c2_rules.specs.Ingredients.{is_ingredient_kind, assertion_uri}
+use Rattle.c2_rules.specs.Ingredients.{is_ingredient_kind, assertion_uri, box_version}
 use Rattle.c2_rules.specs.Readings.{AreReadings, ReadBox, Reading, IsReadBox, IsParsed, asked_of}
 use Rattle.c2_rules.specs.Rules.{unjudged_tests, is_cloud, is_other_hash, is_binding, bindings_in, box_with, kind_tests, ingredient_tests, form_tests, redaction_tests, reads_parent, claim_uri}
 use Rattle.c2_rules.specs.Rules as rule
@@ -37,7 +37,7 @@ use Rattle.c2_definition.specs.DefinitionFile as file
 use Rattle.c2_definition.specs.declared.types.Definition.{Definition}
 use Rattle.c2_definition.specs.declared.types.NewAssertion.{NewAssertion}
 use Rattle.c2_built.specs.Fresh.{IsFresh}
-use Rattle.c2_built.specs.Store.{Content, claim_parts, new_claim, new_manifest, new_store}
+use Rattle.c2_built.specs.Store.{Content, claim_parts, new_claim, new_manifest, new_store, new_alg}
 use Rattle.c2_built.specs.Unbound.{BoundFileMeets, FreshStoreMeets, IsKnownBinding, IsKnownLabel, MeetsUnbound}
 use Rattle.c2_built.specs.Written.{CanBeWritten, CanBeCarried, IsNewBinding, IsRead, IsText, new_written, written_assertion, written_item}
 use Rattle.c2_built.proofs.BoxLemmas.{plain_label}
@@ -46,7 +46,7 @@ use Rattle.c2_built.proofs.Labels.{IsLabelText, manifest_label, new_label}
 use Rattle.c2_built.proofs.Lists.{each-append}
 use Rattle.c2_built.proofs.NewRules.{Holds, all_hold, IsListed, Said, entries_of, new_box, new_boxes, new_reading, new_seen, bindings_of, RestHolds, own_rules, box_found, own_bindings, own_names}
 use Rattle.c2_built.proofs.StoreSize.{KeepsLength, manifest_len, store_len}
-use Rattle.c2_built.proofs.Uris.{UrisAreRead, plain_text, signature_utf8, assertion_utf8}
+use Rattle.c2_built.proofs.Uris.{UrisAreRead, plain_text, signature_utf8, assertion_utf8, name_utf8}
 use Rattle.c2_built.proofs.WrittenItems.{IsGoodRef, AreGoodParts, ClaimsAreRead, claim_read}
 use Rattle.c2_built.proofs.WrittenStore.{AreDifferent, all_different, store_read}
 
@@ -190,7 +190,7 @@ boxes_read [] h = tt
 boxes_read (a ∷ others) h = (
   record {
     same = refl;
-    reads = by_kind (λ k. MatchBool (is_ingredient_kind k) (IsParsed ingredient_of (written_assertion a).item NoItem) (◌≡◌ {A = Parsed Ingredient} NoItem NoItem)) refl refl refl refl (kind_of a.label) h.0.kind;
+    reads = by_kind (λ k. MatchBool (is_ingredient_kind k) (IsParsed (ingredient_of (box_version (written_assertion a))) (written_assertion a).item NoItem) (◌≡◌ {A = Parsed Ingredient} NoItem NoItem)) refl refl refl refl (kind_of a.label) h.0.kind;
   },
   boxes_read others h.1,
 )
@@ -214,7 +214,7 @@ carried_none label = record { legal = tt; distinct = tt; new = tt; manifests = t
 
 -- what a definition says beside the label and the assertions
 abbrev said_by : Definition → Said
-said_by d = record { instance = d.instance_id; generator = d.generator; title = d.title; redacted = d.redact }
+said_by d = record { instance = d.instance_id; generator = d.generator; title = d.title; alg = new_alg d; redacted = d.redact }
 
 -- a title that is a text, or none, is UTF-8
 title_utf8 : (o : Option (List ℕ)) → IfSome o IsText → IfSome o IsUtf8
@@ -233,11 +233,11 @@ all_each (t ∷ ts) h = (h 0 t refl, all_each ts (λ i u e. h (suc i) u e))
 
 -- a store of a definition
 unbound : StoreLaws → (hash : Alg → List ℕ → List ℕ) (d : Definition) (binding : NewAssertion) (message : List ℕ) (p : SignParts)
-    → d.redact ≡ [] → CanBeWritten d → IsKnownBinding binding → length (tree_bytes (new_store (hash Sha256) (fresh_of d) binding message)) ≤ MAX_STORE_LEN → SpellsMessage message p
-    → MeetsUnbound hash (new_store (hash Sha256) (fresh_of d) binding message) binding (question_of p (new_claim (hash Sha256) (fresh_of d) binding) ∷ [])
+    → d.redact ≡ [] → CanBeWritten d → IsKnownBinding binding → length (tree_bytes (new_store (hash (new_alg d)) (fresh_of d) binding message)) ≤ MAX_STORE_LEN → SpellsMessage message p
+    → MeetsUnbound hash (new_store (hash (new_alg d)) (fresh_of d) binding message) binding (question_of p (new_claim (hash (new_alg d)) (fresh_of d) binding) ∷ [])
 unfolding rule.label_kind
 unbound laws hash d binding message p redact w known small spells =
-    let h : List ℕ → List ℕ = hash Sha256 in
+    let h : List ℕ → List ℕ = hash (new_alg d) in
     let c : Content = fresh_of d in
     let t : Tree = new_store h c binding message in
     let own_label : IsBindingLabel binding.label = known_label binding.label known.label in
@@ -258,12 +258,13 @@ unbound laws hash d binding message p redact w known small spells =
       instance = w.texts.instance.utf8;
       generator = w.texts.generator.utf8;
       title = title_utf8 d.title w.texts.title;
+      alg = name_utf8 (new_alg d);
       entries = refs_good h as_ texts;
       redacted = subst (AllByRecursion IsUtf8) (sym redact) tt;
     } in
     let whole = store_len none (new_manifest h c binding message) in
     let inner = manifest_len d.label as_ claim message in
-    let is_claim : IsClaim claim (claim_from (claim_parts h c binding)) = claim_read laws.keeps laws.trip laws.claims (claim_parts h c binding) parts (omega (arith, whole, inner, small)) in
+    let is_claim : IsClaim V2 claim (claim_from (claim_parts h c binding)) = claim_read laws.keeps laws.trip laws.claims (claim_parts h c binding) parts (omega (arith, whole, inner, small)) in
     let not_redacted : (l : List ℕ) → is_redacted (r ∷ []) 0 l ≡ false = λ l. or_from (is_reached (r ∷ []) 0 && reaches (r ∷ []) 0 0 && redacts (Some r) (Some r) l) false
     (and_right (is_reached (r ∷ []) 0 && reaches (r ∷ []) 0 0) (redacts (Some r) (Some r) l) (ap (list_any (λ (text : List ℕ). names_assertion d.label l (uri_of text))) redact)) refl in
     let s : Seen = new_seen r (is_redacted (r ∷ []) 0) (standing_of (r ∷ []) 0) in
@@ -299,8 +300,8 @@ fresh_is c f =
 pub fresh_unbound : StoreLaws → FreshStoreMeets
 fresh_unbound laws hash c binding message p fresh w known small spells =
     let is : c ≡ fresh_of c.definition = fresh_is c fresh in
-    subst (λ (x : Content). MeetsUnbound hash (new_store (hash Sha256) x binding message) binding (question_of p (new_claim (hash Sha256) x binding) ∷ [])) (sym is)
-    (unbound laws hash c.definition binding message p fresh.redact w known (subst (λ (x : Content). length (tree_bytes (new_store (hash Sha256) x binding message)) ≤ MAX_STORE_LEN) is small) spells)
+    subst (λ (x : Content). MeetsUnbound hash (new_store (hash (new_alg x.definition)) x binding message) binding (question_of p (new_claim (hash (new_alg x.definition)) x binding) ∷ [])) (sym is)
+    (unbound laws hash c.definition binding message p fresh.redact w known (subst (λ (x : Content). length (tree_bytes (new_store (hash (new_alg x.definition)) x binding message)) ≤ MAX_STORE_LEN) is small) spells)
 
 -- ---- the file
 

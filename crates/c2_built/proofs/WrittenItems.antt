@@ -4,6 +4,7 @@ use Rattle.std.proofs.Common.{◌≡◌, ◌↔◌, ℕ, ◌^◌, ◌<◌, ◌�
 use Rattle.std.specs.List.{AllByRecursion, list_all}
 use Rattle.std.specs.Str.{IsUtf8}
 use Rattle.c2_base.specs.declared.values.Range.{Range}
+use Rattle.c2_spec.specs.declared.claim.ClaimVersion.TheVariants.{V2}
 use Rattle.c2_spec.specs.C2pa.Assertion.{data_hash_of, most_exclusions}
 use Rattle.c2_spec.specs.C2pa.Claim.{claim_of, IsClaim}
 use Rattle.c2_spec.specs.Cbor.Deterministic.{sorted, deterministic, shortest_head}
@@ -14,7 +15,7 @@ use Rattle.c2_spec.specs.Cbor.Writing.{field, field_if, ref_item}
 use Rattle.c2_spec.specs.declared.assertion.DataHash.{DataHash}
 use Rattle.c2_spec.specs.declared.cbor.Ref.{Ref}
 use Rattle.c2_assertion.specs.Written.{data_hash_item, range_item, one_exclusion, pad_len}
-use Rattle.c2_claim.specs.Written.{claim_item, claim_from, claim_fields, generator_item, redactions_field, signature_uri, written_alg}
+use Rattle.c2_claim.specs.Written.{claim_item, claim_from, claim_fields, generator_item, redactions_field, signature_uri}
 use Rattle.c2_claim.specs.declared.writing.ClaimParts.{ClaimParts}
 use Rattle.c2_built.proofs.BoxLemmas.{is_plain_byte}
 use Rattle.c2_built.proofs.GoodItems.{Good, IsGoodField, good_text, good_bytes, good_uint, good_list, good_field, good_map, keys_of, keys_differ, RoundTrip, good_read}
@@ -62,6 +63,7 @@ pub record AreGoodParts (p : ClaimParts) : Type 0 where
   pub instance : IsUtf8 p.instance
   pub generator : IsUtf8 p.generator
   pub title : IfSome p.title IsUtf8
+  pub alg : IsUtf8 p.alg
   pub entries : AllByRecursion IsGoodRef p.entries
   pub redacted : AllByRecursion IsUtf8 p.redacted
 
@@ -89,10 +91,10 @@ fields_good : (p : ClaimParts) → AreGoodParts p → AllByRecursion (IsGoodFiel
 fields_good p h =
     let middle : List (Item × Item) = field (codes "signature") (text (signature_uri p.label)) ∷ field (codes "instanceID") (text p.instance) ∷ field (codes "created_assertions") (list (items_of (map ref_item p.entries))) ∷ redactions_field p.redacted in
     let last : List (Item × Item) = field (codes "claim_generator_info") (generator_item p.generator) ∷ [] in
-    let front : List (Item × Item) = field (codes "alg") (text written_alg) ∷ field_if (codes "dc:title") text p.title in
+    let front : List (Item × Item) = field (codes "alg") (text p.alg) ∷ field_if (codes "dc:title") text p.title in
     each-append (IsGoodField 3) (front ++ middle) last
     (each-append (IsGoodField 3) front middle
-    (named 3 (codes "alg") (text written_alg) refl (lit≤ tt) (good_text 3 written_alg (lit≤ tt) (plain_text written_alg refl)), title_good p.title h.title) (
+    (named 3 (codes "alg") (text p.alg) refl (lit≤ tt) (good_text 3 p.alg (lit≤ tt) h.alg), title_good p.title h.title) (
       named 3 (codes "signature") _ refl (lit≤ tt) (good_text 3 (signature_uri p.label) (lit≤ tt) h.signature),
       (
         named 3 (codes "instanceID") _ refl (lit≤ tt) (good_text 3 p.instance (lit≤ tt) h.instance),
@@ -102,23 +104,23 @@ fields_good p h =
     (named 3 (codes "claim_generator_info") _ refl (lit≤ tt) (more_deep 2 3 _ (generator_good p.generator h.generator) (lit≤ tt)), tt)
 
 -- the keys of a claim's fields differ
-parts_keys : (label instance generator : List ℕ) (title : Option (List ℕ)) (entries : List Ref) (redacted : List (List ℕ))
-    → keys_differ (keys_of (claim_fields (record { label = label; instance = instance; generator = generator; title = title; entries = entries; redacted = redacted }))) ≡ true
+parts_keys : (label instance generator : List ℕ) (title : Option (List ℕ)) (alg : List ℕ) (entries : List Ref) (redacted : List (List ℕ))
+    → keys_differ (keys_of (claim_fields (record { label = label; instance = instance; generator = generator; title = title; alg = alg; entries = entries; redacted = redacted }))) ≡ true
 unfolding shortest_head
-parts_keys label instance generator None entries [] = refl
-parts_keys label instance generator None entries (t ∷ ts) = refl
-parts_keys label instance generator (Some t) entries [] = refl
-parts_keys label instance generator (Some t) entries (r ∷ rs) = refl
+parts_keys label instance generator None alg entries [] = refl
+parts_keys label instance generator None alg entries (t ∷ ts) = refl
+parts_keys label instance generator (Some t) alg entries [] = refl
+parts_keys label instance generator (Some t) alg entries (r ∷ rs) = refl
 
 -- what is read of a claim that was written
 abbrev pub ClaimsAreRead : Type 0
-ClaimsAreRead = (p : ClaimParts) → claim_of (sorted (claim_item p)) ≡ Ok (claim_from p)
+ClaimsAreRead = (p : ClaimParts) → claim_of V2 (sorted (claim_item p)) ≡ Ok (claim_from p)
 
 -- a written claim of such parts is read as the claim that it was made of
-pub claim_read : KeepsLength → RoundTrip → ClaimsAreRead → (p : ClaimParts) → AreGoodParts p → length (deterministic (claim_item p)) < 2 ^ 64 → IsClaim (deterministic (claim_item p)) (claim_from p)
+pub claim_read : KeepsLength → RoundTrip → ClaimsAreRead → (p : ClaimParts) → AreGoodParts p → length (deterministic (claim_item p)) < 2 ^ 64 → IsClaim V2 (deterministic (claim_item p)) (claim_from p)
 claim_read keeps trip back p h short = record {
   item = sorted (claim_item p);
-  has = good_read keeps trip (claim_item p) (more_deep 4 64 (claim_item p) (good_map 3 (claim_fields p) (fields_good p h) (parts_keys p.label p.instance p.generator p.title p.entries p.redacted)) (lit≤ tt)) short;
+  has = good_read keeps trip (claim_item p) (more_deep 4 64 (claim_item p) (good_map 3 (claim_fields p) (fields_good p h) (parts_keys p.label p.instance p.generator p.title p.alg p.entries p.redacted)) (lit≤ tt)) short;
   is = back p;
 }
 

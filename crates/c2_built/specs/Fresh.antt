@@ -10,14 +10,13 @@ use Rattle.c2_spec.specs.Jpeg.Writing.{insert_place}
 use Rattle.c2_spec.specs.Jumbf.Tree.{Tree, none}
 use Rattle.c2_spec.specs.Located.{here}
 use Rattle.c2_spec.specs.declared.digest.Alg.{Alg}
-use Rattle.c2_spec.specs.declared.digest.Alg.TheVariants.{Sha256}
 use Rattle.c2_rules.specs.CheckList.{StoreReading, unjudged_list, questions}
 use Rattle.c2_rules.specs.Opened.{IsOpened}
 use Rattle.c2_rules.specs.Tests.{AllHold}
 use Rattle.c2_rules.specs.Validated.{IsFileReading}
 use Rattle.c2_definition.specs.declared.types.Definition.{Definition}
 use Rattle.c2_built.specs.Built.{CanBuild, built_file, built_len, built_store}
-use Rattle.c2_built.specs.Store.{Content, data_binding, new_claim}
+use Rattle.c2_built.specs.Store.{Content, data_binding, new_claim, new_alg}
 use Rattle.c2_built.specs.Written.{CanBeWritten}
 
 -- what goes into a store of a definition alone: nothing is carried, and there is no parent
@@ -50,7 +49,7 @@ pub record IsFreshBase (c : Content) (reserve : ℕ) (base : List ℕ) (segments
 -- the one question of the new manifest, where its message has these parts
 abbrev pub new_question : (List ℕ → List ℕ) → Content → List ℕ → List ℕ → List Segment → SignParts → Question
 new_question hash c message base segments p =
-    question_of p (new_claim hash c (data_binding (insert_place segments) (built_len c (length message)) (hash base)))
+    question_of p (new_claim hash c (data_binding (new_alg c.definition) (insert_place segments) (built_len c (length message)) (hash base)))
 
 -- The file that is built over a base without a store has the new store, meets every rule but the verdict on its message, and asks one
 -- question. The message may be any that spells its parts.
@@ -58,5 +57,5 @@ abbrev pub FreshFileMeets : Type 0
 FreshFileMeets = (hash : Alg → List ℕ → List ℕ) (c : Content) (message base : List ℕ) (segments : List Segment) (en : ℕ) (p : SignParts)
     → GivesDigests hash → IsFresh c → CanBeWritten c.definition
     → CanBuild c (length message) base segments en → IsFreshBase c (length message) base segments → SpellsMessage message p
-    → Meets hash (built_file (hash Sha256) c message base segments en) (insert_place segments) (built_len c (length message))
-    (built_store (hash Sha256) c message base (insert_place segments)) (new_question (hash Sha256) c message base segments p ∷ [])
+    → Meets hash (built_file (hash (new_alg c.definition)) c message base segments en) (insert_place segments) (built_len c (length message))
+    (built_store (hash (new_alg c.definition)) c message base (insert_place segments)) (new_question (hash (new_alg c.definition)) c message base segments p ∷ [])

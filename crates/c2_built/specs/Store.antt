@@ -11,6 +11,7 @@ use Rattle.c2_spec.specs.Jumbf.Tree.{Tree, Trees, none, more}
 use Rattle.c2_spec.specs.declared.assertion.Ingredient.{Ingredient}
 use Rattle.c2_spec.specs.declared.assertion.Relationship.TheVariants.{ParentOf}
 use Rattle.c2_spec.specs.declared.cbor.Ref.{Ref}
+use Rattle.c2_spec.specs.declared.digest.Alg.{Alg}
 use Rattle.c2_spec.specs.declared.digest.Alg.TheVariants.{Sha256}
 use Rattle.c2_assertion.specs.Written.{data_hash_item, ingredient_item, one_exclusion}
 use Rattle.c2_claim.specs.Written.{claim_item}
@@ -51,12 +52,12 @@ entry_of hash a = own_ref a.label (hash (contents_of (assertion_box a)))
 abbrev pub range_at : ℕ → ℕ → Range
 range_at start len = record { start = start; length = len }
 
--- the binding to what a file has outside one range, with this digest
-abbrev pub data_binding : ℕ → ℕ → List ℕ → NewAssertion
-data_binding start len digest = record {
+-- the binding to what a file has outside one range, with this digest by an algorithm
+abbrev pub data_binding : Alg → ℕ → ℕ → List ℕ → NewAssertion
+data_binding alg start len digest = record {
   label = codes "c2pa.hash.data";
   kind = payload.Cbor;
-  bytes = deterministic (data_hash_item (one_exclusion (Some (alg_name Sha256)) digest (range_at start len)));
+  bytes = deterministic (data_hash_item (one_exclusion (Some (alg_name alg)) digest (range_at start len)));
 }
 
 -- ---- the parent
@@ -95,8 +96,8 @@ parent_assertions hash (Some p) = record {
 
 -- ---- the new manifest
 
--- What goes into a new store beside the binding and the signed message: the definition, the boxes that are carried of the old
--- store, and the parent, where there is one.
+-- What goes into a new store beside the binding and the signed message: the definition, the boxes that are carried of the old store, and
+-- the parent, where there is one.
 pub record Content : Type 0 where
   pub definition : Definition
   pub carried : Trees
@@ -106,6 +107,10 @@ pub record Content : Type 0 where
 abbrev pub new_assertions : (List ℕ → List ℕ) → Content → NewAssertion → List NewAssertion
 new_assertions hash c binding = c.definition.assertions ++ (parent_assertions hash c.parent ++ binding ∷ [])
 
+-- the algorithm of each digest in the new manifest of a definition
+abbrev pub new_alg : Definition → Alg
+new_alg d = Sha256
+
 -- what a claim of a definition says, with these entries
 abbrev pub claim_with : Definition → List Ref → ClaimParts
 claim_with d entries = record {
@@ -113,6 +118,7 @@ claim_with d entries = record {
   instance = d.instance_id;
   generator = d.generator;
   title = d.title;
+  alg = alg_name (new_alg d);
   entries = entries;
   redacted = d.redact;
 }

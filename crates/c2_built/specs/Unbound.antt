@@ -11,7 +11,6 @@ use Rattle.c2_spec.specs.Container.{IsLocated}
 use Rattle.c2_spec.specs.Jumbf.Tree.{SpellsTree, Tree, tree_bytes}
 use Rattle.c2_spec.specs.Located.{here}
 use Rattle.c2_spec.specs.declared.digest.Alg.{Alg}
-use Rattle.c2_spec.specs.declared.digest.Alg.TheVariants.{Sha256}
 use Rattle.c2_rules.specs.Binding.{Binding, IsBinding, IsMedia, Media, binding_label, binding_payload, bound_tests}
 use Rattle.c2_rules.specs.Chains.{label_in}
 use Rattle.c2_rules.specs.CheckList.{active_in, active_tests, chain_tests, questions}
@@ -22,7 +21,7 @@ use Rattle.c2_rules.specs.Tests.{AllHold}
 use Rattle.c2_definition.specs.declared.types.NewAssertion.{NewAssertion}
 use Rattle.c2_definition.specs.declared.types.Payload.TheVariants as payload
 use Rattle.c2_built.specs.Fresh.{IsFresh, Meets}
-use Rattle.c2_built.specs.Store.{Content, new_claim, new_store}
+use Rattle.c2_built.specs.Store.{Content, new_claim, new_store, new_alg}
 use Rattle.c2_built.specs.Written.{CanBeWritten}
 
 -- the label of a binding of a kind that is known: to ranges of a file, or to its boxes
@@ -69,5 +68,5 @@ BoundFileMeets = (hash : Alg → List ℕ → List ℕ) (file : List ℕ) (start
 abbrev pub FreshStoreMeets : Type 0
 FreshStoreMeets = (hash : Alg → List ℕ → List ℕ) (c : Content) (binding : NewAssertion) (message : List ℕ) (p : SignParts)
     → IsFresh c → CanBeWritten c.definition → IsKnownBinding binding
-    → length (tree_bytes (new_store (hash Sha256) c binding message)) ≤ MAX_STORE_LEN → SpellsMessage message p
-    → MeetsUnbound hash (new_store (hash Sha256) c binding message) binding (question_of p (new_claim (hash Sha256) c binding) ∷ [])
+    → length (tree_bytes (new_store (hash (new_alg c.definition)) c binding message)) ≤ MAX_STORE_LEN → SpellsMessage message p
+    → MeetsUnbound hash (new_store (hash (new_alg c.definition)) c binding message) binding (question_of p (new_claim (hash (new_alg c.definition)) c binding) ∷ [])

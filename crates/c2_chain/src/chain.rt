@@ -1,5 +1,5 @@
 // The manifests of a store, and the public calls on them.
-ghost use Rattle.std.specs.Prelude.{◌≡◌, ◌≢◌, ◌<◌, None, Some, length, map, slice_get, option_map, IfOk, IfSome};
+ghost use Rattle.std.specs.Prelude.{◌≡◌, ◌≢◌, ◌<◌, None, Some, length, map, slice_get, option_map, IfErr, IfOk, IfSome};
 ghost use Rattle.c2_base.specs.declared.values.Question.{Question as AnyQuestion};
 ghost use Rattle.c2_spec.specs.C2pa.Manifest.{IsStoreOf, HasClaim, manifests_of, store_of};
 ghost use Rattle.c2_spec.specs.Judges.Panel.{LeavesJudges, judges_of, panel_says};
@@ -11,7 +11,7 @@ ghost use Rattle.c2_rules.specs.Questions.{HasQuestion, IsQuestionOf};
 ghost use Rattle.c2_rules.specs.Readings.{AreReadings, question_in};
 ghost use Rattle.c2_rules.specs.Rules.{claim_tests};
 ghost use Rattle.c2_rules.specs.Tests.{first_failing};
-ghost use Rattle.c2_chain.specs.Checked.{HasPanel};
+ghost use Rattle.c2_chain.specs.Checked.{HasPanel, IsChainCause};
 ghost use Rattle.c2_manifests.specs.Facts.{AreFacts};
 
 use crate::asking::{ChainError, own_question};
@@ -85,8 +85,9 @@ pub fn all<'c, 't>(chain: &'c Chain<'t>) -> &'c ReadManifests<'t>
     &chain.all
 }
 
-/// The claim of a manifest. None exactly where it has none: it has no claim box or more than one, or one with another label
-/// or without an item, or that item isn't one CBOR item, or a field of it is refused. Takes no memory.
+/// The claim of a manifest. None exactly where it has none: it has no claim box or more than one, or one whose label is that
+/// of no version that is read, or one without an item, or that item isn't one CBOR item, or a field of it is refused under
+/// that version. Takes no memory.
 pub fn claim_of<'t>(chain: &'t Chain<'_>, i: usize) -> Option<&'t Claim>
     requires { i < length chain.now.manifests }
     ensures value { slice_get chain.now.claims i ≡ Some (option_map (λ c. c.now) result) }
@@ -178,6 +179,11 @@ pub fn check_manifest<H: Hashing>(
         let new = judges_of (λ j. says j) (λ j. asked_times j) (λ j. judge_faults j)
         judges.new.items in
         LeavesJudges old new result }
+    ensures cause { let old = judges_of (λ j. says j) (λ j. asked_times j) (λ j. judge_faults j)
+        judges.old.items in
+        let new = judges_of (λ j. says j) (λ j. asked_times j) (λ j. judge_faults j)
+        judges.new.items in
+        IfErr result (IsChainCause old new) }
     ensures quiet { IfSome (slice_get chain.now.readings i)
         (λ r. first_failing (claim_tests r) ≢ None → judges.new ≡ judges.old) }
 {
@@ -185,7 +191,9 @@ pub fn check_manifest<H: Hashing>(
 }
 
 /// What is found out, once, of all manifests that are a child of some manifest: whether they are touched, and the digests
-/// of their contents and of the contents of their signature boxes. With it `check_known` hashes no manifest again.
+/// of their contents and of the contents of their signature boxes, by the algorithms that ingredients name. With it
+/// `check_known` hashes no manifest again. The clause says that what was found out is true; `check_known` finds out by itself
+/// what is missing.
 pub fn child_facts<H: Hashing>(
     alloc: Global,
     hashing: &H,
@@ -222,6 +230,11 @@ pub fn check_known<H: Hashing>(
         let new = judges_of (λ j. says j) (λ j. asked_times j) (λ j. judge_faults j)
         judges.new.items in
         LeavesJudges old new result }
+    ensures cause { let old = judges_of (λ j. says j) (λ j. asked_times j) (λ j. judge_faults j)
+        judges.old.items in
+        let new = judges_of (λ j. says j) (λ j. asked_times j) (λ j. judge_faults j)
+        judges.new.items in
+        IfErr result (IsChainCause old new) }
     ensures quiet { IfSome (slice_get chain.now.readings i)
         (λ r. first_failing (claim_tests r) ≢ None → judges.new ≡ judges.old) }
 {
@@ -229,7 +242,8 @@ pub fn check_known<H: Hashing>(
 }
 
 /// The ingredient in the box with tree index `at`. Some exactly where that box stands in the assertion store of a
-/// manifest, is of the kind of ingredients that is read, and has an item that is one. Takes no memory.
+/// manifest, has the label of an ingredient of a version that is read, and has an item that is one under that version.
+/// Takes no memory.
 pub fn ingredient_of<'t>(chain: &'t Chain<'_>, at: usize) -> Option<&'t Ingredient>
     ensures { option_map (λ g. g.now) result ≡ ingredient_at chain.now at }
 {

@@ -16,10 +16,11 @@ use Rattle.c2_spec.specs.Cbor.Fields.{require, each_of, text_item, joined}
 use Rattle.c2_spec.specs.Cbor.Lookup.{ref_of}
 use Rattle.c2_spec.specs.C2pa.Claim.{claim_of, IsClaim}
 use Rattle.c2_spec.specs.Cbor.Writing.{field, field_if, ref_item}
-use Rattle.c2_claim.specs.Written.{redactions_field, written_alg, signature_uri, generator_item, claim_fields, claim_item, claim_from}
+use Rattle.c2_claim.specs.Written.{redactions_field, signature_uri, generator_item, claim_fields, claim_item, claim_from}
 use Rattle.c2_spec.specs.declared.cbor.Ref.{Ref}
 use Rattle.c2_spec.specs.declared.claim.Claim.{Claim}
 use Rattle.c2_spec.specs.declared.claim.ClaimField.{ClaimField}
+use Rattle.c2_spec.specs.declared.claim.ClaimVersion.TheVariants.{V2}
 use Rattle.c2_spec.specs.declared.claim.ClaimField.TheVariants.{Created, Redacted}
 use Rattle.c2_claim.specs.declared.writing.ClaimParts.{ClaimParts}
 
@@ -70,8 +71,8 @@ texts_plain [] = tt
 texts_plain (t ∷ ts) = (tt, texts_plain ts)
 
 -- the parts, one by one
-parts_of : List ℕ → List ℕ → List ℕ → Option (List ℕ) → List Ref → List (List ℕ) → ClaimParts
-parts_of label instance generator title entries redacted = record { label = label; instance = instance; generator = generator; title = title; entries = entries; redacted = redacted }
+parts_of : List ℕ → List ℕ → List ℕ → Option (List ℕ) → List ℕ → List Ref → List (List ℕ) → ClaimParts
+parts_of label instance generator title alg entries redacted = record { label = label; instance = instance; generator = generator; title = title; alg = alg; entries = entries; redacted = redacted }
 
 -- the last field
 last_plain : (generator : List ℕ) → PlainPairs (pair (text (codes "claim_generator_info")) (generator_item generator) no_pairs)
@@ -79,30 +80,30 @@ unfolding shortest_head
 last_plain generator = one_plain (codes "claim_generator_info") (generator_item generator) no_pairs ((one_plain (codes "name") (text generator) no_pairs tt refl none_plain).are) refl none_plain
 
 -- the fields of a claim
-fields_plain : (label instance generator : List ℕ) (title : Option (List ℕ)) (entries : List Ref) (redacted : List (List ℕ)) → PlainPairs (pairs_of (claim_fields (parts_of label instance generator title entries redacted)))
+fields_plain : (label instance generator : List ℕ) (title : Option (List ℕ)) (alg : List ℕ) (entries : List Ref) (redacted : List (List ℕ)) → PlainPairs (pairs_of (claim_fields (parts_of label instance generator title alg entries redacted)))
 unfolding parts_of shortest_head
-fields_plain label instance generator None entries [] =
-    one_plain (codes "alg") (text written_alg) _ tt refl
+fields_plain label instance generator None alg entries [] =
+    one_plain (codes "alg") (text alg) _ tt refl
     (one_plain (codes "signature") (text (signature_uri label)) _ tt refl
     (one_plain (codes "instanceID") (text instance) _ tt refl
     (one_plain (codes "created_assertions") (list (items_of (map ref_item entries))) _ (refs_plain entries) refl
     (last_plain generator))))
-fields_plain label instance generator None entries (t ∷ ts) =
-    one_plain (codes "alg") (text written_alg) _ tt refl
+fields_plain label instance generator None alg entries (t ∷ ts) =
+    one_plain (codes "alg") (text alg) _ tt refl
     (one_plain (codes "signature") (text (signature_uri label)) _ tt refl
     (one_plain (codes "instanceID") (text instance) _ tt refl
     (one_plain (codes "created_assertions") (list (items_of (map ref_item entries))) _ (refs_plain entries) refl
     (one_plain (codes "redacted_assertions") (list (items_of (map text (t ∷ ts)))) _ (texts_plain (t ∷ ts)) refl
     (last_plain generator)))))
-fields_plain label instance generator (Some title) entries [] =
-    one_plain (codes "alg") (text written_alg) _ tt refl
+fields_plain label instance generator (Some title) alg entries [] =
+    one_plain (codes "alg") (text alg) _ tt refl
     (one_plain (codes "dc:title") (text title) _ tt refl
     (one_plain (codes "signature") (text (signature_uri label)) _ tt refl
     (one_plain (codes "instanceID") (text instance) _ tt refl
     (one_plain (codes "created_assertions") (list (items_of (map ref_item entries))) _ (refs_plain entries) refl
     (last_plain generator)))))
-fields_plain label instance generator (Some title) entries (t ∷ ts) =
-    one_plain (codes "alg") (text written_alg) _ tt refl
+fields_plain label instance generator (Some title) alg entries (t ∷ ts) =
+    one_plain (codes "alg") (text alg) _ tt refl
     (one_plain (codes "dc:title") (text title) _ tt refl
     (one_plain (codes "signature") (text (signature_uri label)) _ tt refl
     (one_plain (codes "instanceID") (text instance) _ tt refl
@@ -129,41 +130,41 @@ texts_back [] = refl
 texts_back (t ∷ ts) = ap (λ o. joined (Some t) o) (texts_back ts)
 
 -- what a claim says of which these entries and these redactions are read
-said_by : List ℕ → List ℕ → Option (List Ref) → Option (List (List ℕ)) → Result Claim ClaimField
-said_by signature instance created redacted =
-    require Created created (λ created. require Redacted redacted (λ redacted. Ok (record { signature = signature; instance = instance; alg = Some written_alg; created = created; gathered = []; redacted = redacted })))
+said_by : List ℕ → List ℕ → List ℕ → Option (List Ref) → Option (List (List ℕ)) → Result Claim ClaimField
+said_by signature instance alg created redacted =
+    require Created created (λ created. require Redacted redacted (λ redacted. Ok (record { version = V2; signature = signature; instance = Some instance; alg = Some alg; created = created; gathered = []; redacted = redacted })))
 
 -- a claim of these parts
-claim_said : (label instance generator : List ℕ) (title : Option (List ℕ)) (entries : List Ref) (redacted : List (List ℕ))
-    → claim_of (sorted (claim_item (parts_of label instance generator title entries redacted))) ≡ said_by (signature_uri label) instance (each_of ref_of (sorted_items (items_of (map ref_item entries)))) (each_of text_item (sorted_items (items_of (map text redacted))))
+claim_said : (label instance generator : List ℕ) (title : Option (List ℕ)) (alg : List ℕ) (entries : List Ref) (redacted : List (List ℕ))
+    → claim_of V2 (sorted (claim_item (parts_of label instance generator title alg entries redacted))) ≡ said_by (signature_uri label) instance alg (each_of ref_of (sorted_items (items_of (map ref_item entries)))) (each_of text_item (sorted_items (items_of (map text redacted))))
 unfolding said_by parts_of shortest_head
-claim_said label instance generator None entries [] = refl
-claim_said label instance generator None entries (t ∷ ts) = refl
-claim_said label instance generator (Some title) entries [] = refl
-claim_said label instance generator (Some title) entries (t ∷ ts) = refl
+claim_said label instance generator None alg entries [] = refl
+claim_said label instance generator None alg entries (t ∷ ts) = refl
+claim_said label instance generator (Some title) alg entries [] = refl
+claim_said label instance generator (Some title) alg entries (t ∷ ts) = refl
 
 -- a claim that is made of parts, read
-pub claim_back : (p : ClaimParts) → claim_of (sorted (claim_item p)) ≡ Ok (claim_from p)
+pub claim_back : (p : ClaimParts) → claim_of V2 (sorted (claim_item p)) ≡ Ok (claim_from p)
 unfolding said_by parts_of
 claim_back p =
-    claim_said p.label p.instance p.generator p.title p.entries p.redacted
-    ∙ ap (λ o. said_by (signature_uri p.label) p.instance o (each_of text_item (sorted_items (items_of (map text p.redacted))))) (refs_back p.entries)
-    ∙ ap (λ o. said_by (signature_uri p.label) p.instance (Some p.entries) o) (texts_back p.redacted)
+    claim_said p.label p.instance p.generator p.title p.alg p.entries p.redacted
+    ∙ ap (λ o. said_by (signature_uri p.label) p.instance p.alg o (each_of text_item (sorted_items (items_of (map text p.redacted))))) (refs_back p.entries)
+    ∙ ap (λ o. said_by (signature_uri p.label) p.instance p.alg (Some p.entries) o) (texts_back p.redacted)
 
 -- ---- the bytes
 
 -- what is written of a legal claim
-pub written_back : (p : ClaimParts) (v : Item) (b : List ℕ) → v ≡ claim_item p → IsLegal v → (IsPlain v → (r : List ℕ) → BeginsWith (b ++ r) (sorted v) (length b)) → IsClaim b (claim_from p)
+pub written_back : (p : ClaimParts) (v : Item) (b : List ℕ) → v ≡ claim_item p → IsLegal v → (IsPlain v → (r : List ℕ) → BeginsWith (b ++ r) (sorted v) (length b)) → IsClaim V2 b (claim_from p)
 unfolding parts_of
 written_back p v b is legal read =
-    let fields = fields_plain p.label p.instance p.generator p.title p.entries p.redacted in
+    let fields = fields_plain p.label p.instance p.generator p.title p.alg p.entries p.redacted in
     let plain : HasPlainKeys v = subst HasPlainKeys (sym is) fields.are in
     let begins = read (record { legal = legal; plain = plain }) [] in
     let whole : take (length b) (b ++ []) ≡ b = take_at b [] (length b) refl in
     record {
       item = sorted v;
       has = record { legal = begins.legal; spelled = subst (Spells (sorted v)) whole begins.spelled };
-      is = ap (λ w. claim_of (sorted w)) is ∙ claim_back p;
+      is = ap (λ w. claim_of V2 (sorted w)) is ∙ claim_back p;
     }
 
 -- ---- the item
@@ -190,7 +191,7 @@ pub claim_is : (p : ClaimParts) (m0 m1 m2 m3 m4 m5 m6 m7 : List (Item × Item)) 
     → m5 ≡ m4 ++ field (codes "created_assertions") c ∷ []
     → m6 ≡ m5 ++ redactions_field p.redacted
     → m7 ≡ m6 ++ field (codes "claim_generator_info") g ∷ []
-    → alg ≡ text written_alg → s ≡ text (signature_uri p.label) → i ≡ text p.instance → c ≡ list (items_of (map ref_item p.entries)) → g ≡ generator_item p.generator
+    → alg ≡ text p.alg → s ≡ text (signature_uri p.label) → i ≡ text p.instance → c ≡ list (items_of (map ref_item p.entries)) → g ≡ generator_item p.generator
     → dict (pairs_of m7) ≡ claim_item p
 claim_is p m0 m1 m2 m3 m4 m5 m6 m7 alg s i c g e0 e1 e2 e3 e4 e5 e6 e7 is_alg is_s is_i is_c is_g =
     let title = field_if (codes "dc:title") text p.title in
@@ -201,7 +202,7 @@ claim_is p m0 m1 m2 m3 m4 m5 m6 m7 alg s i c g e0 e1 e2 e3 e4 e5 e6 e7 is_alg is
     ∙ ap (λ (fs : List (Item × Item)). field (codes "alg") alg ∷ fs) (in_turn title (redactions_field p.redacted) (field (codes "signature") s) (field (codes "instanceID") i) (field (codes "created_assertions") c) (field (codes "claim_generator_info") g)) in
     ap (λ m. dict (pairs_of m)) (all
     ∙ ap (λ x. fields_with p x s i c g) is_alg
-    ∙ ap (λ x. fields_with p (text written_alg) x i c g) is_s
-    ∙ ap (λ x. fields_with p (text written_alg) (text (signature_uri p.label)) x c g) is_i
-    ∙ ap (λ x. fields_with p (text written_alg) (text (signature_uri p.label)) (text p.instance) x g) is_c
-    ∙ ap (λ x. fields_with p (text written_alg) (text (signature_uri p.label)) (text p.instance) (list (items_of (map ref_item p.entries))) x) is_g)
+    ∙ ap (λ x. fields_with p (text p.alg) x i c g) is_s
+    ∙ ap (λ x. fields_with p (text p.alg) (text (signature_uri p.label)) x c g) is_i
+    ∙ ap (λ x. fields_with p (text p.alg) (text (signature_uri p.label)) (text p.instance) x g) is_c
+    ∙ ap (λ x. fields_with p (text p.alg) (text (signature_uri p.label)) (text p.instance) (list (items_of (map ref_item p.entries))) x) is_g)

@@ -1,11 +1,12 @@
--- The item that a claim is written as (C2PA Technical Specification 2.x, "Claims"): its deterministic bytes are written. A field that
--- is absent is left out, and so is an empty list of redactions. The fields of each map stand in deterministic order.
+-- The item that a claim of version 2 is written as (C2PA Technical Specification 2.x, "Claims"): its deterministic bytes are written.
+-- A field that is absent is left out, and so is an empty list of redactions. The fields of each map stand in deterministic order.
 use Rattle.std.specs.Prelude.{ℕ, List, [], ◌∷◌, ◌++◌, codes, map, Some}
 use Rattle.c2_spec.specs.Cbor.Item.{Item, dict, list, text}
 use Rattle.c2_spec.specs.Cbor.Writing.{field, field_if, ref_item}
 use Rattle.c2_spec.specs.Cbor.View.{items_of, pairs_of}
 use Rattle.c2_spec.specs.C2pa.Uri.{uri_text, signature}
 use Rattle.c2_spec.specs.declared.claim.Claim.{Claim}
+use Rattle.c2_spec.specs.declared.claim.ClaimVersion.TheVariants.{V2}
 use Rattle.c2_claim.specs.declared.writing.ClaimParts.{ClaimParts}
 
 -- the redactions, where there are some
@@ -17,10 +18,6 @@ redactions_field (t ∷ ts) = field (codes "redacted_assertions") (list (items_o
 abbrev pub generator_item : List ℕ → Item
 generator_item name = dict (pairs_of (field (codes "name") (text name) ∷ []))
 
--- the algorithm of each digest in what is written
-abbrev pub written_alg : List ℕ
-written_alg = codes "sha256"
-
 -- the URI of the signature of the manifest with this label
 abbrev pub signature_uri : List ℕ → List ℕ
 signature_uri label = uri_text (record { manifest = Some label; target = signature })
@@ -28,7 +25,7 @@ signature_uri label = uri_text (record { manifest = Some label; target = signatu
 -- the fields of a claim
 abbrev pub claim_fields : ClaimParts → List (Item × Item)
 claim_fields p =
-    field (codes "alg") (text written_alg)
+    field (codes "alg") (text p.alg)
     ∷ field_if (codes "dc:title") text p.title ++ field (codes "signature") (text (signature_uri p.label))
     ∷ field (codes "instanceID") (text p.instance)
     ∷ field (codes "created_assertions") (list (items_of (map ref_item p.entries)))
@@ -40,4 +37,4 @@ claim_item p = dict (pairs_of (claim_fields p))
 
 -- the claim that it is read as
 abbrev pub claim_from : ClaimParts → Claim
-claim_from p = record { signature = signature_uri p.label; instance = p.instance; alg = Some written_alg; created = p.entries; gathered = []; redacted = p.redacted }
+claim_from p = record { version = V2; signature = signature_uri p.label; instance = Some p.instance; alg = Some p.alg; created = p.entries; gathered = []; redacted = p.redacted }

@@ -1,5 +1,5 @@
 // Reading a claim.
-ghost use Rattle.std.specs.Prelude.{◌≡◌, IfOk, codes};
+ghost use Rattle.std.specs.Prelude.{◌≡◌, codes};
 ghost use Rattle.c2_cbor.specs.Apart.{with_texts};
 ghost use Rattle.c2_claim.specs.Apart.{claim_apart, redactions_of};
 ghost use Rattle.c2_spec.specs.Cbor.Item.{Item};
@@ -9,65 +9,41 @@ ghost use Rattle.c2_spec.specs.C2pa.Claim.{claim_of, IsRead, Agrees, RefusesItem
 ghost use Rattle.c2_spec.specs.declared.cbor.CborError.{CborError as AnyError};
 ghost use Rattle.c2_claim.specs.Unread.{claim_error};
 
-use c2_base::{NoMemory, Texts};
+use crate::version_1::read_version_1;
+use crate::version_2::read_version_2;
+use c2_base::Texts;
 use c2_cbor::{Cbor, CborError, decode_texts_apart};
-use c2_spec::{Claim, ClaimError, ClaimField};
+use c2_spec::{Claim, ClaimError, ClaimVersion};
 use std::alloc::Global;
 
-/// The texts under `redacted_assertions`, where they aren't held apart none where it is absent; None where something else
-/// stands there.
-fn redactions(alloc: Global, item: &Cbor, texts: Option<Texts>) -> Result<Option<Texts>, NoMemory>
-    ensures { IfOk result (λ found. found ≡ redactions_of (view item.now) texts) }
+/// The claim of this version that an item is with these redactions, which are held apart, or the first field that is refused.
+fn claim_of_parts(
+    alloc: Global,
+    version: ClaimVersion,
+    item: &Cbor,
+    texts: Option<Texts>,
+) -> Result<Claim, ClaimError>
+    ensures { Agrees (claim_apart version (view item.now) (redactions_of (view item.now) texts))
+        result }
 {
-    match texts {
-        Some(texts) => Ok(Some(texts)),
-        None => c2_cbor_fields::optional_texts(alloc, item, "redacted_assertions"),
+    match version {
+        ClaimVersion::V1 => read_version_1(alloc, item, texts),
+        ClaimVersion::V2 => read_version_2(alloc, item, texts),
     }
-}
-
-/// The claim that an item is with these redactions, which are held apart, or the first field that is refused.
-fn claim_of_parts(alloc: Global, item: &Cbor, texts: Option<Texts>) -> Result<Claim, ClaimError>
-    ensures { Agrees (claim_apart (view item.now) (redactions_of (view item.now) texts)) result }
-{
-    if !c2_cbor_fields::is_map(item) {
-        return Err(ClaimError::Fields(ClaimField::Whole));
-    }
-    let Some(instance) = c2_cbor_fields::text(alloc, item, "instanceID")? else {
-        return Err(ClaimError::Fields(ClaimField::InstanceId));
-    };
-    let Some(signature) = c2_cbor_fields::text(alloc, item, "signature")? else {
-        return Err(ClaimError::Fields(ClaimField::Signature));
-    };
-    let Some(created) = c2_cbor_fields::references(alloc, item, "created_assertions")? else {
-        return Err(ClaimError::Fields(ClaimField::Created));
-    };
-    let Some(gathered) = c2_cbor_fields::optional_references(alloc, item, "gathered_assertions")?
-    else {
-        return Err(ClaimError::Fields(ClaimField::Gathered));
-    };
-    let Some(redacted) = redactions(alloc, item, texts)? else {
-        return Err(ClaimError::Fields(ClaimField::Redacted));
-    };
-    let Some(alg) = c2_cbor_fields::optional_text(alloc, item, "alg")? else {
-        return Err(ClaimError::Fields(ClaimField::Alg));
-    };
-    Ok(Claim {
-        signature,
-        instance,
-        alg,
-        created,
-        gathered,
-        redacted,
-    })
 }
 
 /// The same of the whole item.
 #[tactic(auto, using(crate::proofs::Apart::agrees_whole))]
-fn claim_in(alloc: Global, item: &Cbor, texts: Option<Texts>) -> Result<Claim, ClaimError>
-    ensures { Agrees (claim_of (with_texts (codes "redacted_assertions") (view item.now) texts))
-        result }
+fn claim_in(
+    alloc: Global,
+    version: ClaimVersion,
+    item: &Cbor,
+    texts: Option<Texts>,
+) -> Result<Claim, ClaimError>
+    ensures { Agrees (claim_of version
+        (with_texts (codes "redacted_assertions") (view item.now) texts)) result }
 {
-    claim_of_parts(alloc, item, texts)
+    claim_of_parts(alloc, version, item, texts)
 }
 
 /// Why bytes that aren't one item aren't a claim.
@@ -85,16 +61,20 @@ fn unread(fault: CborError) -> ClaimError
     }
 }
 
-/// The claim that the whole of the bytes is.
+/// The claim of this version that the whole of the bytes is.
 ///
 /// `Cbor` with the cause of c2_cbor's `decode_whole` exactly where the bytes aren't one item; `Fields` with the first field that is
-/// refused, in the order of `ClaimField`. A null field counts as absent, and other fields pass unread.
-pub fn read(alloc: Global, bytes: &[u8]) -> Result<Claim, ClaimError>
+/// refused: in version 2 in the order of `ClaimField`, in version 1 `Whole`, `Signature`, `Assertions`, `Redacted`, `Alg` and then
+/// `Created`. In version 1 the instance may be missing, and one that is no text counts as none.
+///
+/// A null field counts as absent, and other fields pass unread. A claim of one version must not have the list of assertions of the
+/// other, so bytes are a claim under one version alone.
+pub fn read(alloc: Global, version: ClaimVersion, bytes: &[u8]) -> Result<Claim, ClaimError>
     // What is answered holds of these bytes.
-    ensures holds { IsRead bytes.now result }
+    ensures holds { IsRead version bytes.now result }
 
     // Of an item that they are, the claim or the first refused field is answered, unless memory runs out.
-    ensures only { (v : Item) → HasItem bytes.now v → Agrees (claim_of v) result }
+    ensures only { (v : Item) → HasItem bytes.now v → Agrees (claim_of version v) result }
 
     // A fault of theirs is answered, unless memory runs out.
     ensures refused { (e : AnyError) → IsUnread bytes.now e → RefusesItem e result }
@@ -103,6 +83,6 @@ pub fn read(alloc: Global, bytes: &[u8]) -> Result<Claim, ClaimError>
         Ok(read) => read,
         Err(fault) => return Err(unread(fault)),
     };
-    let claim = claim_in(alloc, &item, texts)?;
+    let claim = claim_in(alloc, version, &item, texts)?;
     Ok(claim)
 }

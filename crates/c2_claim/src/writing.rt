@@ -7,6 +7,7 @@ ghost use Rattle.c2_spec.specs.C2pa.Claim.{IsClaim, claim_of};
 ghost use Rattle.c2_spec.specs.Cbor.Writing.{field, field_if, pair_view, ref_item};
 ghost use Rattle.c2_claim.specs.Written.{redactions_field, claim_from};
 ghost use Rattle.c2_claim.specs.Written as form;
+ghost use Rattle.c2_spec.specs.declared.claim.ClaimVersion.TheVariants.{V2};
 ghost use Rattle.c2_claim.specs.declared.writing.ClaimParts.{ClaimParts as AnyParts};
 
 use c2_base::{Blob, NoMemory, Text, Texts};
@@ -27,6 +28,9 @@ pub struct ClaimParts {
 
     /// The title of the asset.
     pub title: Option<Text>,
+
+    /// The name of the algorithm of each digest in the claim's manifest.
+    pub alg: Text,
 
     /// The assertions that the claim's maker made.
     pub entries: Refs,
@@ -159,7 +163,7 @@ fn claim_written(alloc: Global, parts: &ClaimParts) -> Result<Cbor, NoMemory>
     ensures { IfOk result (λ v. view v ≡ form.claim_item parts.now) }
 {
     let mut fields = Vec::new(alloc);
-    let alg = text_item(alloc, "sha256")?;
+    let alg = text_item(alloc, parts.alg.as_str())?;
     add_field(alloc, &mut fields, "alg", alg)?;
     add_text(alloc, &mut fields, "dc:title", &parts.title)?;
     let signature = signature_written(alloc, parts.label.as_str())?;
@@ -174,13 +178,13 @@ fn claim_written(alloc: Global, parts: &ClaimParts) -> Result<Cbor, NoMemory>
     Ok(Cbor::Map(fields))
 }
 
-/// The deterministic bytes of the claim that is made of these parts: `alg`, which is SHA-256, `dc:title` where there is a title,
+/// The deterministic bytes of the claim that is made of these parts: `alg`, `dc:title` where there is a title,
 /// `signature`, `instanceID`, `created_assertions`, `redacted_assertions` where there are some, and `claim_generator_info`.
 pub fn write(alloc: Global, parts: &ClaimParts) -> Result<Blob, NoMemory>
     ensures written { IfOk result (λ b. b ≡ deterministic (form.claim_item parts.now)) }
 
-    // What is written is read as these parts.
-    ensures again { IfOk result (λ b. IsClaim b (claim_from parts.now)) }
+    // What is written is read as these parts, as a claim of version 2.
+    ensures again { IfOk result (λ b. IsClaim V2 b (claim_from parts.now)) }
 {
     let item = claim_written(alloc, parts)?;
     // The item is legal: nothing but memory fails.
@@ -190,7 +194,7 @@ pub fn write(alloc: Global, parts: &ClaimParts) -> Result<Blob, NoMemory>
     }
 }
 
-/// A claim that is made of parts, whatever they are, is read as these parts.
+/// A claim that is made of parts, whatever they are, is read as these parts, under version 2.
 pub fn a_written_claim_is_read()
-    ensures { (p : AnyParts) → claim_of (sorted (form.claim_item p)) ≡ Ok (claim_from p) }
+    ensures { (p : AnyParts) → claim_of V2 (sorted (form.claim_item p)) ≡ Ok (claim_from p) }
 {}

@@ -16,7 +16,7 @@ use Rattle.c2_rules.specs.declared.answer.Answer.TheVariants as checked
 use Rattle.c2_spec.specs.Located.{Opening, refused, absent, here}
 use Rattle.c2_spec.specs.declared.digest.Alg.{Alg}
 use Rattle.c2_spec.specs.declared.panel.Verdict.{Verdict}
-use Rattle.c2_words.specs.CommandLine.{writes_file}
+use Rattle.c2_words.specs.CommandLine.{has_word, is_out}
 use Rattle.c2_cmd.specs.Outcome.{Asks, CommandAsks, CommandMeets, Inputs, IsCommandOutcome, IsEmbedOutcome, IsOutcome, IsPlanOutcome, Meets, Outcome, Reports, answered, compare_outcome, inputs, pieces_in, plan_outcome, sample_outcome}
 use Rattle.c2_sample.specs.declared.types.Sampled.{Sampled}
 use Rattle.c2_sample.specs.declared.types.Sampled.TheVariants as sampled
@@ -64,7 +64,7 @@ unfiled_sample n (sampled.Checked lengths found) = refl
 unfiled_sample n (sampled.Refused e) = refl
 
 -- a command that writes no file has an outcome without one
-unfiled_command : (c : Command) (roles : Roles) (i : Inputs) (e : Outcome) → writes_file c ≡ false → IsCommandOutcome c roles i e → e.file ≡ None
+unfiled_command : (c : Command) (roles : Roles) (i : Inputs) (e : Outcome) → has_word is_out c ≡ false → IsCommandOutcome c roles i e → e.file ≡ None
 unfiled_command command.Digest roles i e none h = unfiled_report _ (λ start len store x k. ap (λ (o : Outcome). o.file) k) h.0 e h.2
 unfiled_command command.List roles i e none h = unfiled_report _ (λ start len t x k. ap (λ (o : Outcome). o.file) k) h.0 e h.2
 unfiled_command command.Show roles i e none h = unfiled_report _ (λ start len t x k. ap (λ (o : Outcome). o.file) k.2) h.0 e h.2
@@ -76,14 +76,14 @@ unfiled_command command.Embed roles i e none h = absurd (false≢true (sym none)
 unfiled_command command.Sample roles i e none h = ap (λ (o : Outcome). o.file) h.2 ∙ unfiled_sample (pieces_in roles) h.0
 
 -- so nothing is done to the sink for one, in a call with this command
-pub unfiled : (found : Option Roles) (roles : Roles) (c : Command) (i : Inputs) (e : Outcome) (state : SinkState) (r : Result Reply Fault) → found ≡ Some roles → roles.command ≡ c → writes_file c ≡ false → IsOutcome found i e → TakesFile e.file state state r
+pub unfiled : (found : Option Roles) (roles : Roles) (c : Command) (i : Inputs) (e : Outcome) (state : SinkState) (r : Result Reply Fault) → found ≡ Some roles → roles.command ≡ c → has_word is_out c ≡ false → IsOutcome found i e → TakesFile e.file state state r
 unfiled found roles c i e state r is named none h =
     let over : IsCommandOutcome c roles i e = subst (λ (x : Command). IsCommandOutcome x roles i e) named (subst (λ (x : Option Roles). IsOutcome x i e) is h) in
     let unfiled : e.file ≡ None = unfiled_command c roles i e none over in
     subst (λ (x : Option (List ℕ)). TakesFile x state state r) (sym unfiled) refl
 
 -- nothing is promised of a new file by a command that writes none
-unmet_command : (c : Command) (i : Inputs) → writes_file c ≡ false → CommandMeets c i
+unmet_command : (c : Command) (i : Inputs) → has_word is_out c ≡ false → CommandMeets c i
 unmet_command command.Digest i none = tt
 unmet_command command.List i none = tt
 unmet_command command.Show i none = tt
@@ -95,7 +95,7 @@ unmet_command command.Embed i none = absurd (false≢true (sym none))
 unmet_command command.Sample i none = tt
 
 -- so by a call with one
-pub unmet : (found : Option Roles) (roles : Roles) (c : Command) (i : Inputs) → found ≡ Some roles → roles.command ≡ c → writes_file c ≡ false → Meets found i
+pub unmet : (found : Option Roles) (roles : Roles) (c : Command) (i : Inputs) → found ≡ Some roles → roles.command ≡ c → has_word is_out c ≡ false → Meets found i
 unmet found roles c i is named none = subst (λ (x : Option Roles). Meets x i) (sym is) (subst (λ (x : Command). CommandMeets x i) (sym named) (unmet_command c i none))
 
 -- ---- `plan`

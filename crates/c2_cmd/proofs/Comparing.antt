@@ -18,8 +18,9 @@ use Rattle.c2_compare.specs.Comparing.{HasAsked, IsCompareCause, IsCompared}
 use Rattle.c2_evidence.specs.declared.error.CompareError.{CompareError}
 use Rattle.c2_evidence.specs.declared.error.CompareError.TheVariants.{ReadFault, WriteFault, JudgeFault, NoMemory}
 use Rattle.c2_texts.specs.Texts.{different_line, not_accepted_line, same_line}
-use Rattle.c2_words.specs.CommandLine.{comparing_roles, reads_media, reads_second, reads_third, writes_file}
-use Rattle.c2_cmd.specs.Outcome.{Outcome, Asks, CommandAsks, IsCommandOutcome, IsCompareOutcome, IsOutcome, compare_outcome, inputs, reports, uses_media, uses_out, uses_second, uses_third}
+use Rattle.c2_words.specs.CommandLine.{has_word, is_media, is_out, is_second, is_third, roles_as}
+use Rattle.c2_words.specs.declared.types.Role.{Role}
+use Rattle.c2_cmd.specs.Outcome.{Outcome, Asks, CommandAsks, IsCommandOutcome, IsCompareOutcome, IsOutcome, compare_outcome, inputs, names, reports}
 use Rattle.c2_cmd.specs.Reply.{AskedFor, Begins, CausedBy, IsCause, IsMediaCause, StandsFor, compare_fault, outcome_of}
 use Rattle.c2_cmd.specs.Run.{HasFailed}
 use Rattle.c2_cmd.specs.declared.reply.Fault.{Fault}
@@ -71,11 +72,11 @@ reply_begins one hash said first second old new what (Ok reply) h out =
       before = text;
       written = (h.gives what text h.is.1).1;
       stands = λ expected k. stands_behind expected text reply
-          (one (Some (comparing_roles command.Compare)) (record { media = first; second = second; third = []; said = said; hash = hash }) expected (behind text (outcome_of reply)) k (what, text, h.is.1, same));
+          (one (Some (roles_as command.Compare [])) (record { media = first; second = second; third = []; said = said; hash = hash }) expected (behind text (outcome_of reply)) k (what, text, h.is.1, same));
     }
 reply_begins one hash said first second old new what (Err e) h out = λ expected k.
     begun hash said first second what h.is.0 old new expected h.is.1
-    (one (Some (comparing_roles command.Compare)) (record { media = first; second = second; third = []; said = said; hash = hash }) expected (compare_outcome what h.is.0) k (what, h.is.0, h.is.1, refl))
+    (one (Some (roles_as command.Compare [])) (record { media = first; second = second; third = []; said = said; hash = hash }) expected (compare_outcome what h.is.0) k (what, h.is.0, h.is.1, refl))
     (λ rest. prefix_whole old new h.is.0 rest (h.gives what h.is.0 h.is.1).1)
 
 -- ---- faults and questions
@@ -118,7 +119,7 @@ memory_caused input output old new (Err e) h = subst (λ (x : Fault). CausedBy i
 -- ---- a call whose words have roles
 
 -- the fault of a command that reads one file and asks nobody
-pub media_caused : (found : Option Roles) (before now : ℕ) (others output : Type 0) (old new : Judges) (r : Result Reply Fault) → uses_media found ≡ true → IfErr r (IsMediaCause before now) → IfErr r (CausedBy (HasFailed (uses_media found) before now ⊎ others) output old new)
+pub media_caused : (found : Option Roles) (before now : ℕ) (others output : Type 0) (old new : Judges) (r : Result Reply Fault) → names is_media found ≡ true → IfErr r (IsMediaCause before now) → IfErr r (CausedBy (HasFailed (names is_media found) before now ⊎ others) output old new)
 media_caused found before now others output old new (Ok reply) used h = tt
 media_caused found before now others output old new (Err Input) used h = inl (used, h)
 media_caused found before now others output old new (Err Output) used h = absurd h
@@ -126,7 +127,7 @@ media_caused found before now others output old new (Err Judge) used h = absurd 
 media_caused found before now others output old new (Err Memory) used h = tt
 
 -- of one that reads one file and asks judges
-pub judged_caused : (found : Option Roles) (before now : ℕ) (others output : Type 0) (old new : Judges) (r : Result Reply Fault) → uses_media found ≡ true → IfErr r (IsCause before now old new) → IfErr r (CausedBy (HasFailed (uses_media found) before now ⊎ others) output old new)
+pub judged_caused : (found : Option Roles) (before now : ℕ) (others output : Type 0) (old new : Judges) (r : Result Reply Fault) → names is_media found ≡ true → IfErr r (IsCause before now old new) → IfErr r (CausedBy (HasFailed (names is_media found) before now ⊎ others) output old new)
 judged_caused found before now others output old new (Ok reply) used h = tt
 judged_caused found before now others output old new (Err Input) used h = inl (used, h)
 judged_caused found before now others output old new (Err Output) used h = absurd h
@@ -153,39 +154,27 @@ caused_as input output input' output' old new (Err Judge) files sinks h = h
 caused_as input output input' output' old new (Err Memory) files sinks h = tt
 
 -- the fault of a command that reads two files and writes to the report
-pub both_caused : (found : Option Roles) (a b c d r s : ℕ) (third file : Type 0) (old new : Judges) (result : Result Reply Fault) → uses_media found ≡ true → uses_second found ≡ true → IfErr result (CausedBy (Rose a b ⊎ Rose c d) (Rose r s) old new)
-    → IfErr result (CausedBy (HasFailed (uses_media found) a b ⊎ (HasFailed (uses_second found) c d ⊎ third)) (HasFailed true r s ⊎ file) old new)
+pub both_caused : (found : Option Roles) (a b c d r s : ℕ) (third file : Type 0) (old new : Judges) (result : Result Reply Fault) → names is_media found ≡ true → names is_second found ≡ true → IfErr result (CausedBy (Rose a b ⊎ Rose c d) (Rose r s) old new)
+    → IfErr result (CausedBy (HasFailed (names is_media found) a b ⊎ (HasFailed (names is_second found) c d ⊎ third)) (HasFailed true r s ⊎ file) old new)
 both_caused found a b c d r s third file old new result used other h =
-    caused_as _ _ _ _ old new result (two_used (uses_media found) (uses_second found) a b c d third used other) (λ rose. inl (refl, rose)) h
+    caused_as _ _ _ _ old new result (two_used (names is_media found) (names is_second found) a b c d third used other) (λ rose. inl (refl, rose)) h
 
 -- of one that reads two and writes nothing itself
-pub planned_caused : (found : Option Roles) (a b c d : ℕ) (third output : Type 0) (old new : Judges) (result : Result Reply Fault) → uses_media found ≡ true → uses_second found ≡ true → IfErr result (CausedBy (Rose a b ⊎ Rose c d) ⊥ old new)
-    → IfErr result (CausedBy (HasFailed (uses_media found) a b ⊎ (HasFailed (uses_second found) c d ⊎ third)) output old new)
+pub planned_caused : (found : Option Roles) (a b c d : ℕ) (third output : Type 0) (old new : Judges) (result : Result Reply Fault) → names is_media found ≡ true → names is_second found ≡ true → IfErr result (CausedBy (Rose a b ⊎ Rose c d) ⊥ old new)
+    → IfErr result (CausedBy (HasFailed (names is_media found) a b ⊎ (HasFailed (names is_second found) c d ⊎ third)) output old new)
 planned_caused found a b c d third output old new result used other h =
-    caused_as _ _ _ _ old new result (two_used (uses_media found) (uses_second found) a b c d third used other) (λ none. absurd none) h
+    caused_as _ _ _ _ old new result (two_used (names is_media found) (names is_second found) a b c d third used other) (λ none. absurd none) h
 
 -- and of one that reads three and writes a file
-pub embedded_caused : (found : Option Roles) (a b c d e f k l : ℕ) (told : Type 0) (old new : Judges) (result : Result Reply Fault) → uses_media found ≡ true → uses_second found ≡ true → uses_third found ≡ true → uses_out found ≡ true
+pub embedded_caused : (found : Option Roles) (a b c d e f k l : ℕ) (told : Type 0) (old new : Judges) (result : Result Reply Fault) → names is_media found ≡ true → names is_second found ≡ true → names is_third found ≡ true → names is_out found ≡ true
     → IfErr result (CausedBy (Rose a b ⊎ (Rose c d ⊎ Rose e f)) (Rose k l) old new)
-    → IfErr result (CausedBy (HasFailed (uses_media found) a b ⊎ (HasFailed (uses_second found) c d ⊎ HasFailed (uses_third found) e f)) (told ⊎ HasFailed (uses_out found) k l) old new)
+    → IfErr result (CausedBy (HasFailed (names is_media found) a b ⊎ (HasFailed (names is_second found) c d ⊎ HasFailed (names is_third found) e f)) (told ⊎ HasFailed (names is_out found) k l) old new)
 embedded_caused found a b c d e f k l told old new result used other more file h =
-    caused_as _ _ _ _ old new result (three_used (uses_media found) (uses_second found) (uses_third found) a b c d e f used other more) (λ rose. inr (file, rose)) h
+    caused_as _ _ _ _ old new result (three_used (names is_media found) (names is_second found) (names is_third found) a b c d e f used other more) (λ rose. inr (file, rose)) h
 
--- a command that reads media uses them
-pub media_used : (found : Option Roles) (roles : Roles) (c : Command) → found ≡ Some roles → is_some roles.media ≡ reads_media roles.command → roles.command ≡ c → reads_media c ≡ true → uses_media found ≡ true
-media_used found roles c is media named reads = ap uses_media is ∙ media ∙ ap reads_media named ∙ reads
-
--- and one that reads a second file uses it
-pub second_used : (found : Option Roles) (roles : Roles) (c : Command) → found ≡ Some roles → is_some roles.second ≡ reads_second roles.command → roles.command ≡ c → reads_second c ≡ true → uses_second found ≡ true
-second_used found roles c is second named reads = ap uses_second is ∙ second ∙ ap reads_second named ∙ reads
-
--- one that reads a third file uses it
-pub third_used : (found : Option Roles) (roles : Roles) (c : Command) → found ≡ Some roles → is_some roles.third ≡ reads_third roles.command → roles.command ≡ c → reads_third c ≡ true → uses_third found ≡ true
-third_used found roles c is third named reads = ap uses_third is ∙ third ∙ ap reads_third named ∙ reads
-
--- and one that writes a file uses it
-pub out_used : (found : Option Roles) (roles : Roles) (c : Command) → found ≡ Some roles → is_some roles.out ≡ writes_file roles.command → roles.command ≡ c → writes_file c ≡ true → uses_out found ≡ true
-out_used found roles c is out named writes = ap uses_out is ∙ out ∙ ap writes_file named ∙ writes
+-- words whose command has a word of such a role have it
+pub named_by : (is : Role → Bool) (found : Option Roles) (roles : Roles) (c : Command) → found ≡ Some roles → roles.command ≡ c → has_word is c ≡ true → names is found ≡ true
+named_by is found roles c gives named has = ap (names is) gives ∙ ap (has_word is) named ∙ has
 
 -- bytes that are known where they are used, and are
 pub there : (used : Option (List ℕ)) → IsSome used → (file : List ℕ) × (used ≡ Some file)

@@ -4,7 +4,6 @@ use Rattle.std.specs.Prelude.{⊤, All}
 use Rattle.c2_base.specs.declared.values.Question.{Question}
 use Rattle.c2_spec.specs.declared.claim.Claim.{Claim}
 use Rattle.c2_spec.specs.declared.digest.Alg.{Alg}
-use Rattle.c2_spec.specs.declared.digest.Alg.TheVariants.{Sha256}
 use Rattle.c2_spec.specs.declared.panel.Verdict.{Verdict}
 use Rattle.c2_spec.specs.C2pa.Manifest.{Manifest, HasClaim, manifests_of}
 use Rattle.c2_spec.specs.Container.{IsLocated}
@@ -22,7 +21,7 @@ use Rattle.c2_build.specs.Asked.{SomeEmbedAsks, SomePlanAsks}
 use Rattle.c2_build.specs.Meeting.{SomeEmbedding, SomePlan}
 use Rattle.c2_texts.specs.Texts.{refused_line, none_line, usage_line, listing, digest_line}
 use Rattle.c2_spec.specs.PutIn.{taken_out}
-use Rattle.c2_cmd.specs.Outcome.{HasDigests, pieces_in, sample_outcome, Outcome, Inputs, Reports, IsOutcome, IsCommandOutcome, IsDigested, IsListing, IsShown, IsQuestioned, IsMediaOutcome, Asks, CommandAsks, answered, compare_outcome, embed_outcome, plan_outcome, questioned, shown, reports}
+use Rattle.c2_cmd.specs.Outcome.{HasDigests, digest_alg, pieces_in, sample_outcome, Outcome, Inputs, Reports, IsOutcome, IsCommandOutcome, IsDigested, IsListing, IsShown, IsQuestioned, IsMediaOutcome, Asks, CommandAsks, answered, compare_outcome, embed_outcome, plan_outcome, questioned, shown, reports}
 use Rattle.c2_built.specs.Fresh.{GivesDigests}
 use Rattle.c2_sample.specs.Sample.{EachSample, EachSampleAsks}
 use Rattle.c2_words.specs.CommandLine.{makes_media}
@@ -110,7 +109,7 @@ each_questioned said t rs reads = (questioned said rs, (rs, reads, refl))
 each_command : Laws → (c : Command) (roles : Roles) (i : Inputs) → All (λ b. b < 2 ^ 8) i.media → All (λ b. b < 2 ^ 8) i.second → All (λ b. b < 2 ^ 8) i.third → (makes_media c ≡ true → GivesDigests i.hash) → (e : Outcome) × IsCommandOutcome c roles i e
 each_command laws command.Digest roles i held other more gives =
     let o = each_opened laws i held in
-    let e = each_report (IsDigested (i.hash Sha256) i.media) o.1.0 (λ start len store. (reports answer.Done (digest_line start len (i.hash Sha256 (taken_out start len i.media))), refl)) in
+    let e = each_report (IsDigested (i.hash (digest_alg roles)) i.media) o.1.0 (λ start len store. (reports answer.Done (digest_line start len (i.hash (digest_alg roles) (taken_out start len i.media))), refl)) in
     (e.0, (o.1.0, o.1.1, e.1))
 each_command laws command.List roles i held other more gives =
     let b = each_boxed laws i held in

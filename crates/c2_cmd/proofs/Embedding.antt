@@ -19,7 +19,7 @@ use Rattle.c2_build.specs.declared.error.BuildError.{BuildError}
 use Rattle.c2_build.specs.declared.error.BuildError.TheVariants.{MediaRefused, BadDefinition, BadSignature, ParentFails, LabelTaken, RedactionRefused, OpenBox, NoInstance, TooManyManifests, StoreTooLarge, ReserveTooSmall, ReadFault, JudgeFault, WriteFault, NoMemory}
 use Rattle.c2_build.specs.declared.types.Embedded.{Embedded}
 use Rattle.c2_texts.specs.Builds.{embedded_line, tbs_line}
-use Rattle.c2_words.specs.CommandLine.{writing_roles}
+use Rattle.c2_words.specs.CommandLine.{roles_as}
 use Rattle.c2_cmd.specs.Outcome.{Outcome, IsEmbedOutcome, IsPlanOutcome, embed_outcome, refused_build, reports}
 use Rattle.c2_cmd.specs.Reply.{AskedFor, CausedBy, HasWhole, IsFaultOf, RepliesTo, StandsFor, TakesFile, build_fault, outcome_of}
 use Rattle.c2_cmd.specs.Run.{SinkState, Delivers, state_of}
@@ -249,7 +249,7 @@ after_fault f claim (Err e) h = λ is. h
 
 -- a call of `embed` has one outcome
 one_embedding : OneOutcome → (hash : Alg → List ℕ → List ℕ) (said : Question → Verdict) (a b c : List ℕ) (x y : Outcome) → IsEmbedOutcome hash said a b c x → IsEmbedOutcome hash said a b c y → x ≡ y
-one_embedding one hash said a b c x y h k = one (Some (writing_roles command.Embed)) (record { media = a; second = b; third = c; said = said; hash = hash }) x y h k
+one_embedding one hash said a b c x y h k = one (Some (roles_as command.Embed [])) (record { media = a; second = b; third = c; said = said; hash = hash }) x y h k
 
 -- a reply that tells an outcome's range stands for it
 stands_embedded : (e : Outcome) (start len : ℕ) (reply : Reply) → e.answer ≡ answer.Done → e.report ≡ embedded_line start len → outcome_of reply ≡ reports answer.Done (embedded_line start len) → StandsFor e [] reply

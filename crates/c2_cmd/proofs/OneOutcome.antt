@@ -3,7 +3,6 @@ use Rattle.std.proofs.Common.{◌≡◌, sym, ◌∙◌, ap, subst, ℕ, List, O
 use Rattle.c2_base.specs.declared.values.Question.{Question}
 use Rattle.c2_spec.specs.declared.claim.Claim.{Claim}
 use Rattle.c2_spec.specs.declared.digest.Alg.{Alg}
-use Rattle.c2_spec.specs.declared.digest.Alg.TheVariants.{Sha256}
 use Rattle.c2_spec.specs.declared.jumbf.JumbfError.{JumbfError}
 use Rattle.c2_spec.specs.declared.panel.Verdict.{Verdict}
 use Rattle.c2_spec.specs.declared.reason.Refusal.{Refusal}
@@ -23,7 +22,7 @@ use Rattle.c2_binding.specs.declared.compared.Compared.{Compared}
 use Rattle.c2_build.specs.Asked.{OneEmbedAsks, OnePlanAsks}
 use Rattle.c2_build.specs.Building.{IsEmbedded, IsPlanned}
 use Rattle.c2_build.specs.Meeting.{OneEmbedding, OnePlan}
-use Rattle.c2_cmd.specs.Outcome.{Outcome, Inputs, Reports, IsOutcome, IsCommandOutcome, IsDigested, IsListing, IsShown, IsQuestioned, Asks, CommandAsks, answered, compare_outcome, embed_outcome, pieces_in, plan_outcome, sample_outcome, shown, questioned}
+use Rattle.c2_cmd.specs.Outcome.{Outcome, Inputs, Reports, IsOutcome, IsCommandOutcome, IsDigested, IsListing, IsShown, IsQuestioned, Asks, CommandAsks, answered, compare_outcome, digest_alg, embed_outcome, pieces_in, plan_outcome, sample_outcome, shown, questioned}
 use Rattle.c2_sample.specs.Sample.{IsSampled, OneSample, OneSampleAsks}
 use Rattle.c2_words.specs.declared.types.Command.{Command}
 use Rattle.c2_words.specs.declared.types.Command.TheVariants as command
@@ -104,7 +103,7 @@ one_media laws P once file x y h k = one_after (IsOpened file) (Reports (λ star
 -- a command has one outcome at most for what it is handed
 one_command : Laws → (c : Command) (roles : Roles) (i : Inputs) (x y : Outcome) → IsCommandOutcome c roles i x → IsCommandOutcome c roles i y → x ≡ y
 one_command laws command.Digest roles i x y h k =
-    one_after (IsLocated i.media) (Reports (IsDigested (i.hash Sha256) i.media)) (laws.located i.media) (one_report (IsDigested (i.hash Sha256) i.media) (λ start len store a b p q. p ∙ sym q)) x y h k
+    one_after (IsLocated i.media) (Reports (IsDigested (i.hash (digest_alg roles)) i.media)) (laws.located i.media) (one_report (IsDigested (i.hash (digest_alg roles)) i.media) (λ start len store a b p q. p ∙ sym q)) x y h k
 one_command laws command.List roles i x y h k = one_after (IsBoxed i.media) (Reports IsListing) (one_boxed laws i.media) (one_report IsListing (λ start len t a b p q. p ∙ sym q)) x y h k
 one_command laws command.Show roles i x y h k = one_media laws IsShown (one_shown laws) i.media x y h k
 one_command laws command.Questions roles i x y h k = one_media laws (IsQuestioned i.said) (one_questioned laws i.said) i.media x y h k

@@ -1,5 +1,5 @@
 -- The outcome of a run: a relation between the roles of its words, what it is handed, and its outcome.
-use Rattle.std.specs.Prelude.{◌≡◌, ⊤, ℕ, Bool, true, false, List, [], ◌++◌, is_some, unwrap_or, Some, None, if◌then◌else◌}
+use Rattle.std.specs.Prelude.{◌≡◌, ⊤, ℕ, Bool, true, false, List, [], ◌++◌, unwrap_or, Some, None, if◌then◌else◌}
 use Rattle.std.specs.List.{flat_map}
 use Rattle.std.specs.declared.option.Option.{Option}
 use Rattle.std.specs.declared.result.Result.{Result}
@@ -43,7 +43,8 @@ use Rattle.c2_cmd.specs.declared.types.Answer.TheVariants as answer
 use Rattle.c2_words.specs.declared.types.Command.{Command}
 use Rattle.c2_words.specs.declared.types.Command.TheVariants as command
 use Rattle.c2_words.specs.declared.types.Roles.{Roles}
-use Rattle.c2_words.specs.CommandLine.{asks_judges, makes_media, reports_whole}
+use Rattle.c2_words.specs.CommandLine.{has_word, makes_media, reports_whole}
+use Rattle.c2_words.specs.declared.types.Role.{Role}
 
 -- what an outcome depends on beside the words: the bytes of the sources, what the panel of judges says of a question,
 -- and the hash
@@ -195,6 +196,10 @@ abbrev pub sample_outcome : ℕ → Sampled → Outcome
 sample_outcome n (sampled.Checked lengths found) = reports (answered found).answer (sample_line n lengths ++ (answered found).report)
 sample_outcome n (sampled.Refused e) = refused_build e
 
+-- the algorithm of `digest`: SHA-256 where the words name none
+abbrev pub digest_alg : Roles → Alg
+digest_alg roles = unwrap_or roles.alg Sha256
+
 -- how many pieces are asked for: 0 where the roles have no number, which those of `sample` have
 abbrev pub pieces_in : Roles → ℕ
 pieces_in roles = unwrap_or roles.count 0
@@ -205,7 +210,7 @@ IsSampleOutcome hash said n expected = (s : Sampled) × IsSampled hash said n s 
 
 -- the outcome of a command with these roles
 abbrev pub IsCommandOutcome : Command → Roles → Inputs → Outcome → Type 0
-IsCommandOutcome command.Digest roles i expected = IsDigestOutcome (i.hash Sha256) i.media expected
+IsCommandOutcome command.Digest roles i expected = IsDigestOutcome (i.hash (digest_alg roles)) i.media expected
 IsCommandOutcome command.List roles i expected = IsListOutcome i.media expected
 IsCommandOutcome command.Show roles i expected = IsMediaOutcome IsShown i.media expected
 IsCommandOutcome command.Questions roles i expected = IsMediaOutcome (IsQuestioned i.said) i.media expected
@@ -225,30 +230,10 @@ abbrev pub HasDigests : Option Roles → Inputs → Type 0
 HasDigests None i = ⊤
 HasDigests (Some roles) i = makes_media roles.command ≡ true → GivesDigests i.hash
 
--- whether the command reads the media
-abbrev pub uses_media : Option Roles → Bool
-uses_media None = false
-uses_media (Some roles) = is_some roles.media
-
--- whether the command reads a second file
-abbrev pub uses_second : Option Roles → Bool
-uses_second None = false
-uses_second (Some roles) = is_some roles.second
-
--- whether the command reads a third file
-abbrev pub uses_third : Option Roles → Bool
-uses_third None = false
-uses_third (Some roles) = is_some roles.third
-
--- whether the command writes a new file
-abbrev pub uses_out : Option Roles → Bool
-uses_out None = false
-uses_out (Some roles) = is_some roles.out
-
--- whether words with these roles, or with none, may ask judges
-abbrev pub uses_judges : Option Roles → Bool
-uses_judges None = false
-uses_judges (Some roles) = asks_judges roles.command
+-- whether words with these roles, or with none, have a word of such a role
+abbrev pub names : (Role → Bool) → Option Roles → Bool
+names is None = false
+names is (Some roles) = has_word is roles.command
 
 -- whether the whole report is there before any of it is written, by words with these roles or with none
 abbrev pub has_whole_report : Option Roles → Bool

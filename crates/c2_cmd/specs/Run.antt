@@ -11,8 +11,8 @@ use Rattle.c2_rules.specs.Asking.{HaveAsked, HaveAskedPrefix, HaveFailed}
 use Rattle.c2_rules.specs.declared.answer.Answer.{Answer as Checked}
 use Rattle.c2_binding.specs.Comparison.{IsRefusedFirst}
 use Rattle.c2_build.specs.Building.{IsDefinitionRefused, IsMediaRefused}
-use Rattle.c2_words.specs.CommandLine.{roles_of}
-use Rattle.c2_cmd.specs.Outcome.{Outcome, Inputs, inputs, uses_media, uses_second, uses_third, uses_judges, IsOutcome, Asks, Meets}
+use Rattle.c2_words.specs.CommandLine.{is_media, is_second, is_third, lets_ask, roles_of}
+use Rattle.c2_cmd.specs.Outcome.{Outcome, Inputs, inputs, names, IsOutcome, Asks, Meets}
 use Rattle.c2_cmd.specs.declared.types.Answer.{Answer}
 use Rattle.c2_cmd.specs.declared.types.Answer.TheVariants as answer
 use Rattle.c2_words.specs.declared.types.Command.{Command}
@@ -57,9 +57,9 @@ handed c = inputs c.media c.second c.third (panel_says c.said) c.hash
 
 -- the bytes of the sources that the call uses are known
 pub record IsKnown (c : Call) : Type 0 where
-  pub media_known : uses_media c.roles ≡ true → IsSome c.media
-  pub second_known : uses_second c.roles ≡ true → IsSome c.second
-  pub third_known : uses_third c.roles ≡ true → IsSome c.third
+  pub media_known : names is_media c.roles ≡ true → IsSome c.media
+  pub second_known : names is_second c.roles ≡ true → IsSome c.second
+  pub third_known : names is_third c.roles ≡ true → IsSome c.third
 
 -- the call comes to this outcome
 abbrev pub ComesTo : Call → Outcome → Type 0
@@ -208,4 +208,4 @@ pub record KeepsJudges (roles : Option Roles) (old new : Judges) (status : Statu
   pub asked_later : NoneFell old.asked new.asked
   pub faults_later : NoneFell old.faults new.faults
   pub quiet : WithoutFault (new.faults ≡ old.faults) status
-  pub cause : status ≡ JudgeFault → HasJudgeFailed (uses_judges roles) old.faults new.faults
+  pub cause : status ≡ JudgeFault → HasJudgeFailed (names lets_ask roles) old.faults new.faults

@@ -12,15 +12,16 @@ use c2_cover::{cover_without, digest_cover};
 use c2_hash::{Alg, Digest, Hashing};
 use std::alloc::Global;
 
-/// The digest of the bytes outside a range of the source.
+/// The digest, by this algorithm, of the bytes outside a range of the source.
 pub fn digest_outside<H: Hashing, S: Source>(
     alloc: Global,
     hashing: &H,
+    alg: Alg,
     source: &mut S,
     range: Range,
 ) -> Result<Digest, Fault>
     requires inside { range.start + range.length ≤ S.len source.old }
-    ensures digest { let hash = H.digest_of Alg.Sha256 in
+    ensures digest { let hash = H.digest_of alg in
         ForSome (S.known source.old) (λ file. IfOk result (λ digest.
         digest ≡ hash (taken_out range.start range.length file))) }
     ensures stays { StaysSource S.len S.known S.faults source.old source.new }
@@ -30,7 +31,7 @@ pub fn digest_outside<H: Hashing, S: Source>(
     let size = source.size()?;
     let cover = cover_without(alloc, &mut [range], size)?;
     let mut buf = vec![in alloc; 0; PIECE_LEN]?;
-    match digest_cover(hashing, source, &cover, Alg::Sha256, &mut buf) {
+    match digest_cover(hashing, source, &cover, alg, &mut buf) {
         Ok(digest) => Ok(digest),
         Err(Failed) => Err(Fault::Input),
     }

@@ -5,13 +5,14 @@ ghost use Rattle.c2_base.specs.Source.{StaysSource};
 ghost use Rattle.c2_base.specs.Sink.{HasWrittenPrefix};
 ghost use Rattle.c2_base.specs.declared.values.Question.{Question};
 ghost use Rattle.c2_spec.specs.Judges.Panel.{LeavesJudges, judges_of};
-ghost use Rattle.c2_cmd.specs.Outcome.{Outcome, has_whole_report, uses_judges, uses_media, uses_out, uses_second, uses_third};
+ghost use Rattle.c2_cmd.specs.Outcome.{Outcome, has_whole_report, names};
+ghost use Rattle.c2_words.specs.CommandLine.{is_media, is_out, is_second, is_third, lets_ask};
 ghost use Rattle.c2_cmd.specs.Reply.{AskedThose, Begins, CausedBy, HasWhole, TakesFile};
 ghost use Rattle.c2_cmd.specs.Run.{AskedPanel, ComesTo, Delivers, HasFailed, HasFile, HasMet, HasNoFile, HasNoReply, HasReport, HasWholeFile, IsFileFirst, IsKnown, IsSecondNotDue, IsThirdNotDue, KeepsJudges, Puts, WithoutFault, call_of, roles_in, state_of};
 
 use crate::building::{reply_to_embed, reply_to_plan};
 use crate::comparison::reply_to_compare;
-use crate::digest::reply_to_digest;
+use crate::digest::{digest_alg, reply_to_digest};
 use crate::laws::{each_run_has_an_outcome, one_outcome};
 use crate::list::reply_to_list;
 use crate::questions::reply_to_questions;
@@ -118,16 +119,16 @@ pub fn run<H: Hashing, A: Source, B: Source, C: Source, K: Sink, W: Sink>(
 
     // The files: when a fault of theirs is answered, and what stays as it was.
     ensures input { let roles = roles_in words.now.items in
-        let first = HasFailed (uses_media roles) (A.faults media.old) (A.faults media.new) in
-        let other = HasFailed (uses_second roles) (B.faults second.old) (B.faults second.new) in
-        let last = HasFailed (uses_third roles) (C.faults third.old) (C.faults third.new) in
+        let first = HasFailed (names is_media roles) (A.faults media.old) (A.faults media.new) in
+        let other = HasFailed (names is_second roles) (B.faults second.old) (B.faults second.new) in
+        let last = HasFailed (names is_third roles) (C.faults third.old) (C.faults third.new) in
         result ≡ Status.InputFault → first ⊎ (other ⊎ last) }
     ensures media_quiet { WithoutFault (A.faults media.new ≡ A.faults media.old) result }
     ensures media_stays { StaysSource A.len A.known A.faults media.old media.new }
-    ensures media_unnamed { uses_media (roles_in words.now.items) ≡ false → media.new ≡ media.old }
+    ensures media_unnamed { names is_media (roles_in words.now.items) ≡ false → media.new ≡ media.old }
     ensures second_quiet { WithoutFault (B.faults second.new ≡ B.faults second.old) result }
     ensures second_stays { StaysSource B.len B.known B.faults second.old second.new }
-    ensures second_unnamed { uses_second (roles_in words.now.items) ≡ false
+    ensures second_unnamed { names is_second (roles_in words.now.items) ≡ false
         → second.new ≡ second.old }
     ensures second_unread { let said = map (λ j. says j) judges.old.items in
         let known = A.known media.old in
@@ -137,7 +138,7 @@ pub fn run<H: Hashing, A: Source, B: Source, C: Source, K: Sink, W: Sink>(
         IsSecondNotDue call → second.new ≡ second.old }
     ensures third_quiet { WithoutFault (C.faults third.new ≡ C.faults third.old) result }
     ensures third_stays { StaysSource C.len C.known C.faults third.old third.new }
-    ensures third_unnamed { uses_third (roles_in words.now.items) ≡ false → third.new ≡ third.old }
+    ensures third_unnamed { names is_third (roles_in words.now.items) ≡ false → third.new ≡ third.old }
     ensures third_unread { let said = map (λ j. says j) judges.old.items in
         let known = A.known media.old in
         let other = B.known second.old in
@@ -148,15 +149,15 @@ pub fn run<H: Hashing, A: Source, B: Source, C: Source, K: Sink, W: Sink>(
     // The sinks: when a fault of theirs is answered, and what becomes of them whatever the files hold.
     ensures output { let roles = roles_in words.now.items in
         let told = HasFailed true (W.faults report.old) (W.faults report.new) in
-        let file = HasFailed (uses_out roles) (K.faults out.old) (K.faults out.new) in
+        let file = HasFailed (names is_out roles) (K.faults out.old) (K.faults out.new) in
         result ≡ Status.OutputFault → told ⊎ file }
     ensures out_quiet { WithoutFault (K.faults out.new ≡ K.faults out.old) result }
     ensures out_later { K.faults out.old ≤ K.faults out.new }
     ensures out_unfinished { K.faults out.old < K.faults out.new
         → K.finished out.new ≡ K.finished out.old }
-    ensures out_finished { uses_out (roles_in words.now.items) ≡ true → result ≡ Status.Done
+    ensures out_finished { names is_out (roles_in words.now.items) ≡ true → result ≡ Status.Done
         → K.finished out.new ≡ true }
-    ensures out_unnamed { uses_out (roles_in words.now.items) ≡ false → out.new ≡ out.old }
+    ensures out_unnamed { names is_out (roles_in words.now.items) ≡ false → out.new ≡ out.old }
     ensures out_begun { result ≡ Status.InputFault → K.finished out.new ≡ K.finished out.old }
     ensures out_memory { result ≡ Status.NoMemory
         → (out.new ≡ out.old) ⊎ (K.finished out.new ≡ true) }
@@ -177,7 +178,7 @@ pub fn run<H: Hashing, A: Source, B: Source, C: Source, K: Sink, W: Sink>(
         judges.new.items in
         KeepsJudges (roles_in words.now.items) old new result }
     ensures judges_len { vec_len judges.new ≡ vec_len judges.old }
-    ensures judges_unnamed { uses_judges (roles_in words.now.items) ≡ false
+    ensures judges_unnamed { names lets_ask (roles_in words.now.items) ≡ false
         → judges.new ≡ judges.old }
     ensures judges_unasked { let said = map (λ j. says j) judges.old.items in
         let known = A.known media.old in
@@ -257,18 +258,18 @@ fn reply_to<H: Hashing, A: Source, B: Source, C: Source, K: Sink, W: Sink>(
         judges.old.items in
         let new = judges_of (λ j. says j) (λ j. asked_times j) (λ j. judge_faults j)
         judges.new.items in
-        let first = HasFailed (uses_media roles) (A.faults media.old) (A.faults media.new) in
-        let other = HasFailed (uses_second roles) (B.faults second.old) (B.faults second.new) in
-        let last = HasFailed (uses_third roles) (C.faults third.old) (C.faults third.new) in
+        let first = HasFailed (names is_media roles) (A.faults media.old) (A.faults media.new) in
+        let other = HasFailed (names is_second roles) (B.faults second.old) (B.faults second.new) in
+        let last = HasFailed (names is_third roles) (C.faults third.old) (C.faults third.new) in
         let told = HasFailed true (W.faults report.old) (W.faults report.new) in
-        let file = HasFailed (uses_out roles) (K.faults out.old) (K.faults out.new) in
+        let file = HasFailed (names is_out roles) (K.faults out.old) (K.faults out.new) in
         IfErr result (CausedBy (first ⊎ (other ⊎ last)) (told ⊎ file) old new) }
     ensures media_stays { StaysSource A.len A.known A.faults media.old media.new }
     ensures media_count { OnOk result (A.faults media.new ≡ A.faults media.old) }
-    ensures media_unnamed { uses_media (roles_in words.now.items) ≡ false → media.new ≡ media.old }
+    ensures media_unnamed { names is_media (roles_in words.now.items) ≡ false → media.new ≡ media.old }
     ensures second_stays { StaysSource B.len B.known B.faults second.old second.new }
     ensures second_count { OnOk result (B.faults second.new ≡ B.faults second.old) }
-    ensures second_unnamed { uses_second (roles_in words.now.items) ≡ false
+    ensures second_unnamed { names is_second (roles_in words.now.items) ≡ false
         → second.new ≡ second.old }
     ensures second_unread { let said = map (λ j. says j) judges.old.items in
         let known = A.known media.old in
@@ -278,7 +279,7 @@ fn reply_to<H: Hashing, A: Source, B: Source, C: Source, K: Sink, W: Sink>(
         IsSecondNotDue call → second.new ≡ second.old }
     ensures third_stays { StaysSource C.len C.known C.faults third.old third.new }
     ensures third_count { OnOk result (C.faults third.new ≡ C.faults third.old) }
-    ensures third_unnamed { uses_third (roles_in words.now.items) ≡ false → third.new ≡ third.old }
+    ensures third_unnamed { names is_third (roles_in words.now.items) ≡ false → third.new ≡ third.old }
     ensures third_unread { let said = map (λ j. says j) judges.old.items in
         let known = A.known media.old in
         let other = B.known second.old in
@@ -289,9 +290,9 @@ fn reply_to<H: Hashing, A: Source, B: Source, C: Source, K: Sink, W: Sink>(
     ensures out_later { K.faults out.old ≤ K.faults out.new }
     ensures out_unfinished { K.faults out.old < K.faults out.new
         → K.finished out.new ≡ K.finished out.old }
-    ensures out_finished { uses_out (roles_in words.now.items) ≡ true
+    ensures out_finished { names is_out (roles_in words.now.items) ≡ true
         → IfOk result (λ reply. reply.answer ≡ Answer.Done → K.finished out.new ≡ true) }
-    ensures out_unnamed { uses_out (roles_in words.now.items) ≡ false → out.new ≡ out.old }
+    ensures out_unnamed { names is_out (roles_in words.now.items) ≡ false → out.new ≡ out.old }
     ensures refused { IfOk result
         (λ reply. reply.answer ≡ Answer.BuildRefused → out.new ≡ out.old) }
     ensures out_begun { IfErr result
@@ -311,9 +312,9 @@ fn reply_to<H: Hashing, A: Source, B: Source, C: Source, K: Sink, W: Sink>(
         judges.new.items in
         LeavesJudges old new result }
     ensures judges_len { vec_len judges.new ≡ vec_len judges.old }
-    ensures judges_named { let used = uses_judges (roles_in words.now.items) in
+    ensures judges_named { let used = names lets_ask (roles_in words.now.items) in
         IfErr result (λ e. e ≡ Fault.Judge → used ≡ true) }
-    ensures judges_unnamed { uses_judges (roles_in words.now.items) ≡ false
+    ensures judges_unnamed { names lets_ask (roles_in words.now.items) ≡ false
         → judges.new ≡ judges.old }
     ensures judges_unasked { let said = map (λ j. says j) judges.old.items in
         let known = A.known media.old in
@@ -330,7 +331,7 @@ fn reply_to<H: Hashing, A: Source, B: Source, C: Source, K: Sink, W: Sink>(
         Err(RolesError::NoMemory) => return Err(Fault::Memory),
     };
     match found.command {
-        Command::Digest => reply_to_digest(alloc, hashing, media),
+        Command::Digest => reply_to_digest(alloc, hashing, digest_alg(&found), media),
         Command::List => reply_to_list(alloc, media),
         Command::Show => reply_to_show(alloc, media),
         Command::Questions => reply_to_questions(alloc, media, judges),

@@ -7,6 +7,6 @@
 mod targets;
 
 pub use targets::{
-    Equality, all_equalities, claim_bytes, claim_payload, manifest_at, other, signature_contents,
-    target_equality, whole_contents,
+    Equality, all_equalities, claim_bytes, manifest_at, other, signature_contents, target_equality,
+    whole_contents,
 };

@@ -2,11 +2,10 @@
 ghost use Rattle.std.specs.Prelude.{◌≡◌, ◌<◌, IfOk, IfSome, Some, length, option_map, slice_get};
 ghost use Rattle.c2_binding.specs.Differences as form;
 ghost use Rattle.c2_rules.specs.Chains.{label_in};
-ghost use Rattle.c2_spec.specs.C2pa.Manifest as manifest;
 ghost use Rattle.c2_counterparts.specs.Targets.{equalities, equality_of, other_place};
 
 use c2_base::NoMemory;
-use c2_reading::{Kept, ReadManifests, label, manifests, place_of};
+use c2_reading::{Kept, ReadManifests, claim_bytes as own_claim_bytes, label, manifests, place_of};
 use std::alloc::Global;
 
 /// Which lists of two manifests are equal.
@@ -25,25 +24,12 @@ pub fn manifest_at<'a, 't>(all: &'a ReadManifests<'t>, n: usize) -> &'a Kept<'t>
     &manifests(all)[n]
 }
 
-/// The bytes of the claim of a manifest.
-pub fn claim_payload<'a>(own: &'a Kept<'_>) -> Option<&'a [u8]>
-    ensures { option_map (λ b. b.now) result ≡ manifest.claim_bytes own.now.manifest.claims }
-{
-    match own.claims.as_slice() {
-        [one] => match one.label {
-            Some("c2pa.claim.v2") => one.item,
-            _ => None,
-        },
-        _ => None,
-    }
-}
-
 /// The bytes of the claim of a manifest that may be missing; none where there is none.
 pub fn claim_bytes<'a>(own: Option<&'a Kept<'_>>) -> &'a [u8]
     ensures { result.now ≡ form.claim_list (option_map (λ k. k.now) own.entry) }
 {
     match own {
-        Some(own) => match claim_payload(own) {
+        Some(own) => match own_claim_bytes(own) {
             Some(bytes) => bytes,
             None => &[],
         },

@@ -3,6 +3,7 @@ ghost use Rattle.std.specs.Prelude.{◌≡◌, ◌<◌, length, IfOk};
 ghost use Rattle.c2_base.specs.Causes.{HasCause};
 ghost use Rattle.c2_base.specs.Source.{StaysSource};
 ghost use Rattle.c2_cover.specs.Digests.{IsDigestOf};
+ghost use Rattle.c2_spec.specs.Digest.{digest_len};
 
 use crate::cover::Cover;
 use crate::reader::CoveredReader;
@@ -22,6 +23,7 @@ pub fn digest_cover<S: Source, H: Hashing>(
     requires room { 0 < length buf.old }
     requires size { S.len source.old ≡ cover.now.size }
     ensures digest { IfOk result (IsDigestOf (H.digest_of alg) cover.now (S.known source.old)) }
+    ensures len { IfOk result (λ d. length d ≡ digest_len alg) }
     ensures stays { StaysSource S.len S.known S.faults source.old source.new }
     ensures cause { HasCause (S.faults source.old) (S.faults source.new) result }
 {

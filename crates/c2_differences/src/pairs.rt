@@ -183,7 +183,7 @@ fn named_difference<'a>(
     }
 }
 
-/// Whether this is the label of an ingredient of the version that is read.
+/// Whether this is the label of an ingredient of a version that is read.
 fn is_ingredient(name: &str) -> bool
     ensures { result ≡ is_ingredient_kind (rules.label_kind name.now) }
 {

@@ -1,6 +1,6 @@
 // The rules on the claim box, the claim and the signature, which come before the verdict.
-ghost use Rattle.std.specs.Prelude.{◌≡◌, IfOk, None, codes, option_map};
-ghost use Rattle.c2_spec.specs.C2pa.Manifest.{is_given};
+ghost use Rattle.std.specs.Prelude.{◌≡◌, IfOk, None, is_some, option_and_then, option_map};
+ghost use Rattle.c2_spec.specs.C2pa.Claim as form;
 ghost use Rattle.c2_spec.specs.C2pa.Uri.{uri_of, target_view};
 ghost use Rattle.c2_rules.specs.Questions as questions;
 ghost use Rattle.c2_rules.specs.Readings as readings;
@@ -8,21 +8,20 @@ ghost use Rattle.c2_rules.specs.Rules as rules;
 ghost use Rattle.c2_rules.specs.Tests.{first_failing};
 
 use c2_base::NoMemory;
+use c2_claim::claim_version;
 use c2_manifests::{at_claim, at_manifest, at_signature, claim_label};
 use c2_reading::{Kept, is_own};
 use c2_rules::{Code, Failing, Parsed};
 use c2_uri::{Target, parse};
 use std::alloc::Global;
 
-/// The label of the claims that are known.
-const CLAIM: &str = "c2pa.claim.v2";
-
+/// Whether the claim box has the label of a version that is read.
 fn is_known_version(own: &Kept<'_>) -> bool
-    ensures { result ≡ is_given (rules.claim_label own.now.manifest.claims)
-        (codes "c2pa.claim.v2") }
+    ensures { result ≡ is_some
+        (option_and_then form.claim_version (rules.claim_label own.now.manifest.claims)) }
 {
     match claim_label(own) {
-        Some(label) => label == CLAIM,
+        Some(label) => claim_version(label).is_some(),
         None => false,
     }
 }

@@ -5,6 +5,7 @@ use Rattle.c2_assertion.specs.Written.{bmff_hash_item}
 use Rattle.c2_films.specs.Films.{film_hash}
 use Rattle.c2_spec.specs.Cbor.Item.{Item, text}
 use Rattle.c2_spec.specs.Cbor.Legal.{HasBadSimple, HasDistinctKeys, IsLegal}
+use Rattle.c2_spec.specs.declared.digest.Alg.{Alg}
 
 -- how long a text is
 abbrev key_len : Item → ℕ
@@ -12,8 +13,8 @@ key_len (text t) = length t
 key_len v = 0
 
 -- the keys of each map differ in their lengths
-distinct : (digest : List ℕ) → HasDistinctKeys (bmff_hash_item (film_hash digest))
-distinct digest = (
+distinct : (alg : Alg) (digest : List ℕ) → HasDistinctKeys (bmff_hash_item (film_hash alg digest))
+distinct alg digest = (
   tt,
   tt,
   (λ e. let n : 3 ≡ 4 = ap key_len e in omega (arith, n), (λ e. let n : 3 ≡ 10 = ap key_len e in omega (arith, n), tt)),
@@ -51,10 +52,10 @@ none : ⊥ → ⊥
 none e = e
 
 -- so none is in the item
-no_bad : (digest : List ℕ) → HasBadSimple (bmff_hash_item (film_hash digest)) → ⊥
-no_bad digest =
+no_bad : (alg : Alg) (digest : List ℕ) → HasBadSimple (bmff_hash_item (film_hash alg digest)) → ⊥
+no_bad alg digest =
     pair_no none (pair_no none (pair_no (item_no (pair_no (item_no (pair_no none (pair_no none none)) none) (pair_no none none)) (item_no (pair_no none none) (item_no (pair_no none none) none))) none))
 
 -- the item has these levels, and keys that differ
-pub film_legal : (digest : List ℕ) → IsLegal (bmff_hash_item (film_hash digest))
-film_legal digest = record { shallow = lit≤ tt; distinct = distinct digest; no_bad_simple = no_bad digest }
+pub film_legal : (alg : Alg) (digest : List ℕ) → IsLegal (bmff_hash_item (film_hash alg digest))
+film_legal alg digest = record { shallow = lit≤ tt; distinct = distinct alg digest; no_bad_simple = no_bad alg digest }

@@ -11,6 +11,7 @@ use c2_base::{Blob, NoMemory, Text};
 use c2_cbor::{Cbor, EncodeError, encode};
 use c2_definition::{NewAssertion, Payload};
 use c2_exclusions::new_exclusions;
+use c2_hash::{Alg, alg_name};
 use std::alloc::Global;
 
 // The bytes of a legal item.
@@ -25,24 +26,24 @@ fn item_bytes(alloc: Global, item: &Cbor) -> Result<Blob, NoMemory>
     }
 }
 
-// The item of the BMFF hash of a new file with this digest.
-fn film_item(alloc: Global, digest: &[u8]) -> Result<Cbor, NoMemory>
-    ensures { IfOk result (λ v. view v ≡ bmff_hash_item (films.film_hash digest.now)) }
+// The item of the BMFF hash of a new file with this digest by an algorithm.
+fn film_item(alloc: Global, alg: Alg, digest: &[u8]) -> Result<Cbor, NoMemory>
+    ensures { IfOk result (λ v. view v ≡ bmff_hash_item (films.film_hash alg digest.now)) }
 {
     let hash = BmffHash {
         exclusions: new_exclusions(alloc)?,
-        alg: Some(Text::copied(alloc, "sha256")?),
+        alg: Some(Text::copied(alloc, alg_name(alg))?),
         hash: Blob::copied(alloc, digest)?,
     };
     let item = write_bmff_hash(alloc, &hash)?;
     Ok(item)
 }
 
-/// The assertion that binds a BMFF file by this SHA-256 digest of what the exclusions of a new hash leave of it.
-pub fn film_binding(alloc: Global, digest: &[u8]) -> Result<NewAssertion, NoMemory>
-    ensures { IfOk result (λ a. a ≡ films.film_binding digest.now) }
+/// The assertion that binds a BMFF file by this digest, by an algorithm, of what the exclusions of a new hash leave of it.
+pub fn film_binding(alloc: Global, alg: Alg, digest: &[u8]) -> Result<NewAssertion, NoMemory>
+    ensures { IfOk result (λ a. a ≡ films.film_binding alg digest.now) }
 {
-    let item = film_item(alloc, digest)?;
+    let item = film_item(alloc, alg, digest)?;
     let bytes = item_bytes(alloc, &item)?;
     let label = Text::copied(alloc, "c2pa.hash.bmff.v2")?;
     Ok(NewAssertion {

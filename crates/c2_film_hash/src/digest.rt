@@ -33,7 +33,7 @@ fn film_cover<S: Source>(alloc: Global, source: &mut S, roots: &Roots) -> Result
     Ok(cover)
 }
 
-/// The SHA-256 digest of what the exclusions of a new hash leave of a BMFF file with these root boxes, read through a buffer that isn't
+/// The digest by this algorithm of what the exclusions of a new hash leave of a BMFF file with these root boxes, read through a buffer that isn't
 /// empty. It is the same with the new store and without, so the hash can be made before the store is.
 ///
 /// [`FilmError::ReadFault`] comes only where the source failed, [`FilmError::NoMemory`] where memory ran out. Takes 16 bytes for each root
@@ -41,6 +41,7 @@ fn film_cover<S: Source>(alloc: Global, source: &mut S, roots: &Roots) -> Result
 pub fn film_digest<S: Source, H: Hashing>(
     alloc: Global,
     hashing: &H,
+    alg: Alg,
     source: &mut S,
     roots: &Roots,
     buf: &mut [u8],
@@ -49,8 +50,8 @@ pub fn film_digest<S: Source, H: Hashing>(
     requires room { 0 < length buf.old }
     ensures digest { IfOk result (λ d. ForSome (S.known source.old) (λ file. (boxes : List Box)
         → HasRoots file boxes → roots.now ≡ rows_of boxes
-        → d ≡ H.digest_of Alg.Sha256 (built_text boxes))) }
-    ensures len { IfOk result (λ d. length d ≡ digest_len Alg.Sha256) }
+        → d ≡ H.digest_of alg (built_text boxes))) }
+    ensures len { IfOk result (λ d. length d ≡ digest_len alg) }
     ensures cause { IfErr result (IsFilmCause (S.faults source.old) (S.faults source.new)) }
     ensures count { OnOk result (S.faults source.new ≡ S.faults source.old) }
     ensures stays { StaysSource S.len S.known S.faults source.old source.new }
@@ -58,6 +59,6 @@ pub fn film_digest<S: Source, H: Hashing>(
     // Only the prover needs this law.
     a_put_store_is_not_covered();
     let cover = film_cover(alloc, source, roots)?;
-    let digest = digest_cover(hashing, source, &cover, Alg::Sha256, buf)?;
+    let digest = digest_cover(hashing, source, &cover, alg, buf)?;
     Ok(digest)
 }

@@ -4,7 +4,7 @@ use c2_boxes::roots;
 use c2_definition::Payload;
 use c2_film_binding::film_binding;
 use c2_film_hash::{FilmError, film_digest};
-use c2_hash::Sha;
+use c2_hash::{Alg, Sha};
 use std::test::Fail;
 
 // A box `ftyp` of 16 bytes and a box `mdat` with one byte.
@@ -25,10 +25,10 @@ fn a_film_has_this_binding(rt: HostRuntime) -> Result<(), Fail> {
     let Ok(boxes) = roots(alloc, &mut source) else {
         return Ok(assert!(rt; false));
     };
-    match film_digest(alloc, &Sha, &mut source, &boxes, &mut buf) {
+    match film_digest(alloc, &Sha, Alg::Sha256, &mut source, &boxes, &mut buf) {
         Ok(digest) => {
             assert_eq!(rt; hex::encode(alloc, digest.as_slice())?.as_str(), DIGEST);
-            let binding = film_binding(alloc, digest.as_slice())?;
+            let binding = film_binding(alloc, Alg::Sha256, digest.as_slice())?;
             let item = hex::encode(alloc, binding.bytes.as_slice())?;
             assert_eq!(rt; item.as_str(), BINDING);
             assert_eq!(rt; binding.label.as_str(), "c2pa.hash.bmff.v2");
@@ -49,7 +49,7 @@ fn each_failed_call_is_told(rt: HostRuntime) -> Result<(), Fail> {
         let Ok(boxes) = roots(alloc, &mut source) else {
             return Ok(assert!(rt; false));
         };
-        let found = film_digest(alloc, &Sha, &mut source, &boxes, &mut buf);
+        let found = film_digest(alloc, &Sha, Alg::Sha256, &mut source, &boxes, &mut buf);
         assert!(rt; found.err() == Some(FilmError::ReadFault));
     }
     Ok(())

@@ -6,24 +6,25 @@ use Rattle.c2_base.specs.declared.limits.TheConstants.{MAX_STORE_LEN}
 use Rattle.c2_spec.specs.Bmff.Boxes.{Box, HasRoots, box_bytes}
 use Rattle.c2_spec.specs.Bmff.Store.{HoldsBmffStore}
 use Rattle.c2_spec.specs.C2pa.Manifest.{type_uuid}
-use Rattle.c2_spec.specs.Digest.{digest_len}
+use Rattle.c2_spec.specs.Digest.{digest_len, zero_digest}
 use Rattle.c2_spec.specs.Jumbf.Faults.{box_head_fault, has_head, told_total}
 use Rattle.c2_spec.specs.Jumbf.Tree.{Tree, Trees, boxed, description_bytes, tree_bytes, trees_bytes}
 use Rattle.c2_spec.specs.Jumbf.Writing.{fresh_description}
 use Rattle.c2_spec.specs.PutIn.{put_in, taken_out}
-use Rattle.c2_spec.specs.declared.digest.Alg.TheVariants.{Sha256}
 use Rattle.c2_spec.specs.declared.jumbf.JumbfError.TheVariants.{BadHead, Overrun}
 use Rattle.c2_spec.specs.declared.kinds.TheConstants.{JUMB}
 use Rattle.c2_spec.proofs.BmffOneList.{roots_once}
 use Rattle.c2_spec.proofs.JumbfHeads.{IsHeaded, box_headed}
 use Rattle.c2_boxed.specs.Laws.{BuiltTextIsCovered, CanTake, CoverIsBuiltText, HasBuiltCover, HoldsNewStore, StoreIsNotCovered, StoreIsPutIn, file_with}
 use Rattle.c2_spec.specs.Bmff.Writing.{IsBoxStore, built_text, c2pa_box, c2pa_frame_len, insert_place, with_store}
-use Rattle.c2_built.specs.Built.{HasDigestLen, StoreSizesAreSame, no_digest, zero_digest}
+use Rattle.c2_built.specs.Built.{HasDigestLen, StoreSizesAreSame, no_digest}
 use Rattle.c2_built.specs.FreshBoxes.{store_box, trees_then}
-use Rattle.c2_built.specs.Store.{Content, new_manifest, new_store}
+use Rattle.c2_built.specs.Store.{Content, new_manifest, new_store, new_alg}
 use Rattle.c2_built.proofs.StoreSize.{KeepsLength}
 use Rattle.c2_films.specs.Films.{AreOthers, CanBuildFilm, FilmBaseIsItsBase, FilmBaseIsLeft, FilmHasItsStore, FilmIsBuilt, FilmIsOne, FilmSizeIsFixed, film_binding, film_file, film_store, film_store_size}
 use Rattle.c2_films.proofs.Items.{binding_len}
+use Rattle.c2_spec.specs.declared.digest.Alg.{Alg}
+use Rattle.c2_spec.proofs.Digests.{zero_len}
 
 -- ---- sizes
 
@@ -32,15 +33,12 @@ pub record SizeLaws : Type 0 where
   pub keeps : KeepsLength
   pub sizes : StoreSizesAreSame
 
--- a digest of zero bytes is as long as any
-zero_len : length zero_digest ≡ digest_len Sha256
-zero_len = length-replicate {A = ℕ} (digest_len Sha256) 0
-
 -- so the store has one length
 pub film_fixed : SizeLaws → FilmSizeIsFixed
 film_fixed laws hash c digest message h n =
-    laws.sizes hash no_digest c (film_binding digest) (film_binding zero_digest) message (replicate (length message) 0) h (λ text. zero_len) refl
-    (binding_len laws.keeps digest n ∙ sym (binding_len laws.keeps zero_digest zero_len)) (sym (length-replicate {A = ℕ} (length message) 0))
+    let alg : Alg = new_alg c.definition in
+    laws.sizes hash (no_digest alg) c (film_binding alg digest) (film_binding alg (zero_digest alg)) message (replicate (length message) 0) h (λ text. zero_len alg) refl
+    (binding_len laws.keeps alg digest n ∙ sym (binding_len laws.keeps alg (zero_digest alg) (zero_len alg))) (sym (length-replicate {A = ℕ} (length message) 0))
 
 -- ---- the store in its box
 
@@ -74,28 +72,28 @@ pub record PutLaws : Type 0 where
 
 -- the base can take each store of this content
 can_take : SizeLaws → (hash : List ℕ → List ℕ) (c : Content) (digest message base : List ℕ) (roots : List Box)
-    → HasDigestLen hash → length digest ≡ digest_len Sha256 → CanBuildFilm c (length message) base roots → AreOthers roots
-    → CanTake base roots (tree_bytes (new_store hash c (film_binding digest) message))
+    → HasDigestLen (new_alg c.definition) hash → length digest ≡ digest_len (new_alg c.definition) → CanBuildFilm c (length message) base roots → AreOthers roots
+    → CanTake base roots (tree_bytes (new_store hash c (film_binding (new_alg c.definition) digest) message))
 can_take laws hash c digest message base roots h n can none =
-    let size : length (tree_bytes (new_store hash c (film_binding digest) message)) ≡ film_store_size c (length message) = film_fixed laws hash c digest message h n in
+    let size : length (tree_bytes (new_store hash c (film_binding (new_alg c.definition) digest) message)) ≡ film_store_size c (length message) = film_fixed laws hash c digest message h n in
     record {
       has_roots = can.has_roots;
       others = none;
       closed = can.closed;
-      is_store = boxed_store c.carried (new_manifest hash c (film_binding digest) message) (omega (arith, size, can.small));
+      is_store = boxed_store c.carried (new_manifest hash c (film_binding (new_alg c.definition) digest) message) (omega (arith, size, can.small));
       fits = omega (arith, size, can.fits);
       few = can.few;
     }
 
 -- so the new file has the new store
 pub film_holds : PutLaws → (hash : List ℕ → List ℕ) (c : Content) (message base : List ℕ) (roots : List Box)
-    → HasDigestLen hash → CanBuildFilm c (length message) base roots → AreOthers roots
+    → HasDigestLen (new_alg c.definition) hash → CanBuildFilm c (length message) base roots → AreOthers roots
     → HoldsNewStore base roots (tree_bytes (film_store hash c message roots)) (film_file hash c message base roots)
 film_holds laws hash c message base roots h can none =
     laws.put base roots (tree_bytes (film_store hash c message roots)) (can_take laws.sizes hash c (hash (built_text roots)) message base roots h (h (built_text roots)) can none)
 
 -- its size
-store_size : SizeLaws → (hash : List ℕ → List ℕ) (c : Content) (message : List ℕ) (roots : List Box) → HasDigestLen hash → length (tree_bytes (film_store hash c message roots)) ≡ film_store_size c (length message)
+store_size : SizeLaws → (hash : List ℕ → List ℕ) (c : Content) (message : List ℕ) (roots : List Box) → HasDigestLen (new_alg c.definition) hash → length (tree_bytes (film_store hash c message roots)) ≡ film_store_size c (length message)
 store_size laws hash c message roots h = film_fixed laws hash c (hash (built_text roots)) message h (h (built_text roots))
 
 -- in its range
@@ -148,7 +146,7 @@ film_is laws hash c message base roots h can none =
       text = built_text (with_store store roots);
       covers = cover.cover;
       store = t;
-      store_is = ap (λ (x : List ℕ). new_store hash c (film_binding (hash x)) message) (sym (laws.same roots store));
+      store_is = ap (λ (x : List ℕ). new_store hash c (film_binding (new_alg c.definition) (hash x)) message) (sym (laws.same roots store));
       size = sym (box_size store ∙ ap (λ n. c2pa_frame_len + n) (store_size laws.put.sizes hash c message roots h));
       put = refl;
     }
@@ -165,7 +163,7 @@ film_is_one laws hash c message base f start len roots h can b =
     let held : HoldsNewStore base roots store (file_with base roots store) = laws.put.put base roots store take in
     let boxes : b.boxes ≡ with_store store roots = roots_once f b.boxes (with_store store roots) b.has_boxes (subst (λ (x : List ℕ). HasRoots x (with_store store roots)) (sym put) held.has_roots) in
     let text : b.text ≡ built_text roots = laws.told f b.boxes (length f) b.excluded b.text b.has_boxes b.covers ∙ ap built_text boxes ∙ laws.same roots store in
-    let stores : b.store ≡ film_store hash c message roots = b.store_is ∙ ap (λ (x : List ℕ). new_store hash c (film_binding (hash x)) message) text in
+    let stores : b.store ≡ film_store hash c message roots = b.store_is ∙ ap (λ (x : List ℕ). new_store hash c (film_binding (new_alg c.definition) (hash x)) message) text in
     record {
       bytes = put ∙ ap (λ (t : Tree). file_with base roots (tree_bytes t)) stores;
       place = place;

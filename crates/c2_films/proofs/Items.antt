@@ -10,16 +10,18 @@ use Rattle.c2_spec.specs.Cbor.Deterministic.{deterministic, preferred, preferred
 use Rattle.c2_spec.specs.Cbor.Fields.{HasItem}
 use Rattle.c2_spec.specs.Cbor.Item.{Item, Pairs, bytes, no_pairs, pair, text}
 use Rattle.c2_spec.specs.Cbor.Plain.{HasPlainKeys}
-use Rattle.c2_spec.specs.Digest.{digest_len}
-use Rattle.c2_spec.specs.declared.digest.Alg.TheVariants.{Sha256}
+use Rattle.c2_spec.specs.Digest.{digest_len, alg_name}
+use Rattle.c2_spec.specs.declared.digest.Alg.TheVariants.{Sha256, Sha384, Sha512}
 use Rattle.c2_spec.specs.Bmff.Writing.{all_of, built_exclusions, mfra_kind}
 use Rattle.c2_assertion.specs.ReadBack.{IsReadable}
 use Rattle.c2_assertion.specs.Written.{bmff_hash_item, exclusion_item, exclusions_item}
 use Rattle.c2_built.proofs.GoodItems.{Good, RoundTrip, good_read}
 use Rattle.c2_built.proofs.Spelled.{Fits}
 use Rattle.c2_built.proofs.StoreSize.{KeepsLength}
-use Rattle.c2_built.proofs.Uris.{plain_text}
+use Rattle.c2_built.proofs.Uris.{plain_text, name_utf8}
 use Rattle.c2_films.specs.Films.{BindingHasOneLength, film_hash}
+use Rattle.c2_spec.specs.declared.digest.Alg.{Alg}
+use Rattle.c2_spec.proofs.Digests.{len_bounds}
 
 -- ---- how long it is
 
@@ -33,30 +35,44 @@ exclusions_len : length (preferred (exclusions_item built_exclusions)) ≡ 78
 unfolding shortest_head
 exclusions_len = refl
 
--- a digest of SHA-256
-digest_item_len : (digest : List ℕ) → length digest ≡ digest_len Sha256 → length (preferred (bytes digest)) ≡ 34
+-- the name of an algorithm
+name_item_len : (alg : Alg) → length (preferred (text (alg_name alg))) ≡ 7
 unfolding shortest_head
-digest_item_len digest e = length-append (shortest_head 2 (length digest)) digest ∙ ap (λ n. length (shortest_head 2 n) + n) e
+name_item_len Sha256 = refl
+name_item_len Sha384 = refl
+name_item_len Sha512 = refl
+
+-- a digest has two bytes before it
+head_and_digest : (alg : Alg) → length (shortest_head 2 (digest_len alg)) + digest_len alg ≡ 2 + digest_len alg
+unfolding shortest_head
+head_and_digest Sha256 = refl
+head_and_digest Sha384 = refl
+head_and_digest Sha512 = refl
+
+-- so its item is as long
+digest_item_len : (alg : Alg) (digest : List ℕ) → length digest ≡ digest_len alg → length (preferred (bytes digest)) ≡ 2 + digest_len alg
+digest_item_len alg digest e = length-append (shortest_head 2 (length digest)) digest ∙ ap (λ n. length (shortest_head 2 n) + n) e ∙ head_and_digest alg
 
 -- the item in its own order
-item_len : (digest : List ℕ) → length digest ≡ digest_len Sha256 → length (preferred (bmff_hash_item (film_hash digest))) ≡ 140
+item_len : (alg : Alg) (digest : List ℕ) → length digest ≡ digest_len alg → length (preferred (bmff_hash_item (film_hash alg digest))) ≡ 108 + digest_len alg
 unfolding shortest_head
-item_len digest e =
+item_len alg digest e =
     let last : Pairs = pair (text (codes "exclusions")) (exclusions_item built_exclusions) no_pairs in
     let more : Pairs = pair (text (codes "hash")) (bytes digest) last in
     omega (
       arith,
-      length-append (shortest_head 5 3) (preferred_pairs (pair (text (codes "alg")) (text (codes "sha256")) more)),
-      pair_len (text (codes "alg")) (text (codes "sha256")) more,
+      length-append (shortest_head 5 3) (preferred_pairs (pair (text (codes "alg")) (text (alg_name alg)) more)),
+      pair_len (text (codes "alg")) (text (alg_name alg)) more,
       pair_len (text (codes "hash")) (bytes digest) last,
       pair_len (text (codes "exclusions")) (exclusions_item built_exclusions) no_pairs,
-      digest_item_len digest e,
+      name_item_len alg,
+      digest_item_len alg digest e,
       exclusions_len,
     )
 
 -- so it is in deterministic order
 pub binding_len : KeepsLength → BindingHasOneLength
-binding_len keeps digest e = keeps (bmff_hash_item (film_hash digest)) ∙ item_len digest e
+binding_len keeps alg digest e = keeps (bmff_hash_item (film_hash alg digest)) ∙ item_len alg digest e
 
 -- ---- what it is read as
 
@@ -92,10 +108,10 @@ user_fits = (
 )
 
 -- the item can be written
-good : HashLaws → (digest : List ℕ) → Good 64 (bmff_hash_item (film_hash digest))
-good laws digest = record {
-  fits = (plain_text (codes "alg") refl, plain_text (codes "sha256") refl, (plain_text (codes "hash") refl, tt, (plain_text (codes "exclusions") refl, (user_fits, (ftyp_fits, (mfra_fits, tt))), tt)));
-  plain = laws.plain (film_hash digest);
+good : HashLaws → (alg : Alg) (digest : List ℕ) → Good 64 (bmff_hash_item (film_hash alg digest))
+good laws alg digest = record {
+  fits = (plain_text (codes "alg") refl, name_utf8 alg, (plain_text (codes "hash") refl, tt, (plain_text (codes "exclusions") refl, (user_fits, (ftyp_fits, (mfra_fits, tt))), tt)));
+  plain = laws.plain (film_hash alg digest);
   shallow = lit≤ tt;
 }
 
@@ -106,11 +122,11 @@ pub record IsFilmHash (payload : List ℕ) (h : BmffHash) : Type 0 where
   pub is : bmff_hash_of item ≡ Ok h
 
 -- so the binding is read as it was written
-pub hash_read : HashLaws → (digest : List ℕ) → length digest ≡ digest_len Sha256 → IsFilmHash (deterministic (bmff_hash_item (film_hash digest))) (film_hash digest)
-hash_read laws digest e =
-    let v : Item = bmff_hash_item (film_hash digest) in
+pub hash_read : HashLaws → (alg : Alg) (digest : List ℕ) → length digest ≡ digest_len alg → IsFilmHash (deterministic (bmff_hash_item (film_hash alg digest))) (film_hash alg digest)
+hash_read laws alg digest e =
+    let v : Item = bmff_hash_item (film_hash alg digest) in
     record {
       item = v;
-      has = subst (HasItem (deterministic v)) (laws.in_order (film_hash digest)) (good_read laws.keeps laws.trip v (good laws digest) (omega (arith, binding_len laws.keeps digest e)));
-      is = (laws.read (film_hash digest)).1 (lit≤ tt, all_readable);
+      has = subst (HasItem (deterministic v)) (laws.in_order (film_hash alg digest)) (good_read laws.keeps laws.trip v (good laws alg digest) (omega (arith, binding_len laws.keeps alg digest e, len_bounds alg)));
+      is = (laws.read (film_hash alg digest)).1 (lit≤ tt, all_readable);
     }

@@ -9,7 +9,7 @@ use Rattle.c2_spec.specs.Cbor.Deterministic.{shortest_head}
 use Rattle.c2_spec.specs.Jumbf.Tree.{Tree, tree_bytes}
 use Rattle.c2_spec.specs.Bmff.Writing.{base_roots, built_text, c2pa_box, freed, insert_place, place_without}
 use Rattle.c2_definition.specs.declared.types.Definition.{Definition}
-use Rattle.c2_built.specs.Built.{no_digest, zero_digest}
+use Rattle.c2_built.specs.Built.{no_digest}
 use Rattle.c2_built.specs.Fresh.{fresh_content}
 use Rattle.c2_built.specs.FreshBoxes.{contents_of, item_box}
 use Rattle.c2_built.specs.Store.{Content, Parent, assertion_box, new_claim, new_manifest}
@@ -17,6 +17,8 @@ use Rattle.c2_built.proofs.BuildRows.{actions}
 use Rattle.c2_carried.specs.Parents.{IsContentOver}
 use Rattle.c2_carried.specs.Redacting.{boxes_in, redacted_boxes}
 use Rattle.c2_films.specs.Films.{film_binding, film_file, film_len, film_store, film_store_size}
+use Rattle.c2_spec.specs.Digest.{zero_digest}
+use Rattle.c2_spec.specs.declared.digest.Alg.TheVariants.{Sha256}
 
 -- ---- a file without a store
 
@@ -69,12 +71,12 @@ defined last = record {
 }
 
 -- the item of the binding
-binding_item : length (film_binding zero_digest).bytes ≡ 140
+binding_item : length (film_binding Sha256 (zero_digest Sha256)).bytes ≡ 140
 unfolding shortest_head
 binding_item = refl
 
 -- and its box
-binding_box : length (tree_bytes (assertion_box (film_binding zero_digest))) ≡ 199
+binding_box : length (tree_bytes (assertion_box (film_binding Sha256 (zero_digest Sha256)))) ≡ 199
 unfolding shortest_head
 binding_box = refl
 
@@ -83,7 +85,7 @@ unfoldable fresh : Content
 fresh = fresh_content (defined (codes "0"))
 
 -- the claim
-claim : length (new_claim no_digest fresh (film_binding zero_digest)) ≡ 355
+claim : length (new_claim (no_digest Sha256) fresh (film_binding Sha256 (zero_digest Sha256))) ≡ 355
 unfolding fresh defined actions shortest_head
 claim = refl
 
@@ -98,7 +100,7 @@ unfolding fresh defined actions shortest_head
 store_box = refl
 
 -- the new file
-file : length (film_file no_digest fresh (replicate 256 0) (flat_map box_bytes film) film) ≡ 1245
+file : length (film_file (no_digest Sha256) fresh (replicate 256 0) (flat_map box_bytes film) film) ≡ 1245
 unfolding fresh defined actions shortest_head
 file = refl
 
@@ -106,7 +108,7 @@ file = refl
 
 -- the first store
 unfoldable first : Tree
-first = film_store no_digest fresh (replicate 256 0) film
+first = film_store (no_digest Sha256) fresh (replicate 256 0) film
 
 -- its box
 abbrev old : Box
@@ -132,7 +134,7 @@ new_place = refl
 
 -- the manifest that is carried, and that is the parent
 unfoldable manifest : Tree
-manifest = new_manifest no_digest fresh (film_binding zero_digest) (replicate 256 0)
+manifest = new_manifest (no_digest Sha256) fresh (film_binding Sha256 (zero_digest Sha256)) (replicate 256 0)
 
 -- its signature box
 abbrev signature : Tree

@@ -9,30 +9,30 @@ use Rattle.c2_spec.specs.Bmff.Hash.{BmffHash}
 use Rattle.c2_spec.specs.Bmff.Paths.{placed_from}
 use Rattle.c2_spec.specs.Bmff.Store.{HasBmffStore, is_other_box}
 use Rattle.c2_spec.specs.Cbor.Deterministic.{deterministic}
-use Rattle.c2_spec.specs.Digest.{alg_name, digest_len}
+use Rattle.c2_spec.specs.Digest.{alg_name, digest_len, zero_digest}
 use Rattle.c2_spec.specs.Jumbf.Tree.{Tree, tree_bytes}
 use Rattle.c2_spec.specs.PutIn.{put_in, taken_out}
-use Rattle.c2_spec.specs.declared.digest.Alg.TheVariants.{Sha256}
 use Rattle.c2_boxed.specs.Laws.{file_with}
 use Rattle.c2_spec.specs.Bmff.Writing.{IsBmffBase, built_exclusions, built_text, c2pa_box, c2pa_frame_len, insert_place, open_end}
 use Rattle.c2_assertion.specs.Written.{bmff_hash_item}
 use Rattle.c2_definition.specs.declared.types.NewAssertion.{NewAssertion}
 use Rattle.c2_definition.specs.declared.types.Payload.TheVariants as payload
-use Rattle.c2_built.specs.Built.{HasDigestLen, SameFile, no_digest, zero_digest}
-use Rattle.c2_built.specs.Store.{Content, new_store}
+use Rattle.c2_built.specs.Built.{HasDigestLen, SameFile, no_digest}
+use Rattle.c2_built.specs.Store.{Content, new_store, new_alg}
+use Rattle.c2_spec.specs.declared.digest.Alg.{Alg}
 
 -- ---- the binding
 
--- The BMFF hash of a new file with this digest. It excludes the C2PA boxes, the file type box, and `mfra`.
-abbrev pub film_hash : List ℕ → BmffHash
-film_hash digest = record { exclusions = built_exclusions; alg = Some (alg_name Sha256); hash = digest }
+-- The BMFF hash of a new file with this digest by an algorithm. It excludes the C2PA boxes, the file type box, and `mfra`.
+abbrev pub film_hash : Alg → List ℕ → BmffHash
+film_hash alg digest = record { exclusions = built_exclusions; alg = Some (alg_name alg); hash = digest }
 
 -- the binding to what these leave of a file
-abbrev pub film_binding : List ℕ → NewAssertion
-film_binding digest = record {
+abbrev pub film_binding : Alg → List ℕ → NewAssertion
+film_binding alg digest = record {
   label = codes "c2pa.hash.bmff.v2";
   kind = payload.Cbor;
-  bytes = deterministic (bmff_hash_item (film_hash digest));
+  bytes = deterministic (bmff_hash_item (film_hash alg digest));
 }
 
 -- ---- the new file
@@ -55,7 +55,7 @@ pub record IsFilmBuilt (hash : List ℕ → List ℕ) (c : Content) (message bas
   pub text : List ℕ
   pub covers : IsBmffCover boxes (length file) built_exclusions excluded text
   pub store : Tree
-  pub store_is : store ≡ new_store hash c (film_binding (hash text)) message
+  pub store_is : store ≡ new_store hash c (film_binding (new_alg c.definition) (hash text)) message
   pub size : len ≡ length (box_bytes (c2pa_box (tree_bytes store)))
   pub put : file ≡ put_in start (box_bytes (c2pa_box (tree_bytes store))) base
 
@@ -63,7 +63,7 @@ pub record IsFilmBuilt (hash : List ℕ → List ℕ) (c : Content) (message bas
 
 -- The new store's length with so many bytes for the signed message. It doesn't depend on digests, so it is that of a store with none.
 abbrev pub film_store_size : Content → ℕ → ℕ
-film_store_size c reserve = length (tree_bytes (new_store no_digest c (film_binding zero_digest) (replicate reserve 0)))
+film_store_size c reserve = length (tree_bytes (new_store (no_digest (new_alg c.definition)) c (film_binding (new_alg c.definition) (zero_digest (new_alg c.definition))) (replicate reserve 0)))
 
 -- the length of its box, which is the new range's
 abbrev pub film_len : Content → ℕ → ℕ
@@ -71,7 +71,7 @@ film_len c reserve = c2pa_frame_len + film_store_size c reserve
 
 -- the new store over a base of these root boxes: what its exclusions leave of the new file is told by them alone
 abbrev pub film_store : (List ℕ → List ℕ) → Content → List ℕ → List Box → Tree
-film_store hash c message roots = new_store hash c (film_binding (hash (built_text roots))) message
+film_store hash c message roots = new_store hash c (film_binding (new_alg c.definition) (hash (built_text roots))) message
 
 -- the new file over a base of these root boxes
 abbrev pub film_file : (List ℕ → List ℕ) → Content → List ℕ → List ℕ → List Box → List ℕ
@@ -88,27 +88,27 @@ pub record CanBuildFilm (c : Content) (reserve : ℕ) (base : List ℕ) (roots :
   pub fits : length base + film_len c reserve < FILE_LEN_LIMIT
   pub few : length roots < most_roots
 
--- The binding's item has one length for all digests.
+-- The binding's item has one length for all digests of an algorithm.
 abbrev pub BindingHasOneLength : Type 0
-BindingHasOneLength = (digest : List ℕ) → length digest ≡ digest_len Sha256
-    → length (deterministic (bmff_hash_item (film_hash digest))) ≡ 140
+BindingHasOneLength = (alg : Alg) (digest : List ℕ) → length digest ≡ digest_len alg
+    → length (deterministic (bmff_hash_item (film_hash alg digest))) ≡ 108 + digest_len alg
 
 -- So a new store's length doesn't depend on digests.
 abbrev pub FilmSizeIsFixed : Type 0
 FilmSizeIsFixed = (hash : List ℕ → List ℕ) (c : Content) (digest message : List ℕ)
-    → HasDigestLen hash → length digest ≡ digest_len Sha256
-    → length (tree_bytes (new_store hash c (film_binding digest) message)) ≡ film_store_size c (length message)
+    → HasDigestLen (new_alg c.definition) hash → length digest ≡ digest_len (new_alg c.definition)
+    → length (tree_bytes (new_store hash c (film_binding (new_alg c.definition) digest) message)) ≡ film_store_size c (length message)
 
 -- The built file is this one, where no root box of the base has a part in a store.
 abbrev pub FilmIsBuilt : Type 0
 FilmIsBuilt = (hash : List ℕ → List ℕ) (c : Content) (message base : List ℕ) (roots : List Box)
-    → HasDigestLen hash → CanBuildFilm c (length message) base roots → AreOthers roots
+    → HasDigestLen (new_alg c.definition) hash → CanBuildFilm c (length message) base roots → AreOthers roots
     → IsFilmBuilt hash c message base (film_file hash c message base roots) (insert_place roots) (film_len c (length message))
 
 -- And no other is.
 abbrev pub FilmIsOne : Type 0
 FilmIsOne = (hash : List ℕ → List ℕ) (c : Content) (message base f : List ℕ) (start len : ℕ) (roots : List Box)
-    → HasDigestLen hash → CanBuildFilm c (length message) base roots → IsFilmBuilt hash c message base f start len
+    → HasDigestLen (new_alg c.definition) hash → CanBuildFilm c (length message) base roots → IsFilmBuilt hash c message base f start len
     → SameFile f (film_file hash c message base roots) start (insert_place roots) len (film_len c (length message))
 
 -- ---- what a reader finds
@@ -116,18 +116,18 @@ FilmIsOne = (hash : List ℕ → List ℕ) (c : Content) (message base f : List 
 -- The file has the new store in the new range.
 abbrev pub FilmHasItsStore : Type 0
 FilmHasItsStore = (hash : List ℕ → List ℕ) (c : Content) (message base : List ℕ) (roots : List Box)
-    → HasDigestLen hash → CanBuildFilm c (length message) base roots → AreOthers roots
+    → HasDigestLen (new_alg c.definition) hash → CanBuildFilm c (length message) base roots → AreOthers roots
     → HasBmffStore (film_file hash c message base roots) (insert_place roots) (film_len c (length message))
     (tree_bytes (film_store hash c message roots))
 
 -- The file less the new range is the base.
 abbrev pub FilmBaseIsLeft : Type 0
 FilmBaseIsLeft = (hash : List ℕ → List ℕ) (c : Content) (message base : List ℕ) (roots : List Box)
-    → HasDigestLen hash → CanBuildFilm c (length message) base roots → AreOthers roots
+    → HasDigestLen (new_alg c.definition) hash → CanBuildFilm c (length message) base roots → AreOthers roots
     → taken_out (insert_place roots) (film_len c (length message)) (film_file hash c message base roots) ≡ base
 
 -- And the base is what is built over when another store is put into the file.
 abbrev pub FilmBaseIsItsBase : Type 0
 FilmBaseIsItsBase = (hash : List ℕ → List ℕ) (c : Content) (message base : List ℕ) (roots : List Box)
-    → HasDigestLen hash → CanBuildFilm c (length message) base roots → AreOthers roots
+    → HasDigestLen (new_alg c.definition) hash → CanBuildFilm c (length message) base roots → AreOthers roots
     → IsBmffBase (film_file hash c message base roots) base roots

@@ -9,7 +9,6 @@ use Rattle.c2_spec.specs.Container.{is_bmff}
 use Rattle.c2_spec.specs.Jumbf.Tree.{Tree}
 use Rattle.c2_spec.specs.Located.{here}
 use Rattle.c2_spec.specs.declared.digest.Alg.{Alg}
-use Rattle.c2_spec.specs.declared.digest.Alg.TheVariants.{Sha256}
 use Rattle.c2_spec.specs.declared.panel.Verdict.{Verdict}
 use Rattle.c2_rules.specs.CheckList.{IsValid, StoreReading, questions}
 use Rattle.c2_rules.specs.Opened.{IsOpened}
@@ -17,7 +16,7 @@ use Rattle.c2_rules.specs.Validated.{IsFileReading}
 use Rattle.c2_spec.specs.Bmff.Writing.{IsBmffBase, insert_place}
 use Rattle.c2_definition.specs.declared.types.Definition.{Definition}
 use Rattle.c2_built.specs.Fresh.{GivesDigests, Meets}
-use Rattle.c2_built.specs.Store.{Content}
+use Rattle.c2_built.specs.Store.{Content, new_alg}
 use Rattle.c2_built.specs.Written.{CanBeWritten}
 use Rattle.c2_carried.specs.Parents.{IsContentOver}
 use Rattle.c2_carried.specs.Refusing.{has_manifest, redaction_refusal}
@@ -41,5 +40,5 @@ abbrev pub FilmOverStoreMeets : Type 0
 FilmOverStoreMeets = (hash : Alg → List ℕ → List ℕ) (said : Question → Verdict) (media : List ℕ) (start len : ℕ) (old : Tree) (s : StoreReading) (d : Definition) (c : Content) (message base : List ℕ) (roots : List Box) (p : SignParts)
     → GivesDigests hash → CanSucceedFilm hash said media start len old s d → CanBeWritten d → IsContentOver d old c
     → IsBmffBase media base roots → CanBuildFilm c (length message) base roots → SpellsMessage message p
-    → Meets hash (film_file (hash Sha256) c message base roots) (insert_place roots) (film_len c (length message))
-    (film_store (hash Sha256) c message roots) (film_question (hash Sha256) c roots p ∷ questions s.readings)
+    → Meets hash (film_file (hash (new_alg c.definition)) c message base roots) (insert_place roots) (film_len c (length message))
+    (film_store (hash (new_alg c.definition)) c message roots) (film_question (hash (new_alg c.definition)) c roots p ∷ questions s.readings)

@@ -15,7 +15,8 @@ use c2_carried::a_valid_store_is_carried;
 use c2_cbor::{round_trip, sorting_keeps_the_length};
 use c2_succeeding::a_succeeding_store_meets_the_rules;
 
-/// The binding of a new BMFF file has 140 bytes, and so the length of the store depends on no digest.
+/// The binding of a new BMFF file has 108 bytes and those of its digest: 140 by SHA-256, 156 by SHA-384, 172 by SHA-512. So the length
+/// of the store depends on no digest.
 pub fn a_new_film_store_has_one_length()
     ensures binding { BindingHasOneLength }
     ensures store { FilmSizeIsFixed }

@@ -1,8 +1,8 @@
 // Hash functions.
 ghost use Rattle.std.specs.Prelude.{◌≡◌, ℕ, List, []};
 
-use crate::{Alg, Digest};
-use sha2::{Digest as _, Sha256};
+use crate::{Alg, Digest, MAX_DIGEST_LEN, digest_len};
+use sha2::{Digest as _, Sha256, Sha384, Sha512};
 
 /// A family of hash functions, one for each algorithm. A running hash stands for its algorithm and the bytes so far.
 pub trait Hashing {
@@ -36,14 +36,27 @@ pub trait Hashing {
     ghost is_digest: { (alg : Alg) (list : List ℕ) → IsDigest alg (digest_of alg list) };
 }
 
-/// SHA-256, by the crate `sha2`.
+/// A running hash of one of the three algorithms.
+#[derive(Drop)]
+pub enum ShaState {
+    /// One that ends in 32 bytes.
+    Sha256(Sha256),
+
+    /// One that ends in 48 bytes.
+    Sha384(Sha384),
+
+    /// One that ends in 64 bytes.
+    Sha512(Sha512),
+}
+
+/// SHA-256, SHA-384 and SHA-512, by the crate `sha2`.
 #[derive(Clone, Copy, Debug)]
 pub struct Sha;
 
 impl Hashing for Sha {
     ghost use Rattle.c2_hash.specs.Sha.{sha_digest, ShaHolds, sha-IsDigest};
 
-    type State = Sha256;
+    type State = ShaState;
 
     ghost digest_of = { sha_digest };
 
@@ -51,19 +64,36 @@ impl Hashing for Sha {
 
     ghost is_digest = { sha-IsDigest };
 
-    fn start(&self, alg: Alg) -> Sha256 {
+    fn start(&self, alg: Alg) -> ShaState {
         match alg {
-            Alg::Sha256 => Sha256::new(),
+            Alg::Sha256 => ShaState::Sha256(Sha256::new()),
+            Alg::Sha384 => ShaState::Sha384(Sha384::new()),
+            Alg::Sha512 => ShaState::Sha512(Sha512::new()),
         }
     }
 
-    fn update(&self, state: &mut Sha256, bytes: &[u8]) {
-        state.update(bytes);
+    fn update(&self, state: &mut ShaState, bytes: &[u8]) {
+        match state {
+            ShaState::Sha256(hasher) => hasher.update(bytes),
+            ShaState::Sha384(hasher) => hasher.update(bytes),
+            ShaState::Sha512(hasher) => hasher.update(bytes),
+        }
     }
 
-    fn finish(&self, state: Sha256) -> Digest {
-        Digest::from_array(state.finalize())
+    fn finish(&self, state: ShaState) -> Digest {
+        match state {
+            ShaState::Sha256(hasher) => Digest::from_slice(&hasher.finalize()),
+            ShaState::Sha384(hasher) => Digest::from_slice(&hasher.finalize()),
+            ShaState::Sha512(hasher) => Digest::from_slice(&hasher.finalize()),
+        }
     }
+}
+
+/// A running sum of bytes modulo 256, for digests of this algorithm's length.
+#[derive(Clone, Copy, Debug)]
+pub struct WeakState {
+    alg: Alg,
+    sum: u8,
 }
 
 /// A hash for tests, whose digests collide: all their bytes are 0 but the last, the sum of the bytes modulo 256.
@@ -73,7 +103,7 @@ pub struct WeakSum;
 impl Hashing for WeakSum {
     ghost use Rattle.c2_hash.specs.WeakSum.{weak_digest, SumHolds, weak-IsDigest};
 
-    type State = u8;
+    type State = WeakState;
 
     ghost digest_of = { weak_digest };
 
@@ -81,22 +111,23 @@ impl Hashing for WeakSum {
 
     ghost is_digest = { weak-IsDigest };
 
-    fn start(&self, _alg: Alg) -> u8 {
-        0
+    fn start(&self, alg: Alg) -> WeakState {
+        WeakState { alg, sum: 0 }
     }
 
-    fn update(&self, state: &mut u8, bytes: &[u8]) {
-        let mut sum = *state;
+    fn update(&self, state: &mut WeakState, bytes: &[u8]) {
+        let mut sum = state.sum;
         'bytes: for byte in bytes {
             sum = sum.wrapping_add(*byte);
         }
-        *state = sum;
+        state.sum = sum;
     }
 
-    fn finish(&self, state: u8) -> Digest {
-        let mut bytes = [0; 32];
-        bytes[31] = state;
-        Digest::from_array(bytes)
+    fn finish(&self, state: WeakState) -> Digest {
+        let mut room = [0; MAX_DIGEST_LEN];
+        let len = digest_len(state.alg);
+        room[len - 1] = state.sum;
+        Digest::from_slice(&room[..len])
     }
 }
 

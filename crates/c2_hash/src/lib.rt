@@ -8,6 +8,6 @@ mod hashing;
 mod names;
 
 pub use c2_spec::Alg;
-pub use digest::Digest;
-pub use hashing::{Hashing, Sha, WeakSum, digest_of};
-pub use names::{alg_name, alg_of};
+pub use digest::{Digest, MAX_DIGEST_LEN};
+pub use hashing::{Hashing, Sha, ShaState, WeakState, WeakSum, digest_of};
+pub use names::{alg_name, alg_of, digest_len};

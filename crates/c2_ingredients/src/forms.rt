@@ -64,7 +64,7 @@ fn check_reference(
     }
 }
 
-/// What fails at this ingredient box of the version that is read.
+/// What fails at this ingredient box of a version that is read.
 fn check_parsed(
     alloc: Global,
     chain: &ReadManifests<'_>,

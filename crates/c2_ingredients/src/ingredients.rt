@@ -1,16 +1,15 @@
 // The rules on ingredients: those whose manifest is a child, by its digests; and all of them, by their form.
 ghost use Rattle.std.specs.Prelude.{◌≡◌, ◌<◌, IfOk, Some, length, option_map, not};
-ghost use Rattle.c2_spec.specs.declared.digest.Alg.TheVariants as algs;
 ghost use Rattle.c2_rules.specs.Chains as form;
 ghost use Rattle.c2_rules.specs.Readings as readings;
 ghost use Rattle.c2_rules.specs.Rules as rules;
 ghost use Rattle.c2_rules.specs.Seen.{seen_at, child_standing, signature_contents, standing_of};
 ghost use Rattle.c2_rules.specs.Tests.{each, first_failing};
-ghost use Rattle.c2_manifests.specs.Facts.{fact_of, AreFacts};
+ghost use Rattle.c2_manifests.specs.Facts.{AreFacts, HasDigestsOf};
 
 use c2_base::NoMemory;
-use c2_hash::{Digest, Hashing};
-use c2_manifests::{Fact, Facts, at_box, fact_at, has_known_digest, is_known};
+use c2_hash::Hashing;
+use c2_manifests::{ChildFact, Facts, at_box, fact_at, has_known_digest, is_known};
 use c2_reading::{Kept, KeptBox, ReadManifests, box_label, ingredient, manifests, named, place_of};
 use c2_rules::{Code, Failing, Parsed};
 use c2_spec::{Ingredient, Ref};
@@ -29,15 +28,17 @@ fn has_unknown(own: &Kept<'_>, manifest: &Ref, sign: &Option<Ref>) -> bool
     }
 }
 
-/// Whether a reference to a signature is there, and isn't that of this child's signature box, whose digest is this.
+/// Whether a reference to a signature is there, and isn't that of the signature box of this child, of which this was found
+/// out.
+#[tactic(auto, using(crate::proofs::ChildLemmas::signed_here))]
 fn is_wrong_signature<H: Hashing>(
     hashing: &H,
     own: &Kept<'_>,
     sign: &Option<Ref>,
     child: &Kept<'_>,
-    signed: &Option<Digest>,
+    fact: &ChildFact,
 ) -> bool
-    requires { signed.now ≡ option_map (H.digest_of algs.Sha256) (signature_contents child.now) }
+    requires { HasDigestsOf H.digest_of child.now fact.now }
     ensures { result
         ≡ rules.is_wrong_signature H.digest_of own.now sign.now (signature_contents child.now) }
 {
@@ -47,15 +48,12 @@ fn is_wrong_signature<H: Hashing>(
     let Some(found) = &child.signature else {
         return true;
     };
-    let Some(known) = signed else {
-        return true;
-    };
     !has_known_digest(
         hashing,
         own,
         &sign.alg,
         found.contents,
-        known,
+        &fact.signed,
         sign.hash.as_slice(),
     )
 }
@@ -69,9 +67,9 @@ fn check_child<H: Hashing>(
     manifest: &Ref,
     sign: &Option<Ref>,
     child: &Kept<'_>,
-    fact: &Fact,
+    fact: &ChildFact,
 ) -> Result<Option<Failing>, NoMemory>
-    requires { fact.now ≡ fact_of H.digest_of fact.now.touched child.now }
+    requires { HasDigestsOf H.digest_of child.now fact.now }
     ensures { let uri = rules.assertion_box_uri own.now (option_map (λ x. x.now) name.entry) in
         let standing = child_standing fact.now.touched child.now in
         let tests = rules.standing_tests H.digest_of own.now uri manifest.now sign.now standing in
@@ -81,12 +79,12 @@ fn check_child<H: Hashing>(
         return at_box(alloc, own, name, Code::AlgorithmUnsupported);
     }
     if fact.touched {
-        if sign.is_none() || is_wrong_signature(hashing, own, sign, child, &fact.signed) {
+        if sign.is_none() || is_wrong_signature(hashing, own, sign, child, fact) {
             return at_box(alloc, own, name, Code::ProfileIngredientSignature);
         }
         return Ok(None);
     }
-    if is_wrong_signature(hashing, own, sign, child, &fact.signed) {
+    if is_wrong_signature(hashing, own, sign, child, fact) {
         return at_box(alloc, own, name, Code::ProfileIngredientSignature);
     }
     if !has_known_digest(

@@ -12,8 +12,7 @@ use Rattle.c2_spec.specs.Cbor.Deterministic.{deterministic}
 use Rattle.c2_spec.specs.Cbor.Item.{Item}
 use Rattle.c2_spec.specs.declared.assertion.Relationship.TheVariants.{ParentOf}
 use Rattle.c2_spec.specs.declared.cbor.Ref.{Ref}
-use Rattle.c2_spec.specs.Digest.{digest_len}
-use Rattle.c2_spec.specs.declared.digest.Alg.TheVariants.{Sha256}
+use Rattle.c2_spec.specs.Digest.{digest_len, zero_digest}
 use Rattle.c2_spec.specs.Jumbf.Tree.{tree_bytes, trees_bytes}
 use Rattle.c2_spec.specs.Jumbf.Writing.{IsWrittenLabel}
 use Rattle.c2_assertion.specs.Written.{ingredient_item}
@@ -23,15 +22,17 @@ use Rattle.c2_definition.specs.declared.types.Definition.{Definition}
 use Rattle.c2_definition.specs.declared.types.NewAssertion.{NewAssertion}
 use Rattle.c2_definition.specs.declared.types.Payload.{Payload}
 use Rattle.c2_definition.specs.declared.types.Payload.TheVariants as payload
-use Rattle.c2_built.specs.Built.{bound_len, no_digest, zero_digest, store_size, HasDigestLen, StoreSizeIsFixed, StoreSizesAreSame}
+use Rattle.c2_built.specs.Built.{bound_len, no_digest, store_size, HasDigestLen, StoreSizeIsFixed, StoreSizesAreSame}
 use Rattle.c2_layout.specs.Parts.{AreParts, CanBeBoxed, HasRefs, IsContent, blank_parent, parts_size, told, told_parent}
-use Rattle.c2_built.specs.Store.{Content, Parent, assertion_box, assertion_boxes, claim_with, data_binding, entry_of, new_assertions, new_claim, new_manifest, new_store, parent_assertions, parent_ingredient, parent_ref}
+use Rattle.c2_built.specs.Store.{Content, Parent, assertion_box, assertion_boxes, claim_with, data_binding, entry_of, new_assertions, new_claim, new_manifest, new_store, parent_assertions, parent_ingredient, parent_ref, new_alg}
 use Rattle.c2_built.specs.Unbound.{IsKnownLabel}
 use Rattle.c2_layout.specs.declared.carried.Carried.{Carried}
 use Rattle.c2_layout.specs.declared.carried.ParentRefs.{ParentRefs}
 use Rattle.c2_layout.specs.declared.parts.NewParts.{NewParts}
 use Rattle.c2_built.proofs.Labels.{new_label, written_label}
 use Rattle.c2_built.proofs.StoreSize.{assertion_len, manifest_len, store_len}
+use Rattle.c2_spec.specs.declared.digest.Alg.{Alg}
+use Rattle.c2_spec.proofs.Digests.{zero_len}
 
 -- ---- assertions
 
@@ -63,13 +64,13 @@ content_size hash c b message =
     omega (arith, store_len c.carried (new_manifest hash c b message), manifest_len c.definition.label (new_assertions hash c b) (new_claim hash c b) message)
 
 -- the assertions that a new manifest with this binding has beside those of its definition, while no other digest is known
-abbrev pub blank_own : Option Parent → NewAssertion → List NewAssertion
-blank_own p b = parent_assertions no_digest p ++ b ∷ []
+abbrev pub blank_own : Alg → Option Parent → NewAssertion → List NewAssertion
+blank_own alg p b = parent_assertions (no_digest alg) p ++ b ∷ []
 
 -- what its length is reckoned as
 pub reckoned_size : (c : Content) (b : NewAssertion) (reserve : ℕ)
-    → bound_len c b reserve ≡ length (trees_bytes c.carried) + (232 + length c.definition.label + (length (trees_bytes (assertion_boxes c.definition.assertions)) + length (trees_bytes (assertion_boxes (blank_own c.parent b)))) + length (new_claim no_digest c b) + reserve)
-reckoned_size c b reserve = omega (arith, content_size no_digest c b (replicate reserve 0), length-replicate {A = ℕ} reserve 0, both_boxes c.definition.assertions (blank_own c.parent b))
+    → bound_len c b reserve ≡ length (trees_bytes c.carried) + (232 + length c.definition.label + (length (trees_bytes (assertion_boxes c.definition.assertions)) + length (trees_bytes (assertion_boxes (blank_own (new_alg c.definition) c.parent b)))) + length (new_claim (no_digest (new_alg c.definition)) c b) + reserve)
+reckoned_size c b reserve = omega (arith, content_size (no_digest (new_alg c.definition)) c b (replicate reserve 0), length-replicate {A = ℕ} reserve 0, both_boxes c.definition.assertions (blank_own (new_alg c.definition) c.parent b))
 
 -- numbers added up to a greatest one
 pub saturated : (most a b c d e f a1 b1 a2 c1 a3 a4 a5 out : ℕ) → a1 ≡ min (a + 232) most → b1 ≡ min b most → a2 ≡ min (a1 + b1) most → c1 ≡ min c most → a3 ≡ min (a2 + c1) most → a4 ≡ min (a3 + d) most → a5 ≡ min (a4 + e) most → out ≡ min (a5 + f) most
@@ -77,14 +78,19 @@ pub saturated : (most a b c d e f a1 b1 a2 c1 a3 a4 a5 out : ℕ) → a1 ≡ min
 saturated most a b c d e f a1 b1 a2 c1 a3 a4 a5 out h1 h2 h3 h4 h5 h6 h7 h8 = omega arith
 
 -- each digest of zero bytes has its length
-blank_len : HasDigestLen no_digest
-blank_len text = length-replicate {A = ℕ} (digest_len Sha256) 0
+blank_len : (alg : Alg) → HasDigestLen alg (no_digest alg)
+blank_len alg text = zero_len alg
+
+-- digests by the algorithm of a definition are those of what goes in with it
+pub own_digests : (digest_of : Alg → List ℕ → List ℕ) → ((alg : Alg) (text : List ℕ) → length (digest_of alg text) ≡ digest_len alg) → (c : Content) (d : Definition) → c.definition ≡ d
+    → HasDigestLen (new_alg c.definition) (digest_of (new_alg d))
+own_digests digest_of sized c d is text = sized (new_alg d) text ∙ ap (λ (e : Definition). digest_len (new_alg e)) (sym is)
 
 -- with digests its parts are as long together
-pub sized_with : StoreSizesAreSame → (hash : List ℕ → List ℕ) (c : Content) (b : NewAssertion) (reserve : ℕ) → HasDigestLen hash
+pub sized_with : StoreSizesAreSame → (hash : List ℕ → List ℕ) (c : Content) (b : NewAssertion) (reserve : ℕ) → HasDigestLen (new_alg c.definition) hash
     → bound_len c b reserve ≡ length (trees_bytes c.carried) + (232 + length c.definition.label + length (trees_bytes (assertion_boxes (new_assertions hash c b))) + length (new_claim hash c b) + reserve)
 sized_with same hash c b reserve digests =
-    same no_digest hash c b b (replicate reserve 0) (replicate reserve 0) blank_len digests refl refl refl ∙ content_size hash c b (replicate reserve 0)
+    same (no_digest (new_alg c.definition)) hash c b b (replicate reserve 0) (replicate reserve 0) (blank_len (new_alg c.definition)) digests refl refl refl ∙ content_size hash c b (replicate reserve 0)
     ∙ ap (λ (n : ℕ). length (trees_bytes c.carried) + (232 + length c.definition.label + length (trees_bytes (assertion_boxes (new_assertions hash c b))) + length (new_claim hash c b) + n)) (length-replicate {A = ℕ} reserve 0)
 
 -- ---- what can be boxed
@@ -133,7 +139,7 @@ own_boxed hash (Some p) b l small =
     All-cons CanBeBoxed a (b ∷ []) (record { label = ingredient_label; small = omega (arith, two, small) }) (one_boxed b l (omega (arith, two, small)))
 
 -- a store that isn't too large has room for those of its definition, and for these
-pub stored_boxed : StoreSizesAreSame → (hash : List ℕ → List ℕ) (c : Content) (b : NewAssertion) (reserve : ℕ) → HasDigestLen hash → IsKnownLabel b.label → IsWellFormed c.definition → bound_len c b reserve ≤ MAX_STORE_LEN
+pub stored_boxed : StoreSizesAreSame → (hash : List ℕ → List ℕ) (c : Content) (b : NewAssertion) (reserve : ℕ) → HasDigestLen (new_alg c.definition) hash → IsKnownLabel b.label → IsWellFormed c.definition → bound_len c b reserve ≤ MAX_STORE_LEN
     → All CanBeBoxed c.definition.assertions × All CanBeBoxed (parent_assertions hash c.parent ++ b ∷ [])
 stored_boxed same hash c b reserve digests known formed small =
     let size = sized_with same hash c b reserve digests in
@@ -167,11 +173,11 @@ made_assertion label made p v m s el eb ev em es =
     ∙ ap (λ (r : Ref). ingredient_item (record { relationship = ParentOf; manifest = Some (parent_ref told p.label whole p.contents); signature = Some r })) es))
 
 -- and with digests of zero bytes of the same without digests
-pub blanks_give : (hash : List ℕ → List ℕ) (p : Option Parent) (refs : Option ParentRefs) → HasRefs hash p refs → parent_assertions told (option_map blank_parent refs) ≡ parent_assertions no_digest p
-blanks_give hash None None h = refl
-blanks_give hash None (Some refs) h = absurd h
-blanks_give hash (Some p) None h = absurd h
-blanks_give hash (Some p) (Some refs) h = ap (λ (l : List ℕ). parent_assertions told (Some (record { label = l; contents = zero_digest; signed = zero_digest }))) h.label
+pub blanks_give : (alg : Alg) (hash : List ℕ → List ℕ) (p : Option Parent) (refs : Option ParentRefs) → HasRefs hash p refs → parent_assertions told (option_map (blank_parent alg) refs) ≡ parent_assertions (no_digest alg) p
+blanks_give alg hash None None h = refl
+blanks_give alg hash None (Some refs) h = absurd h
+blanks_give alg hash (Some p) None h = absurd h
+blanks_give alg hash (Some p) (Some refs) h = ap (λ (l : List ℕ). parent_assertions told (Some (record { label = l; contents = zero_digest alg; signed = zero_digest alg }))) h.label
 
 -- ---- parts
 
@@ -189,7 +195,7 @@ are_parts hash d k c is own made b p owns bound boxes claim =
     }
 
 -- and they are as long as was reckoned
-pub parts_are : StoreSizesAreSame → (hash : List ℕ → List ℕ) (d : Definition) (k : Carried) (c : Content) → IsContent hash d k c → (b : NewAssertion) (p : NewParts) → HasDigestLen hash
+pub parts_are : StoreSizesAreSame → (hash : List ℕ → List ℕ) (d : Definition) (k : Carried) (c : Content) → IsContent hash d k c → (b : NewAssertion) (p : NewParts) → HasDigestLen (new_alg c.definition) hash
     → AreParts hash c b p → length k.boxes + parts_size d.label p d.reserve ≡ bound_len c b d.reserve
 parts_are same hash d k c is b p digests are =
     let size = sized_with same hash c b d.reserve digests in
@@ -197,11 +203,15 @@ parts_are same hash d k c is b p digests are =
     omega (arith, size, label, ap length is.boxes, ap length are.boxes, ap length are.claim)
 
 -- a store that can be stored can be bound to a range
-pub stored_bound : StoreSizeIsFixed → StoreSizesAreSame → (hash : List ℕ → List ℕ) (c : Content) (start len reserve : ℕ) (digest : List ℕ) → HasDigestLen hash → length digest ≡ 32
-    → bound_len c (data_binding start len digest) reserve ≡ store_size c reserve
-stored_bound fixed same hash c start len reserve digest digests short =
-    same no_digest hash c (data_binding start len digest) (data_binding start len digest) (replicate reserve 0) (replicate reserve 0) blank_len digests refl refl refl
-    ∙ fixed hash c start len digest (replicate reserve 0) digests short ∙ ap (store_size c) (length-replicate {A = ℕ} reserve 0)
+pub stored_bound : StoreSizeIsFixed → StoreSizesAreSame → (hash : List ℕ → List ℕ) (c : Content) (d : Definition) → c.definition ≡ d → (start len reserve : ℕ) (digest : List ℕ) → HasDigestLen (new_alg c.definition) hash → length digest ≡ digest_len (new_alg d)
+    → bound_len c (data_binding (new_alg d) start len digest) reserve ≡ store_size c reserve
+stored_bound fixed same hash c d is start len reserve digest digests long =
+    let alg : Alg = new_alg c.definition in
+    let b : NewAssertion = data_binding alg start len digest in
+    subst (λ (e : Definition). length digest ≡ digest_len (new_alg e) → bound_len c (data_binding (new_alg e) start len digest) reserve ≡ store_size c reserve) is
+    (λ (n : length digest ≡ digest_len alg).
+    same (no_digest alg) hash c b b (replicate reserve 0) (replicate reserve 0) (blank_len alg) digests refl refl refl
+    ∙ fixed hash c start len digest (replicate reserve 0) digests n ∙ ap (store_size c) (length-replicate {A = ℕ} reserve 0)) long
 
 -- ---- answers
 

@@ -7,11 +7,13 @@ use Rattle.c2_spec.specs.Jumbf.Tree.{tree_bytes, trees_bytes}
 use Rattle.c2_spec.specs.Jumbf.Writing.{IsWrittenLabel}
 use Rattle.c2_definition.specs.declared.types.NewAssertion.{NewAssertion}
 use Rattle.c2_definition.specs.declared.types.Definition.{Definition}
-use Rattle.c2_built.specs.Built.{bound_len, store_size, zero_digest}
+use Rattle.c2_built.specs.Built.{bound_len, store_size}
 use Rattle.c2_built.specs.Store.{Content, Parent, assertion_box, assertion_boxes, new_assertions, new_claim}
 use Rattle.c2_layout.specs.declared.carried.Carried.{Carried}
 use Rattle.c2_layout.specs.declared.carried.ParentRefs.{ParentRefs}
 use Rattle.c2_layout.specs.declared.parts.NewParts.{NewParts}
+use Rattle.c2_spec.specs.Digest.{zero_digest}
+use Rattle.c2_spec.specs.declared.digest.Alg.{Alg}
 
 -- ---- what goes into a new store
 
@@ -54,9 +56,9 @@ told digest = digest
 abbrev pub told_parent : ParentRefs → Parent
 told_parent refs = record { label = refs.label; contents = refs.contents; signed = refs.signed }
 
--- the same with digests of zero bytes
-abbrev pub blank_parent : ParentRefs → Parent
-blank_parent refs = record { label = refs.label; contents = zero_digest; signed = zero_digest }
+-- the same with digests of zero bytes, as many as one by this algorithm has
+abbrev pub blank_parent : Alg → ParentRefs → Parent
+blank_parent alg refs = record { label = refs.label; contents = zero_digest alg; signed = zero_digest alg }
 
 -- ---- the parts
 

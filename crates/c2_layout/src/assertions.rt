@@ -23,10 +23,11 @@ fn boxed(alloc: Global, assertion: &NewAssertion) -> Result<Blob, NoMemory>
     only_memory(write_assertion(alloc, assertion))
 }
 
-// Appends the box of an assertion, and the reference to it, by the digest of what stands behind the box's header.
+// Appends the box of an assertion, and the reference to it, by the digest by this algorithm of what stands behind the box's header.
 fn push_one<H: Hashing>(
     alloc: Global,
     hashing: &H,
+    alg: Alg,
     boxes: &mut Vec<u8>,
     entries: &mut Vec<Ref>,
     assertion: &NewAssertion,
@@ -35,11 +36,11 @@ fn push_one<H: Hashing>(
     ensures boxes { OnOk result (boxes.new.items
         ≡ boxes.old.items ++ tree_bytes (store.assertion_box assertion.now)) }
     ensures entries { OnOk result (entries.new.items
-        ≡ entries.old.items ++ store.entry_of (H.digest_of Alg.Sha256) assertion.now ∷ []) }
+        ≡ entries.old.items ++ store.entry_of (H.digest_of alg) assertion.now ∷ []) }
 {
     let written = boxed(alloc, assertion)?;
     let bytes = written.as_slice();
-    let digest = digest_of(hashing, Alg::Sha256, &bytes[HEAD_LEN..]);
+    let digest = digest_of(hashing, alg, &bytes[HEAD_LEN..]);
     entries.push(own_ref(alloc, assertion.label.as_str(), digest.as_slice())?)?;
     boxes.extend_from_slice(bytes)?;
     Ok(())
@@ -49,6 +50,7 @@ fn push_one<H: Hashing>(
 pub(crate) fn push_all<H: Hashing>(
     alloc: Global,
     hashing: &H,
+    alg: Alg,
     boxes: &mut Vec<u8>,
     entries: &mut Vec<Ref>,
     all: &[NewAssertion],
@@ -57,10 +59,10 @@ pub(crate) fn push_all<H: Hashing>(
     ensures boxes { OnOk result (boxes.new.items
         ≡ boxes.old.items ++ trees_bytes (store.assertion_boxes all.now)) }
     ensures entries { OnOk result (entries.new.items
-        ≡ entries.old.items ++ map (store.entry_of (H.digest_of Alg.Sha256)) all.now) }
+        ≡ entries.old.items ++ map (store.entry_of (H.digest_of alg)) all.now) }
 {
     for assertion in all {
-        push_one(alloc, hashing, boxes, entries, assertion)?;
+        push_one(alloc, hashing, alg, boxes, entries, assertion)?;
     }
     Ok(())
 }

@@ -9,6 +9,7 @@ use c2_assertion::{DataHash, write_data_hash};
 use c2_base::{Blob, NoMemory, Range, Ranges, Text};
 use c2_cbor::{Cbor, EncodeError, encode};
 use c2_definition::{NewAssertion, Payload};
+use c2_hash::{Alg, alg_name};
 use std::alloc::Global;
 
 /// The bytes of a legal item.
@@ -23,15 +24,20 @@ pub(crate) fn item_bytes(alloc: Global, item: &Cbor) -> Result<Blob, NoMemory>
     }
 }
 
-/// The assertion that binds a file by the SHA-256 digest of what it has outside this range.
-pub fn data_binding(alloc: Global, range: Range, digest: &[u8]) -> Result<NewAssertion, NoMemory>
-    ensures { IfOk result (λ a. a ≡ store.data_binding range.start range.length digest.now) }
+/// The assertion that binds a file by the digest by this algorithm of what it has outside this range.
+pub fn data_binding(
+    alloc: Global,
+    alg: Alg,
+    range: Range,
+    digest: &[u8],
+) -> Result<NewAssertion, NoMemory>
+    ensures { IfOk result (λ a. a ≡ store.data_binding alg range.start range.length digest.now) }
 {
     let mut ranges = Vec::new(alloc);
     ranges.push(range)?;
     let hash = DataHash {
         exclusions: Ranges::from_list(ranges),
-        alg: Some(Text::copied(alloc, "sha256")?),
+        alg: Some(Text::copied(alloc, alg_name(alg))?),
         hash: Blob::copied(alloc, digest)?,
     };
     let item = write_data_hash(alloc, &hash)?;

@@ -11,10 +11,10 @@ pub struct ParentRefs {
     /// The label of the parent's manifest.
     pub label: Text,
 
-    /// The SHA-256 digest of its contents, as they stand in the new store.
+    /// The digest of its contents, as they stand in the new store, by the algorithm of the new manifest.
     pub contents: Digest,
 
-    /// That of the contents of its signature box.
+    /// The digest of the contents of its signature box by the same algorithm.
     pub signed: Digest,
 }
 

@@ -10,7 +10,7 @@ use c2_assertion::write_ingredient;
 use c2_base::{Blob, NoMemory, Text};
 use c2_cbor::Ref;
 use c2_definition::{NewAssertion, Payload};
-use c2_hash::Digest;
+use c2_hash::{Alg, Digest};
 use c2_spec::{Ingredient, Relationship};
 use std::alloc::Global;
 
@@ -80,19 +80,20 @@ pub(crate) fn own_assertions(
     Ok(own)
 }
 
-/// References to the parent with digests of zero bytes, where there is a parent.
+/// References to the parent with digests of zero bytes, as many as one by this algorithm has, where there is a parent.
 pub(crate) fn blank_refs(
     alloc: Global,
+    alg: Alg,
     parent: &Option<ParentRefs>,
 ) -> Result<Option<ParentRefs>, NoMemory>
     ensures { IfOk result (λ blank. option_map told_parent blank
-        ≡ option_map blank_parent parent.now) }
+        ≡ option_map (blank_parent alg) parent.now) }
 {
     match parent {
         Some(parent) => Ok(Some(ParentRefs {
             label: Text::copied(alloc, parent.label.as_str())?,
-            contents: Digest::from_array([0; 32]),
-            signed: Digest::from_array([0; 32]),
+            contents: Digest::zeros(alg),
+            signed: Digest::zeros(alg),
         })),
         None => Ok(None),
     }

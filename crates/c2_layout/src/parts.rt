@@ -1,6 +1,7 @@
 // The parts of a new store that don't depend on its message.
 ghost use Rattle.std.specs.Prelude.{◌≡◌, ◌+◌, ◌++◌, All, IfOk, length, map};
 ghost use Rattle.c2_spec.specs.Cbor.Deterministic.{deterministic};
+ghost use Rattle.c2_spec.specs.Digest.{digest_len};
 ghost use Rattle.c2_spec.specs.Jumbf.Tree.{trees_bytes};
 ghost use Rattle.c2_claim.specs.Written.{claim_item};
 ghost use Rattle.c2_definition.specs.DefinitionFile.{IsWellFormed};
@@ -44,14 +45,15 @@ fn parts_over<H: Hashing>(
         ≡ trees_bytes (store.assertion_boxes (definition.now.assertions ++ own.now))) }
     ensures claim { IfOk result (λ p. p.claim
         ≡ deterministic (claim_item (store.claim_with definition.now
-        (map (store.entry_of (H.digest_of Alg.Sha256))
+        (map (store.entry_of (H.digest_of (store.new_alg definition.now)))
         (definition.now.assertions ++ own.now))))) }
 {
+    let alg = Alg::Sha256;
     let mut boxes = Vec::new(alloc);
     let mut entries = Vec::new(alloc);
     let defined = definition.assertions.as_slice();
-    push_all(alloc, hashing, &mut boxes, &mut entries, defined)?;
-    push_all(alloc, hashing, &mut boxes, &mut entries, own)?;
+    push_all(alloc, hashing, alg, &mut boxes, &mut entries, defined)?;
+    push_all(alloc, hashing, alg, &mut boxes, &mut entries, own)?;
     let claim = claim_of(alloc, definition, entries)?;
     Ok(NewParts {
         boxes: Blob::from_vec(boxes),
@@ -73,14 +75,15 @@ pub fn bound_parts<H: Hashing>(
 ) -> Result<NewParts, NoMemory>
     requires formed { IsWellFormed definition.now }
     requires known { IsKnownBinding binding }
-    requires small { CanBeBound (H.digest_of Alg.Sha256) definition.now carried.now binding }
+    requires small { CanBeBound (H.digest_of (store.new_alg definition.now)) definition.now
+        carried.now binding }
     ensures parts { IfOk result (λ p. (c : Content)
-        → IsContent (H.digest_of Alg.Sha256) definition.now carried.now c
-        → AreParts (H.digest_of Alg.Sha256) c binding p) }
+        → IsContent (H.digest_of (store.new_alg definition.now)) definition.now carried.now c
+        → AreParts (H.digest_of (store.new_alg definition.now)) c binding p) }
 
     // So the store has the length that was told before.
     ensures size { IfOk result (λ p. (c : Content)
-        → IsContent (H.digest_of Alg.Sha256) definition.now carried.now c
+        → IsContent (H.digest_of (store.new_alg definition.now)) definition.now carried.now c
         → length carried.now.boxes + parts_size definition.now.label p definition.now.reserve
         ≡ bound_len c binding definition.now.reserve) }
 {
@@ -91,7 +94,7 @@ pub fn bound_parts<H: Hashing>(
 }
 
 /// The parts of the store that is built of a definition and of what is carried of an older store, whose binding has this range and this
-/// digest of what the file has outside it. Each assertion is digested once.
+/// digest, by the algorithm of the new manifest, of what the file has outside it. Each assertion is digested once.
 ///
 /// Nothing but memory fails where the store isn't too large with what the definition reserves for its message, which `store_size`
 /// tells before.
@@ -104,22 +107,23 @@ pub fn new_parts<H: Hashing>(
     digest: &Digest,
 ) -> Result<NewParts, NoMemory>
     requires formed { IsWellFormed definition.now }
-    requires small { CanBeStored (H.digest_of Alg.Sha256) definition.now carried.now }
-    requires digest { length digest.now ≡ 32 }
+    requires small { CanBeStored (H.digest_of (store.new_alg definition.now)) definition.now
+        carried.now }
+    requires digest { length digest.now ≡ digest_len (store.new_alg definition.now) }
     ensures parts { IfOk result (λ p. (c : Content)
-        → IsContent (H.digest_of Alg.Sha256) definition.now carried.now c
-        → AreParts (H.digest_of Alg.Sha256) c
-        (store.data_binding range.start range.length digest.now) p) }
+        → IsContent (H.digest_of (store.new_alg definition.now)) definition.now carried.now c
+        → AreParts (H.digest_of (store.new_alg definition.now)) c
+        (store.data_binding (store.new_alg definition.now) range.start range.length digest.now) p) }
 
     // So the store has the length that was told before.
     ensures size { IfOk result (λ p. (c : Content)
-        → IsContent (H.digest_of Alg.Sha256) definition.now carried.now c
+        → IsContent (H.digest_of (store.new_alg definition.now)) definition.now carried.now c
         → length carried.now.boxes + parts_size definition.now.label p definition.now.reserve
         ≡ store_size c definition.now.reserve) }
 {
     // Only the prover needs these laws.
     a_new_store_has_one_length();
     new_stores_have_one_length();
-    let binding = data_binding(alloc, range, digest.as_slice())?;
+    let binding = data_binding(alloc, Alg::Sha256, range, digest.as_slice())?;
     bound_parts(alloc, hashing, definition, carried, binding)
 }

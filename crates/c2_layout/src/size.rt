@@ -18,10 +18,8 @@ use crate::parent::{blank_refs, own_assertions};
 use c2_base::{NoMemory, Range};
 use c2_cbor::Ref;
 use c2_definition::{Definition, NewAssertion};
+use c2_hash::{Alg, Digest};
 use std::alloc::Global;
-
-// What stands for a digest that isn't known yet.
-const NO_DIGEST: [u8; 32] = [0; 32];
 
 // What stands for a range that isn't known yet.
 const NO_RANGE: Range = Range {
@@ -48,13 +46,20 @@ fn boxes_len(all: &[NewAssertion]) -> u64
     len
 }
 
-// Appends references to assertions, with digests of zero bytes.
-fn push_blank(alloc: Global, entries: &mut Vec<Ref>, all: &[NewAssertion]) -> Result<(), NoMemory>
+// Appends references to assertions, with digests of zero bytes, as many as one by this algorithm has.
+fn push_blank(
+    alloc: Global,
+    alg: Alg,
+    entries: &mut Vec<Ref>,
+    all: &[NewAssertion],
+) -> Result<(), NoMemory>
     ensures { OnOk result (entries.new.items
-        ≡ entries.old.items ++ map (store.entry_of no_digest) all.now) }
+        ≡ entries.old.items ++ map (store.entry_of (no_digest alg)) all.now) }
 {
+    let blank = Digest::zeros(alg);
+    let zeros = blank.as_slice();
     for assertion in all {
-        entries.push(own_ref(alloc, assertion.label.as_str(), &NO_DIGEST)?)?;
+        entries.push(own_ref(alloc, assertion.label.as_str(), zeros)?)?;
     }
     Ok(())
 }
@@ -63,11 +68,13 @@ fn push_blank(alloc: Global, entries: &mut Vec<Ref>, all: &[NewAssertion]) -> Re
 fn claim_len(alloc: Global, definition: &Definition, own: &[NewAssertion]) -> Result<u64, NoMemory>
     ensures { IfOk result (λ n. n
         ≡ length (deterministic (claim_item (store.claim_with definition.now
-        (map (store.entry_of no_digest) (definition.now.assertions ++ own.now)))))) }
+        (map (store.entry_of (no_digest (store.new_alg definition.now)))
+        (definition.now.assertions ++ own.now)))))) }
 {
+    let alg = Alg::Sha256;
     let mut entries = Vec::new(alloc);
-    push_blank(alloc, &mut entries, definition.assertions.as_slice())?;
-    push_blank(alloc, &mut entries, own)?;
+    push_blank(alloc, alg, &mut entries, definition.assertions.as_slice())?;
+    push_blank(alloc, alg, &mut entries, own)?;
     let claim = claim_of(alloc, definition, entries)?;
     Ok(claim.as_slice().len() as u64)
 }
@@ -86,7 +93,7 @@ pub fn bound_size(
         → n ≡ min (built.bound_len c binding definition.now.reserve) (2 ^ 64 - 1)) }
     ensures least { IfOk result (λ n. LEAST_STORE_LEN ≤ n) }
 {
-    let parent = blank_refs(alloc, &carried.parent)?;
+    let parent = blank_refs(alloc, Alg::Sha256, &carried.parent)?;
     let own = own_assertions(alloc, &parent, binding)?;
     let claim = claim_len(alloc, definition, own.as_slice())?;
     let label = definition.label.as_str().len() as u64;
@@ -111,6 +118,7 @@ pub fn store_size(
         → n ≡ min (built.store_size c definition.now.reserve) (2 ^ 64 - 1)) }
     ensures least { IfOk result (λ n. LEAST_STORE_LEN ≤ n) }
 {
-    let binding = data_binding(alloc, NO_RANGE, &NO_DIGEST)?;
+    let blank = Digest::zeros(Alg::Sha256);
+    let binding = data_binding(alloc, Alg::Sha256, NO_RANGE, blank.as_slice())?;
     bound_size(alloc, definition, carried, binding)
 }

@@ -1,6 +1,7 @@
 // Boxes of assertions, and the binding. What they are was reckoned by a program of its own.
 use c2_base::{Blob, NoMemory, Range, Text};
 use c2_definition::{NewAssertion, Payload};
+use c2_hash::Alg;
 use c2_layout::{data_binding, own_ref, write_assertion};
 use c2_spec::WriteError;
 use std::alloc::{AllocError, Global};
@@ -75,7 +76,7 @@ fn a_binding_holds_its_range_and_digest(rt: HostRuntime) -> Result<(), Fail> {
         start: 20,
         length: 1141,
     };
-    match data_binding(alloc, range, &[7; 32]) {
+    match data_binding(alloc, Alg::Sha256, range, &[7; 32]) {
         Ok(binding) => {
             let item = hex::encode(alloc, binding.bytes.as_slice())?;
             assert_eq!(rt; item.as_str(), BINDING);

@@ -1,3 +1,4 @@
+pub mod DigestLemmas
 pub mod FactLemmas
 pub mod PlaceLemmas
 pub mod Texts

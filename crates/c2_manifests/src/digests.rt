@@ -1,10 +1,11 @@
 // Digests by the algorithm of a reference.
-ghost use Rattle.std.specs.Prelude.{◌≡◌, option_map};
-ghost use Rattle.c2_spec.specs.declared.digest.Alg.TheVariants as algs;
+ghost use Rattle.std.specs.Prelude.{◌≡◌, bytes_eq, option_map};
+ghost use Rattle.c2_manifests.specs.Facts.{AreDigestsOf};
 ghost use Rattle.c2_rules.specs.Rules as rules;
 
+use crate::kept_digests::Digests;
 use c2_base::Text;
-use c2_hash::{Alg, Digest, Hashing, alg_of, digest_of};
+use c2_hash::{Alg, Hashing, alg_of, digest_of};
 use c2_reading::Kept;
 use c2_rules::Parsed;
 
@@ -57,20 +58,39 @@ pub fn has_digest<H: Hashing>(
     }
 }
 
-/// Whether contents have this digest, by the algorithm of a reference, where their digest by the one that is known is this.
+/// Whether a list has this digest by an algorithm, where these are digests of the list. By an algorithm that isn't among them the
+/// list is digested here.
+#[tactic(auto, using(crate::proofs::DigestLemmas::kept_right))]
+fn has_kept_digest<H: Hashing>(
+    hashing: &H,
+    alg: Alg,
+    list: &[u8],
+    known: &Digests,
+    digest: &[u8],
+) -> bool
+    requires { AreDigestsOf H.digest_of list.now known.now }
+    ensures { result ≡ bytes_eq (H.digest_of alg list.now) digest.now }
+{
+    match known.by_alg(alg) {
+        Some(found) => found.as_slice() == digest,
+        None => digest_of(hashing, alg, list).as_slice() == digest,
+    }
+}
+
+/// Whether a list has this digest, by the algorithm of a reference, where these are digests of the list.
 pub fn has_known_digest<H: Hashing>(
-    _hashing: &H,
+    hashing: &H,
     own: &Kept<'_>,
     alg: &Option<Text>,
     list: &[u8],
-    known: &Digest,
+    known: &Digests,
     digest: &[u8],
 ) -> bool
-    requires { known.now ≡ H.digest_of algs.Sha256 list.now }
+    requires { AreDigestsOf H.digest_of list.now known.now }
     ensures { result ≡ rules.has_digest H.digest_of own.now alg.now list.now digest.now }
 {
     match alg_of(alg_name(own, alg)) {
-        Some(Alg::Sha256) => known.as_slice() == digest,
+        Some(alg) => has_kept_digest(hashing, alg, list, known, digest),
         None => false,
     }
 }

@@ -1,9 +1,9 @@
 // Claims, field by field.
 use crate::line::Line;
+use crate::settings::Settings;
 use crate::trouble::Trouble;
 use c2_cbor::Ref;
-use c2_claim::read;
-use c2_spec::Claim;
+use c2_claim::{Claim, ClaimVersion, claim_version, read};
 use std::alloc::Global;
 
 /// A reference: its URI, its digest and its algorithm.
@@ -38,7 +38,7 @@ fn show_redactions(out: &mut Line, claim: &Claim) {
 }
 
 fn show_claim(out: &mut Line, claim: &Claim) {
-    out.text(claim.instance.as_str());
+    out.name(&claim.instance);
     out.text(" ");
     out.text(claim.signature.as_str());
     out.text(" ");
@@ -48,12 +48,25 @@ fn show_claim(out: &mut Line, claim: &Claim) {
     show_redactions(out, claim);
 }
 
-/// Instance, signature, algorithm, created and gathered references, and redactions of a claim; or the refusal.
-pub fn shown(alloc: Global, bytes: &[u8]) -> Result<String, Trouble> {
-    let mut out = Line::new(alloc);
-    match read(alloc, bytes) {
-        Ok(claim) => show_claim(&mut out, &claim),
+// A claim of this version that is read, or the refusal.
+fn show_read(alloc: Global, out: &mut Line, version: ClaimVersion, bytes: &[u8]) {
+    match read(alloc, version, bytes) {
+        Ok(claim) => {
+            out.debug(&claim.version);
+            out.text(" ");
+            show_claim(out, &claim);
+        }
         Err(error) => out.debug(&error),
+    }
+}
+
+/// Version, instance, signature, algorithm, created and gathered references, and redactions of a claim whose box has the label that is
+/// set; or the refusal.
+pub fn shown(alloc: Global, settings: &Settings, bytes: &[u8]) -> Result<String, Trouble> {
+    let mut out = Line::new(alloc);
+    match claim_version(settings.text("label")) {
+        Some(version) => show_read(alloc, &mut out, version, bytes),
+        None => out.text("no version"),
     }
     out.whole()
 }

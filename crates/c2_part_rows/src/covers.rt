@@ -10,7 +10,7 @@ use c2_bmff::{Exclusion, roots};
 use c2_cover::{
     Cover, bmff_cover, check_ranges, covered_count, data_cover, digest_cover, outside_count,
 };
-use c2_hash::{Alg, Digest, Sha};
+use c2_hash::{Digest, Sha};
 use std::alloc::Global;
 
 // How many bytes a read gives, and how many the buffer takes.
@@ -55,7 +55,7 @@ fn show_counts(out: &mut Line, embedded: Range, cover: &Cover) {
     out.text(" outside");
 }
 
-// The counts, and the digest of what is covered.
+// The counts, and the digest of what is covered, by the algorithm that is set.
 fn show_cover(out: &mut Line, embedded: Range, cover: &Cover, digest: Result<Digest, Failed>) {
     show_counts(out, embedded, cover);
     out.text(" ");
@@ -68,11 +68,10 @@ fn show_cover(out: &mut Line, embedded: Range, cover: &Cover, digest: Result<Dig
 /// What the ranges that are set leave of a file: the same by reads and buffers of each length.
 pub fn data(alloc: Global, settings: &Settings, bytes: &[u8]) -> Result<String, Trouble> {
     let ranges = ranges_of(alloc, settings.text("ranges"))?;
-    let embedded = settings.range("embedded")?;
-    let wanted = data_at(alloc, embedded, ranges.as_slice(), bytes, 1, 1)?;
+    let wanted = data_at(alloc, settings, ranges.as_slice(), bytes, 1, 1)?;
     for (most, room) in LENGTHS {
         let (most, room) = (most.max(1), room.max(1));
-        let got = data_at(alloc, embedded, ranges.as_slice(), bytes, most, room)?;
+        let got = data_at(alloc, settings, ranges.as_slice(), bytes, most, room)?;
         if got.as_str() != wanted.as_str() {
             return Ok(format!(in alloc; "{got} by {most} and {room} bytes")?);
         }
@@ -83,7 +82,7 @@ pub fn data(alloc: Global, settings: &Settings, bytes: &[u8]) -> Result<String, 
 // The same over a source that gives `most` bytes a call, through a buffer of `room` bytes.
 fn data_at(
     alloc: Global,
-    embedded: Range,
+    settings: &Settings,
     ranges: &[Range],
     bytes: &[u8],
     most: usize,
@@ -92,12 +91,13 @@ fn data_at(
     requires most { 0 < most }
     requires room { 0 < room }
 {
+    let (embedded, alg) = (settings.range("embedded")?, settings.alg()?);
     let mut source = MemSource::new(Blob::copied(alloc, bytes)?, most, 0);
     let mut buf = vec![in alloc; 0; room]?;
     let mut out = Line::new(alloc);
     match data_cover(alloc, ranges, bytes.len() as u64) {
         Ok(cover) => {
-            let digest = digest_cover(&Sha, &mut source, &cover, Alg::Sha256, &mut buf);
+            let digest = digest_cover(&Sha, &mut source, &cover, alg, &mut buf);
             show_cover(&mut out, embedded, &cover, digest);
         }
         Err(error) => out.debug(&error),
@@ -108,11 +108,10 @@ fn data_at(
 /// What the exclusions that are set leave of a film: the same by reads and buffers of each length.
 pub fn film(alloc: Global, settings: &Settings, bytes: &[u8]) -> Result<String, Trouble> {
     let entries = exclusions_of(alloc, settings)?;
-    let embedded = settings.range("embedded")?;
-    let wanted = film_at(alloc, embedded, entries.as_slice(), bytes, 1, 1)?;
+    let wanted = film_at(alloc, settings, entries.as_slice(), bytes, 1, 1)?;
     for (most, room) in LENGTHS {
         let (most, room) = (most.max(1), room.max(1));
-        let got = film_at(alloc, embedded, entries.as_slice(), bytes, most, room)?;
+        let got = film_at(alloc, settings, entries.as_slice(), bytes, most, room)?;
         if got.as_str() != wanted.as_str() {
             return Ok(format!(in alloc; "{got} by {most} and {room} bytes")?);
         }
@@ -123,7 +122,7 @@ pub fn film(alloc: Global, settings: &Settings, bytes: &[u8]) -> Result<String, 
 // The same over a source that gives `most` bytes a call, through a buffer of `room` bytes.
 fn film_at(
     alloc: Global,
-    embedded: Range,
+    settings: &Settings,
     entries: &[Exclusion],
     bytes: &[u8],
     most: usize,
@@ -132,6 +131,7 @@ fn film_at(
     requires most { 0 < most }
     requires room { 0 < room }
 {
+    let (embedded, alg) = (settings.range("embedded")?, settings.alg()?);
     let mut source = MemSource::new(Blob::copied(alloc, bytes)?, most, 0);
     let mut buf = vec![in alloc; 0; room]?;
     let Ok(boxes) = roots(alloc, &mut source) else {
@@ -140,7 +140,7 @@ fn film_at(
     let mut out = Line::new(alloc);
     match bmff_cover(alloc, &mut source, &boxes, entries) {
         Ok(cover) => {
-            let digest = digest_cover(&Sha, &mut source, &cover, Alg::Sha256, &mut buf);
+            let digest = digest_cover(&Sha, &mut source, &cover, alg, &mut buf);
             show_cover(&mut out, embedded, &cover, digest);
         }
         Err(error) => out.debug(&error),

@@ -1,10 +1,11 @@
 // Items of assertions, field by field.
 use crate::claims::show_ref;
 use crate::line::Line;
+use crate::settings::Settings;
 use crate::trouble::Trouble;
 use c2_assertion::{
-    BmffHash, DataHash, Ingredient, read_bmff_hash, read_data_hash, read_ingredient,
-    write_bmff_hash, write_data_hash, write_ingredient,
+    BmffHash, DataHash, Ingredient, IngredientVersion, ingredient_version, read_bmff_hash,
+    read_data_hash, read_ingredient, write_bmff_hash, write_data_hash, write_ingredient,
 };
 use c2_base::{Blob, Text};
 use c2_bmff::Exclusion;
@@ -105,13 +106,21 @@ fn show_ingredient(out: &mut Line, value: &Ingredient) {
     show_option(out, &value.signature);
 }
 
-/// An ingredient: relationship, manifest and signature; or the refusal.
-pub fn ingredient(alloc: Global, bytes: &[u8]) -> Result<String, Trouble> {
+// An ingredient of this version that is read, or the refusal.
+fn show_read(alloc: Global, out: &mut Line, version: IngredientVersion, item: &Cbor) {
+    match read_ingredient(alloc, version, item) {
+        Ok(value) => show_ingredient(out, &value),
+        Err(error) => out.debug(&error),
+    }
+}
+
+/// An ingredient whose box has the label that is set: relationship, manifest and signature; or the refusal.
+pub fn ingredient(alloc: Global, settings: &Settings, bytes: &[u8]) -> Result<String, Trouble> {
     let item = item_of(alloc, bytes)?;
     let mut out = Line::new(alloc);
-    match read_ingredient(alloc, &item) {
-        Ok(value) => show_ingredient(&mut out, &value),
-        Err(error) => out.debug(&error),
+    match ingredient_version(settings.text("label")) {
+        Some(version) => show_read(alloc, &mut out, version, &item),
+        None => out.text("no version"),
     }
     out.whole()
 }
@@ -140,9 +149,9 @@ fn data_hash_again(alloc: Global, item: &Cbor) -> Option<Cbor> {
     }
 }
 
-// The item that is written of the ingredient of an item.
+// The item that is written of the ingredient of version 3 of an item.
 fn ingredient_again(alloc: Global, item: &Cbor) -> Option<Cbor> {
-    match read_ingredient(alloc, item) {
+    match read_ingredient(alloc, IngredientVersion::V3, item) {
         Ok(value) => write_ingredient(alloc, &value).ok(),
         Err(_) => None,
     }

@@ -1,6 +1,7 @@
 // What the lines of a table set for the rows behind them.
 use crate::trouble::Trouble;
 use c2_base::Range;
+use c2_hash::{Alg, alg_of};
 use std::alloc::Global;
 
 /// What is set: a key and a value each, of which the last of a key holds.
@@ -41,6 +42,17 @@ impl Settings {
         match self.text(key) {
             "" => Ok(0),
             text => Ok(text.parse::<u64>()?),
+        }
+    }
+
+    /// The algorithm that is set by its name; SHA-256 where none is set.
+    pub fn alg(&self) -> Result<Alg, Trouble> {
+        match self.text("alg") {
+            "" => Ok(Alg::Sha256),
+            name => match alg_of(name) {
+                Some(alg) => Ok(alg),
+                None => Err(Trouble::BadLine),
+            },
         }
     }
 

@@ -5,6 +5,7 @@ use crate::settings::Settings;
 use crate::trouble::Trouble;
 use crate::{claims, covers, fields, films, items, media, messages, stores, trees, uris, verdicts};
 use c2_assertion::kind;
+use c2_hash::{Sha, digest_of};
 use c2_pad::fill;
 use std::alloc::Global;
 
@@ -149,7 +150,7 @@ fn of_bytes(
     bytes: &[u8],
 ) -> Result<String, Trouble> {
     match what {
-        BytesView::Digest => digest(alloc, bytes),
+        BytesView::Digest => digest(alloc, settings, bytes),
         BytesView::VerdictFile => verdicts::said(alloc, settings, bytes),
         BytesView::Item => items::whole(alloc, bytes),
         BytesView::Prefix => items::prefix(alloc, bytes),
@@ -157,10 +158,10 @@ fn of_bytes(
         BytesView::OneBox => trees::one(alloc, settings, bytes),
         BytesView::Find => trees::found(alloc, settings, bytes),
         BytesView::Store => stores::shown(alloc, bytes),
-        BytesView::Claim => claims::shown(alloc, bytes),
+        BytesView::Claim => claims::shown(alloc, settings, bytes),
         BytesView::DataHash => fields::data_hash(alloc, bytes),
         BytesView::BmffHash => fields::bmff_hash(alloc, bytes),
-        BytesView::Ingredient => fields::ingredient(alloc, bytes),
+        BytesView::Ingredient => fields::ingredient(alloc, settings, bytes),
         BytesView::Written(field) => fields::rewritten(alloc, field, bytes),
         BytesView::Message => messages::shown(alloc, settings, bytes),
         BytesView::DataCover => covers::data(alloc, settings, bytes),
@@ -168,9 +169,11 @@ fn of_bytes(
     }
 }
 
-// How many bytes these are, and their digest.
-fn digest(alloc: Global, bytes: &[u8]) -> Result<String, Trouble> {
+// How many bytes these are, and their digest by the algorithm that is set.
+fn digest(alloc: Global, settings: &Settings, bytes: &[u8]) -> Result<String, Trouble> {
     let mut out = Line::new(alloc);
-    out.digest(bytes);
+    out.number(bytes.len() as u64);
+    out.text(" ");
+    out.hex(digest_of(&Sha, settings.alg()?, bytes).as_slice());
     out.whole()
 }

@@ -15,14 +15,13 @@ use Rattle.c2_spec.specs.Jpeg.Writing.{IsNumberOf, insert_place, packets_bytes}
 use Rattle.c2_spec.specs.Jumbf.Tree.{Tree, tree_bytes}
 use Rattle.c2_spec.specs.PutIn.{put_in, taken_out}
 use Rattle.c2_spec.specs.declared.digest.Alg.{Alg}
-use Rattle.c2_spec.specs.declared.digest.Alg.TheVariants.{Sha256}
 use Rattle.c2_spec.specs.declared.panel.Verdict.{Verdict}
 use Rattle.c2_rules.specs.CheckList.{StoreReading, questions}
 use Rattle.c2_boxed.specs.Laws as boxed
 use Rattle.c2_definition.specs.declared.types.Definition.{Definition}
 use Rattle.c2_built.specs.Built.{BaseIsLeft, CanBuild, built_file, built_len, built_store}
 use Rattle.c2_built.specs.Fresh.{FreshFileMeets, GivesDigests, Meets, new_question}
-use Rattle.c2_built.specs.Store.{Content}
+use Rattle.c2_built.specs.Store.{Content, new_alg}
 use Rattle.c2_built.specs.Written.{CanBeWritten}
 use Rattle.c2_carried.specs.Carrying.{BaseHasNoStore}
 use Rattle.c2_carried.specs.Parents.{IsContentOver}
@@ -55,15 +54,15 @@ put_packets number en store bytes free is = same_Some (packets_bytes store en) b
 -- it meets the rules
 pub fresh_meets : FreshFileMeets → FreshFilmMeets → FreshPlaceMeets
 fresh_meets file film hash c message base bytes (in_segments segments number) parts digests is w can spells put =
-    let store : Tree = built_store (hash Sha256) c message base (insert_place segments) in
+    let store : Tree = built_store (hash (new_alg c.definition)) c message base (insert_place segments) in
     subst
-    (λ (x : List ℕ). Meets hash (put_in (insert_place segments) x base) (insert_place segments) (built_len c (length message)) store (new_question (hash Sha256) c message base segments parts ∷ []))
+    (λ (x : List ℕ). Meets hash (put_in (insert_place segments) x base) (insert_place segments) (built_len c (length message)) store (new_question (hash (new_alg c.definition)) c message base segments parts ∷ []))
     (put_packets number can.room.0 (tree_bytes store) bytes can.room.1 put)
     (file hash c message base segments can.room.0 parts digests is w (can_build c message base segments number can) (record { none = can.place.free; fits = can.fits }) spells)
 fresh_meets file film hash c message base bytes (in_boxes roots) parts digests is w can spells put =
-    let store : Tree = film_store (hash Sha256) c message roots in
+    let store : Tree = film_store (hash (new_alg c.definition)) c message roots in
     subst
-    (λ (x : List ℕ). Meets hash (put_in (writing.insert_place roots) x base) (writing.insert_place roots) (film_len c (length message)) store (film_question (hash Sha256) c roots parts ∷ []))
+    (λ (x : List ℕ). Meets hash (put_in (writing.insert_place roots) x base) (writing.insert_place roots) (film_len c (length message)) store (film_question (hash (new_alg c.definition)) c roots parts ∷ []))
     (same_Some (box_bytes (c2pa_box (tree_bytes store))) bytes put)
     (film hash c message base roots parts digests is w can.place.is.0 (can_film c message base roots can) can.place.free spells)
 
@@ -80,31 +79,31 @@ pub record OverLaws : Type 0 where
 -- it meets the rules behind segments
 over_segments : OverLaws → (hash : Alg → List ℕ → List ℕ) (said : Question → Verdict) (media : List ℕ) (start len : ℕ) (old : Tree) (s : StoreReading) (d : Definition) (c : Content) (message base bytes : List ℕ) (segments : List Segment) (number : Option ℕ) (parts : SignParts)
     → GivesDigests hash → CanSucceedAt hash said media start len old s d → CanBeWritten d → IsContentOver d old c → is_bmff media ≡ false → base ≡ taken_out start len media → CanPut c (length message) base (in_segments segments number) → SpellsMessage message parts
-    → option_map (packets_bytes (tree_bytes (built_store (hash Sha256) c message base (insert_place segments)))) number ≡ Some bytes
-    → Meets hash (put_in (insert_place segments) bytes base) (insert_place segments) (built_len c (length message)) (built_store (hash Sha256) c message base (insert_place segments)) (new_question (hash Sha256) c message base segments parts ∷ questions s.readings)
+    → option_map (packets_bytes (tree_bytes (built_store (hash (new_alg c.definition)) c message base (insert_place segments)))) number ≡ Some bytes
+    → Meets hash (put_in (insert_place segments) bytes base) (insert_place segments) (built_len c (length message)) (built_store (hash (new_alg c.definition)) c message base (insert_place segments)) (new_question (hash (new_alg c.definition)) c message base segments parts ∷ questions s.readings)
 over_segments l hash said media start len old s d c message base bytes segments number parts digests k w over jpeg left can spells put =
     let en : ℕ = can.room.0 in
     let build : CanBuild c (length message) (taken_out start len media) segments en = subst (λ (b : List ℕ). CanBuild c (length message) b segments en) left (can_build c message base segments number can) in
     let fits : length (taken_out start len media) + built_len c (length message) < FILE_LEN_LIMIT = subst (λ (b : List ℕ). length b + built_len c (length message) < FILE_LEN_LIMIT) left can.fits in
     let met = l.file hash said media start len old s d c message segments en parts digests (record { opened = k.opened; jpeg = jpeg; reads = k.reads; valid = k.valid; label = k.label; redactions = k.redactions; few = k.few }) w over build fits spells in
     subst
-    (λ (x : List ℕ). Meets hash (put_in (insert_place segments) x base) (insert_place segments) (built_len c (length message)) (built_store (hash Sha256) c message base (insert_place segments)) (new_question (hash Sha256) c message base segments parts ∷ questions s.readings))
-    (put_packets number en (tree_bytes (built_store (hash Sha256) c message base (insert_place segments))) bytes can.room.1 put)
+    (λ (x : List ℕ). Meets hash (put_in (insert_place segments) x base) (insert_place segments) (built_len c (length message)) (built_store (hash (new_alg c.definition)) c message base (insert_place segments)) (new_question (hash (new_alg c.definition)) c message base segments parts ∷ questions s.readings))
+    (put_packets number en (tree_bytes (built_store (hash (new_alg c.definition)) c message base (insert_place segments))) bytes can.room.1 put)
     (subst
-    (λ (b : List ℕ). Meets hash (built_file (hash Sha256) c message b segments en) (insert_place segments) (built_len c (length message)) (built_store (hash Sha256) c message b (insert_place segments)) (new_question (hash Sha256) c message b segments parts ∷ questions s.readings))
+    (λ (b : List ℕ). Meets hash (built_file (hash (new_alg c.definition)) c message b segments en) (insert_place segments) (built_len c (length message)) (built_store (hash (new_alg c.definition)) c message b (insert_place segments)) (new_question (hash (new_alg c.definition)) c message b segments parts ∷ questions s.readings))
     (sym left) met)
 
 -- and behind root boxes
 over_boxes : OverLaws → (hash : Alg → List ℕ → List ℕ) (said : Question → Verdict) (media : List ℕ) (start len : ℕ) (old : Tree) (s : StoreReading) (d : Definition) (c : Content) (message base bytes : List ℕ) (roots : List Box) (parts : SignParts)
     → GivesDigests hash → CanSucceedAt hash said media start len old s d → CanBeWritten d → IsContentOver d old c → is_bmff media ≡ true → IsLeftOfBoxes media base → CanPut c (length message) base (in_boxes roots) → SpellsMessage message parts
-    → Some (box_bytes (c2pa_box (tree_bytes (film_store (hash Sha256) c message roots)))) ≡ Some bytes
-    → Meets hash (put_in (writing.insert_place roots) bytes base) (writing.insert_place roots) (film_len c (length message)) (film_store (hash Sha256) c message roots) (film_question (hash Sha256) c roots parts ∷ questions s.readings)
+    → Some (box_bytes (c2pa_box (tree_bytes (film_store (hash (new_alg c.definition)) c message roots)))) ≡ Some bytes
+    → Meets hash (put_in (writing.insert_place roots) bytes base) (writing.insert_place roots) (film_len c (length message)) (film_store (hash (new_alg c.definition)) c message roots) (film_question (hash (new_alg c.definition)) c roots parts ∷ questions s.readings)
 over_boxes l hash said media start len old s d c message base bytes roots parts digests k w over film left can spells put =
     let has : HasRoots base left.0 = (l.boxes media base left.0 left.1).0 in
     let is : IsBmffBase media base roots = subst (IsBmffBase media base) (l.roots base left.0 roots has can.place.is.1) left.1 in
     subst
-    (λ (x : List ℕ). Meets hash (put_in (writing.insert_place roots) x base) (writing.insert_place roots) (film_len c (length message)) (film_store (hash Sha256) c message roots) (film_question (hash Sha256) c roots parts ∷ questions s.readings))
-    (same_Some (box_bytes (c2pa_box (tree_bytes (film_store (hash Sha256) c message roots)))) bytes put)
+    (λ (x : List ℕ). Meets hash (put_in (writing.insert_place roots) x base) (writing.insert_place roots) (film_len c (length message)) (film_store (hash (new_alg c.definition)) c message roots) (film_question (hash (new_alg c.definition)) c roots parts ∷ questions s.readings))
+    (same_Some (box_bytes (c2pa_box (tree_bytes (film_store (hash (new_alg c.definition)) c message roots)))) bytes put)
     (l.film hash said media start len old s d c message base roots parts digests (record { opened = k.opened; bmff = film; reads = k.reads; valid = k.valid; label = k.label; redactions = k.redactions; few = k.few }) w over is (can_film c message base roots can) spells)
 
 -- so it does in its place
@@ -112,13 +111,13 @@ pub over_meets : OverLaws → OverPlaceMeets
 over_meets l hash said media start len old s d c message base bytes (in_segments segments number) parts digests k w over left can spells put = go (is_bmff media) refl left
   where
     go : (b : Bool) → is_bmff media ≡ b → MatchBool b (IsLeftOfBoxes media base) (base ≡ taken_out start len media)
-        → Meets hash (put_in (insert_place segments) bytes base) (insert_place segments) (built_len c (length message)) (built_store (hash Sha256) c message base (insert_place segments)) (new_question (hash Sha256) c message base segments parts ∷ questions s.readings)
+        → Meets hash (put_in (insert_place segments) bytes base) (insert_place segments) (built_len c (length message)) (built_store (hash (new_alg c.definition)) c message base (insert_place segments)) (new_question (hash (new_alg c.definition)) c message base segments parts ∷ questions s.readings)
     go true is h = not_both base can.place.is.0 (left_container l.boxes l.segments media start len old base k.opened left ∙ is)
     go false is h = over_segments l hash said media start len old s d c message base bytes segments number parts digests k w over is h can spells put
 over_meets l hash said media start len old s d c message base bytes (in_boxes roots) parts digests k w over left can spells put = go (is_bmff media) refl left
   where
     go : (b : Bool) → is_bmff media ≡ b → MatchBool b (IsLeftOfBoxes media base) (base ≡ taken_out start len media)
-        → Meets hash (put_in (writing.insert_place roots) bytes base) (writing.insert_place roots) (film_len c (length message)) (film_store (hash Sha256) c message roots) (film_question (hash Sha256) c roots parts ∷ questions s.readings)
+        → Meets hash (put_in (writing.insert_place roots) bytes base) (writing.insert_place roots) (film_len c (length message)) (film_store (hash (new_alg c.definition)) c message roots) (film_question (hash (new_alg c.definition)) c roots parts ∷ questions s.readings)
     go true is h = over_boxes l hash said media start len old s d c message base bytes roots parts digests k w over is h can spells put
     go false is h = not_both base (left_container l.boxes l.segments media start len old base k.opened left ∙ is) can.place.is.0
 

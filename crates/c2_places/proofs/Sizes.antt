@@ -13,5 +13,5 @@ place_size file film hash c (in_boxes roots) len digest message sized long = fil
 
 -- its binding is of a kind that is known
 pub known_binding : BindingsAreKnown
-known_binding (in_segments segments number) len digest = record { label = inl refl; item = refl }
-known_binding (in_boxes roots) len digest = record { label = inr refl; item = refl }
+known_binding alg (in_segments segments number) len digest = record { label = inl refl; item = refl }
+known_binding alg (in_boxes roots) len digest = record { label = inr refl; item = refl }

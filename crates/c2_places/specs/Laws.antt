@@ -4,13 +4,13 @@ use Rattle.c2_spec.specs.Container.{is_bmff}
 use Rattle.c2_spec.specs.Digest.{digest_len}
 use Rattle.c2_spec.specs.Jumbf.Tree.{Tree, tree_bytes}
 use Rattle.c2_spec.specs.Located.{absent, here}
-use Rattle.c2_spec.specs.declared.digest.Alg.TheVariants.{Sha256}
 use Rattle.c2_rules.specs.Opened.{IsOpened}
 use Rattle.c2_built.specs.Built.{HasDigestLen}
-use Rattle.c2_built.specs.Store.{Content, new_store}
+use Rattle.c2_built.specs.Store.{Content, new_store, new_alg}
 use Rattle.c2_built.specs.Unbound.{IsKnownBinding}
 use Rattle.c2_places.specs.Bases.{IsLeft}
 use Rattle.c2_places.specs.Places.{IsFreePlace, IsPlace, Place, binding_with, store_len}
+use Rattle.c2_spec.specs.declared.digest.Alg.{Alg}
 
 -- a file has one place for a new store
 abbrev pub OnePlace : Type 0
@@ -41,9 +41,9 @@ LeftHasContainer = (media : List ℕ) (start len : ℕ) (t : Tree) (base : List 
 -- A new store's length depends neither on its range nor on digests.
 abbrev pub PlaceSizeIsFixed : Type 0
 PlaceSizeIsFixed = (hash : List ℕ → List ℕ) (c : Content) (p : Place) (len : ℕ) (digest message : List ℕ)
-    → HasDigestLen hash → length digest ≡ digest_len Sha256
-    → length (tree_bytes (new_store hash c (binding_with p len digest) message)) ≡ store_len p c (length message)
+    → HasDigestLen (new_alg c.definition) hash → length digest ≡ digest_len (new_alg c.definition)
+    → length (tree_bytes (new_store hash c (binding_with (new_alg c.definition) p len digest) message)) ≡ store_len p c (length message)
 
 -- Its binding is of a kind that is known.
 abbrev pub BindingsAreKnown : Type 0
-BindingsAreKnown = (p : Place) (len : ℕ) (digest : List ℕ) → IsKnownBinding (binding_with p len digest)
+BindingsAreKnown = (alg : Alg) (p : Place) (len : ℕ) (digest : List ℕ) → IsKnownBinding (binding_with alg p len digest)

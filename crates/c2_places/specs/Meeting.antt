@@ -7,7 +7,6 @@ use Rattle.c2_spec.specs.Jumbf.Tree.{Tree, tree_bytes}
 use Rattle.c2_spec.specs.Located.{here}
 use Rattle.c2_spec.specs.PutIn.{taken_out}
 use Rattle.c2_spec.specs.declared.digest.Alg.{Alg}
-use Rattle.c2_spec.specs.declared.digest.Alg.TheVariants.{Sha256}
 use Rattle.c2_spec.specs.declared.panel.Verdict.{Verdict}
 use Rattle.c2_rules.specs.CheckList.{IsValid, StoreReading, questions}
 use Rattle.c2_rules.specs.Opened.{IsOpened}
@@ -15,7 +14,7 @@ use Rattle.c2_rules.specs.Validated.{IsFileReading}
 use Rattle.c2_definition.specs.declared.types.Definition.{Definition}
 use Rattle.c2_built.specs.Built.{HasDigestLen}
 use Rattle.c2_built.specs.Fresh.{GivesDigests, IsFresh, Meets}
-use Rattle.c2_built.specs.Store.{Content}
+use Rattle.c2_built.specs.Store.{Content, new_alg}
 use Rattle.c2_built.specs.Written.{CanBeWritten}
 use Rattle.c2_carried.specs.Parents.{IsContentOver}
 use Rattle.c2_carried.specs.Refusing.{has_manifest, redaction_refusal}
@@ -27,9 +26,9 @@ use Rattle.c2_places.specs.Places.{CanPut, Place, place_file, place_question, pl
 abbrev pub FreshPlaceMeets : Type 0
 FreshPlaceMeets = (hash : Alg → List ℕ → List ℕ) (c : Content) (message base bytes : List ℕ) (p : Place) (parts : SignParts)
     → GivesDigests hash → IsFresh c → CanBeWritten c.definition → CanPut c (length message) base p → SpellsMessage message parts
-    → put_bytes p (tree_bytes (place_store (hash Sha256) c message base p)) ≡ Some bytes
-    → Meets hash (place_file base p bytes) (place_start p) (range_len p c (length message)) (place_store (hash Sha256) c message base p)
-    (place_question (hash Sha256) c (length message) base p parts ∷ [])
+    → put_bytes p (tree_bytes (place_store (hash (new_alg c.definition)) c message base p)) ≡ Some bytes
+    → Meets hash (place_file base p bytes) (place_start p) (range_len p c (length message)) (place_store (hash (new_alg c.definition)) c message base p)
+    (place_question (hash (new_alg c.definition)) c (length message) base p parts ∷ [])
 
 -- A media file with a store in this range that a new store of this definition may be built over: the file is valid, as judges find who
 -- say this; it has no manifest of the new label and room for one more; and no redaction is refused.
@@ -47,13 +46,13 @@ abbrev pub OverPlaceMeets : Type 0
 OverPlaceMeets = (hash : Alg → List ℕ → List ℕ) (said : Question → Verdict) (media : List ℕ) (start len : ℕ) (old : Tree) (s : StoreReading) (d : Definition) (c : Content) (message base bytes : List ℕ) (p : Place) (parts : SignParts)
     → GivesDigests hash → CanSucceedAt hash said media start len old s d → CanBeWritten d → IsContentOver d old c → IsLeft media start len base
     → CanPut c (length message) base p → SpellsMessage message parts
-    → put_bytes p (tree_bytes (place_store (hash Sha256) c message base p)) ≡ Some bytes
-    → Meets hash (place_file base p bytes) (place_start p) (range_len p c (length message)) (place_store (hash Sha256) c message base p)
-    (place_question (hash Sha256) c (length message) base p parts ∷ questions s.readings)
+    → put_bytes p (tree_bytes (place_store (hash (new_alg c.definition)) c message base p)) ≡ Some bytes
+    → Meets hash (place_file base p bytes) (place_start p) (range_len p c (length message)) (place_store (hash (new_alg c.definition)) c message base p)
+    (place_question (hash (new_alg c.definition)) c (length message) base p parts ∷ questions s.readings)
 
 -- Less the new range, the file is what it was.
 abbrev pub BaseStays : Type 0
 BaseStays = (hash : List ℕ → List ℕ) (c : Content) (message base bytes : List ℕ) (p : Place)
-    → HasDigestLen hash → CanPut c (length message) base p
+    → HasDigestLen (new_alg c.definition) hash → CanPut c (length message) base p
     → put_bytes p (tree_bytes (place_store hash c message base p)) ≡ Some bytes
     → taken_out (place_start p) (range_len p c (length message)) (place_file base p bytes) ≡ base

@@ -18,8 +18,9 @@ use Rattle.c2_spec.specs.Jumbf.Tree.{Tree}
 use Rattle.c2_spec.specs.PutIn.{put_in}
 use Rattle.c2_definition.specs.declared.types.NewAssertion.{NewAssertion}
 use Rattle.c2_built.specs.Built.{built_len, store_size}
-use Rattle.c2_built.specs.Store.{Content, data_binding, new_claim, new_store}
+use Rattle.c2_built.specs.Store.{Content, data_binding, new_claim, new_store, new_alg}
 use Rattle.c2_films.specs.Films.{AreOthers, film_binding, film_len, film_store_size}
+use Rattle.c2_spec.specs.declared.digest.Alg.{Alg}
 
 -- ---- the place
 
@@ -68,14 +69,14 @@ abbrev pub bound_text : List ℕ → Place → List ℕ
 bound_text base (in_segments segments number) = base
 bound_text base (in_boxes roots) = bmff.built_text roots
 
--- the binding with this digest of it, where so many bytes are put in
-abbrev pub binding_with : Place → ℕ → List ℕ → NewAssertion
-binding_with (in_segments segments number) len digest = data_binding (jpeg.insert_place segments) len digest
-binding_with (in_boxes roots) len digest = film_binding digest
+-- the binding with this digest of it by an algorithm, where so many bytes are put in
+abbrev pub binding_with : Alg → Place → ℕ → List ℕ → NewAssertion
+binding_with alg (in_segments segments number) len digest = data_binding alg (jpeg.insert_place segments) len digest
+binding_with alg (in_boxes roots) len digest = film_binding alg digest
 
 -- the binding over a file without a store, with so many bytes for the message
 abbrev pub place_binding : (List ℕ → List ℕ) → Content → ℕ → List ℕ → Place → NewAssertion
-place_binding hash c reserve base p = binding_with p (range_len p c reserve) (hash (bound_text base p))
+place_binding hash c reserve base p = binding_with (new_alg c.definition) p (range_len p c reserve) (hash (bound_text base p))
 
 -- ---- the new file
 

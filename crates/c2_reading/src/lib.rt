@@ -18,6 +18,7 @@ pub use chain::{
     ReadManifests, child_of, children, is_active, is_reached, is_redacted, is_touched, manifests,
     place_of, reaches, read_claim_at, read_manifests,
 };
+pub use keeping::claim_bytes;
 pub use kept::{Kept, KeptBox, StoreBox, box_label, boxes, ingredient, is_own, is_update, label};
 pub use laws::{
     a_reading_is_the_claim_and_the_question, each_list_is_an_item_or_not,

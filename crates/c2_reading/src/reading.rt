@@ -12,14 +12,14 @@ ghost use Rattle.c2_rules.specs.Readings.{IsParsed, IsMessageOf, IsReadBox};
 ghost use Rattle.c2_reading.specs.Parsing.{claim_parsed, ingredient_parsed};
 
 use crate::kept::{KeptBox, StoreBox};
-use c2_assertion::{Kind, kind, read_ingredient};
+use c2_assertion::{Kind, ingredient_version, kind, read_ingredient};
 use c2_base::NoMemory;
 use c2_cbor::{CborError, decode_whole};
 use c2_claim::read;
 use c2_jumbf::{Tree, contents, label_of};
 use c2_rules::Parsed;
 use c2_sigstruct::{SignError, read_sign1};
-use c2_spec::{Claim, ClaimError, FieldError, Ingredient, Sign1};
+use c2_spec::{Claim, ClaimError, ClaimVersion, FieldError, Ingredient, IngredientVersion, Sign1};
 use c2_store::item;
 use std::alloc::Global;
 
@@ -49,11 +49,15 @@ fn parsed_claim(found: Result<Claim, ClaimError>) -> Option<Parsed<Claim>>
     }
 }
 
-/// What claim bytes are read as.
-pub fn read_claim(alloc: Global, bytes: &[u8]) -> Result<Parsed<Claim>, NoMemory>
-    ensures { IfOk result (λ p. IsParsed claim_of (Some bytes.now) p) }
+/// What claim bytes are read as under this version.
+pub fn read_claim(
+    alloc: Global,
+    version: ClaimVersion,
+    bytes: &[u8],
+) -> Result<Parsed<Claim>, NoMemory>
+    ensures { IfOk result (λ p. IsParsed (claim_of version) (Some bytes.now) p) }
 {
-    let found = read(alloc, bytes);
+    let found = read(alloc, version, bytes);
     match parsed_claim(found) {
         Some(parsed) => Ok(parsed),
         None => Err(NoMemory),
@@ -73,16 +77,20 @@ fn parsed_ingredient(found: Result<Ingredient, FieldError>) -> Option<Parsed<Ing
     }
 }
 
-/// What the payload of an ingredient's box is read as.
-pub fn read_payload(alloc: Global, bytes: &[u8]) -> Result<Parsed<Ingredient>, NoMemory>
-    ensures { IfOk result (λ p. IsParsed ingredient_of (Some bytes.now) p) }
+/// What the payload of an ingredient's box is read as under this version.
+pub fn read_payload(
+    alloc: Global,
+    version: IngredientVersion,
+    bytes: &[u8],
+) -> Result<Parsed<Ingredient>, NoMemory>
+    ensures { IfOk result (λ p. IsParsed (ingredient_of version) (Some bytes.now) p) }
 {
     let item = match decode_whole(alloc, bytes) {
         Ok(item) => item,
         Err(CborError::NoMemory) => return Err(NoMemory),
         Err(_) => return Ok(Parsed::NoItem),
     };
-    let found = read_ingredient(alloc, &item);
+    let found = read_ingredient(alloc, version, &item);
     match parsed_ingredient(found) {
         Some(parsed) => Ok(parsed),
         None => Err(NoMemory),
@@ -114,6 +122,16 @@ fn is_ingredient(b: &StoreBox<'_>) -> bool
     }
 }
 
+/// The version that a box of an ingredient is read under.
+fn version_in(b: &StoreBox<'_>) -> IngredientVersion
+    ensures { result ≡ ingredients.box_version b.now }
+{
+    match b.label {
+        Some(name) => ingredient_version(name).unwrap_or(IngredientVersion::V3),
+        None => IngredientVersion::V3,
+    }
+}
+
 /// The item of a box.
 fn payload<'c>(b: &'c StoreBox<'_>) -> Option<&'c [u8]>
     ensures { option_map (λ x. x.now) result ≡ b.now.item }
@@ -129,7 +147,7 @@ fn read_ingredient_box(alloc: Global, b: &StoreBox<'_>) -> Result<Parsed<Ingredi
         return Ok(Parsed::NoItem);
     }
     match payload(b) {
-        Some(bytes) => read_payload(alloc, bytes),
+        Some(bytes) => read_payload(alloc, version_in(b), bytes),
         None => Ok(Parsed::NoItem),
     }
 }

@@ -6,6 +6,7 @@ use Rattle.std.specs.Prelude.{ℕ, nat_lt, Bool, true, false, not, ◌==◌, ◌
 use Rattle.std.specs.List.{list_any}
 use Rattle.std.specs.Option.{option_map_or}
 use Rattle.c2_spec.specs.C2pa.Assertion.{kind_of, manifest_named}
+use Rattle.c2_spec.specs.C2pa.Claim.{claim_version}
 use Rattle.c2_spec.specs.Digest.{alg_named}
 use Rattle.c2_spec.specs.C2pa.Manifest.{Manifest, Superbox, is_given}
 use Rattle.c2_spec.specs.C2pa.Uri.{PlainUri, PlainTarget, whole, assertion, signature, other, uri_of, uri_text}
@@ -128,7 +129,7 @@ abbrev pub claim_tests : Reading → List Test
 claim_tests r =
     test (length r.manifest.claims == 0) code.ClaimMissing (manifest_uri r)
     ∷ test (nat_lt 1 (length r.manifest.claims)) code.ClaimMultiple (manifest_uri r)
-    ∷ test (not (is_given (claim_label r.manifest.claims) (codes "c2pa.claim.v2")))
+    ∷ test (is_none (option_and_then claim_version (claim_label r.manifest.claims)))
     code.UnsupportedClaimVersion (manifest_uri r)
     ∷ test (is_no_item r.claim) code.ClaimCborInvalid (claim_uri r)
     ∷ test (is_none (claim_in r)) code.ProfileClaimFields (claim_uri r)
@@ -270,7 +271,7 @@ abbrev pub is_actions : Kind → Bool
 is_actions kinds.Actions = true
 is_actions kind = false
 
--- an ingredient of the version that is read, or of another
+-- an ingredient of a version that is read, or of another
 abbrev pub is_any_ingredient : Kind → Bool
 is_any_ingredient kinds.Ingredient = true
 is_any_ingredient kinds.IngredientOther = true
@@ -363,7 +364,7 @@ is_one_parent [] = false
 is_one_parent (b ∷ []) = reads_parent b
 is_one_parent (b ∷ c ∷ more) = false
 
--- the boxes of ingredients of the version that is read
+-- the boxes of ingredients of the versions that are read
 abbrev pub ingredients_in : Reading → List ReadBox
 ingredients_in r = filter (λ (b : ReadBox). is_ingredient b.boxed) r.boxes
 
@@ -387,7 +388,7 @@ order_tests uri seen.missing = test true code.IngredientManifestMissing uri ∷ 
 order_tests uri seen.later = test true code.UnsupportedIngredientOrder uri ∷ []
 order_tests uri standing = []
 
--- the item of a box of the version that is read; how a manifest stands is told by its label
+-- the item of a box of a version that is read; how a manifest stands is told by its label
 abbrev pub parsed_tests : (List ℕ → Standing) → List ℕ → Parsed Ingredient → List Test
 parsed_tests standing uri NoItem = test true code.AssertionCborInvalid uri ∷ []
 parsed_tests standing uri NoForm = test true code.ProfileIngredientForm uri ∷ []

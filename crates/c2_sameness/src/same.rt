@@ -11,10 +11,11 @@ ghost use Rattle.c2_spec.specs.declared.cbor.Ref.{Ref as AnyRef};
 ghost use Rattle.c2_sameness.specs.Alike.{alike};
 
 use c2_base::NoMemory;
-use c2_counterparts::{claim_payload, manifest_at};
+use c2_counterparts::manifest_at;
 use c2_entries::{Labelled, entry_at, entry_count, find_box, is_listed, owner, with_labels};
 use c2_reading::{
-    KeptBox, ReadManifests, entry_label, is_active, is_reached, is_redacted, label, manifests,
+    KeptBox, ReadManifests, claim_bytes, entry_label, is_active, is_reached, is_redacted, label,
+    manifests,
 };
 use c2_spec::Ref;
 use std::alloc::Global;
@@ -172,7 +173,7 @@ fn is_alike(first: &ReadManifests<'_>, n: usize, second: &ReadManifests<'_>, m: 
     let right = &manifests(second)[m];
     is_reached(second, m)
         && (key_at(second, m) == key_at(first, n)
-            && are_equal(claim_payload(left), claim_payload(right)))
+            && are_equal(claim_bytes(left), claim_bytes(right)))
 }
 
 /// Whether the manifest at a place of the second store has all that the one at a place of the first has.

@@ -15,11 +15,10 @@ ghost use Rattle.c2_settling.specs.Settled.{IsSettled, IsStored, shown_kind};
 
 use c2_base::{Failed, NoMemory, Sink, Source};
 use c2_binding::{EvidenceKind, a_difference_is_found, a_test_decides_content};
-use c2_counterparts::claim_payload;
 use c2_covering::BoundText;
 use c2_differences::{active, chain_difference};
 use c2_evidence::{Binder, CompareError, Difference, same_covered, write_covered, write_evidence};
-use c2_reading::ReadManifests;
+use c2_reading::{ReadManifests, claim_bytes};
 use c2_sameness::has_same_content;
 use std::alloc::Global;
 
@@ -41,7 +40,7 @@ fn active_claim<'a>(all: &'a ReadManifests<'_>) -> Option<&'a [u8]>
     ensures { option_map (λ b. b.now) result ≡ content.active_claim all.now }
 {
     match active(all) {
-        Some(own) => claim_payload(own),
+        Some(own) => claim_bytes(own),
         None => None,
     }
 }

@@ -2,6 +2,7 @@ mod AssertionRows
 pub mod CborEach
 mod CborRows
 mod ClaimRows
+pub mod ClaimVersions
 mod CoverRows
 mod BmffRows
 mod JpegRows
@@ -17,6 +18,7 @@ pub mod JumbfNoFault
 pub mod JumbfOneFault
 pub mod JumbfCode
 pub mod JumbfRows
+pub mod Digests
 pub mod Kept
 pub mod BmffTests
 pub mod BmffSizes

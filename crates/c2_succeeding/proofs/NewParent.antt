@@ -1,5 +1,5 @@
 -- The rules of a new manifest that has a parent: what they see of its boxes, and that they hold.
-use Rattle.std.proofs.Common.{◌≡◌, ⊎_elim, ℕ, zero, suc, ◌+◌, ◌-◌, ◌<◌, ◌≤◌, Bool, true, false, cond, List, [], ◌∷◌, ◌++◌, length, map, Some, None, slice_get, refl, sym, ap, ◌∙◌, subst, arith, bytes_eq, codes, lit<, lit≤}
+use Rattle.std.proofs.Common.{◌≡◌, ⊎_elim, ℕ, zero, suc, ◌+◌, ◌-◌, ◌<◌, ◌≤◌, Bool, true, false, cond, List, [], ◌∷◌, ◌++◌, length, map, Some, None, slice_get, refl, sym, ap, ◌∙◌, subst, arith, bytes_eq, codes, lit<, lit≤, not, is_some, ◌||◌}
 use Rattle.std.specs.Prelude.{filter, filter_map, option_and_then}
 use Rattle.std.specs.Bool.{MatchBool}
 use Rattle.std.specs.List.{AllByRecursion, AllZip, cons_option}
@@ -12,13 +12,12 @@ use Rattle.c2_spec.specs.C2pa.Uri as targets
 use Rattle.c2_spec.specs.Cbor.Deterministic.{deterministic}
 use Rattle.c2_spec.specs.declared.assertion.Ingredient.{Ingredient}
 use Rattle.c2_spec.specs.declared.digest.Alg.{Alg}
-use Rattle.c2_spec.specs.declared.digest.Alg.TheVariants.{Sha256}
 use Rattle.c2_rules.specs.Chains.{child_of, is_touched, label_in, named_by, place_before, place_of}
 use Rattle.c2_rules.specs.CheckList.{question_at, questions_of}
 use Rattle.c2_rules.specs.Chains.{is_reached}
-use Rattle.c2_rules.specs.Ingredients.{assertion_uri, is_ingredient_kind}
+use Rattle.c2_rules.specs.Ingredients.{assertion_uri, is_ingredient_kind, box_version}
 use Rattle.c2_rules.specs.Readings.{IsParsed, IsReadBox, ReadBox, Reading}
-use Rattle.c2_rules.specs.Rules.{assertion_box_uri, form_tests, ingredient_tests, kind_tests, order_tests, reads_parent, redaction_tests, standing_tests}
+use Rattle.c2_rules.specs.Rules.{assertion_box_uri, form_tests, ingredient_tests, kind_tests, order_tests, reads_parent, redaction_tests, standing_tests, has_digest_by}
 use Rattle.c2_rules.specs.Rules as rule
 use Rattle.c2_rules.specs.Seen.{Seen, Standing, child_standing, earlier_standing, later, place_standing, signature_contents, standing_of, touched, whole}
 use Rattle.c2_rules.specs.Tests.{Test, downward, each}
@@ -29,7 +28,7 @@ use Rattle.c2_assertion.specs.Written.{ingredient_item}
 use Rattle.c2_definition.specs.declared.types.Definition.{Definition}
 use Rattle.c2_definition.specs.declared.types.NewAssertion.{NewAssertion}
 use Rattle.c2_definition.specs.declared.types.Payload.TheVariants as payload
-use Rattle.c2_built.specs.Store.{Parent, parent_ingredient, parent_ref}
+use Rattle.c2_built.specs.Store.{Parent, parent_ingredient, parent_ref, new_alg}
 use Rattle.c2_built.specs.Unbound.{IsKnownLabel}
 use Rattle.c2_built.specs.Written.{written_assertion}
 use Rattle.c2_built.proofs.Labels.{IsLabelText, new_label}
@@ -46,6 +45,8 @@ use Rattle.c2_succeeding.proofs.Ingredient.{parent_named}
 use Rattle.c2_succeeding.proofs.LessChain.{HasParent, Quiet, both_reached, less_place}
 use Rattle.c2_succeeding.proofs.More.{get_front, place_more}
 use Rattle.c2_succeeding.proofs.Plain.{IsNew, listed_each, no_binding, no_children, no_forms, no_ingredient, none_read}
+use Rattle.c2_spec.proofs.Digests.{named_back}
+use Rattle.c2_spec.specs.Digest.{alg_name, alg_named}
 
 -- ---- lists
 
@@ -123,7 +124,7 @@ boxes_zip hash p (a ∷ ds) h =
     let no : is_ingredient_kind (kind_of a.label) ≡ false = no_ingredient (kind_of a.label) (new_label a.label h.0).kind in (
       record {
         same = refl;
-        reads = subst (λ b. MatchBool b (IsParsed ingredient_of (written_assertion a).item (parent_box hash p a)) (parent_box hash p a ≡ NoItem)) (sym no) (ap (λ b. cond b (Value (parent_ingredient hash p)) NoItem) no);
+        reads = subst (λ b. MatchBool b (IsParsed (ingredient_of (box_version (written_assertion a))) (written_assertion a).item (parent_box hash p a)) (parent_box hash p a ≡ NoItem)) (sym no) (ap (λ b. cond b (Value (parent_ingredient hash p)) NoItem) no);
       },
       boxes_zip hash p ds h.1,
     )
@@ -144,7 +145,7 @@ binding_read hash p b known =
     let no : is_ingredient_kind (kind_of b.label) ≡ false = no_binding_reads b.label known in
     record {
       same = refl;
-      reads = subst (λ t. MatchBool t (IsParsed ingredient_of (written_assertion b).item (parent_box hash p b)) (parent_box hash p b ≡ NoItem)) (sym no) (ap (λ t. cond t (Value (parent_ingredient hash p)) NoItem) no);
+      reads = subst (λ t. MatchBool t (IsParsed (ingredient_of (box_version (written_assertion b))) (written_assertion b).item (parent_box hash p b)) (parent_box hash p b ≡ NoItem)) (sym no) (ap (λ t. cond t (Value (parent_ingredient hash p)) NoItem) no);
     }
 
 -- the boxes of the parent and the binding
@@ -177,21 +178,33 @@ parent_standing redacts rs ss x p thins h =
 
 -- what a claim of a definition says beside the label and the entries
 abbrev pub said_by : Definition → Said
-said_by d = record { instance = d.instance_id; generator = d.generator; title = d.title; redacted = d.redact }
+said_by d = record { instance = d.instance_id; generator = d.generator; title = d.title; alg = new_alg d; redacted = d.redact }
 
 -- the new manifest's reading
 abbrev pub parent_reading : (List ℕ → List ℕ) → Parent → Definition → NewAssertion → List ℕ → List ℕ → SignParts → Reading
 parent_reading hash p d binding claim message sp = new_reading hash (parent_box hash p) d.label (said_by d) (d.assertions ++ (parent_item hash p ∷ binding ∷ [])) claim message sp
 
+-- a digest of a list by an algorithm that is named is right
+named_digest : (hash : Alg → List ℕ → List ℕ) (alg : Alg) (list : List ℕ) → has_digest_by hash (alg_named (alg_name alg)) list (hash alg list) ≡ true
+named_digest hash alg list = ap (λ o. has_digest_by hash o list (hash alg list)) (named_back alg) ∙ same_bytes (hash alg list)
+
+-- so is that of a signature
+named_signature : (hash : Alg → List ℕ → List ℕ) (alg : Alg) (list : List ℕ) → not (has_digest_by hash (alg_named (alg_name alg)) list (hash alg list)) ≡ false
+named_signature hash alg list = not_from_true (has_digest_by hash (alg_named (alg_name alg)) list (hash alg list)) (named_digest hash alg list)
+
+-- and the algorithm is known
+named_known : (alg : Alg) → (not (is_some (alg_named (alg_name alg))) || not (is_some (alg_named (alg_name alg)))) ≡ false
+named_known alg = ap (λ o. not (is_some o) || not (is_some o)) (named_back alg)
+
 -- they hold, however it stands
 named_holds : (hash : Alg → List ℕ → List ℕ) (p : Parent) (d : Definition) (binding : NewAssertion) (claim message : List ℕ) (sp : SignParts) (uri : List ℕ) (s : Standing) (active : Reading) (t : Bool) → s ≡ child_standing t active → signature_contents active ≡ Some p.signed → active.manifest.contents ≡ p.contents
-    → AllByRecursion Holds (standing_tests hash (parent_reading (hash Sha256) p d binding claim message sp) uri (parent_ref (hash Sha256) p.label targets.whole p.contents) (Some (parent_ref (hash Sha256) p.label targets.signature p.signed)) s)
+    → AllByRecursion Holds (standing_tests hash (parent_reading (hash (new_alg d)) p d binding claim message sp) uri (parent_ref (hash (new_alg d)) p.label targets.whole p.contents) (Some (parent_ref (hash (new_alg d)) p.label targets.signature p.signed)) s)
 named_holds hash p d binding claim message sp uri s active true e signed contents =
-    subst (λ s. AllByRecursion Holds (standing_tests hash (parent_reading (hash Sha256) p d binding claim message sp) uri (parent_ref (hash Sha256) p.label targets.whole p.contents) (Some (parent_ref (hash Sha256) p.label targets.signature p.signed)) s)) (sym (e ∙ ap touched signed))
-    (refl, (not_from_true (bytes_eq (hash Sha256 p.signed) (hash Sha256 p.signed)) (same_bytes (hash Sha256 p.signed)), tt))
+    subst (λ s. AllByRecursion Holds (standing_tests hash (parent_reading (hash (new_alg d)) p d binding claim message sp) uri (parent_ref (hash (new_alg d)) p.label targets.whole p.contents) (Some (parent_ref (hash (new_alg d)) p.label targets.signature p.signed)) s)) (sym (e ∙ ap touched signed))
+    (named_known (new_alg d), (named_signature hash (new_alg d) p.signed, tt))
 named_holds hash p d binding claim message sp uri s active false e signed contents =
-    subst (λ s. AllByRecursion Holds (standing_tests hash (parent_reading (hash Sha256) p d binding claim message sp) uri (parent_ref (hash Sha256) p.label targets.whole p.contents) (Some (parent_ref (hash Sha256) p.label targets.signature p.signed)) s)) (sym (e ∙ ap (λ o. whole o active.manifest.contents) signed ∙ ap (λ (x : List ℕ). whole (Some p.signed) x) contents))
-    (refl, (not_from_true (bytes_eq (hash Sha256 p.signed) (hash Sha256 p.signed)) (same_bytes (hash Sha256 p.signed)), (not_from_true (bytes_eq (hash Sha256 p.contents) (hash Sha256 p.contents)) (same_bytes (hash Sha256 p.contents)), tt)))
+    subst (λ s. AllByRecursion Holds (standing_tests hash (parent_reading (hash (new_alg d)) p d binding claim message sp) uri (parent_ref (hash (new_alg d)) p.label targets.whole p.contents) (Some (parent_ref (hash (new_alg d)) p.label targets.signature p.signed)) s)) (sym (e ∙ ap (λ o. whole o active.manifest.contents) signed ∙ ap (λ (x : List ℕ). whole (Some p.signed) x) contents))
+    (named_known (new_alg d), (named_signature hash (new_alg d) p.signed, (named_signature hash (new_alg d) p.contents, tt)))
 
 -- it stands earlier
 order_holds : (uri : List ℕ) (s : Standing) (active : Reading) (t : Bool) → s ≡ child_standing t active → AllByRecursion Holds (order_tests uri s)
@@ -222,10 +235,10 @@ parent_listed hash p ds binding h b = each-append IsListed ds (parent_item hash 
 pub parent_rest : UrisAreRead → (hash : Alg → List ℕ → List ℕ) (p : Parent) (d : Definition) (binding : NewAssertion) (claim message : List ℕ) (sp : SignParts) (redacted : List ℕ → Bool) (standing : List ℕ → Standing) (active : Reading) (t : Bool)
     → AllByRecursion IsNew d.assertions → IsKnownLabel binding.label → IsLabelText p.label → standing p.label ≡ child_standing t active → signature_contents active ≡ Some p.signed → active.manifest.contents ≡ p.contents
     → AllByRecursion Holds (each (λ k text. redaction_tests d.label (new_claim_uri d.label) text) 0 d.redact)
-    → RestHolds hash (new_seen (parent_reading (hash Sha256) p d binding claim message sp) redacted standing)
+    → RestHolds hash (new_seen (parent_reading (hash (new_alg d)) p d binding claim message sp) redacted standing)
 unfolding rule.label_kind
 parent_rest uris hash p d binding claim message sp redacted standing active t plain known u stands signed contents redactions =
-    let h : List ℕ → List ℕ = hash Sha256 in
+    let h : List ℕ → List ℕ = hash (new_alg d) in
     let r : Reading = parent_reading h p d binding claim message sp in
     let s : Seen = new_seen r redacted standing in
     let tail : List ReadBox = own_boxes h p binding in

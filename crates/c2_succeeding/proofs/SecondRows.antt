@@ -7,13 +7,15 @@ use Rattle.c2_assertion.specs.Written.{ingredient_item}
 use Rattle.c2_definition.specs.declared.types.Definition.{Definition}
 use Rattle.c2_definition.specs.declared.types.NewAssertion.{NewAssertion}
 use Rattle.c2_definition.specs.declared.types.Payload.TheVariants as payload
-use Rattle.c2_built.specs.Built.{built_len, no_digest, store_size, zero_digest}
+use Rattle.c2_built.specs.Built.{built_len, no_digest, store_size}
 use Rattle.c2_built.specs.Fresh.{fresh_content}
 use Rattle.c2_built.specs.FreshBoxes.{contents_of, item_box}
 use Rattle.c2_built.specs.Store.{Content, Parent, data_binding, new_claim, new_manifest, new_store, parent_ingredient}
 use Rattle.c2_built.proofs.BuildRows.{actions}
 use Rattle.c2_carried.specs.Parents.{IsContentOver}
 use Rattle.c2_carried.specs.Redacting.{boxes_in, redacted_boxes}
+use Rattle.c2_spec.specs.Digest.{zero_digest}
+use Rattle.c2_spec.specs.declared.digest.Alg.TheVariants.{Sha256}
 
 -- the label of a manifest, which ends so
 abbrev label : List ℕ → List ℕ
@@ -36,11 +38,11 @@ defined last more = record {
 
 -- the manifest of the first store, and the store
 unfoldable manifest : Tree
-manifest = new_manifest no_digest (fresh_content (defined (codes "0") [])) (data_binding 20 1141 zero_digest) (replicate 256 0)
+manifest = new_manifest (no_digest Sha256) (fresh_content (defined (codes "0") [])) (data_binding Sha256 20 1141 (zero_digest Sha256)) (replicate 256 0)
 
 -- the store of it
 unfoldable first : Tree
-first = new_store no_digest (fresh_content (defined (codes "0") [])) (data_binding 20 1141 zero_digest) (replicate 256 0)
+first = new_store (no_digest Sha256) (fresh_content (defined (codes "0") [])) (data_binding Sha256 20 1141 (zero_digest Sha256)) (replicate 256 0)
 
 -- has so many bytes
 first_store : length (tree_bytes first) ≡ 1129
@@ -76,17 +78,17 @@ unfolding second first defined actions shortest_head
 carried = refl
 
 -- the item of the parent
-ingredient : length (deterministic (ingredient_item (parent_ingredient no_digest parent))) ≡ 284
+ingredient : length (deterministic (ingredient_item (parent_ingredient (no_digest Sha256) parent))) ≡ 284
 unfolding parent shortest_head
 ingredient = refl
 
 -- the claim
-claim : length (new_claim no_digest second (data_binding 20 2667 zero_digest)) ≡ 443
+claim : length (new_claim (no_digest Sha256) second (data_binding Sha256 20 2667 (zero_digest Sha256))) ≡ 443
 unfolding second parent defined actions shortest_head
 claim = refl
 
 -- the new manifest
-second_manifest : length (tree_bytes (new_manifest no_digest second (data_binding 20 2667 zero_digest) (replicate 256 0))) ≡ 1526
+second_manifest : length (tree_bytes (new_manifest (no_digest Sha256) second (data_binding Sha256 20 2667 (zero_digest Sha256)) (replicate 256 0))) ≡ 1526
 unfolding second parent defined actions shortest_head
 second_manifest = refl
 
@@ -108,7 +110,7 @@ note = record { label = codes "test.note"; kind = payload.Json; bytes = 0x22 ∷
 
 -- a store with it
 unfoldable noted : Tree
-noted = new_store no_digest (fresh_content (defined (codes "0") (note ∷ []))) (data_binding 20 1141 zero_digest) (replicate 256 0)
+noted = new_store (no_digest Sha256) (fresh_content (defined (codes "0") (note ∷ []))) (data_binding Sha256 20 1141 (zero_digest Sha256)) (replicate 256 0)
 
 -- the URI of an assertion of the manifest with such a label
 abbrev uri : List ℕ → List ℕ → List ℕ

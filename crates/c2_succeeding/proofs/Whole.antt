@@ -7,6 +7,7 @@ use Rattle.std.proofs.lemmas.List.{map-append}
 use Rattle.std.proofs.lemmas.Option.{same_Some}
 use Rattle.c2_base.specs.declared.limits.TheConstants.{MAX_STORE_LEN}
 use Rattle.c2_base.specs.declared.values.Question.{Question}
+use Rattle.c2_spec.specs.declared.claim.ClaimVersion.TheVariants.{V2}
 use Rattle.c2_spec.specs.C2pa.Assertion.{kind_of}
 use Rattle.c2_spec.specs.C2pa.Claim.{IsClaim}
 use Rattle.c2_spec.specs.C2pa.Manifest.{Manifest, Superbox}
@@ -14,7 +15,6 @@ use Rattle.c2_spec.specs.C2pa.Sign1.{SignParts, SpellsMessage, question_of}
 use Rattle.c2_spec.specs.Jpeg.Writing.{insert_place}
 use Rattle.c2_spec.specs.Jumbf.Tree.{Tree, Trees, tree_bytes}
 use Rattle.c2_spec.specs.declared.digest.Alg.{Alg}
-use Rattle.c2_spec.specs.declared.digest.Alg.TheVariants.{Sha256}
 use Rattle.c2_rules.specs.Chains.{is_active, is_redacted, is_touched, label_in}
 use Rattle.c2_rules.specs.CheckList.{active_tests, chain_tests, place_tests, question_at, questions, questions_of, tests_of}
 use Rattle.c2_rules.specs.Readings.{AreReadings, IsReadBox, IsReading, ReadBox, Reading, asked_of, question_in}
@@ -28,7 +28,7 @@ use Rattle.c2_definition.specs.declared.types.NewAssertion.{NewAssertion}
 use Rattle.c2_built.specs.Built.{built_len}
 use Rattle.c2_built.specs.Fresh.{new_question}
 use Rattle.c2_built.specs.Manifests.{manifest_of, supers_in}
-use Rattle.c2_built.specs.Store.{Content, Parent, claim_parts, data_binding, new_claim, new_manifest, new_store, parent_ingredient}
+use Rattle.c2_built.specs.Store.{Content, Parent, claim_parts, data_binding, new_claim, new_manifest, new_store, parent_ingredient, new_alg}
 use Rattle.c2_built.specs.Unbound.{IsKnownBinding, MeetsUnbound}
 use Rattle.c2_built.specs.Written.{CanBeWritten, IsNewBinding, IsRead, IsText, new_written, written_assertion, written_item}
 use Rattle.c2_built.proofs.FreshFile.{Laws, built_meets, data_known, small_store}
@@ -37,7 +37,7 @@ use Rattle.c2_built.proofs.Lists.{each-append}
 use Rattle.c2_built.proofs.NewRules.{Holds, IsListed, RestHolds, Said, all_hold, bindings_of, box_found, new_box, new_boxes, new_seen, own_bindings, own_names, own_rules}
 use Rattle.c2_built.proofs.StoreSize.{assertion_len, manifest_len, store_len}
 use Rattle.c2_built.proofs.Unbound.{IsBindingLabel, StoreLaws, all_each, by_label, known_label, known_new, payload_of}
-use Rattle.c2_built.proofs.Uris.{plain_text, signature_utf8}
+use Rattle.c2_built.proofs.Uris.{plain_text, signature_utf8, name_utf8}
 use Rattle.c2_built.proofs.WrittenItems.{AreGoodParts, claim_read}
 use Rattle.c2_built.proofs.WrittenStore.{AreDifferent, all_different, store_read}
 use Rattle.c2_carried.specs.Carrying.{IsLast, IsTakenOver, ReadsKinds}
@@ -85,13 +85,13 @@ all_questions redacts rs ss x q quiet parent last len asks =
 
 -- the store of a content with a parent
 unbound : AllLaws → (hash : Alg → List ℕ → List ℕ) (d : Definition) (carried : Trees) (p : Parent) (binding : NewAssertion) (message : List ℕ) (sp : SignParts) (rs ss : List Reading)
-    → CanBeWritten d → IsKnownBinding binding → length (tree_bytes (new_store (hash Sha256) (with_parent d carried p) binding message)) ≤ MAX_STORE_LEN → SpellsMessage message sp
+    → CanBeWritten d → IsKnownBinding binding → length (tree_bytes (new_store (hash (new_alg d)) (with_parent d carried p) binding message)) ≤ MAX_STORE_LEN → SpellsMessage message sp
     → IsTakenOver hash (with_parent d carried p) rs ss → IsLast p rs ss
-    → MeetsUnbound hash (new_store (hash Sha256) (with_parent d carried p) binding message) binding (question_of sp (new_claim (hash Sha256) (with_parent d carried p) binding) ∷ questions rs)
+    → MeetsUnbound hash (new_store (hash (new_alg d)) (with_parent d carried p) binding message) binding (question_of sp (new_claim (hash (new_alg d)) (with_parent d carried p) binding) ∷ questions rs)
 unfolding rule.label_kind
 unbound all_laws hash d carried p binding message sp rs ss w known small spells over parent =
     let laws : StoreLaws = all_laws.store in
-    let h : List ℕ → List ℕ = hash Sha256 in
+    let h : List ℕ → List ℕ = hash (new_alg d) in
     let c : Content = with_parent d carried p in
     let t : Tree = new_store h c binding message in
     let own_label : IsBindingLabel binding.label = known_label binding.label known.label in
@@ -113,12 +113,13 @@ unbound all_laws hash d carried p binding message sp rs ss w known small spells 
       instance = w.texts.instance.utf8;
       generator = w.texts.generator.utf8;
       title = title_utf8 d.title w.texts.title;
+      alg = name_utf8 (new_alg d);
       entries = refs_good h as_ texts;
       redacted = texts_utf8 d.redact w.texts.redact;
     } in
     let whole = store_len carried (new_manifest h c binding message) in
     let inner = manifest_len d.label as_ claim message in
-    let is_claim : IsClaim claim (claim_from (claim_parts h c binding)) = claim_read laws.keeps laws.trip laws.claims (claim_parts h c binding) parts (omega (arith, whole, inner, small)) in
+    let is_claim : IsClaim V2 claim (claim_from (claim_parts h c binding)) = claim_read laws.keeps laws.trip laws.claims (claim_parts h c binding) parts (omega (arith, whole, inner, small)) in
     let all : List Reading = ss ++ x ∷ [] in
     let n : ℕ = length rs in
     let same_len : length ss ≡ n = less_len d.redact rs ss over.less in
@@ -172,8 +173,8 @@ unbound all_laws hash d carried p binding message sp rs ss w known small spells 
 pub succeeding_unbound : AllLaws → SucceedingStoreMeets
 succeeding_unbound laws hash c parent binding message sp rs ss has w known small spells over last =
     let is : c ≡ with_parent c.definition c.carried parent = ap (λ o. record { definition = c.definition; carried = c.carried; parent = o }) has in
-    subst (λ (z : Content). MeetsUnbound hash (new_store (hash Sha256) z binding message) binding (question_of sp (new_claim (hash Sha256) z binding) ∷ questions rs)) (sym is)
-    (unbound laws hash c.definition c.carried parent binding message sp rs ss w known (subst (λ (z : Content). length (tree_bytes (new_store (hash Sha256) z binding message)) ≤ MAX_STORE_LEN) is small) spells
+    subst (λ (z : Content). MeetsUnbound hash (new_store (hash (new_alg z.definition)) z binding message) binding (question_of sp (new_claim (hash (new_alg z.definition)) z binding) ∷ questions rs)) (sym is)
+    (unbound laws hash c.definition c.carried parent binding message sp rs ss w known (subst (λ (z : Content). length (tree_bytes (new_store (hash (new_alg z.definition)) z binding message)) ≤ MAX_STORE_LEN) is small) spells
     (subst (λ (z : Content). IsTakenOver hash z rs ss) is over) last)
 
 -- the file over a base
@@ -181,6 +182,6 @@ pub succeeding_meets : AllLaws → Laws → SucceedingFileMeets
 succeeding_meets all_laws laws hash c parent message base segments en sp rs ss digests has w can fb spells over last =
     let start : ℕ = insert_place segments in
     let len : ℕ = built_len c (length message) in
-    let binding : NewAssertion = data_binding start len (hash Sha256 base) in
-    built_meets laws hash c message base segments en (new_question (hash Sha256) c message base segments sp ∷ questions rs) digests can fb
-    (succeeding_unbound all_laws hash c parent binding message sp rs ss has w (data_known start len (hash Sha256 base)) (small_store laws hash c message base segments en digests can) spells over last)
+    let binding : NewAssertion = data_binding (new_alg c.definition) start len (hash (new_alg c.definition) base) in
+    built_meets laws hash c message base segments en (new_question (hash (new_alg c.definition)) c message base segments sp ∷ questions rs) digests can fb
+    (succeeding_unbound all_laws hash c parent binding message sp rs ss has w (data_known (new_alg c.definition) start len (hash (new_alg c.definition) base)) (small_store laws hash c message base segments en digests can) spells over last)

@@ -12,7 +12,6 @@ use Rattle.c2_spec.specs.Jumbf.Tree.{Tree, tree_bytes}
 use Rattle.c2_spec.specs.Located.{here}
 use Rattle.c2_spec.specs.PutIn.{taken_out}
 use Rattle.c2_spec.specs.declared.digest.Alg.{Alg}
-use Rattle.c2_spec.specs.declared.digest.Alg.TheVariants.{Sha256}
 use Rattle.c2_spec.specs.declared.panel.Verdict.{Verdict}
 use Rattle.c2_spec.specs.declared.panel.Verdict.TheVariants.{Approved}
 use Rattle.c2_rules.specs.CheckList.{IsValid, StoreReading, questions}
@@ -23,7 +22,7 @@ use Rattle.c2_definition.specs.declared.types.Definition.{Definition}
 use Rattle.c2_definition.specs.declared.types.NewAssertion.{NewAssertion}
 use Rattle.c2_built.specs.Built.{CanBuild, built_file, built_len, built_store}
 use Rattle.c2_built.specs.Fresh.{GivesDigests, IsFreshBase, Meets, new_question}
-use Rattle.c2_built.specs.Store.{Content, Parent, new_claim, new_store}
+use Rattle.c2_built.specs.Store.{Content, Parent, new_claim, new_store, new_alg}
 use Rattle.c2_built.specs.Unbound.{IsKnownBinding, MeetsUnbound}
 use Rattle.c2_built.specs.Written.{CanBeWritten}
 use Rattle.c2_carried.specs.Carrying.{IsLast, IsTakenOver}
@@ -35,9 +34,9 @@ use Rattle.c2_carried.specs.Refusing.{has_manifest, redaction_refusal}
 abbrev pub SucceedingStoreMeets : Type 0
 SucceedingStoreMeets = (hash : Alg → List ℕ → List ℕ) (c : Content) (parent : Parent) (binding : NewAssertion) (message : List ℕ) (p : SignParts) (rs ss : List Reading)
     → c.parent ≡ Some parent → CanBeWritten c.definition → IsKnownBinding binding
-    → length (tree_bytes (new_store (hash Sha256) c binding message)) ≤ MAX_STORE_LEN → SpellsMessage message p
+    → length (tree_bytes (new_store (hash (new_alg c.definition)) c binding message)) ≤ MAX_STORE_LEN → SpellsMessage message p
     → IsTakenOver hash c rs ss → IsLast parent rs ss
-    → MeetsUnbound hash (new_store (hash Sha256) c binding message) binding (question_of p (new_claim (hash Sha256) c binding) ∷ questions rs)
+    → MeetsUnbound hash (new_store (hash (new_alg c.definition)) c binding message) binding (question_of p (new_claim (hash (new_alg c.definition)) c binding) ∷ questions rs)
 
 -- A file that is built over a base without a store, where its store takes over these older manifests and has the last of them as its
 -- parent, has the new store, meets every rule but the verdict on its message, and asks the new question and then the older ones.
@@ -46,8 +45,8 @@ SucceedingFileMeets = (hash : Alg → List ℕ → List ℕ) (c : Content) (pare
     → GivesDigests hash → c.parent ≡ Some parent → CanBeWritten c.definition
     → CanBuild c (length message) base segments en → IsFreshBase c (length message) base segments → SpellsMessage message p
     → IsTakenOver hash c rs ss → IsLast parent rs ss
-    → Meets hash (built_file (hash Sha256) c message base segments en) (insert_place segments) (built_len c (length message))
-    (built_store (hash Sha256) c message base (insert_place segments)) (new_question (hash Sha256) c message base segments p ∷ questions rs)
+    → Meets hash (built_file (hash (new_alg c.definition)) c message base segments en) (insert_place segments) (built_len c (length message))
+    (built_store (hash (new_alg c.definition)) c message base (insert_place segments)) (new_question (hash (new_alg c.definition)) c message base segments p ∷ questions rs)
 
 -- A JPEG file with a store in this range that a new store of this definition may be built over: the file is valid, as judges find who
 -- say this; it has no manifest of the new label and room for one more; and no redaction is refused.
@@ -67,9 +66,9 @@ FileOverStoreMeets = (hash : Alg → List ℕ → List ℕ) (said : Question →
     → GivesDigests hash → CanSucceed hash said media start len old s d → CanBeWritten d → IsContentOver d old c
     → CanBuild c (length message) (taken_out start len media) segments en
     → length (taken_out start len media) + built_len c (length message) < FILE_LEN_LIMIT → SpellsMessage message p
-    → Meets hash (built_file (hash Sha256) c message (taken_out start len media) segments en) (insert_place segments) (built_len c (length message))
-    (built_store (hash Sha256) c message (taken_out start len media) (insert_place segments))
-    (new_question (hash Sha256) c message (taken_out start len media) segments p ∷ questions s.readings)
+    → Meets hash (built_file (hash (new_alg c.definition)) c message (taken_out start len media) segments en) (insert_place segments) (built_len c (length message))
+    (built_store (hash (new_alg c.definition)) c message (taken_out start len media) (insert_place segments))
+    (new_question (hash (new_alg c.definition)) c message (taken_out start len media) segments p ∷ questions s.readings)
 
 -- The judges approve each question of a store that they find valid.
 abbrev pub ValidIsApproved : Type 0

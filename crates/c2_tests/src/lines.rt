@@ -36,7 +36,7 @@ fn plain_lines_are_these(rt: HostRuntime) -> Result<(), Fail> {
 }
 
 const PLAIN: &str =
-    "usage: c2 digest|list|show MEDIA; questions|validate MEDIA [JUDGE..]; compare MEDIA OTHER [JUDGE..]; plan MEDIA DEFINITION [JUDGE..]; embed MEDIA DEFINITION SIGNATURE OUT [JUDGE..]; sample N
+    "usage: c2 digest MEDIA [ALG]; list|show MEDIA; questions|validate MEDIA [JUDGE..]; compare MEDIA OTHER [JUDGE..]; plan MEDIA DEFINITION [JUDGE..]; embed MEDIA DEFINITION SIGNATURE OUT [JUDGE..]; sample N
 none
 refused BadHead 18446744073709551615
 2 50 0abc

@@ -56,13 +56,13 @@ four p1 p2 p3 p4 t1 t2 t3 t4 o0 o1 o2 o3 o4 o5 a b c d e = simp (e, d, c, b, a, 
 -- a claim's four members and the closing brace, written one behind the other, are the text of the claim
 pub claim_written : (c : Claim) (o0 o1 o2 o3 o4 o5 : List ℕ) → o1 ≡ o0 ++ (codes "{\"alg\":" ++ compact_text (text_or_null c.alg))
     → o2 ≡ o1 ++ (codes ",\"assertions\":" ++ compact_text (array (items_of (map entry_data (c.created ++ c.gathered)))))
-    → o3 ≡ o2 ++ (codes ",\"instanceID\":" ++ compact_text (string c.instance))
+    → o3 ≡ o2 ++ (codes ",\"instanceID\":" ++ compact_text (text_or_null c.instance))
     → o4 ≡ o3 ++ (codes ",\"redacted\":" ++ compact_text (array (items_of (map string c.redacted))))
     → o5 ≡ o4 ++ 125 ∷ [] → o5 ≡ o0 ++ compact_text (claim_data c)
 unfolding serde_json_on_literals
 claim_written c o0 o1 o2 o3 o4 o5 a b d e f =
     four (codes "{\"alg\":") (codes ",\"assertions\":") (codes ",\"instanceID\":") (codes ",\"redacted\":")
-    (compact_text (text_or_null c.alg)) (compact_text (array (items_of (map entry_data (c.created ++ c.gathered))))) (compact_text (string c.instance)) (compact_text (array (items_of (map string c.redacted))))
+    (compact_text (text_or_null c.alg)) (compact_text (array (items_of (map entry_data (c.created ++ c.gathered))))) (compact_text (text_or_null c.instance)) (compact_text (array (items_of (map string c.redacted))))
     o0 o1 o2 o3 o4 o5 a b d e f
 
 -- what was written of a manifest's parts is the text of the manifest at this place, with its claim

@@ -12,6 +12,7 @@ use Rattle.c2_rules.specs.Codes.{code_name}
 use Rattle.c2_binding.specs.EvidenceText.{printed, text_line}
 use Rattle.c2_binding.specs.declared.compared.Side.{Side}
 use Rattle.c2_binding.specs.declared.compared.Side.TheVariants.{First, Second}
+use Rattle.c2_words.specs.CommandLine.{usage_text}
 use Rattle.c2_rules.specs.declared.answer.Answer.{Answer}
 use Rattle.c2_rules.specs.declared.answer.Answer.TheVariants as answer
 use Rattle.c2_rules.specs.declared.answer.Failing.{Failing}
@@ -20,7 +21,7 @@ use Rattle.c2_spec.specs.Jumbf.Boxes.{IndexedBox, boxes_of, any_bytes, any_kind,
 
 -- where the words don't fit
 abbrev pub usage_line : List ℕ
-usage_line = text_line (codes "usage: c2 digest|list|show MEDIA; questions|validate MEDIA [JUDGE..]; compare MEDIA OTHER [JUDGE..]; plan MEDIA DEFINITION [JUDGE..]; embed MEDIA DEFINITION SIGNATURE OUT [JUDGE..]; sample N")
+usage_line = text_line usage_text
 
 -- a refusal, with its number
 abbrev pub refused_line : Reason → ℕ → List ℕ

@@ -97,6 +97,16 @@ fn push_redacted(alloc: Global, out: &mut String, texts: &[Text]) -> Result<(), 
     Ok(())
 }
 
+// Appends a claim's instance, or null where it has none.
+fn push_instance(alloc: Global, out: &mut String, claim: &Claim) -> Result<(), AllocError>
+    ensures { let instance = form.text_or_null claim.now.instance in
+        OnOk result (Appends out.old out.new (codes ",\"instanceID\":" ++ compact_text instance)) }
+{
+    let instance = text_or_null(alloc, &claim.instance)?;
+    push_value(alloc, out, ",\"instanceID\":", &instance)?;
+    Ok(())
+}
+
 // Appends a claim.
 fn push_claim(alloc: Global, out: &mut String, claim: &Claim) -> Result<(), AllocError>
     ensures { OnOk result (Appends out.old out.new (compact_text (form.claim_data claim.now))) }
@@ -104,7 +114,7 @@ fn push_claim(alloc: Global, out: &mut String, claim: &Claim) -> Result<(), Allo
     let alg = text_or_null(alloc, &claim.alg)?;
     push_value(alloc, out, "{\"alg\":", &alg)?;
     push_assertions(alloc, out, claim)?;
-    push_text(alloc, out, ",\"instanceID\":", claim.instance.as_str())?;
+    push_instance(alloc, out, claim)?;
     push_redacted(alloc, out, claim.redacted.as_slice())?;
     out.push('}')?;
     Ok(())

@@ -7,16 +7,16 @@ use crate::names::{code_name, reason_name, verdict_name};
 use c2_binding::Side;
 use c2_rules::{Answer, Failing, Summary};
 use c2_spec::{Reason, Verdict};
+use c2_words::usage;
 use std::alloc::{AllocError, Global};
 
 /// The line for words that don't fit.
 pub fn usage_line(alloc: Global) -> Result<String, AllocError>
     ensures { IfOk result (λ text. string_bytes text ≡ form.usage_line) }
 {
-    String::from_str(
-        alloc,
-        "usage: c2 digest|list|show MEDIA; questions|validate MEDIA [JUDGE..]; compare MEDIA OTHER [JUDGE..]; plan MEDIA DEFINITION [JUDGE..]; embed MEDIA DEFINITION SIGNATURE OUT [JUDGE..]; sample N\n",
-    )
+    let text = usage();
+    let line = format!(in alloc; "{text}\n")?;
+    Ok(line)
 }
 
 /// The line for a file without a store.

@@ -1,19 +1,21 @@
 -- Words that fit are words that `clap` takes.
-use Rattle.std.proofs.Common.{◌≡◌, ◌∙◌, refl, sym, ap, ap₂, arith, ℕ, ◌≤◌, ◌&&◌, Bool, true, false, cond, nat_le, List, [], ◌∷◌, ◌++◌, length, append-nil, append_assoc, Option, Some, None, is_some, true≢false, leb-true}
-use Rattle.std.specs.Prelude.{bytes_eq, codes, option_and_then, option_map}
+use Rattle.std.proofs.Common.{◌≡◌, ◌∙◌, refl, sym, ap, ap₂, arith, ℕ, ◌≤◌, ◌&&◌, Bool, true, false, cond, nat_le, List, [], ◌∷◌, ◌++◌, length, append-nil, append_assoc, map, Option, Some, None, is_some, true≢false, leb-true}
+use Rattle.std.specs.Prelude.{bytes_eq, option_and_then, option_map}
 use Rattle.std.specs.List.{find, fold, list_all}
 use Rattle.std.specs.Option.{option_map_or}
 use Rattle.std.proofs.lemmas.Slice.Eq.{bytes_eq-Decides}
-use Rattle.clap.specs.Walk.{Names, Row, Text, Walk, answers_to, finished, nothing_held, settled, walk_from, walked}
+use Rattle.clap.specs.Walk.{Names, Row, Text, Walk, answers_to, arg_by_index, finished, nothing_held, settled, walk_from, walked}
 use Rattle.clap.specs.Simple.{App, Shape, built, built_leaf, entered, inherited, label_of, marked_built, names_of, rows_at, with_leaf_noted}
-use Rattle.clap.specs.Takes.{default_passes, entered_passes, is_valid, level_passes, settle_passes, takes, turn_passes, walk_passes}
+use Rattle.clap.specs.Takes.{default_passes, entered_passes, is_valid, level_passes, settle_passes, takes, turn_passes, use_passes, walk_passes}
 use Rattle.c2_base.specs.declared.limits.TheConstants.{MAX_JUDGE_NAMES}
-use Rattle.c2_words.specs.CommandLine.{command_of, is_name, roles_of_names, roles_with, reading_roles, comparing_roles, writing_roles}
-use Rattle.c2_words.specs.Parsing.{command_line, leaf_of, top, word_of}
+use Rattle.c2_words.specs.CommandLine.{command_of, commands, fit, is_name, name_of, roles_as, roles_of_names, roles_with, words_of}
+use Rattle.c2_words.specs.Parsing.{command_line, leaf, rule_for, top}
 use Rattle.c2_words.specs.declared.types.Command.{Command}
 use Rattle.c2_words.specs.declared.types.Command.TheVariants as command
+use Rattle.c2_words.specs.declared.types.Role.{Role}
+use Rattle.c2_words.specs.declared.types.Role.TheVariants.{Media, Other, Definition, Signature, Out, Count, Algorithm, Judges}
 use Rattle.c2_words.specs.declared.types.Roles.{Roles}
-use Rattle.c2_words.proofs.Walking.{both, ends_well, goes, goes_well, judges_go, judges_used, judging, level, start}
+use Rattle.c2_words.proofs.Walking.{both, ends_well, goes, goes_well, judges_at, judges_go, judges_used, judging, level, start}
 
 -- where there is none, there isn't some value
 some≢none : {A : Type 0} (x : A) → None ≡ Some x → ⊥
@@ -21,142 +23,126 @@ some≢none x e = true≢false (sym (ap (λ o. is_some o) e))
 
 -- ---- the words behind the command
 
--- the subcommand of a command, as it is built
-abbrev built_of : Command → Shape
-built_of c = built_leaf (inherited (with_leaf_noted (marked_built top)) (leaf_of c))
+-- the subcommand of this name with words of these roles, as it is built
+abbrev built_as : Text → List Role → Shape
+built_as name roles = built_leaf (inherited (with_leaf_noted (marked_built top)) (leaf name (map rule_for roles)))
 
--- a command that takes these words
-abbrev Takes : Command → List Text → Type 0
-Takes c words = (goes_well (built_of c) start words ≡ true) × (ends_well (built_of c) (goes (built_of c).rules start words).held ≡ true)
+-- the subcommand of a command
+abbrev built_of : Command → Shape
+built_of c = built_as (name_of c) (words_of c)
+
+-- a subcommand takes these words
+abbrev Takes : Shape → List Text → Type 0
+Takes l words = (goes_well l start words ≡ true) × (ends_well l (goes l.rules start words).held ≡ true)
+
+-- words that fit these roles are taken behind every name
+abbrev TakesFit : List Role → Type 0
+TakesFit roles = (name : Text) (words : List Text) → fit roles words ≡ true → Takes (built_as name roles) words
 
 -- what is found for these words
-abbrev rows_after : Command → List Text → List Row
-rows_after c words = (settled (built_of c).rules (goes (built_of c).rules start words).held).rows
+abbrev rows_after : Shape → List Text → List Row
+rows_after l words = (settled l.rules (goes l.rules start words).held).rows
 
 -- the rest of a level's tests, once what is pending is used
-abbrev rest_passes : Command → ℕ → List Row → List Text → Bool
-rest_passes c k rows vs = list_all default_passes (built_of c).rules && is_valid (built_of c) (finished (built_of c).rules (judging k rows vs).held) false
+abbrev rest_passes : Shape → ℕ → List Row → List Text → Bool
+rest_passes l k rows vs = list_all default_passes l.rules && is_valid l (finished l.rules (judging k rows vs).held) false
 
--- a file and judges
-takes_questions : (m : Text) (js : List Text) → length js ≤ 64 → Takes command.Questions (m ∷ js)
-takes_questions m [] few = (refl, refl)
-takes_questions m (j ∷ js) few =
-    let c = command.Questions in
-    let go = judges_go (built_of c) 2 (rows_after c (m ∷ [])) refl (j ∷ []) js in (
-      go.0,
-      ap (λ s. ends_well (built_of c) s.held) go.1 ∙ ap (λ (b : Bool). b && rest_passes c 2 (rows_after c (m ∷ [])) (j ∷ js)) (judges_used false 2 (rows_after c (m ∷ [])) j js (omega (arith, few))),
+-- names of judges are taken at the end, where a name of one is met and what is found before passes
+judged : (l : Shape) (k : ℕ) (rows : List Row) (words : List Text) (j : Text) (js : List Text)
+    → Some (judges_at k) ≡ arg_by_index l.rules k
+    → goes_well l (judging k rows (j ∷ [])) js ≡ goes_well l start words
+    → goes l.rules (judging k rows (j ∷ [])) js ≡ goes l.rules start words
+    → (use_passes false (judges_at k) (j ∷ js) rows && rest_passes l k rows (j ∷ js)) ≡ ends_well l (judging k rows (j ∷ js)).held
+    → true ≡ rest_passes l k rows (j ∷ js)
+    → nat_le (length (j ∷ js)) MAX_JUDGE_NAMES ≡ true → Takes l words
+judged l k rows words j js at well end ends rest few =
+    let most : length (j ∷ js) ≤ 64 = leb-true (length (j ∷ js)) MAX_JUDGE_NAMES few in
+    let go = judges_go l k rows (sym at) (j ∷ []) js in (
+      sym well ∙ go.0,
+      ap (λ s. ends_well l s.held) (sym end ∙ go.1)
+          ∙ sym ends
+          ∙ ap₂ (λ (x y : Bool). x && y) (judges_used false k rows j js (omega (arith, most))) (sym rest),
     )
 
--- `validate` takes a file and judges
-takes_validate : (m : Text) (js : List Text) → length js ≤ 64 → Takes command.Validate (m ∷ js)
-takes_validate m [] few = (refl, refl)
-takes_validate m (j ∷ js) few =
-    let c = command.Validate in
-    let go = judges_go (built_of c) 2 (rows_after c (m ∷ [])) refl (j ∷ []) js in (
-      go.0,
-      ap (λ s. ends_well (built_of c) s.held) go.1 ∙ ap (λ (b : Bool). b && rest_passes c 2 (rows_after c (m ∷ [])) (j ∷ js)) (judges_used false 2 (rows_after c (m ∷ [])) j js (omega (arith, few))),
-    )
+-- no word fits where one is missing, and none where there is one too many
+no_words : {A : Type 0} → false ≡ true → A
+no_words e = absurd (true≢false (sym e))
+
+-- a media file
+media_taken : TakesFit (Media ∷ [])
+media_taken name [] e = no_words e
+media_taken name (m ∷ []) e = (refl, refl)
+media_taken name (m ∷ (x ∷ xs)) e = no_words e
+
+-- a media file and judges
+judged_taken : TakesFit (Media ∷ Judges ∷ [])
+judged_taken name [] e = no_words e
+judged_taken name (m ∷ []) e = (refl, refl)
+judged_taken name (m ∷ (j ∷ js)) e = let l = built_as name (Media ∷ Judges ∷ []) in judged l 2 (rows_after l (m ∷ [])) (m ∷ j ∷ js) j js refl refl refl refl refl e
 
 -- two files and judges
-takes_compare : (m s : Text) (js : List Text) → length js ≤ 64 → Takes command.Compare (m ∷ s ∷ js)
-takes_compare m s [] few = (refl, refl)
-takes_compare m s (j ∷ js) few =
-    let c = command.Compare in
-    let go = judges_go (built_of c) 3 (rows_after c (m ∷ s ∷ [])) refl (j ∷ []) js in (
-      go.0,
-      ap (λ s. ends_well (built_of c) s.held) go.1 ∙ ap (λ (b : Bool). b && rest_passes c 3 (rows_after c (m ∷ s ∷ [])) (j ∷ js)) (judges_used false 3 (rows_after c (m ∷ s ∷ [])) j js (omega (arith, few))),
-    )
-
--- `plan` takes two files and judges
-takes_plan : (m s : Text) (js : List Text) → length js ≤ 64 → Takes command.Plan (m ∷ s ∷ js)
-takes_plan m s [] few = (refl, refl)
-takes_plan m s (j ∷ js) few =
-    let c = command.Plan in
-    let go = judges_go (built_of c) 3 (rows_after c (m ∷ s ∷ [])) refl (j ∷ []) js in (
-      go.0,
-      ap (λ s. ends_well (built_of c) s.held) go.1 ∙ ap (λ (b : Bool). b && rest_passes c 3 (rows_after c (m ∷ s ∷ [])) (j ∷ js)) (judges_used false 3 (rows_after c (m ∷ s ∷ [])) j js (omega (arith, few))),
-    )
+second_taken : TakesFit (Media ∷ Other ∷ Judges ∷ [])
+second_taken name [] e = no_words e
+second_taken name (m ∷ []) e = no_words e
+second_taken name (m ∷ (s ∷ [])) e = (refl, refl)
+second_taken name (m ∷ (s ∷ (j ∷ js))) e = let l = built_as name (Media ∷ Other ∷ Judges ∷ []) in judged l 3 (rows_after l (m ∷ s ∷ [])) (m ∷ s ∷ j ∷ js) j js refl refl refl refl refl e
 
 -- three files, a new one and judges
-takes_embed : (m s t o : Text) (js : List Text) → length js ≤ 64 → Takes command.Embed (m ∷ s ∷ t ∷ o ∷ js)
-takes_embed m s t o [] few = (refl, refl)
-takes_embed m s t o (j ∷ js) few =
-    let c = command.Embed in
-    let go = judges_go (built_of c) 5 (rows_after c (m ∷ s ∷ t ∷ o ∷ [])) refl (j ∷ []) js in (
-      go.0,
-      ap (λ s. ends_well (built_of c) s.held) go.1 ∙ ap (λ (b : Bool). b && rest_passes c 5 (rows_after c (m ∷ s ∷ t ∷ o ∷ [])) (j ∷ js)) (judges_used false 5 (rows_after c (m ∷ s ∷ t ∷ o ∷ [])) j js (omega (arith, few))),
-    )
+out_taken : TakesFit (Media ∷ Definition ∷ Signature ∷ Out ∷ Judges ∷ [])
+out_taken name [] e = no_words e
+out_taken name (m ∷ []) e = no_words e
+out_taken name (m ∷ (s ∷ [])) e = no_words e
+out_taken name (m ∷ (s ∷ (t ∷ []))) e = no_words e
+out_taken name (m ∷ (s ∷ (t ∷ (o ∷ [])))) e = (refl, refl)
+out_taken name (m ∷ (s ∷ (t ∷ (o ∷ (j ∷ js))))) e = let l = built_as name (Media ∷ Definition ∷ Signature ∷ Out ∷ Judges ∷ []) in judged l 5 (rows_after l (m ∷ s ∷ t ∷ o ∷ [])) (m ∷ s ∷ t ∷ o ∷ j ∷ js) j js refl refl refl refl refl e
 
--- where there are roles, there are no more names of judges than there may be
-few : (most : ℕ) (js : List Text) (r roles : Roles) → cond (nat_le (length js) most) (Some r) None ≡ Some roles → length js ≤ most
-few most js r roles e = leb-true (length js) most (go (nat_le (length js) most) e)
+-- a number
+count_taken : TakesFit (Count ∷ [])
+count_taken name [] e = no_words e
+count_taken name (n ∷ []) e = (refl, refl)
+count_taken name (n ∷ (x ∷ xs)) e = absurd (true≢false (sym (both _ false e).1))
+
+-- a media file, and an algorithm or none
+algorithm_taken : TakesFit (Media ∷ Algorithm ∷ [])
+algorithm_taken name [] e = no_words e
+algorithm_taken name (m ∷ []) e = (refl, refl)
+algorithm_taken name (m ∷ (a ∷ [])) e = (refl, refl)
+algorithm_taken name (m ∷ (a ∷ (x ∷ xs))) e = absurd (true≢false (sym (both _ false e).1))
+
+-- words that fit a command are those that it takes
+taken : (c : Command) → TakesFit (words_of c)
+taken command.Digest = algorithm_taken
+taken command.List = media_taken
+taken command.Show = media_taken
+taken command.Questions = judged_taken
+taken command.Validate = judged_taken
+taken command.Compare = second_taken
+taken command.Plan = second_taken
+taken command.Embed = out_taken
+taken command.Sample = count_taken
+
+-- where there are roles, the words fit
+with_roles : (c : Command) (words : List Text) (roles : Roles) → roles_with c words ≡ Some roles → fit (words_of c) words ≡ true
+with_roles c words roles e = go (fit (words_of c) words) e
   where
-    go : (b : Bool) → cond b (Some r) None ≡ Some roles → b ≡ true
-    go true e = refl
-    go false e = absurd (some≢none roles e)
-
--- and none where there may be none
-none_more : {C : Type 0} (j : Text) (js : List Text) (r roles : Roles) → cond (nat_le (length (j ∷ js)) 0) (Some r) None ≡ Some roles → C
-none_more j js r roles e = let none = few 0 (j ∷ js) r roles e in absurd (omega (arith, none))
-
--- words with roles are those that the command takes
-fits : (c : Command) (words : List Text) (roles : Roles) → roles_with c words ≡ Some roles → Takes c words
-fits command.Digest [] roles e = absurd (some≢none roles e)
-fits command.Digest (m ∷ []) roles e = (refl, refl)
-fits command.Digest (m ∷ (j ∷ js)) roles e = none_more j js (reading_roles command.Digest) roles e
-fits command.List [] roles e = absurd (some≢none roles e)
-fits command.List (m ∷ []) roles e = (refl, refl)
-fits command.List (m ∷ (j ∷ js)) roles e = none_more j js (reading_roles command.List) roles e
-fits command.Show [] roles e = absurd (some≢none roles e)
-fits command.Show (m ∷ []) roles e = (refl, refl)
-fits command.Show (m ∷ (j ∷ js)) roles e = none_more j js (reading_roles command.Show) roles e
-fits command.Questions [] roles e = absurd (some≢none roles e)
-fits command.Questions (m ∷ js) roles e = takes_questions m js (few MAX_JUDGE_NAMES js (reading_roles command.Questions) roles e)
-fits command.Validate [] roles e = absurd (some≢none roles e)
-fits command.Validate (m ∷ js) roles e = takes_validate m js (few MAX_JUDGE_NAMES js (reading_roles command.Validate) roles e)
-fits command.Compare [] roles e = absurd (some≢none roles e)
-fits command.Compare (m ∷ []) roles e = absurd (some≢none roles e)
-fits command.Compare (m ∷ (s ∷ js)) roles e = takes_compare m s js (few MAX_JUDGE_NAMES js (comparing_roles command.Compare) roles e)
-fits command.Plan [] roles e = absurd (some≢none roles e)
-fits command.Plan (m ∷ []) roles e = absurd (some≢none roles e)
-fits command.Plan (m ∷ (s ∷ js)) roles e = takes_plan m s js (few MAX_JUDGE_NAMES js (comparing_roles command.Plan) roles e)
-fits command.Embed [] roles e = absurd (some≢none roles e)
-fits command.Embed (m ∷ []) roles e = absurd (some≢none roles e)
-fits command.Embed (m ∷ (s ∷ [])) roles e = absurd (some≢none roles e)
-fits command.Embed (m ∷ (s ∷ (t ∷ []))) roles e = absurd (some≢none roles e)
-fits command.Embed (m ∷ (s ∷ (t ∷ (o ∷ js)))) roles e = takes_embed m s t o js (few MAX_JUDGE_NAMES js (writing_roles command.Embed) roles e)
-fits command.Sample [] roles e = absurd (some≢none roles e)
-fits command.Sample (n ∷ []) roles e = (refl, refl)
-fits command.Sample (n ∷ (o ∷ more)) roles e = absurd (some≢none roles e)
+    go : (b : Bool) → cond b (Some (roles_as c words)) None ≡ Some roles → b ≡ true
+    go true h = refl
+    go false h = absurd (some≢none roles h)
 
 -- ---- the word of the command
 
--- one of the tests of a command's word
-tested : (t : Bool) (first : Text) (x c : Command) (others : Option Command) → (t ≡ true → first ≡ word_of x) → (others ≡ Some c → first ≡ word_of c) → cond t (Some x) others ≡ Some c → first ≡ word_of c
-tested true first x c others is more e = is refl ∙ ap (λ (o : Option Command). word_at o) e
+-- what is found passes the test
+passes : (p : Command → Bool) (cs : List Command) (c : Command) → find p cs ≡ Some c → p c ≡ true
+passes p [] c e = absurd (some≢none c e)
+passes p (x ∷ xs) c e = go (p x) refl (λ h. passes p xs c h) e
   where
-    word_at : Option Command → Text
-    word_at (Some y) = word_of y
-    word_at None = []
-tested false first x c others is more e = more e
-
--- a word that passes the test for a text is that text
-same : (first text : Text) → bytes_eq first text ≡ true → first ≡ text
-same first text e = (bytes_eq-Decides first text).0 e
+    go : (b : Bool) → p x ≡ b → (find p xs ≡ Some c → p c ≡ true) → cond b (Some x) (find p xs) ≡ Some c → p c ≡ true
+    go true at rest h = let same : x ≡ c = cc (h) in ap p (sym same) ∙ at
+    go false at rest h = rest h
 
 -- a command's word is its own
-named : (first : Text) (c : Command) → command_of first ≡ Some c → first ≡ word_of c
-named first c e =
-    tested _ first command.Digest c _ (same first (codes "digest"))
-    (tested _ first command.List c _ (same first (codes "list"))
-    (tested _ first command.Show c _ (same first (codes "show"))
-    (tested _ first command.Questions c _ (same first (codes "questions"))
-    (tested _ first command.Validate c _ (same first (codes "validate"))
-    (tested _ first command.Compare c _ (same first (codes "compare"))
-    (tested _ first command.Plan c _ (same first (codes "plan"))
-    (tested _ first command.Embed c _ (same first (codes "embed"))
-    (tested _ first command.Sample c _ (same first (codes "sample"))
-    (λ none. absurd (some≢none c none)))))))))) e
+named : (first : Text) (c : Command) → command_of first ≡ Some c → first ≡ name_of c
+named first c e = (bytes_eq-Decides first (name_of c)).0 (passes (λ x. bytes_eq first (name_of x)) commands c e)
 
 -- ---- the first level
 
@@ -180,42 +166,23 @@ takes_up name vs (w ∷ ws) =
     let next = takes_up name (vs ++ w ∷ []) ws in
     (next.0, next.1 ∙ ap (stopped name) (append_assoc vs (w ∷ []) ws))
 
--- the word of a command stops it
-stops : (c : Command) → walked whole.top.rules names (walk_from nothing_held) (word_of c) ≡ stopped (word_of c) []
+-- the word of a command stops it and passes, and its subcommand is found
+record IsMet (c : Command) : Type 0 where
+  stops : walked whole.top.rules names (walk_from nothing_held) (name_of c) ≡ stopped (name_of c) []
+  turned : turn_passes whole.top names (walk_from nothing_held) (name_of c) ≡ true
+  found : find (λ s. answers_to (name_of c) (label_of s)) whole.subs ≡ Some (built_of c)
+
+met : (c : Command) → IsMet c
 unfolding walked
-stops command.Digest = refl
-stops command.List = refl
-stops command.Show = refl
-stops command.Questions = refl
-stops command.Validate = refl
-stops command.Compare = refl
-stops command.Plan = refl
-stops command.Embed = refl
-stops command.Sample = refl
-
--- and passes
-turned : (c : Command) → turn_passes whole.top names (walk_from nothing_held) (word_of c) ≡ true
-turned command.Digest = refl
-turned command.List = refl
-turned command.Show = refl
-turned command.Questions = refl
-turned command.Validate = refl
-turned command.Compare = refl
-turned command.Plan = refl
-turned command.Embed = refl
-turned command.Sample = refl
-
--- and its subcommand is found
-found : (c : Command) → find (λ s. answers_to (word_of c) (label_of s)) whole.subs ≡ Some (built_of c)
-found command.Digest = refl
-found command.List = refl
-found command.Show = refl
-found command.Questions = refl
-found command.Validate = refl
-found command.Compare = refl
-found command.Plan = refl
-found command.Embed = refl
-found command.Sample = refl
+met command.Digest = record { stops = refl; turned = refl; found = refl }
+met command.List = record { stops = refl; turned = refl; found = refl }
+met command.Show = record { stops = refl; turned = refl; found = refl }
+met command.Questions = record { stops = refl; turned = refl; found = refl }
+met command.Validate = record { stops = refl; turned = refl; found = refl }
+met command.Compare = record { stops = refl; turned = refl; found = refl }
+met command.Plan = record { stops = refl; turned = refl; found = refl }
+met command.Embed = record { stops = refl; turned = refl; found = refl }
+met command.Sample = record { stops = refl; turned = refl; found = refl }
 
 -- what is tested of a walk over the first level
 abbrev stopped_passes : Walk → Bool → Bool
@@ -231,17 +198,17 @@ found_passes o words =
     && (true && (true && (true && is_valid whole.top [] (is_some (option_map (λ s. rows_at s words) o)))))
 
 -- words behind a command that the command takes are taken
-whole_takes : (c : Command) (words : List Text) → level_passes (built_of c) [] nothing_held words false ≡ true → takes command_line (word_of c ∷ words) ≡ true
+whole_takes : (c : Command) (words : List Text) → level_passes (built_of c) [] nothing_held words false ≡ true → takes command_line (name_of c ∷ words) ≡ true
 unfolding walk_passes
 whole_takes c words below =
-    let next = takes_up (word_of c) [] words in
-    let walk_is : fold (walked whole.top.rules names) (walked whole.top.rules names (walk_from nothing_held) (word_of c)) words ≡ stopped (word_of c) words
-    = ap (λ (w : Walk). fold (walked whole.top.rules names) w words) (stops c) ∙ next.1 in
-    let passes : walk_passes whole.top names (walk_from nothing_held) (word_of c ∷ words) ≡ true
-    = ap₂ (λ (x y : Bool). x && y) (turned c) (ap (λ (w : Walk). walk_passes whole.top names w words) (stops c) ∙ next.0) in
-    ap (λ (w : Walk). stopped_passes w (walk_passes whole.top names (walk_from nothing_held) (word_of c ∷ words))) walk_is
-    ∙ ap (stopped_passes (stopped (word_of c) words)) passes
-    ∙ ap (λ (o : Option Shape). found_passes o words) (found c)
+    let next = takes_up (name_of c) [] words in
+    let walk_is : fold (walked whole.top.rules names) (walked whole.top.rules names (walk_from nothing_held) (name_of c)) words ≡ stopped (name_of c) words
+    = ap (λ (w : Walk). fold (walked whole.top.rules names) w words) (met c).stops ∙ next.1 in
+    let passes : walk_passes whole.top names (walk_from nothing_held) (name_of c ∷ words) ≡ true
+    = ap₂ (λ (x y : Bool). x && y) (met c).turned (ap (λ (w : Walk). walk_passes whole.top names w words) (met c).stops ∙ next.0) in
+    ap (λ (w : Walk). stopped_passes w (walk_passes whole.top names (walk_from nothing_held) (name_of c ∷ words))) walk_is
+    ∙ ap (stopped_passes (stopped (name_of c) words)) passes
+    ∙ ap (λ (o : Option Shape). found_passes o words) (met c).found
     ∙ ap (λ (b : Bool). b && true) below
 
 -- ---- all words
@@ -255,7 +222,7 @@ fitting (first ∷ words) roles all e = go (command_of first) refl e
     go None at e = absurd (some≢none roles e)
     go (Some c) at e =
         ap (λ (t : Text). takes command_line (t ∷ words)) (named first c at)
-        ∙ whole_takes c words (level (built_of c) words (both (is_name first) (list_all is_name words) all).1 (fits c words roles e))
+        ∙ whole_takes c words (level (built_of c) words (both (is_name first) (list_all is_name words) all).1 (taken c (name_of c) words (with_roles c words roles e)))
 
 -- so words that aren't taken don't fit
 pub unfit : (words : List Text) → list_all is_name words ≡ true → (takes command_line words ≡ true → ⊥) → roles_of_names words ≡ None

@@ -1,12 +1,25 @@
 -- For private clauses: the command line as `clap` sees it, one command with a subcommand for each of ours and no options.
-use Rattle.std.specs.Prelude.{◌≡◌, true, false, List, [], ◌∷◌, codes, Some}
+use Rattle.std.specs.Prelude.{◌≡◌, true, false, List, [], codes, map, Some}
 use Rattle.clap.specs.Lexer.{usize_max}
 use Rattle.clap.specs.Simple.{App, Shape, app_of, new_rule, new_shape}
 use Rattle.clap.specs.Walk.{Rule, Text}
 use Rattle.clap.specs.declared.builder.command.Command.{Command as Parser}
 use Rattle.clap.specs.declared.builder.command.Command.TheViews.{out-Command as fields_of}
+use Rattle.c2_words.specs.CommandLine.{commands, name_of, words_of}
 use Rattle.c2_words.specs.declared.types.Command.{Command}
-use Rattle.c2_words.specs.declared.types.Command.TheVariants as command
+use Rattle.c2_words.specs.declared.types.Role.{Role}
+use Rattle.c2_words.specs.declared.types.Role.TheVariants.{Media, Other, Definition, Signature, Out, Count, Algorithm, Judges}
+
+-- what `clap` calls the words of a role: the objects of one call have different names
+abbrev pub id_of : Role → Text
+id_of Media = codes "MEDIA"
+id_of Other = codes "SECOND"
+id_of Definition = codes "SECOND"
+id_of Signature = codes "THIRD"
+id_of Out = codes "OUT"
+id_of Count = codes "N"
+id_of Algorithm = codes "ALG"
+id_of Judges = codes "JUDGE"
 
 -- a word that must be there
 abbrev pub one_word : Text → Rule
@@ -16,50 +29,15 @@ one_word id = record (new_rule id) { required = true }
 abbrev pub judge_words : Rule
 judge_words = record (new_rule (codes "JUDGE")) { range = Some (record { start_inclusive = 1; end_inclusive = usize_max }) }
 
--- the word of a command
-abbrev pub word_of : Command → Text
-word_of command.Digest = codes "digest"
-word_of command.List = codes "list"
-word_of command.Show = codes "show"
-word_of command.Questions = codes "questions"
-word_of command.Validate = codes "validate"
-word_of command.Compare = codes "compare"
-word_of command.Plan = codes "plan"
-word_of command.Embed = codes "embed"
-word_of command.Sample = codes "sample"
+-- the name of an algorithm, or no word
+abbrev pub algorithm_word : Rule
+algorithm_word = new_rule (codes "ALG")
 
--- the words after it: of one file
-abbrev pub media_words : List Rule
-media_words = one_word (codes "MEDIA") ∷ []
-
--- of one file and judges
-abbrev pub judged_words : List Rule
-judged_words = one_word (codes "MEDIA") ∷ judge_words ∷ []
-
--- of two files and judges
-abbrev pub second_words : List Rule
-second_words = one_word (codes "MEDIA") ∷ one_word (codes "SECOND") ∷ judge_words ∷ []
-
--- of three files, a new one and judges
-abbrev pub out_words : List Rule
-out_words =
-    one_word (codes "MEDIA") ∷ one_word (codes "SECOND") ∷ one_word (codes "THIRD") ∷ one_word (codes "OUT") ∷ judge_words ∷ []
-
--- of a number
-abbrev pub count_words : List Rule
-count_words = one_word (codes "N") ∷ []
-
--- the words behind the word of a command
-abbrev pub rules_of : Command → List Rule
-rules_of command.Digest = media_words
-rules_of command.List = media_words
-rules_of command.Show = media_words
-rules_of command.Questions = judged_words
-rules_of command.Validate = judged_words
-rules_of command.Compare = second_words
-rules_of command.Plan = second_words
-rules_of command.Embed = out_words
-rules_of command.Sample = count_words
+-- the words of a role
+abbrev pub rule_for : Role → Rule
+rule_for Judges = judge_words
+rule_for Algorithm = algorithm_word
+rule_for role = one_word (id_of role)
 
 -- a subcommand of this name with these words
 abbrev pub leaf : Text → List Rule → Shape
@@ -72,7 +50,7 @@ pub record IsLeaf (s : Shape) (p : Parser) : Type 0 where
 
 -- the subcommand of a command
 abbrev pub leaf_of : Command → Shape
-leaf_of c = leaf (word_of c) (rules_of c)
+leaf_of c = leaf (name_of c) (map rule_for (words_of c))
 
 -- the whole: no program's name is among the words, and neither `help` nor a flag is anything but a word
 abbrev pub top : Shape
@@ -87,9 +65,4 @@ top = record (new_shape (codes "c2")) {
 
 -- a command line: one of these subcommands
 abbrev pub command_line : App
-command_line = record {
-  top = top;
-  subs = leaf_of command.Digest ∷ leaf_of command.List ∷ leaf_of command.Show ∷ leaf_of command.Questions
-      ∷ leaf_of command.Validate ∷ leaf_of command.Compare ∷ leaf_of command.Plan ∷ leaf_of command.Embed
-      ∷ leaf_of command.Sample ∷ [];
-}
+command_line = record { top = top; subs = map leaf_of commands }

@@ -1,22 +1,23 @@
 // Which word is which.
-ghost use Rattle.std.specs.Prelude.{◌≡◌, true, false, map, string_bytes, is_some, IfOk, IfSome};
+ghost use Rattle.std.specs.Prelude.{◌≡◌, ◌+◌, ◌<◌, ◌≤◌, IfSome, length, map, string_bytes, option_and_then, option_map, position};
+ghost use Rattle.std.specs.Option.{ForSome};
 ghost use Rattle.std.specs.List.{list_all};
-ghost use Rattle.c2_words.specs.CommandLine.{GivesRoles, roles_of_names, roles_of_one, roles_of_two, roles_of_four, roles_of_number, is_name, reads_media, reads_second, reads_third, writes_file, makes_media, most_judges, command_of};
+ghost use Rattle.c2_spec.specs.Digest.{alg_named};
+ghost use Rattle.c2_words.specs.CommandLine.{GivesRoles, first_judge, fit, is_algorithm, is_count, is_name, is_media, is_out, is_second, is_third, pieces_of, place_of, roles_as, roles_of_names, roles_with, word_as, words_of};
 
+use crate::commands::{command_of, words_of};
 use crate::numbers::pieces_of;
 use crate::parsing::parse;
-use crate::types::{Command, Roles, RolesError};
+use crate::types::{Command, Role, Roles, RolesError};
 use c2_base::limits::MAX_JUDGE_NAMES;
+use c2_hash::alg_of;
+use c2_spec::Alg;
 use std::alloc::Global;
 
 /// Says which word is which: `Usage` exactly where the words fit no command, unless memory runs out.
 #[tactic(auto, using(crate::proofs::Naming::all_names))]
 pub fn roles(alloc: Global, words: &Vec<String>) -> Result<Roles, RolesError>
-    ensures roles { GivesRoles (map string_bytes words.now.items) result }
-    ensures media { IfOk result (λ roles. is_some roles.media ≡ reads_media roles.command) }
-    ensures second { IfOk result (λ roles. is_some roles.second ≡ reads_second roles.command) }
-    ensures third { IfOk result (λ roles. is_some roles.third ≡ reads_third roles.command) }
-    ensures out { IfOk result (λ roles. is_some roles.out ≡ writes_file roles.command) }
+    ensures { GivesRoles (map string_bytes words.now.items) result }
 {
     if !are_names(words) {
         return Err(RolesError::Usage);
@@ -37,214 +38,131 @@ fn are_names(words: &Vec<String>) -> bool
 
 // The roles of words that may all be names.
 fn roles_of_names(words: &Vec<String>) -> Option<Roles>
-    ensures roles { result ≡ roles_of_names (map string_bytes words.now.items) }
-    ensures media { IfSome result (λ roles. is_some roles.media ≡ reads_media roles.command) }
-    ensures second { IfSome result (λ roles. is_some roles.second ≡ reads_second roles.command) }
-    ensures third { IfSome result (λ roles. is_some roles.third ≡ reads_third roles.command) }
-    ensures out { IfSome result (λ roles. is_some roles.out ≡ writes_file roles.command) }
+    ensures { result ≡ roles_of_names (map string_bytes words.now.items) }
 {
-    let [first, names @ ..] = words.as_slice() else {
+    let [first, words @ ..] = words.as_slice() else {
         return None;
     };
-    let Some(command) = command_of(first.as_str()) else {
-        return None;
-    };
-    if makes_media(command) {
-        return roles_of_number(command, names);
-    }
-    if writes_file(command) {
-        return roles_of_four(command, names);
-    }
-    if reads_second(command) {
-        return roles_of_two(command, names);
-    }
-    roles_of_one(command, names)
+    roles_with(command_of(first.as_str())?, words)
 }
 
-// Whether a command makes its media, of a number of pieces.
-fn makes_media(command: Command) -> bool
-    ensures { result ≡ makes_media command }
+// The roles of a command with these words behind it.
+fn roles_with(command: Command, words: &[String]) -> Option<Roles>
+    ensures { result ≡ roles_with command (map string_bytes words.now) }
 {
-    match command {
-        Command::Sample => true,
-        Command::Digest
-        | Command::List
-        | Command::Show
-        | Command::Questions
-        | Command::Validate
-        | Command::Compare
-        | Command::Plan
-        | Command::Embed => false,
-    }
-}
-
-// Whether a command writes a new file.
-fn writes_file(command: Command) -> bool
-    ensures { result ≡ writes_file command }
-{
-    match command {
-        Command::Embed => true,
-        Command::Digest
-        | Command::List
-        | Command::Show
-        | Command::Questions
-        | Command::Validate
-        | Command::Compare
-        | Command::Plan
-        | Command::Sample => false,
-    }
-}
-
-// Whether a command reads a second file.
-fn reads_second(command: Command) -> bool
-    ensures { result ≡ reads_second command }
-{
-    match command {
-        Command::Compare | Command::Plan | Command::Embed => true,
-        Command::Digest
-        | Command::List
-        | Command::Show
-        | Command::Questions
-        | Command::Validate
-        | Command::Sample => false,
-    }
-}
-
-// The roles of a command that reads one file.
-fn roles_of_one(command: Command, names: &[String]) -> Option<Roles>
-    requires second { reads_second command ≡ false }
-    requires file { makes_media command ≡ false }
-    ensures roles { result ≡ roles_of_one command (map string_bytes names.now) }
-    ensures media { IfSome result (λ roles. is_some roles.media ≡ reads_media roles.command) }
-    ensures second { IfSome result (λ roles. is_some roles.second ≡ reads_second roles.command) }
-    ensures third { IfSome result (λ roles. is_some roles.third ≡ reads_third roles.command) }
-    ensures out { IfSome result (λ roles. is_some roles.out ≡ writes_file roles.command) }
-{
-    let [_media, judges @ ..] = names else {
-        return None;
-    };
-    if judges.len() > most_judges(command) {
+    let roles = words_of(command);
+    if !fit(roles, words) {
         return None;
     }
     Some(Roles {
         command,
-        media: Some(1),
-        second: None,
-        third: None,
-        out: None,
-        judges: 2,
-        count: None,
+        media: behind(media_place(roles)),
+        second: behind(second_place(roles)),
+        third: behind(third_place(roles)),
+        out: behind(out_place(roles)),
+        judges: first_judge(roles, words),
+        count: count_in(roles, words),
+        alg: alg_in(roles, words),
     })
 }
 
-// The roles of a command that reads two files.
-fn roles_of_two(command: Command, names: &[String]) -> Option<Roles>
-    requires second { reads_second command ≡ true }
-    requires no_file { writes_file command ≡ false }
-    ensures roles { result ≡ roles_of_two command (map string_bytes names.now) }
-    ensures media { IfSome result (λ roles. is_some roles.media ≡ reads_media roles.command) }
-    ensures second { IfSome result (λ roles. is_some roles.second ≡ reads_second roles.command) }
-    ensures third { IfSome result (λ roles. is_some roles.third ≡ reads_third roles.command) }
-    ensures out { IfSome result (λ roles. is_some roles.out ≡ writes_file roles.command) }
+// Which word is the media file.
+fn media_place(roles: &[Role]) -> Option<usize>
+    ensures place { result ≡ position is_media roles.now }
+    ensures within { IfSome result (λ i. i < length roles.now) }
 {
-    let [_media, _second, judges @ ..] = names else {
-        return None;
-    };
-    if judges.len() > most_judges(command) {
-        return None;
-    }
-    Some(Roles {
-        command,
-        media: Some(1),
-        second: Some(2),
-        third: None,
-        out: None,
-        judges: 3,
-        count: None,
-    })
+    roles.iter().position(Role::is_media)
 }
 
-// The roles of a command that reads three files and writes one.
-fn roles_of_four(command: Command, names: &[String]) -> Option<Roles>
-    requires { writes_file command ≡ true }
-    ensures roles { result ≡ roles_of_four command (map string_bytes names.now) }
-    ensures media { IfSome result (λ roles. is_some roles.media ≡ reads_media roles.command) }
-    ensures second { IfSome result (λ roles. is_some roles.second ≡ reads_second roles.command) }
-    ensures third { IfSome result (λ roles. is_some roles.third ≡ reads_third roles.command) }
-    ensures out { IfSome result (λ roles. is_some roles.out ≡ writes_file roles.command) }
+// Which word is the second source.
+fn second_place(roles: &[Role]) -> Option<usize>
+    ensures place { result ≡ position is_second roles.now }
+    ensures within { IfSome result (λ i. i < length roles.now) }
 {
-    let [_media, _second, _third, _out, judges @ ..] = names else {
-        return None;
-    };
-    if judges.len() > most_judges(command) {
-        return None;
-    }
-    Some(Roles {
-        command,
-        media: Some(1),
-        second: Some(2),
-        third: Some(3),
-        out: Some(4),
-        judges: 5,
-        count: None,
-    })
+    roles.iter().position(Role::is_second)
 }
 
-// The roles of a command that makes its media.
-fn roles_of_number(command: Command, words: &[String]) -> Option<Roles>
-    requires { makes_media command ≡ true }
-    ensures roles { result ≡ roles_of_number command (map string_bytes words.now) }
-    ensures media { IfSome result (λ roles. is_some roles.media ≡ reads_media roles.command) }
-    ensures second { IfSome result (λ roles. is_some roles.second ≡ reads_second roles.command) }
-    ensures third { IfSome result (λ roles. is_some roles.third ≡ reads_third roles.command) }
-    ensures out { IfSome result (λ roles. is_some roles.out ≡ writes_file roles.command) }
+// Which word is the third source.
+fn third_place(roles: &[Role]) -> Option<usize>
+    ensures place { result ≡ position is_third roles.now }
+    ensures within { IfSome result (λ i. i < length roles.now) }
 {
-    let [number] = words else {
-        return None;
-    };
-    let Some(count) = pieces_of(number.as_str()) else {
-        return None;
-    };
-    Some(Roles {
-        command,
-        media: None,
-        second: None,
-        third: None,
-        out: None,
-        judges: 2,
-        count: Some(count),
-    })
+    roles.iter().position(Role::is_third)
 }
 
-// The command of a word.
-fn command_of(word: &str) -> Option<Command>
-    ensures { result ≡ command_of word.now }
+// Which word is the new file.
+fn out_place(roles: &[Role]) -> Option<usize>
+    ensures place { result ≡ position is_out roles.now }
+    ensures within { IfSome result (λ i. i < length roles.now) }
 {
-    match word {
-        "digest" => Some(Command::Digest),
-        "list" => Some(Command::List),
-        "show" => Some(Command::Show),
-        "questions" => Some(Command::Questions),
-        "validate" => Some(Command::Validate),
-        "compare" => Some(Command::Compare),
-        "plan" => Some(Command::Plan),
-        "embed" => Some(Command::Embed),
-        "sample" => Some(Command::Sample),
-        _ => None,
+    roles.iter().position(Role::is_out)
+}
+
+// The place of a word behind the command's own, counted from that.
+fn behind(place: Option<usize>) -> Option<usize>
+    requires { ForSome place (λ i. i < 5) }
+    ensures { result ≡ option_map (λ i. i + 1) place }
+{
+    Some(place? + 1)
+}
+
+// Where names of judges begin.
+fn first_judge(roles: &[Role], words: &[String]) -> usize
+    requires { length roles.now ≤ 5 }
+    ensures { result ≡ first_judge roles.now (map string_bytes words.now) }
+{
+    let before = roles.iter().filter(|role| role.is_one_word()).count();
+    words.len().min(before) + 1
+}
+
+// How many pieces words ask for.
+fn count_in(roles: &[Role], words: &[String]) -> Option<u32>
+    ensures { result ≡ option_and_then pieces_of
+        (word_as is_count roles.now (map string_bytes words.now)) }
+{
+    match words.get(count_place(roles)?) {
+        Some(word) => pieces_of(word.as_str()),
+        None => None,
     }
 }
 
-// How many names of judges may follow.
-fn most_judges(command: Command) -> usize
-    ensures { result ≡ most_judges command }
+// Which of these roles is a number of pieces.
+fn count_place(roles: &[Role]) -> Option<usize>
+    ensures { result ≡ position is_count roles.now }
 {
-    match command {
-        Command::Digest | Command::List | Command::Show | Command::Sample => 0,
-        Command::Questions
-        | Command::Validate
-        | Command::Compare
-        | Command::Plan
-        | Command::Embed => MAX_JUDGE_NAMES,
+    roles.iter().position(Role::is_count)
+}
+
+// The algorithm that words name.
+fn alg_in(roles: &[Role], words: &[String]) -> Option<Alg>
+    ensures { result ≡ option_and_then alg_named
+        (word_as is_algorithm roles.now (map string_bytes words.now)) }
+{
+    match words.get(alg_place(roles)?) {
+        Some(word) => alg_of(word.as_str()),
+        None => None,
+    }
+}
+
+// Which of these roles is an algorithm.
+fn alg_place(roles: &[Role]) -> Option<usize>
+    ensures { result ≡ position is_algorithm roles.now }
+{
+    roles.iter().position(Role::is_algorithm)
+}
+
+// Whether words fit roles.
+fn fit(roles: &[Role], words: &[String]) -> bool
+    ensures { result ≡ fit roles.now (map string_bytes words.now) }
+{
+    match (roles, words) {
+        ([], _) => words.is_empty(),
+        ([Role::Judges, ..], _) => words.len() <= MAX_JUDGE_NAMES,
+        ([Role::Algorithm, roles @ ..], []) => fit(roles, words),
+        ([_, ..], []) => false,
+        ([role, roles @ ..], [word, words @ ..]) => {
+            role.has_form(word.as_str()) && fit(roles, words)
+        }
     }
 }
 

@@ -4,9 +4,10 @@ ghost use Rattle.std.specs.List.{list_all};
 ghost use Rattle.clap.specs.Simple.{app_of};
 ghost use Rattle.clap.specs.Walk.{rule_of};
 ghost use Rattle.c2_words.specs.CommandLine.{is_name, roles_of_names};
-ghost use Rattle.c2_words.specs.Parsing.{IsLeaf, command_line, count_words, judge_words, judged_words, leaf, media_words, one_word, out_words, second_words};
+ghost use Rattle.c2_words.specs.Parsing.{IsLeaf, command_line, judge_words, leaf_of, one_word, rule_for};
 
-use crate::types::RolesError;
+use crate::commands::{commands, name_of, words_of};
+use crate::types::{Command, Role, RolesError};
 use clap::error::ErrorKind;
 use clap::{Arg, Command as Parser};
 use std::alloc::{AllocError, Global};
@@ -33,62 +34,43 @@ pub fn parse(alloc: Global, words: &Vec<String>) -> Result<(), RolesError>
 fn command_line<'a>(alloc: Global) -> Result<Parser<'a>, AllocError>
     ensures { IfOk result (λ parser. app_of parser ≡ command_line) }
 {
-    Parser::new(alloc, "c2")
+    let mut parser = Parser::new(alloc, "c2")
         .no_binary_name(true)
         .disable_help_flag(true)
         .disable_help_subcommand(true)
         .disable_version_flag(true)
-        .subcommand_required(true)
-        .subcommand(reading(alloc, "digest")?)?
-        .subcommand(reading(alloc, "list")?)?
-        .subcommand(reading(alloc, "show")?)?
-        .subcommand(judging(alloc, "questions")?)?
-        .subcommand(judging(alloc, "validate")?)?
-        .subcommand(comparing(alloc, "compare")?)?
-        .subcommand(comparing(alloc, "plan")?)?
-        .subcommand(writing(alloc, "embed")?)?
-        .subcommand(counting(alloc, "sample")?)
+        .subcommand_required(true);
+    for command in commands() {
+        parser = parser.subcommand(leaf(alloc, *command)?)?;
+    }
+    Ok(parser)
 }
 
-// `COMMAND MEDIA`.
-fn reading<'a>(alloc: Global, name: &'a str) -> Result<Parser<'a>, AllocError>
-    ensures { IfOk result (IsLeaf (leaf name.entry.now media_words)) }
+// The subcommand of a command.
+fn leaf<'a>(alloc: Global, command: Command) -> Result<Parser<'a>, AllocError>
+    ensures { IfOk result (IsLeaf (leaf_of command)) }
 {
-    Parser::new(alloc, name).arg(one_word(alloc, "MEDIA"))
+    let mut parser = Parser::new(alloc, name_of(command));
+    for role in words_of(command) {
+        parser = parser.arg(rule_for(alloc, *role))?;
+    }
+    Ok(parser)
 }
 
-// `COMMAND MEDIA [JUDGE..]`.
-fn judging<'a>(alloc: Global, name: &'a str) -> Result<Parser<'a>, AllocError>
-    ensures { IfOk result (IsLeaf (leaf name.entry.now judged_words)) }
+// The words of a role.
+fn rule_for<'a>(alloc: Global, role: Role) -> Arg<'a>
+    ensures rule { rule_of result ≡ rule_for role }
+    ensures local { result.global ≡ false }
 {
-    reading(alloc, name)?.arg(judge_words(alloc))
-}
-
-// `COMMAND MEDIA SECOND [JUDGE..]`.
-fn comparing<'a>(alloc: Global, name: &'a str) -> Result<Parser<'a>, AllocError>
-    ensures { IfOk result (IsLeaf (leaf name.entry.now second_words)) }
-{
-    reading(alloc, name)?
-        .arg(one_word(alloc, "SECOND"))?
-        .arg(judge_words(alloc))
-}
-
-// `COMMAND MEDIA SECOND THIRD OUT [JUDGE..]`.
-fn writing<'a>(alloc: Global, name: &'a str) -> Result<Parser<'a>, AllocError>
-    ensures { IfOk result (IsLeaf (leaf name.entry.now out_words)) }
-{
-    reading(alloc, name)?
-        .arg(one_word(alloc, "SECOND"))?
-        .arg(one_word(alloc, "THIRD"))?
-        .arg(one_word(alloc, "OUT"))?
-        .arg(judge_words(alloc))
-}
-
-// `COMMAND N`.
-fn counting<'a>(alloc: Global, name: &'a str) -> Result<Parser<'a>, AllocError>
-    ensures { IfOk result (IsLeaf (leaf name.entry.now count_words)) }
-{
-    Parser::new(alloc, name).arg(one_word(alloc, "N"))
+    match role {
+        Role::Media => one_word(alloc, "MEDIA"),
+        Role::Other | Role::Definition => one_word(alloc, "SECOND"),
+        Role::Signature => one_word(alloc, "THIRD"),
+        Role::Out => one_word(alloc, "OUT"),
+        Role::Count => one_word(alloc, "N"),
+        Role::Algorithm => Arg::new(alloc, "ALG"),
+        Role::Judges => judge_words(alloc),
+    }
 }
 
 // A word that must be there.

@@ -1,5 +1,7 @@
 // The commands, and what their words are.
 
+use c2_spec::Alg;
+
 /// The most pieces that a made media file may have.
 pub const MAX_PIECES: u32 = 20000;
 
@@ -34,6 +36,34 @@ pub enum Command {
     Sample,
 }
 
+/// What a word behind a command's own is.
+#[derive(Clone, Copy, Debug, PartialEq, Eq)]
+pub enum Role {
+    /// The media file.
+    Media,
+
+    /// The other media file of `compare`.
+    Other,
+
+    /// The definition file.
+    Definition,
+
+    /// The signed message.
+    Signature,
+
+    /// The file that is written.
+    Out,
+
+    /// How many pieces a made media file has.
+    Count,
+
+    /// The name of a digest algorithm, or no word.
+    Algorithm,
+
+    /// Names of judges, or none: they stand last.
+    Judges,
+}
+
 /// Which word is which: the index of each name among the words.
 #[derive(Clone, Copy, Debug, PartialEq, Eq)]
 pub struct Roles {
@@ -57,6 +87,9 @@ pub struct Roles {
 
     /// How many pieces the made media has: from 1 to `MAX_PIECES`.
     pub count: Option<u32>,
+
+    /// The digest algorithm, where the words name one.
+    pub alg: Option<Alg>,
 }
 
 /// Why words have no roles.

@@ -1,6 +1,5 @@
 use Rattle.std.proofs.Common.{◌≡◌, ℕ, ◌++◌, length, take, drop, [], refl, sym, ap, ◌∙◌, subst, arith, append-nil, append_assoc}
 use Rattle.std.proofs.lemmas.List.{length-take-le}
-use Rattle.c2_spec.specs.declared.digest.Alg.TheVariants.{Sha256}
 use Rattle.c2_build.specs.Steps.{HasTaken}
 use Rattle.c2_build.proofs.Written.{piece_none, read_piece}
 use Rattle.c2_build.proofs.digesting.hash_piece.Goals as goal
@@ -16,11 +15,11 @@ pieces-preserved g c =
       within = omega (arith, c.min-len.ensures, before.within, c.pieces-test.true);
       stays = record { same_len = call.stays.same_len ∙ before.stays.same_len; same_bytes = call.stays.same_bytes ∙ before.stays.same_bytes; later = omega (arith, call.stays.later, before.stays.later) };
       count = call.cause.ok ∙ before.count;
-      taken = λ list held.
-          let h = before.taken list held in
+      taken = λ alg list held.
+          let h = before.taken alg list held in
           let more = take n (c.fill_at.new.buf ++ drop n c.pieces.buf) in (
             h.0 ++ more,
-            subst (λ x. g.H.Hashing.holds c.update.new.state Sha256 x) (append_assoc list h.0 more) (c.update.ensures Sha256 (list ++ h.0) h.1),
+            subst (λ x. g.H.Hashing.holds c.update.new.state alg x) (append_assoc list h.0 more) (c.update.ensures alg (list ++ h.0) h.1),
             λ file known.
                 let size : length c.fill_at.new.buf ≡ n = c.fill_at.auto.buf ∙ length-take-le n c.pieces.buf (omega (arith, c.min-len.ensures)) in
                 read_piece file h.0 c.fill_at.new.buf (drop n c.pieces.buf) c.args.from c.pieces.at n before.begun size (h.2 file known) (call.filled file (before.stays.same_bytes ∙ known)),
@@ -34,7 +33,7 @@ pieces-init g c = record {
   within = c.requires.ordered;
   stays = record { same_len = refl; same_bytes = refl; later = omega arith };
   count = refl;
-  taken = λ list held. ([], subst (λ x. g.H.Hashing.holds c.args.state.now Sha256 x) (sym (append-nil list)) held, λ file known. sym (piece_none file c.args.from));
+  taken = λ alg list held. ([], subst (λ x. g.H.Hashing.holds c.args.state.now alg x) (sym (append-nil list)) held, λ file known. sym (piece_none file c.args.from));
 }
 
 -- in the end all was

@@ -1,7 +1,6 @@
 use Rattle.std.proofs.Common.{◌≤◌, ap, map, inl, sym, ◌∙◌, subst}
 use Rattle.std.specs.Prelude.{Err}
 use Rattle.c2_spec.specs.Judges.Panel.{judges_of, panel_says}
-use Rattle.c2_spec.specs.declared.digest.Alg.TheVariants.{Sha256}
 use Rattle.c2_cleared.specs.Clears.{cleared_len}
 use Rattle.c2_places.specs.Places.{IsFreePlace}
 use Rattle.c2_build.specs.Building.{KindAsks}
@@ -13,6 +12,7 @@ use Rattle.c2_build.proofs.Outside.{nothing_said, outside_map, quiet_ask, read_a
 use Rattle.c2_build.proofs.Placed.{cleared_length, ground_form, place_passed, place_refused, placed}
 use Rattle.c2_build.proofs.SomeBuild.{PlaceLaws, free_place}
 use Rattle.c2_build.proofs.draft.draft_over.Goals as goal
+use Rattle.c2_built.specs.Store.{new_alg}
 
 -- what it is built over is refused
 pub returns-in-Err-clause-refused : goal.returns-in-Err-clause-refused
@@ -49,7 +49,7 @@ returns-in-Err-draft_at-clause-refused g c = λ bytes known kind media is.
     let size = c.in-Ok-find_spot.ensures.size ∙ ap (cleared_len k.clearing) (c.in-Ok.ensures.stays.same_len ∙ sym len) ∙ sym (cleared_length k.clearing bytes) in
     let s = c.in-Ok-find_spot.spot in
     let at = placed g.H.Hashing.digest_of (panel_says (map (λ j. (goal.Judge-dyn g (j.vtable, j.value)).says j.value) c.args.judges.now.items)) bytes c.args.definition.now kind k s.seat s.size over.0 over.1 over.2 seat size in
-    place_refused g.H.Hashing.digest_of (panel_says (map (λ j. (goal.Judge-dyn g (j.vtable, j.value)).says j.value) c.args.judges.now.items)) bytes c.args.definition.now kind k s.seat s.size at c.in-Err-draft_at.error (c.in-Err-draft_at.ensures.refused (g.H.Hashing.digest_of Sha256) at.ground.content at.ground.base at.place at.is.content at.is_place at.seat)
+    place_refused g.H.Hashing.digest_of (panel_says (map (λ j. (goal.Judge-dyn g (j.vtable, j.value)).says j.value) c.args.judges.now.items)) bytes c.args.definition.now kind k s.seat s.size at c.in-Err-draft_at.error (c.in-Err-draft_at.ensures.refused (g.H.Hashing.digest_of (new_alg c.args.definition.now)) at.ground.content at.ground.base at.place at.is.content at.is_place at.seat)
 
 pub returns-in-Err-draft_at-clause-asked : goal.returns-in-Err-draft_at-clause-asked
 returns-in-Err-draft_at-clause-asked g c = λ bytes known kind is.
@@ -69,12 +69,12 @@ returns-in-Ok-draft_at-clause-passed g c = λ bytes known kind media is.
     let size = c.in-Ok-find_spot.ensures.size ∙ ap (cleared_len k.clearing) (c.in-Ok.ensures.stays.same_len ∙ sym len) ∙ sym (cleared_length k.clearing bytes) in
     let s = c.in-Ok-find_spot.spot in
     let at = placed g.H.Hashing.digest_of (panel_says (map (λ j. (goal.Judge-dyn g (j.vtable, j.value)).says j.value) c.args.judges.now.items)) bytes c.args.definition.now kind k s.seat s.size over.0 over.1 over.2 seat size in
-    place_passed g.H.Hashing.digest_of (panel_says (map (λ j. (goal.Judge-dyn g (j.vtable, j.value)).says j.value) c.args.judges.now.items)) bytes c.args.definition.now kind k s.seat s.size at c.in-Ok-draft_at.draft (c.in-Ok-draft_at.ensures.passed (g.H.Hashing.digest_of Sha256) at.ground.content at.ground.base at.place at.is.content at.is_place at.seat) (c.in-Ok-draft_at.ensures.draft (g.H.Hashing.digest_of Sha256) at.ground.content at.is.content)
+    place_passed g.H.Hashing.digest_of (panel_says (map (λ j. (goal.Judge-dyn g (j.vtable, j.value)).says j.value) c.args.judges.now.items)) bytes c.args.definition.now kind k s.seat s.size at c.in-Ok-draft_at.draft (c.in-Ok-draft_at.ensures.passed (g.H.Hashing.digest_of (new_alg c.args.definition.now)) at.ground.content at.ground.base at.place at.is.content at.is_place at.seat) (c.in-Ok-draft_at.ensures.draft (g.H.Hashing.digest_of (new_alg c.args.definition.now)) at.ground.content at.is.content)
 
 pub returns-in-Ok-draft_at-clause-small : goal.returns-in-Ok-draft_at-clause-small
 returns-in-Ok-draft_at-clause-small g c =
     let some = c.in-Ok.ensures.some in
-    let draft = c.in-Ok-draft_at.ensures.draft (g.H.Hashing.digest_of Sha256) some.content some.is in
+    let draft = c.in-Ok-draft_at.ensures.draft (g.H.Hashing.digest_of (new_alg c.args.definition.now)) some.content some.is in
     let size = c.in-Ok-find_spot.ensures.size ∙ ap (cleared_len c.in-Ok.ground.clearing) c.in-Ok.ensures.stays.same_len in
     record {
       content = some.content;

@@ -1,7 +1,6 @@
 use Rattle.std.proofs.Common.{[], map, refl, subst, sym}
 use Rattle.std.specs.Prelude.{Err, Ok}
 use Rattle.c2_spec.specs.Judges.Panel.{judges_of, panel_says}
-use Rattle.c2_spec.specs.declared.digest.Alg.TheVariants.{Sha256}
 use Rattle.c2_build.specs.Answers.{WithoutFault}
 use Rattle.c2_build.specs.Building.{IsGroundStage, IsMediaStage, KindAsks, MediaKind}
 use Rattle.c2_build.specs.Steps.{ComesAs, IsClearedTo, IsGround}
@@ -11,11 +10,12 @@ use Rattle.c2_build.proofs.Inputs.{fresh_kind, stored_kind}
 use Rattle.c2_build.proofs.Judged.{asked_after, asked_as, quiet_asked, quiet_cause, quiet_result}
 use Rattle.c2_build.proofs.SomeBuild.{opened_here}
 use Rattle.c2_build.proofs.ground.grounded.Goals as goal
+use Rattle.c2_built.specs.Store.{new_alg}
 
 -- a file without a store
 pub returns-in_default-clause-ground : goal.returns-in_default-clause-ground
 returns-in_default-clause-ground g c = λ bytes known kind media is.
-    subst (λ (k : MediaKind). ComesAs (IsGround (g.H.Hashing.digest_of Sha256) bytes c.args.definition.now) (IsGroundStage g.H.Hashing.digest_of (panel_says (map (λ j. (goal.Judge-dyn g (j.vtable, j.value)).says j.value) c.args.judges.now.items)) bytes c.args.definition.now k) c.fresh_ground.result) (sym (fresh_kind bytes c.args.file kind c.in_default.is is)) (c.fresh_ground.ensures.ground g.H.Hashing.digest_of (panel_says (map (λ j. (goal.Judge-dyn g (j.vtable, j.value)).says j.value) c.args.judges.now.items)) bytes (subst (λ (k : MediaKind). IsClearedTo bytes k c.args.file.clearing) (fresh_kind bytes c.args.file kind c.in_default.is is) is.clears))
+    subst (λ (k : MediaKind). ComesAs (IsGround (g.H.Hashing.digest_of (new_alg c.args.definition.now)) bytes c.args.definition.now) (IsGroundStage g.H.Hashing.digest_of (panel_says (map (λ j. (goal.Judge-dyn g (j.vtable, j.value)).says j.value) c.args.judges.now.items)) bytes c.args.definition.now k) c.fresh_ground.result) (sym (fresh_kind bytes c.args.file kind c.in_default.is is)) (c.fresh_ground.ensures.ground g.H.Hashing.digest_of (panel_says (map (λ j. (goal.Judge-dyn g (j.vtable, j.value)).says j.value) c.args.judges.now.items)) bytes (subst (λ (k : MediaKind). IsClearedTo bytes k c.args.file.clearing) (fresh_kind bytes c.args.file kind c.in_default.is is) is.clears))
 
 pub returns-in_default-clause-asked : goal.returns-in_default-clause-asked
 returns-in_default-clause-asked g c = λ bytes known kind is.
@@ -48,7 +48,7 @@ pub returns-clause-ground : goal.returns-clause-ground
 returns-clause-ground g c = λ bytes known kind media is.
     let f = c.in-Some.found in
     let k = stored_kind bytes c.args.file f kind c.in-Some.is is in
-    subst (λ (x : MediaKind). ComesAs (IsGround (g.H.Hashing.digest_of Sha256) bytes c.args.definition.now) (IsGroundStage g.H.Hashing.digest_of (panel_says (map (λ j. (goal.Judge-dyn g (j.vtable, j.value)).says j.value) c.args.judges.now.items)) bytes c.args.definition.now x) c.over_store.result) (sym k.2)
+    subst (λ (x : MediaKind). ComesAs (IsGround (g.H.Hashing.digest_of (new_alg c.args.definition.now)) bytes c.args.definition.now) (IsGroundStage g.H.Hashing.digest_of (panel_says (map (λ j. (goal.Judge-dyn g (j.vtable, j.value)).says j.value) c.args.judges.now.items)) bytes c.args.definition.now x) c.over_store.result) (sym k.2)
     (stored_over c.a_valid_store_is_carried.ensures.some c.one_opening.ensures.file g.H.Hashing.digest_of (panel_says (map (λ j. (goal.Judge-dyn g (j.vtable, j.value)).says j.value) c.args.judges.now.items)) bytes c.args.definition.now f.start f.length k.0 c.args.file.clearing (subst (λ (x : MediaKind). IsMediaStage bytes (Ok x)) k.2 media) (subst (λ (x : MediaKind). IsClearedTo bytes x c.args.file.clearing) k.2 is.clears) (c.in-Ok.ensures.checked bytes known) c.over_store.result
     (λ rs reads. c.over_store.ensures.over k.0 rs k.1 reads) (λ rs reads. c.over_store.ensures.refused k.0 rs k.1 reads))
 
@@ -59,4 +59,4 @@ returns-clause-asked g c = λ bytes known kind is.
 
 -- whatever is known of the media
 pub returns-in_default-clause-some : goal.returns-in_default-clause-some
-returns-in_default-clause-some g c = c.fresh_ground.ensures.some (g.H.Hashing.digest_of Sha256)
+returns-in_default-clause-some g c = c.fresh_ground.ensures.some (g.H.Hashing.digest_of (new_alg c.args.definition.now))

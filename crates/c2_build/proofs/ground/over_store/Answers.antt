@@ -4,11 +4,11 @@ use Rattle.std.proofs.lemmas.Result.{IfErr-weaker}
 use Rattle.c2_spec.specs.C2pa.Manifest.{manifests_of}
 use Rattle.c2_rules.specs.Readings.{AreReadings}
 use Rattle.c2_spec.specs.Jumbf.Tree.{Tree}
-use Rattle.c2_spec.specs.declared.digest.Alg.TheVariants.{Sha256}
 use Rattle.c2_build.specs.Steps.{IsOver}
 use Rattle.c2_build.proofs.Grounds.{not_refused, same_tree}
 use Rattle.c2_build.proofs.Inputs.{boxes_of, here_tree, refused_tree}
 use Rattle.c2_build.proofs.ground.over_store.Goals as goal
+use Rattle.c2_built.specs.Store.{new_alg}
 
 -- the boxes are those of the store
 pub over_tree-requires : goal.over_tree-requires
@@ -19,7 +19,7 @@ pub returns-in-Here-clause-over : goal.returns-in-Here-clause-over
 returns-in-Here-clause-over g c = λ t rs opened reads.
     let f = c.args.found.now in
     let same = same_tree c.one_opening.ensures.store f.start f.length f.store t c.in-Here.tree opened (here_tree f c.in-Ok.read _ _ c.in-Here.is c.in-Ok.ensures) in
-    subst (λ (u : Tree). IfOk c.over_tree.result (IsOver (g.H.Hashing.digest_of Sha256) c.args.definition.now u c.args.clearing rs)) (sym same) (c.over_tree.ensures.over rs (subst (λ (u : Tree). AreReadings (manifests_of u) rs) same reads))
+    subst (λ (u : Tree). IfOk c.over_tree.result (IsOver (g.H.Hashing.digest_of (new_alg c.args.definition.now)) c.args.definition.now u c.args.clearing rs)) (sym same) (c.over_tree.ensures.over rs (subst (λ (u : Tree). AreReadings (manifests_of u) rs) same reads))
 
 pub returns-in-Here-clause-refused : goal.returns-in-Here-clause-refused
 returns-in-Here-clause-refused g c = λ t rs opened reads.

@@ -3,7 +3,6 @@ use Rattle.std.specs.Prelude.{Err, Ok, IfErr}
 use Rattle.std.proofs.lemmas.Result.{IfOk-weaker}
 use Rattle.c2_spec.specs.C2pa.Sign1.{parts_of}
 use Rattle.c2_spec.specs.Judges.Panel.{judges_of, panel_says}
-use Rattle.c2_spec.specs.declared.digest.Alg.TheVariants.{Sha256}
 use Rattle.c2_build.specs.Building.{KindAsks}
 use Rattle.c2_build.specs.Steps.{IsPutReady, IsReadCause, IsReserveRefusal}
 use Rattle.c2_build.specs.declared.draft.Drafted.{Drafted}
@@ -13,6 +12,7 @@ use Rattle.c2_build.proofs.Judged.{asked_after, asked_those, leaves_error, leave
 use Rattle.c2_build.proofs.NewStores.{ready_built, reserve_outside}
 use Rattle.c2_build.proofs.Outside.{ask_embed, outside_map}
 use Rattle.c2_build.proofs.ready.ready_over.Goals as goal
+use Rattle.c2_built.specs.Store.{new_alg}
 
 -- the place is refused
 pub returns-in-Err-clause-ready : goal.returns-in-Err-clause-ready
@@ -43,7 +43,7 @@ pub returns-clause-ready : goal.returns-clause-ready
 returns-clause-ready g c = λ bytes known kind media is.
     let at = c.in-Ok.ensures.passed bytes known kind media is in
     ready_built c.a_message_fills_its_reserve_or_needs_more.ensures g.H.Hashing.digest_of (panel_says (map (λ j. (goal.Judge-dyn g (j.vtable, j.value)).says j.value) c.args.judges.now.items)) bytes kind c.args.definition.now (parts_of c.args.sign.now) c.in-Ok.drafted at c.in-Ok-padded.message c.ready_with.result c.in-Ok-padded.ensures.signed
-    (IfOk-weaker c.ready_with.result _ (λ x. IsPutReady (g.H.Hashing.digest_of Sha256) bytes x at.ground at.place c.in-Ok-padded.message) (λ x h. subst (λ (m : List ℕ). IsPutReady (g.H.Hashing.digest_of Sha256) bytes x at.ground at.place m) c.as_slice.ensures.value (h bytes (c.in-Ok.ensures.stays.same_bytes ∙ known) at.ground at.place at.is (place_at {base = at.ground.base} {p = at.place} at.passed.stage) at.seat at.numbers)) c.ready_with.ensures.ready)
+    (IfOk-weaker c.ready_with.result _ (λ x. IsPutReady (g.H.Hashing.digest_of (new_alg c.args.definition.now)) bytes x at.ground at.place c.in-Ok-padded.message) (λ x h. subst (λ (m : List ℕ). IsPutReady (g.H.Hashing.digest_of (new_alg c.args.definition.now)) bytes x at.ground at.place m) c.as_slice.ensures.value (h bytes (c.in-Ok.ensures.stays.same_bytes ∙ known) at.ground at.place at.is (place_at {base = at.ground.base} {p = at.place} at.passed.stage) at.seat at.numbers)) c.ready_with.ensures.ready)
     c.ready_with.ensures.nothing
 
 pub returns-clause-asked : goal.returns-clause-asked

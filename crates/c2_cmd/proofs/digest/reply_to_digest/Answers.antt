@@ -1,5 +1,4 @@
 use Rattle.std.proofs.Common.{◌∙◌, ap}
-use Rattle.c2_spec.specs.declared.digest.Alg.TheVariants.{Sha256}
 use Rattle.c2_spec.specs.Located.{here}
 use Rattle.c2_cmd.specs.Outcome.{IsDigestOutcome, reports}
 use Rattle.c2_cmd.specs.Reply.{Replies}
@@ -11,7 +10,7 @@ use Rattle.c2_cmd.proofs.digest.reply_to_digest.Goals as goal
 -- where the media are known, the reply is the digest of their bytes outside the embedded range
 pub returns-clause-reply : goal.returns-clause-reply
 returns-clause-reply g c =
-    let hash = g.H.Hashing.digest_of Sha256 in
+    let hash = g.H.Hashing.digest_of c.args.alg in
     let found = c.in-Here.found in
     each_ok _ (Replies (IsDigestOutcome hash) (g.S.Source.known c.args.media.now)) c.digest_reply.result (λ r out file known.
     let digest = c.in_ok-digest.ensures.digest file (c.in_ok-found.ensures.stays.same_bytes ∙ known) in

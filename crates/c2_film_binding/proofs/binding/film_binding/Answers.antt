@@ -5,4 +5,4 @@ use Rattle.c2_film_binding.proofs.binding.film_binding.Goals as goal
 
 -- the item is legal
 pub item_bytes-requires : goal.item_bytes-requires
-item_bytes-requires c = subst IsLegal (sym c.in_ok-item.ensures) (film_legal c.args.digest.now)
+item_bytes-requires c = subst IsLegal (sym c.in_ok-item.ensures) (film_legal c.args.alg c.args.digest.now)

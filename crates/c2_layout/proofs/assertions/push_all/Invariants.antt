@@ -1,6 +1,5 @@
 use Rattle.std.proofs.Common.{◌≡◌, ◌++◌, drop, map}
 use Rattle.c2_spec.specs.Jumbf.Tree.{trees_bytes}
-use Rattle.c2_spec.specs.declared.digest.Alg.TheVariants.{Sha256}
 use Rattle.c2_built.specs.Store.{assertion_boxes, entry_of}
 use Rattle.c2_layout.proofs.assertions.push_all.Given as goal
 
@@ -8,5 +7,5 @@ use Rattle.c2_layout.proofs.assertions.push_all.Given as goal
 abbrev pub invariant-loop-assertion : goal.invariant-loop-assertion
 invariant-loop-assertion g l = record {
   boxes : l.boxes.items ++ trees_bytes (assertion_boxes (drop l.assertion-index l.all)) ≡ l.initial.boxes.items ++ trees_bytes (assertion_boxes l.all);
-  entries : l.entries.items ++ map (entry_of (g.H.Hashing.digest_of Sha256)) (drop l.assertion-index l.all) ≡ l.initial.entries.items ++ map (entry_of (g.H.Hashing.digest_of Sha256)) l.all;
+  entries : l.entries.items ++ map (entry_of (g.H.Hashing.digest_of l.alg)) (drop l.assertion-index l.all) ≡ l.initial.entries.items ++ map (entry_of (g.H.Hashing.digest_of l.alg)) l.all;
 }

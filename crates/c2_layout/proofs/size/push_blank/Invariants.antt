@@ -5,4 +5,4 @@ use Rattle.c2_layout.proofs.size.push_blank.Given as goal
 
 -- with the references that are left, there will be all
 abbrev pub invariant-loop-assertion : goal.invariant-loop-assertion
-invariant-loop-assertion l = l.entries.items ++ map (entry_of no_digest) (drop l.assertion-index l.all) ≡ l.initial.entries.items ++ map (entry_of no_digest) l.all
+invariant-loop-assertion l = l.entries.items ++ map (entry_of (no_digest l.fn.alg)) (drop l.assertion-index l.all) ≡ l.initial.entries.items ++ map (entry_of (no_digest l.fn.alg)) l.all

@@ -1,4 +1,4 @@
-use Rattle.c2_manifests.proofs.FactLemmas.{no_facts, facts_more, count_more}
+use Rattle.c2_manifests.proofs.FactLemmas.{facts_more, count_more}
 use Rattle.c2_manifests.proofs.facts.find_facts.Goals as goal
 
 -- with one manifest more looked at, there is a fact or none for each so far, and those there are right

@@ -21,7 +21,7 @@ returns-clause-meets c = file_over (record {
     uris = c.written_uris_are_read.ensures;
   };
   one = c.a_written_data_hash_has_one_length.ensures.any;
-  hundred = c.a_written_data_hash_has_one_length.ensures.sha256;
+  known = c.a_written_data_hash_has_one_length.ensures.known;
   hold = c.packets_hold_the_store.ensures;
   hashes = c.a_written_data_hash_is_read.ensures;
   in_order = c.written_items_are_in_order.ensures.data;

@@ -1,0 +1,53 @@
+// Reading a claim of version 2.
+ghost use Rattle.std.specs.Prelude.{◌≡◌};
+ghost use Rattle.c2_claim.specs.Apart.{v2_claim_apart, redactions_of};
+ghost use Rattle.c2_spec.specs.Cbor.View.{view};
+ghost use Rattle.c2_spec.specs.C2pa.Claim.{Agrees};
+
+use crate::redactions::redactions;
+use c2_base::Texts;
+use c2_cbor::{Cbor, field};
+use c2_spec::{Claim, ClaimError, ClaimField, ClaimVersion};
+use std::alloc::Global;
+
+/// The claim of version 2 that an item is with these redactions, which may be held apart, or the first field that is refused (C2PA
+/// Technical Specification 2.x, "Claims").
+pub fn read_version_2(alloc: Global, item: &Cbor, texts: Option<Texts>) -> Result<Claim, ClaimError>
+    ensures { Agrees (v2_claim_apart (view item.now) (redactions_of (view item.now) texts))
+        result }
+{
+    if !c2_cbor_fields::is_map(item) {
+        return Err(ClaimError::Fields(ClaimField::Whole));
+    }
+    let Some(instance) = c2_cbor_fields::text(alloc, item, "instanceID")? else {
+        return Err(ClaimError::Fields(ClaimField::InstanceId));
+    };
+    let Some(signature) = c2_cbor_fields::text(alloc, item, "signature")? else {
+        return Err(ClaimError::Fields(ClaimField::Signature));
+    };
+    let Some(created) = c2_cbor_fields::references(alloc, item, "created_assertions")? else {
+        return Err(ClaimError::Fields(ClaimField::Created));
+    };
+    let Some(gathered) = c2_cbor_fields::optional_references(alloc, item, "gathered_assertions")?
+    else {
+        return Err(ClaimError::Fields(ClaimField::Gathered));
+    };
+    let Some(redacted) = redactions(alloc, item, texts)? else {
+        return Err(ClaimError::Fields(ClaimField::Redacted));
+    };
+    let Some(alg) = c2_cbor_fields::optional_text(alloc, item, "alg")? else {
+        return Err(ClaimError::Fields(ClaimField::Alg));
+    };
+    if field(item, "assertions").is_some() {
+        return Err(ClaimError::Fields(ClaimField::Assertions));
+    }
+    Ok(Claim {
+        version: ClaimVersion::V2,
+        signature,
+        instance: Some(instance),
+        alg,
+        created,
+        gathered,
+        redacted,
+    })
+}
