@@ -1,18 +1,17 @@
 -- The positions that an exclusion excludes, by the rows of boxes.
-use Rattle.std.proofs.Common.{◌≡◌, ◌⊎◌, inl, inr, ℕ, zero, suc, ◌+◌, ◌-◌, ◌^◌, ◌<◌, ◌≤◌, Bool, true, false, cond, ◌||◌, leb, ltb, List, [], ◌∷◌, ◌++◌, length, get_or, take, drop, map, Option, Some, None, refl, sym, ap, ◌∙◌, subst, arith}
-use Rattle.std.specs.Prelude.{All, Contains, filter, bytes_eq, IfSome}
+use Rattle.std.proofs.Common.{◌≡◌, ℕ, ◌+◌, ◌-◌, ◌≤◌, true, leb, ltb, List, [], ◌∷◌, ◌++◌, length, take, drop, Option, Some, None, refl, sym, ap, ◌∙◌, arith}
+use Rattle.std.specs.Prelude.{IfSome}
 use Rattle.std.specs.List.{flat_map, AllByRecursion, list_any, list_all}
 use Rattle.std.proofs.lemmas.Bool.{and_from, and_parts, le-leb, lt-ltb, eq-eqb}
 use borrow.Author.Tests.{leb-true, ltb-true, eqb-true}
-use Rattle.std.proofs.lemmas.List.{append-nil, drop-drop, drop-take, drop_all, take-append-le}
+use Rattle.std.proofs.lemmas.List.{append-nil, drop-drop, drop-take, take-append-le}
 use Rattle.std.proofs.lemmas.Slice.Eq.{bytes_eq-Decides}
-use Rattle.c2_spec.specs.Bmff.Boxes.{Box, HasRoots, AreBoxForms, IsBox, box_bytes, box_len}
+use Rattle.c2_spec.specs.Bmff.Boxes.{Box, HasRoots, box_bytes, box_len}
 use Rattle.c2_spec.specs.Bmff.Hash.{ByteTest, Exclusion, IsExcluded, IsExcludedBy, MeetsTest, in_subset}
-use Rattle.c2_spec.specs.Bmff.Paths.{PathStep, PlacedBox, OnPath, last, below, is_entered, matched, nth_of, placed_from}
+use Rattle.c2_spec.specs.Bmff.Paths.{PlacedBox, placed_from}
 use Rattle.c2_box_rows.specs.Paths.{on_rows, HasBox}
 use Rattle.c2_marks.specs.Marks.{excludes_row, has_length, holds_test, in_row, in_row_subset, marks, stands_at, takes}
-use Rattle.c2_box_rows.specs.Rows.{HasHeader, IsBoxWithin, row_of, rows_of, Stands}
-use Rattle.c2_box_rows.specs.declared.row.RootBox.{RootBox}
+use Rattle.c2_box_rows.specs.Rows.{row_of, rows_of, Stands}
 use Rattle.c2_box_rows.proofs.BoxThere.{AreBytes}
 use Rattle.c2_spec.proofs.BmffSizes.{bytes_size}
 use Rattle.c2_box_rows.proofs.StandLemmas.{form_boxes, all_stand}

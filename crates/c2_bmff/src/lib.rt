@@ -15,6 +15,9 @@ pub use c2_boxes::{
     bmff_store_bytes_are_of_the_file, each_bmff_file_comes_to_something, head, insert_place,
     locate, roots, write_box,
 };
+
+// The boxes between two places are the children of a box, where the places are its header's end and its own.
+pub use c2_boxes::boxes_between as children;
 pub use c2_paths::{ByteTests, Exclusion, Exclusions, Path, Segment, read_path};
 pub use laws::a_test_decides_what_is_excluded;
 pub use matching::{match_path, match_paths};

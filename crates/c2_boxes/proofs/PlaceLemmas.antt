@@ -1,16 +1,15 @@
 -- Places among root boxes, by their rows.
 use Rattle.std.proofs.Common.{◌≡◌, ℕ, zero, suc, ◌+◌, ◌-◌, ◌^◌, ◌<◌, ◌≤◌, Bool, true, false, not, cond, ◌&&◌, List, [], ◌∷◌, ◌++◌, length, get_or, take, drop, map, Option, Some, None, Ok, Err, refl, sym, ap, ap₂, subst, ◌∙◌, arith, append-nil, length-append}
-use Rattle.std.proofs.lemmas.List.{drop_all, length-map, length-drop, take-map}
+use Rattle.std.proofs.lemmas.List.{drop_all, length-map, length-drop, length-take, take-map}
 use Rattle.std.specs.Prelude.{IfOk}
-use Rattle.std.specs.List.{flat_map, AllByRecursion}
+use Rattle.std.specs.List.{flat_map, sum_by, AllByRecursion}
 use Rattle.std.specs.Str.{bytes_eq}
 use Rattle.std.specs.declared.result.Result.{Result}
 use Rattle.c2_base.specs.declared.media.MediaError.{MediaError}
 use Rattle.c2_base.specs.declared.media.MediaError.TheVariants.{BadBox}
-use Rattle.c2_spec.specs.Bmff.Boxes.{AreBoxForms, Box, IsBox, box_bytes, box_len, boxes_len, is_to_end}
+use Rattle.c2_spec.specs.Bmff.Boxes.{Box, IsBox, box_bytes, box_len, boxes_len, is_to_end}
 use Rattle.c2_spec.specs.Bmff.Paths.{PlacedBox, placed_from}
-use Rattle.c2_spec.proofs.BmffOneList.{first_box, other_boxes}
-use Rattle.c2_boxes.specs.Places.{HasRoom, place_at, place_behind}
+use Rattle.c2_boxes.specs.Places.{HasRoom, place_at, place_behind, place_less}
 use Rattle.c2_boxes.specs.Roots.{FillSource, skipped_len}
 use Rattle.c2_box_rows.specs.Rows.{IsBoxWithin, row_of, rows_of}
 use Rattle.c2_spec.specs.Bmff.Writing.{before_mfra, insert_place, is_mfra, less, mfra_kind, open_end, place_or, place_without}
@@ -29,12 +28,12 @@ behind_last out (r ∷ s ∷ rs) d some =
     behind_last out (s ∷ rs) d (omega arith) ∙ ap (λ (n : ℕ). place_at (get_or (r ∷ s ∷ rs) n d) out) (sym e)
 
 -- the room before the last of rows
-pub room_last : (out : ℕ) (rows : List RootBox) (d : RootBox) → 0 < length rows → HasRoom out rows → (out ≤ (get_or rows (length rows - 1) d).start) × ((get_or rows (length rows - 1) d).start + (get_or rows (length rows - 1) d).length < 2 ^ 62)
+pub room_last : (out : ℕ) (rows : List RootBox) (d : RootBox) → 0 < length rows → HasRoom out rows → (out ≤ (get_or rows (length rows - 1) d).start) × ((get_or rows (length rows - 1) d).start + (get_or rows (length rows - 1) d).length < 2 ^ 64)
 room_last out [] d some h = absurd (omega arith)
-room_last out (r ∷ []) d some h = let e : length (r ∷ []) - 1 ≡ 0 = omega arith in subst (λ (n : ℕ). (out ≤ (get_or (r ∷ []) n d).start) × ((get_or (r ∷ []) n d).start + (get_or (r ∷ []) n d).length < 2 ^ 62)) (sym e) h
+room_last out (r ∷ []) d some h = let e : length (r ∷ []) - 1 ≡ 0 = omega arith in subst (λ (n : ℕ). (out ≤ (get_or (r ∷ []) n d).start) × ((get_or (r ∷ []) n d).start + (get_or (r ∷ []) n d).length < 2 ^ 64)) (sym e) h
 room_last out (r ∷ s ∷ rs) d some h =
     let e : length (r ∷ s ∷ rs) - 1 ≡ suc (length (s ∷ rs) - 1) = omega arith in
-    subst (λ (n : ℕ). (out ≤ (get_or (r ∷ s ∷ rs) n d).start) × ((get_or (r ∷ s ∷ rs) n d).start + (get_or (r ∷ s ∷ rs) n d).length < 2 ^ 62)) (sym e) (room_last out (s ∷ rs) d (omega arith) h)
+    subst (λ (n : ℕ). (out ≤ (get_or (r ∷ s ∷ rs) n d).start) × ((get_or (r ∷ s ∷ rs) n d).start + (get_or (r ∷ s ∷ rs) n d).length < 2 ^ 64)) (sym e) (room_last out (s ∷ rs) d (omega arith) h)
 
 -- rows after the first count alone
 behind_more : (out : ℕ) (r : RootBox) (rs : List RootBox) → 0 < length rs → place_behind out (r ∷ rs) ≡ place_behind out rs
@@ -47,19 +46,19 @@ room_more out r [] some h = absurd (omega arith)
 room_more out r (s ∷ rs) some h = h
 
 -- rows that fill a file from a place on have so much room
-room_from : (size low out : ℕ) (rows : List RootBox) → FillSource size low rows → size < 2 ^ 62 → 0 < length rows → out ≤ low → HasRoom out rows
+room_from : (size low out : ℕ) (rows : List RootBox) → FillSource size low rows → size < 2 ^ 64 → 0 < length rows → out ≤ low → HasRoom out rows
 room_from size low out [] f small some h = absurd (omega arith)
 room_from size low out (r ∷ []) f small some h = (omega (arith, f.0, h), omega (arith, f.0, f.3, small))
 room_from size low out (r ∷ s ∷ rs) f small some h = room_from size (low + r.length) out (s ∷ rs) f.3 small (omega arith) (omega (arith, h))
 
 -- where one before the last is left out, there is room for it
-pub room_skip : (size low i : ℕ) (rows : List RootBox) → FillSource size low rows → size < 2 ^ 62 → i + 1 < length rows → HasRoom (skipped_len (Some i) rows) rows
+pub room_skip : (size low i : ℕ) (rows : List RootBox) → FillSource size low rows → size < 2 ^ 64 → i + 1 < length rows → HasRoom (skipped_len (Some i) rows) rows
 room_skip size low i [] f small more = absurd (omega (arith, more))
 room_skip size low zero (r ∷ rs) f small more = room_more (0 + r.length) r rs (omega (arith, more)) (room_from size (low + r.length) (0 + r.length) rs f.3 small (omega (arith, more)) (omega arith))
 room_skip size low (suc i) (r ∷ rs) f small more = room_more (skipped_len (Some i) rs) r rs (omega (arith, more)) (room_skip size (low + r.length) i rs f.3 small (omega (arith, more)))
 
 -- where nothing before the last is left out, the rows must end in a file
-room_ends : (size : ℕ) (rows : List RootBox) → AllByRecursion (IsBoxWithin size) rows → size < 2 ^ 62 → HasRoom 0 rows
+room_ends : (size : ℕ) (rows : List RootBox) → AllByRecursion (IsBoxWithin size) rows → size < 2 ^ 64 → HasRoom 0 rows
 room_ends size [] h small = refl
 room_ends size (r ∷ []) h small = (omega arith, omega (arith, h.0, small))
 room_ends size (r ∷ s ∷ rs) h small = room_ends size (s ∷ rs) h.1 small
@@ -71,12 +70,12 @@ all_take P (suc i) [] h = tt
 all_take P (suc i) (x ∷ xs) h = (h.0, all_take P i xs h.1)
 
 -- all rows of a file
-pub room_whole : (size : ℕ) (rows : List RootBox) → FillSource size 0 rows → size < 2 ^ 62 → HasRoom 0 rows
-room_whole size rows f small = room_ends size rows (fill_within_by size 0 rows f) small
+pub room_whole : (size low : ℕ) (rows : List RootBox) → FillSource size low rows → size < 2 ^ 64 → HasRoom 0 rows
+room_whole size low rows f small = room_ends size rows (fill_within_by size low rows f) small
 
 -- the first rows of a file
-pub room_front : (size i : ℕ) (rows : List RootBox) → FillSource size 0 rows → size < 2 ^ 62 → HasRoom 0 (take i rows)
-room_front size i rows f small = room_ends size (take i rows) (all_take (IsBoxWithin size) i rows (fill_within_by size 0 rows f)) small
+pub room_front : (size low i : ℕ) (rows : List RootBox) → FillSource size low rows → size < 2 ^ 64 → HasRoom 0 (take i rows)
+room_front size low i rows f small = room_ends size (take i rows) (all_take (IsBoxWithin size) i rows (fill_within_by size low rows f)) small
 
 -- ---- the place lies in the file
 
@@ -229,6 +228,40 @@ pub middle_is : (i : ℕ) (bs : List Box) → AllByRecursion IsBox bs → i + 1 
 middle_is i bs f more =
     let n : 0 + boxes_len (before_mfra (less (Some i) bs)) ≡ boxes_len (before_mfra (less (Some i) bs)) = omega arith in
     skip_is 0 i bs f more ∙ ap (place_or (open_end (less (Some i) (placed_from 0 bs)))) n
+
+-- ---- the place by the rows alone
+
+-- no row is left out
+pub none_less : (rows : List RootBox) → place_behind 0 rows ≡ place_less None rows
+none_less rows = refl
+
+-- the last row is left out, and no bytes before those that stay
+pub last_less : (i : ℕ) (rows : List RootBox) → i + 1 ≡ length rows → place_behind 0 (take i rows) ≡ place_less (Some i) rows
+last_less i rows last =
+    let front : drop i (take (length rows - 1) rows) ≡ [] = drop_all i (take (length rows - 1) rows) (omega (arith, length-take (length rows - 1) rows, last)) in
+    let out : skipped_len (Some i) (take (length rows - 1) rows) ≡ 0 = ap (λ (xs : List RootBox). sum_by (λ (r : RootBox). r.length) (take 1 xs)) front in
+    ap₂ place_behind (sym out) (sym (less_last i rows last))
+
+-- a row before the last that is left out is among the rows before the last
+skipped_front : (i : ℕ) (rows : List RootBox) → i + 1 < length rows → skipped_len (Some i) (take (length rows - 1) rows) ≡ skipped_len (Some i) rows
+skipped_front i [] more = absurd (omega (arith, more))
+skipped_front i (r ∷ []) more = absurd (omega (arith, more))
+skipped_front zero (r ∷ s ∷ rs) more = let e : length (r ∷ s ∷ rs) - 1 ≡ suc (length rs) = omega arith in ap (λ (n : ℕ). skipped_len (Some 0) (take n (r ∷ s ∷ rs))) e
+skipped_front (suc i) (r ∷ s ∷ rs) more =
+    let e : length (r ∷ s ∷ rs) - 1 ≡ suc (length rs) = omega arith in
+    let f : length rs ≡ length (s ∷ rs) - 1 = omega arith in
+    ap (λ (n : ℕ). skipped_len (Some (suc i)) (take n (r ∷ s ∷ rs))) e ∙ ap (λ (n : ℕ). skipped_len (Some i) (take n (s ∷ rs))) f ∙ skipped_front i (s ∷ rs) (omega (arith, more))
+
+-- without it the last row stays the last
+behind_less : (out i : ℕ) (rows : List RootBox) → i + 1 < length rows → place_behind out (less (Some i) rows) ≡ place_behind out rows
+behind_less out i [] more = absurd (omega (arith, more))
+behind_less out zero (r ∷ rs) more = sym (behind_more out r rs (omega (arith, more)))
+behind_less out (suc i) (r ∷ rs) more =
+    behind_more out r (less (Some i) rs) (less_some i rs (omega (arith, more))) ∙ behind_less out i rs (omega (arith, more)) ∙ sym (behind_more out r rs (omega (arith, more)))
+
+-- a row before the last is left out
+pub middle_less : (i : ℕ) (rows : List RootBox) → i + 1 < length rows → place_behind (skipped_len (Some i) rows) rows ≡ place_less (Some i) rows
+middle_less i rows more = sym (behind_less (skipped_len (Some i) rows) i rows more) ∙ ap (λ (n : ℕ). place_behind n (less (Some i) rows)) (sym (skipped_front i rows more))
 
 -- the length that is skipped is that of the row of the index
 pub skipped_at : (i : ℕ) (rows : List RootBox) (d : RootBox) → i < length rows → skipped_len (Some i) rows ≡ (get_or rows i d).length

@@ -1,6 +1,5 @@
 -- The search for a store, a row at a time.
-use Rattle.std.proofs.Common.{◌≡◌, ℕ, suc, ◌+◌, ◌≤◌, true, false, List, [], ◌∷◌, ◌++◌, length, get_or, take, drop, is_some, Option, Some, None, Ok, sym, ap, ◌∙◌, subst, arith}
-use Rattle.std.specs.Prelude.{All}
+use Rattle.std.proofs.Common.{◌≡◌, ℕ, suc, ◌+◌, ◌≤◌, true, false, List, [], ◌∷◌, ◌++◌, length, take, drop, is_some, Option, Some, None, Ok, sym, ap, ◌∙◌, subst, arith}
 use Rattle.std.proofs.lemmas.List.{take_all}
 use Rattle.std.specs.List.{flat_map}
 use Rattle.std.specs.Str.{bytes_eq}
@@ -8,7 +7,7 @@ use Rattle.c2_base.specs.declared.media.Found.{Found}
 use Rattle.c2_base.specs.declared.media.MediaError.{MediaError}
 use Rattle.c2_spec.specs.Bmff.Boxes.{Box, HasRoots, box_bytes, box_len, boxes_len, uuid_kind}
 use Rattle.c2_spec.specs.Bmff.Store.{ProvenanceFault}
-use Rattle.c2_box_rows.specs.Rows.{payload_at, IsRowWithin, HasHeader, IsBoxWithin, row_of, rows_of}
+use Rattle.c2_box_rows.specs.Rows.{payload_at, row_of, rows_of}
 use Rattle.c2_boxes.specs.Provenance.{payload_part}
 use Rattle.c2_boxes.specs.Roots.{AreRootsOf}
 use Rattle.c2_boxes.specs.Search.{FailsBy, IsStoreOr, Searched, SearchedTo, StepsBy}

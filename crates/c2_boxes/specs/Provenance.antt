@@ -1,11 +1,10 @@
 -- For private clauses: what a root `uuid` box is to the store.
-use Rattle.std.specs.Prelude.{ℕ, ◌+◌, ◌-◌, Bool, not, ◌&&◌, ◌||◌, List, [], ◌∷◌, ◌++◌, take, drop, nat_le, nat_lt, ◌==◌, codes, if◌then◌else◌, Option, Some, None}
+use Rattle.std.specs.Prelude.{ℕ, ◌-◌, Bool, not, ◌&&◌, ◌||◌, List, [], ◌∷◌, ◌++◌, take, drop, nat_le, nat_lt, ◌==◌, codes, if◌then◌else◌, Option, Some, None}
 use Rattle.std.specs.Int.{w32, w64, from_be_bytes}
 use Rattle.std.specs.Str.{bytes_eq}
 use Rattle.c2_spec.specs.Bmff.Store.{c2pa_user_type, is_version_zero, is_for_manifest, has_store_box, store_len, most_store_bytes}
 use Rattle.c2_boxes.specs.declared.provenance.Part.{Part}
 use Rattle.c2_boxes.specs.declared.provenance.Part.TheVariants as part
-use Rattle.c2_box_rows.specs.declared.row.RootBox.{RootBox}
 
 -- what a `uuid` box with this payload is, where a store was found before or not
 unfoldable pub payload_part : Bool → List ℕ → Part

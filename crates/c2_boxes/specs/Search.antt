@@ -1,5 +1,5 @@
 -- The C2PA store among root boxes, and for private clauses how far the search for it came.
-use Rattle.std.specs.Prelude.{◌≡◌, ℕ, ◌+◌, ◌≤◌, ⊤, true, List, length, drop, take, Option, Some, None, Ok, Err}
+use Rattle.std.specs.Prelude.{◌≡◌, ℕ, ◌+◌, ◌<◌, ◌≤◌, ⊤, true, List, length, drop, take, Option, Some, None, Ok, Err}
 use Rattle.std.specs.declared.result.Result.{Result}
 use Rattle.std.specs.List.{AllByRecursion}
 use Rattle.c2_base.specs.declared.limits.TheConstants.{MAX_STORE_LEN}
@@ -27,9 +27,10 @@ pub record IsFoundWithin (len : ℕ) (found : Found) : Type 0 where
 
 -- ---- for private clauses
 
--- a store that a box with `len` bytes of payload holds ends in it, and isn't too large
+-- a store that a box with `len` bytes of payload holds ends in it, and isn't too large; one that is too large ends in it as well
 abbrev pub IsPartWithin : ℕ → Part → Type 0
 IsPartWithin len (part.Holds n) = (37 + n ≤ len) × (n ≤ MAX_STORE_LEN)
+IsPartWithin len (part.TooLarge n) = (37 + n ≤ len) × (MAX_STORE_LEN < n)
 IsPartWithin len _ = ⊤
 
 -- what was found when a `uuid` box of this row and payload is passed that is this

@@ -1,6 +1,6 @@
 // Where the box of a store goes among root boxes.
 ghost use Rattle.std.specs.Prelude.{◌≡◌, ◌+◌, ◌<◌, ◌≤◌, ◌^◌, ℕ, List, length, IfOk, IfSome};
-ghost use Rattle.c2_boxes.specs.Places.{HasRoom, place_at, place_behind};
+ghost use Rattle.c2_boxes.specs.Places.{HasRoom, place_at, place_behind, place_less};
 ghost use Rattle.c2_boxes.specs.Roots.{AreRootsOf, FillSource, skipped_len};
 ghost use Rattle.c2_spec.specs.Bmff.Writing.{place_without};
 
@@ -14,7 +14,7 @@ const MFRA: [u8; 4] = *b"mfra";
 // The place at this last box, where so many bytes before it are left out.
 fn place_at(last: RootBox, out: u64) -> Result<u64, MediaError>
     requires before { out ≤ last.start }
-    requires fits { last.start + last.length < 2 ^ 62 }
+    requires fits { last.start + last.length < 2 ^ 64 }
     ensures { result ≡ place_at last out }
 {
     if last.kind == MFRA {
@@ -41,9 +41,10 @@ fn place_behind(rows: &[RootBox], out: u64) -> Result<u64, MediaError>
 /// last root box `mfra`, else to the end of that file. (This is the project's own choice.)
 ///
 /// [`MediaError::BadBox`] with the start of the last box that stays, as the whole file has it, exactly where this box has size 0 and
-/// isn't `mfra`: nothing can stand after it. No other error comes. Takes no memory.
+/// isn't `mfra`: nothing can stand after it. No other error comes. The answer follows from the boxes alone. Takes no memory.
 pub fn insert_place(roots: &Roots, skip: Option<usize>) -> Result<u64, MediaError>
     requires { IfSome skip (λ i. i < length roots.now) }
+    ensures rows { result ≡ place_less skip roots.now }
     ensures place { (file : List ℕ) → (r : AreRootsOf file roots.now)
         → result ≡ place_without skip r.boxes }
     ensures inside { IfOk result (λ at. (size : ℕ) → FillSource size 0 roots.now

@@ -3,7 +3,7 @@ ghost use Rattle.std.specs.Prelude.{◌≡◌, ◌+◌, ◌-◌, ◌<◌, ◌≤
 ghost use Rattle.std.specs.Option.{ForSome};
 ghost use Rattle.c2_base.specs.Causes.{HasCause};
 ghost use Rattle.c2_base.specs.Source.{StaysSource};
-ghost use Rattle.c2_boxes.specs.Causes.{IsCaused, OrOutside};
+ghost use Rattle.c2_boxes.specs.Causes.{IsCaused, IsStoreCause, OrOutside};
 ghost use Rattle.c2_boxes.specs.Provenance.{first_part, payload_part, store_by};
 ghost use Rattle.c2_box_rows.specs.Rows.{payload_at, IsRowWithin, IsBoxWithin};
 ghost use Rattle.c2_boxes.specs.Roots.{AreRootsOf};
@@ -164,6 +164,7 @@ fn step<S: Source>(
 ) -> Result<(), MediaError>
     requires inside { row.start + row.length ≤ S.len source.old }
     requires ordered { row.header ≤ row.length }
+    requires header { 8 ≤ row.header }
     requires before { IfSome found.old (IsFoundWithin (S.len source.old)) }
     ensures steps { OnOk result (ForSome (S.known source.old) (λ file.
         StepsBy (payload_part (is_some found.old) (payload_at file row)) row
@@ -173,7 +174,8 @@ fn step<S: Source>(
     ensures after { IfSome found.new (IsFoundWithin (S.len source.old)) }
     ensures stays { StaysSource S.len S.known S.faults source.old source.new }
     ensures count { OnOk result (S.faults source.new ≡ S.faults source.old) }
-    ensures cause { IfErr result (IsCaused (S.faults source.old) (S.faults source.new)) }
+    ensures cause { IfErr result
+        (IsStoreCause (S.len source.old) (S.faults source.old) (S.faults source.new)) }
 {
     match part_at(source, row, found.is_some())? {
         Part::Other => Ok(()),
@@ -208,7 +210,8 @@ fn search<S: Source>(
     ensures within { IfOk result (λ found. IfSome found (IsFoundWithin (S.len source.old))) }
     ensures stays { StaysSource S.len S.known S.faults source.old source.new }
     ensures count { OnOk result (S.faults source.new ≡ S.faults source.old) }
-    ensures cause { IfErr result (IsCaused (S.faults source.old) (S.faults source.new)) }
+    ensures cause { IfErr result
+        (IsStoreCause (S.len source.old) (S.faults source.old) (S.faults source.new)) }
 {
     let mut found = None;
     for row in rows {
@@ -226,8 +229,8 @@ fn search<S: Source>(
 /// (C2PA Technical Specification 2.x, "Embedding manifests into BMFF-based assets").
 ///
 /// The errors are the first test that fails, by C2PA boxes in order: [`MediaError::BadProvenanceBox`], [`MediaError::TwoStores`],
-/// [`MediaError::StoreTooLarge`]. [`MediaError::ReadFault`] comes only where the source failed, [`MediaError::NoMemory`] where
-/// memory ran out.
+/// [`MediaError::StoreTooLarge`], with the place where the box begins or the length that the store states, also where the source tells no
+/// bytes. [`MediaError::ReadFault`] comes only where the source failed, [`MediaError::NoMemory`] where memory ran out.
 pub fn locate<S: Source>(
     alloc: Global,
     source: &mut S,
@@ -239,7 +242,8 @@ pub fn locate<S: Source>(
     ensures within { IfOk result (λ found. IfSome found (IsFoundWithin (S.len source.old))) }
     ensures stays { StaysSource S.len S.known S.faults source.old source.new }
     ensures count { OnOk result (S.faults source.new ≡ S.faults source.old) }
-    ensures cause { IfErr result (IsCaused (S.faults source.old) (S.faults source.new)) }
+    ensures cause { IfErr result
+        (IsStoreCause (S.len source.old) (S.faults source.old) (S.faults source.new)) }
 {
     search(alloc, source, roots.as_slice())
 }

@@ -3,7 +3,7 @@ ghost use Rattle.std.specs.Prelude.{◌≡◌, ◌++◌, [], ◌∷◌, ◌+◌,
 ghost use Rattle.std.specs.Option.{ForSome};
 ghost use Rattle.c2_base.specs.Causes.{HasCause};
 ghost use Rattle.c2_base.specs.Source.{StaysSource};
-ghost use Rattle.c2_boxes.specs.Causes.{IsCaused, OrOutside};
+ghost use Rattle.c2_boxes.specs.Causes.{IsRootsCause, OrOutside};
 ghost use Rattle.c2_boxes.specs.Heads.{IsHeadOr};
 ghost use Rattle.c2_boxes.specs.Roots.{AreRootsOf, FillFile, FillSource, row_at};
 ghost use Rattle.c2_box_rows.specs.Rows.{HasHeader};
@@ -71,10 +71,12 @@ pub fn fill_first<S: Source>(
 // The header of the box that begins at `at`, in a file of `size` bytes.
 fn head_at<S: Source>(source: &mut S, at: u64, size: u64) -> Result<BoxHead, MediaError>
     requires size { size ≡ S.len source.old }
+    requires bounded { size < 2 ^ 62 }
     requires inside { at < size }
     ensures stays { StaysSource S.len S.known S.faults source.old source.new }
     ensures count { OnOk result (S.faults source.new ≡ S.faults source.old) }
-    ensures cause { IfErr result (IsCaused (S.faults source.old) (S.faults source.new)) }
+    ensures cause { IfErr result
+        (IsRootsCause (S.len source.old) (S.faults source.old) (S.faults source.new)) }
     ensures within { IfOk result
         (λ h. (8 ≤ h.header) × (at + h.length ≤ size) × (h.header ≤ h.length)) }
     ensures read { ForSome (S.known source.old) (λ file. IsHeadOr at (drop at file) result) }
@@ -137,7 +139,8 @@ pub(crate) fn walk<S: Source>(
     ensures fill { IfOk result (λ rows. FillSource size 0 rows.items) }
     ensures stays { StaysSource S.len S.known S.faults source.old source.new }
     ensures count { OnOk result (S.faults source.new ≡ S.faults source.old) }
-    ensures cause { IfErr result (IsCaused (S.faults source.old) (S.faults source.new)) }
+    ensures cause { IfErr result
+        (IsRootsCause (S.len source.old) (S.faults source.old) (S.faults source.new)) }
 {
     let mut rows = Vec::new(alloc);
     let mut at = 0;

@@ -5,9 +5,7 @@
 
 mod clearing;
 mod freeing;
-mod lending;
 mod source;
 
 pub use clearing::{Clearing, clearing_of};
-pub use lending::left_roots;
 pub use source::{Cleared, Named};

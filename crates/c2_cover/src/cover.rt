@@ -1,5 +1,6 @@
 // Covers, and the ranges that they are made of.
 ghost use Rattle.std.specs.Prelude.{◌≡◌, ◌+◌, ◌≤◌, ℕ, None, Some, OnOk, IfOk, IfErr, All};
+ghost use Rattle.std.specs.List.Sorted.{IsPermutation};
 ghost use Rattle.c2_spec.specs.Cover.{is_excluded, bad_range};
 ghost use Rattle.c2_cover.specs.Covers.{AreMerged, IsCoverOf};
 ghost use Rattle.c2_cover.specs.Merging.{InOrder, with_open};
@@ -164,10 +165,11 @@ pub fn data_cover(alloc: Global, ranges: &[Range], size: u64) -> Result<Cover, C
 
 /// The cover that leaves out all positions of these ranges, which may come in any order, overlap, touch and be empty.
 ///
-/// Each lies inside the file. They are sorted in place.
+/// Each lies inside the file. They are sorted in place, also where memory runs out.
 pub fn cover_without(alloc: Global, ranges: &mut [Range], size: u64) -> Result<Cover, NoMemory>
     requires { All (λ r. r.start + r.length ≤ size) ranges.old }
-    ensures { IfOk result (IsCoverOf size ranges.old) }
+    ensures cover { IfOk result (IsCoverOf size ranges.old) }
+    ensures sorted { IsPermutation ranges.old ranges.new }
 {
     ranges.sort_unstable_by_key(|range| range.start);
     let ranges = merged(alloc, ranges, size)?;

@@ -1,6 +1,6 @@
 // Headers of boxes, and vast files of them: values from ISO/IEC 14496-12 by hand.
-use c2_base::{Blob, MediaError, MemSink, VastSource};
-use c2_bmff::{HeadError, head, locate, roots, write_box};
+use c2_base::{Blob, MediaError, MemSink, SureSource, VastSource};
+use c2_bmff::{HeadError, RootBox, children, head, locate, roots, write_box};
 use std::test::Fail;
 
 // A box `ftyp` of 16 bytes and a box `mdat` with one byte.
@@ -23,6 +23,34 @@ const BOXED: [u8; 61] = [
     0x97, 0x58, 0x28, 0x87, 0x7E, 0xC4, 0x81, 0, 0, 0, 0, 0x6D, 0x61, 0x6E, 0x69, 0x66, 0x65, 0x73,
     0x74, 0, 0, 0, 0, 0, 0, 0, 0, 0, 0, 0, 0, 0x10, 0x6A, 0x75, 0x6D, 0x62, 1, 2, 3, 4, 5, 6, 7, 8,
 ];
+
+// A box `moov` after `ftyp`, which holds two boxes `free` of 8 bytes.
+const MOVIE: [u8; 40] = [
+    0, 0, 0, 0x10, 0x66, 0x74, 0x79, 0x70, 0x69, 0x73, 0x6F, 0x6D, 0, 0, 0, 0, 0, 0, 0, 0x18, 0x6D,
+    0x6F, 0x6F, 0x76, 0, 0, 0, 8, 0x66, 0x72, 0x65, 0x65, 0, 0, 0, 8, 0x66, 0x72, 0x65, 0x65,
+];
+
+// Two boxes of 8 bytes from place 24 on, the second of type `free`.
+fn are_two(rows: &[RootBox]) -> bool {
+    rows.len() == 2
+        && rows[0].start == 24
+        && rows[1].start == 32
+        && rows[1].length == 8
+        && rows[1].kind == *b"free"
+}
+
+#[test]
+fn boxes_between_two_places_are_a_list_or_none(rt: HostRuntime) -> Result<(), Fail> {
+    let alloc = rt.alloc();
+    let mut movie = SureSource::new(Blob::copied(alloc, &MOVIE)?);
+    let both = children(alloc, &mut movie, 24, 40);
+    assert!(rt; both.is_ok_and(|list| list.is_some_and(|boxes| are_two(boxes.as_slice()))));
+    let cut = children(alloc, &mut movie, 24, 39);
+    assert!(rt; cut.is_ok_and(|list| list.is_none()));
+    let nothing = children(alloc, &mut movie, 40, 40);
+    assert!(rt; nothing.is_ok_and(|list| list.is_some()));
+    Ok(())
+}
 
 #[test]
 fn vast_files_are_refused(rt: HostRuntime) -> Result<(), Fail> {

@@ -12,12 +12,16 @@ use Rattle.c2_base.specs.declared.media.MediaError.{MediaError}
 use Rattle.c2_spec.specs.Jpeg.Places.{IsOfSegments, CanSkip, SegmentsFault, at_marker}
 use Rattle.c2_spec.specs.Jpeg.Writing.{is_taken, has_number}
 use Rattle.c2_spec.specs.PutIn.{taken_out}
-use Rattle.c2_jpegseg.specs.Passing.{is_inside, kept_with, kept_from, kept, Passes, Marks, Notes}
+use Rattle.c2_jpegseg.specs.Passing.{is_inside, kept_with, kept_from, kept, HasPassed, Passes, Marks, Notes}
 use Rattle.c2_jpegseg.specs.Segments.{IsExtent, segment_of}
 use Rattle.c2_jpegseg.specs.declared.marker.Extent.{Extent}
 use Rattle.c2_jpegseg.proofs.Steps.{end-place}
 use Rattle.c2_jpegseg.proofs.SegmentLists.{each-append, each-front, each-back, place-append, begins-push}
 use Rattle.c2_jpegseg.proofs.OneList.{one_list}
+
+-- a file whose segments were walked to their end is a list of segments, whatever was passed over
+pub walked_segments : (file : List ℕ) (skip : Range) (State : List Segment → Type 0) → length file < FILE_LEN_LIMIT → HasPassed file skip State → (segments : List Segment) × IsOfSegments file segments
+walked_segments file skip State small h = (h.passes.segments, record { fits = small; rest = drop h.at file; begins = h.passes.begins; ends = h.ends })
 
 -- a segment has bytes
 pub some_bytes : (s : Segment) → 0 < length (segment_bytes s)

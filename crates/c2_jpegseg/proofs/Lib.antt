@@ -21,5 +21,6 @@ pub mod OneList
 pub mod Kept
 pub mod NumberMarks
 pub mod Fronts
+mod FreeNumbers
 pub mod EachList
 pub mod PlaceRows

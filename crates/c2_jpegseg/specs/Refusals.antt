@@ -1,14 +1,21 @@
 -- What a walk over the segments of a JPEG file refuses that asks nothing of their packets.
-use Rattle.std.specs.Prelude.{◌≡◌, ℕ, ◌<◌, ◌≤◌, ⊤, List}
+use Rattle.std.specs.Prelude.{◌≡◌, ℕ, ◌<◌, ◌≤◌, ⊤, List, Ok, Err}
+use Rattle.std.specs.declared.result.Result.{Result}
 use Rattle.c2_base.specs.declared.limits.TheConstants.{FILE_LEN_LIMIT}
 use Rattle.c2_base.specs.declared.media.MediaError.{MediaError}
 use Rattle.c2_base.specs.declared.media.MediaError.TheVariants.{NotMedia, FileTooLarge, Truncated, BadMarker, BadSegment, ReadFault}
-use Rattle.c2_spec.specs.Jpeg.Places.{SegmentsFault}
+use Rattle.c2_spec.specs.Jpeg.Places.{IsOfSegments, SegmentsFault}
+use Rattle.c2_spec.specs.Jpeg.Segments.{Segment}
 use Rattle.c2_jpegseg.specs.Causes.{OrOutside}
 
 -- an error tells the first test of the file's segments that fails, unless it says nothing of the file
 abbrev pub TellsFault : List ℕ → MediaError → Type 0
 TellsFault file e = OrOutside e (SegmentsFault file e)
+
+-- without an error the file is a list of segments that ends, so that no test fails; an error tells the first that does
+abbrev pub IsSegmentsOr : {T : Type 0} → List ℕ → Result T MediaError → Type 0
+IsSegmentsOr file (Ok r) = (segments : List Segment) × IsOfSegments file segments
+IsSegmentsOr file (Err e) = TellsFault file e
 
 -- What such a walk can refuse in a file of `len` bytes whose bytes aren't known: its length, its start or a place in it, or the
 -- source failed. It takes no memory.

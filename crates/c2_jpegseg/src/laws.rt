@@ -7,6 +7,7 @@ ghost use Rattle.c2_spec.specs.Jpeg.Store.{HasJpegStore, HasNoJpegStore, IsLocat
 ghost use Rattle.c2_base.specs.declared.media.MediaError.{MediaError};
 ghost use Rattle.c2_spec.specs.Jpeg.Segments.{Segment};
 ghost use Rattle.c2_spec.specs.Jpeg.Places.{IsOfSegments, SegmentsFault, IsInsertPlace, HasNumber};
+ghost use Rattle.c2_spec.specs.Jpeg.Writing.{IsNumberOf};
 ghost use Rattle.c2_jpegseg.specs.Laws.{PacketsHoldTheStore};
 
 /// Whatever bytes a file has, it comes to one thing: a store in a range, no store, or a refusal.
@@ -45,12 +46,14 @@ pub fn segments_end_or_fail()
         → SegmentsFault file e → SegmentsFault file f → e ≡ f }
 {}
 
-/// The packets of a store go to one place in a file, and one number is free for them, or none.
+/// The packets of a store go to one place in a file, and one number is free for them, or none: each list of segments has its answer.
 pub fn place_and_number_are_one()
     ensures place { (file : List ℕ) (p q : ℕ)
         → IsInsertPlace file p → IsInsertPlace file q → p ≡ q }
     ensures number { (file : List ℕ) (m n : Option ℕ)
         → HasNumber file m → HasNumber file n → m ≡ n }
+    ensures each { (segments : List Segment)
+        → (number : Option ℕ) × IsNumberOf segments number }
 {}
 
 /// In a file that has a store, or has none, no test of a marker or a length fails: it is one list of segments.

@@ -9,7 +9,7 @@ ghost use Rattle.c2_spec.specs.PutIn.{taken_out};
 ghost use Rattle.c2_spec.specs.Jpeg.Places.{CanSkip, HasNumber};
 ghost use Rattle.c2_jpegseg.specs.Causes.{IsCaused};
 ghost use Rattle.c2_jpegseg.specs.Passing as passing;
-ghost use Rattle.c2_jpegseg.specs.Refusals.{TellsFault, IsSegmentsRefusalOr};
+ghost use Rattle.c2_jpegseg.specs.Refusals.{IsSegmentsOr, IsSegmentsRefusalOr, TellsFault};
 ghost use Rattle.c2_jpegseg.specs.Segments.{longest_payload};
 ghost use Rattle.c2_jpegseg.specs.Walks.{Walks};
 ghost use Rattle.c2_jpegseg.specs.Windows.{Shows};
@@ -126,8 +126,8 @@ fn least_free(taken: &[bool]) -> Option<u16>
 /// box it is of; none where each of them is taken. What is promised of the file's bytes holds where the range is empty, or is
 /// that of the file's store.
 ///
-/// All segments are walked, from the start up to the first scan or the end of the image, and nothing is asked of packets. The
-/// error is the first test that fails: `FileTooLarge`, `NotMedia`, and `Truncated`, `BadMarker` or `BadSegment` of a segment;
+/// All segments are walked, from the start up to the first scan or the end of the image, whatever the range, and nothing is asked of
+/// packets. The error is the first test that fails: `FileTooLarge`, `NotMedia`, and `Truncated`, `BadMarker` or `BadSegment` of a segment;
 /// or `ReadFault` where the source failed, or `NoMemory`.
 pub fn free_number<S: Source>(
     alloc: Global,
@@ -137,8 +137,7 @@ pub fn free_number<S: Source>(
     // Where the source's bytes are known.
     ensures number { IfOk result (λ number. ForSome (S.known source.old) (λ file.
         CanSkip file skip → HasNumber (taken_out skip.start skip.length file) number)) }
-    ensures fault { IfErr result (λ e. ForSome (S.known source.old) (λ file.
-        TellsFault file e)) }
+    ensures fault { ForSome (S.known source.old) (λ file. IsSegmentsOr file result) }
 
     // These hold of every source, also of one whose bytes aren't known.
     ensures refusal { IfErr result (IsSegmentsRefusalOr (S.len source.old)) }

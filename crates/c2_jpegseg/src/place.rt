@@ -10,7 +10,7 @@ ghost use Rattle.c2_spec.specs.Jpeg.Places.{CanSkip, IsInsertPlace};
 ghost use Rattle.c2_jpegseg.specs.Causes.{IsCaused};
 ghost use Rattle.c2_jpegseg.specs.Fronts.{IsFront, HasFront};
 ghost use Rattle.c2_jpegseg.specs.Peeks.{Peeks};
-ghost use Rattle.c2_jpegseg.specs.Refusals.{TellsFault, IsSegmentsRefusal};
+ghost use Rattle.c2_jpegseg.specs.Refusals.{IsSegmentsOr, IsSegmentsRefusal, TellsFault};
 ghost use Rattle.c2_jpegseg.specs.Walks.{Walks};
 
 use crate::marker::{self, Next};
@@ -87,15 +87,14 @@ fn front_of<S: Source>(
 /// store go. It counts in bytes, in the file without the range, and lies inside that file. What is promised of the file's bytes
 /// holds where the range is empty, or is that of the file's store. Takes no memory.
 ///
-/// All segments are walked, from the start up to the first scan or the end of the image, and nothing is asked of packets. The
-/// error is the first test that fails: `FileTooLarge`, `NotMedia`, and `Truncated`, `BadMarker` or `BadSegment` of a segment
+/// All segments are walked, from the start up to the first scan or the end of the image, whatever the range, and nothing is asked of
+/// packets. The error is the first test that fails: `FileTooLarge`, `NotMedia`, and `Truncated`, `BadMarker` or `BadSegment` of a segment
 /// (ITU-T T.81, B.1.1); or `ReadFault` where the source failed.
 pub fn insert_place<S: Source>(source: &mut S, skip: Range) -> Result<u64, MediaError>
     // Where the source's bytes are known.
     ensures place { IfOk result (λ place. ForSome (S.known source.old) (λ file.
         CanSkip file skip → IsInsertPlace (taken_out skip.start skip.length file) place)) }
-    ensures fault { IfErr result (λ e. ForSome (S.known source.old) (λ file.
-        TellsFault file e)) }
+    ensures fault { ForSome (S.known source.old) (λ file. IsSegmentsOr file result) }
 
     // These hold of every source, also of one whose bytes aren't known.
     ensures within { IfOk result (λ place. place ≤ S.len source.old - skip.length) }

@@ -1,4 +1,5 @@
 pub mod MarkLemmas
+mod RangeLemmas
 pub mod OrderLemmas
 pub mod RunLemmas
 pub mod WindowLemmas

@@ -1,9 +1,10 @@
 -- The positions that an exclusion excludes through the boxes of these rows.
-use Rattle.std.specs.Prelude.{◌≡◌, ℕ, ◌+◌, ◌-◌, ◌≤◌, Bool, true, ◌&&◌, ◌==◌, nat_le, nat_lt, List, length, take, drop, Option, Some, None}
+use Rattle.std.specs.Prelude.{◌≡◌, ℕ, ◌+◌, ◌-◌, ◌*◌, ◌^◌, ◌<◌, ◌≤◌, ⊤, Bool, true, ◌&&◌, ◌||◌, ◌==◌, nat_le, nat_lt, max, min, List, [], ◌∷◌, length, take, drop, Option, Some, None, if◌then◌else◌}
 use Rattle.std.specs.List.{list_any, list_all}
 use Rattle.std.specs.Str.{bytes_eq}
 use Rattle.c2_base.specs.declared.values.Range.{Range}
 use Rattle.c2_spec.specs.Bmff.Hash.{ByteTest, Exclusion, in_part, in_subset}
+use Rattle.c2_spec.specs.Cover.{is_excluded}
 use Rattle.c2_spec.specs.Bmff.Paths.{PathStep}
 use Rattle.c2_box_rows.specs.Paths.{on_rows}
 use Rattle.c2_box_rows.specs.declared.row.RootBox.{RootBox}
@@ -53,6 +54,28 @@ excludes_row file roots i e = list_any (marks file e i) (on_rows file roots e.pa
 -- a range ends in a source of `len` bytes
 abbrev pub IsRangeWithin : ℕ → Range → Type 0
 IsRangeWithin len r = r.start + r.length ≤ len
+
+-- Beside what these ranges excluded, they exclude now only positions of which this is true, and nothing less.
+abbrev pub GrowsWithin : (ℕ → Bool) → List Range → List Range → Type 0
+GrowsWithin more old new =
+    (i : ℕ) → (is_excluded old i ≡ true → is_excluded new i ≡ true)
+    × (is_excluded new i ≡ true → (is_excluded old i || more i) ≡ true)
+
+-- each of these ranges has positions, from `low` on, and between two of them there is a position
+abbrev pub AreApart : ℕ → List Range → Type 0
+AreApart low [] = ⊤
+AreApart low (r ∷ rs) =
+    (low ≤ r.start) × (0 < r.length) × AreApart (r.start + r.length + 1) rs
+
+-- how many ranges there may be before they are joined again: as many as before where there were fewer, else twice as many as are left,
+-- and no fewer than before
+abbrev pub joined_again : ℕ → ℕ → ℕ → ℕ
+joined_again full before left =
+    if nat_lt before full then full else max (min (left * 2) (2 ^ 64 - 1)) full
+
+-- the box of this row lies in a range
+abbrev pub is_row_in : RootBox → Range → Bool
+is_row_in r x = nat_le x.start r.start && nat_le (r.start + r.length) (x.start + x.length)
 
 -- exclusions of one path
 pub record SharedPath : Type 0 where

@@ -1,14 +1,15 @@
 // The positions that an exclusion excludes.
-ghost use Rattle.std.specs.Prelude.{◌≡◌, true, false, ◌||◌, ◌&&◌, ◌+◌, ◌-◌, ◌<◌, ◌≤◌, ◌^◌, ℕ, List, map, All, OnOk, IfOk, IfErr, IfSome, length, take, drop, bytes_eq, option_map};
-ghost use Rattle.std.specs.List.{list_all, list_any};
+ghost use Rattle.std.specs.Prelude.{◌≡◌, true, false, ◌||◌, ◌&&◌, ◌+◌, ◌-◌, ◌<◌, ◌≤◌, ◌^◌, ℕ, List, [], map, All, OnOk, OnErr, IfOk, IfErr, IfSome, length, take, drop, bytes_eq, option_map, unwrap_or};
+ghost use Rattle.std.specs.List.{list_all, list_any, slice_get};
+ghost use Rattle.std.specs.List.Sorted.{IsPermutation};
 ghost use Rattle.std.specs.Option.{ForSome};
 ghost use Rattle.c2_base.specs.Causes.{HasCause};
 ghost use Rattle.c2_base.specs.Source.{StaysSource};
 ghost use Rattle.c2_spec.specs.Cover.{holds, is_excluded};
 ghost use Rattle.c2_boxes.specs.Causes.{IsCaused, OrOutside};
 ghost use Rattle.c2_box_rows.specs.Rows.{IsRowWithin};
-ghost use Rattle.c2_marks.specs.Parts.{AreRising};
-ghost use Rattle.c2_marks.specs.Marks.{IsFront, IsRangeWithin, has_length, holds_test, in_row, in_row_part, in_row_subset, marks, takes};
+ghost use Rattle.c2_marks.specs.Parts.{AreRising, StartsBy};
+ghost use Rattle.c2_marks.specs.Marks.{AreApart, GrowsWithin, IsFront, IsRangeWithin, has_length, holds_test, in_row, in_row_part, in_row_subset, is_row_in, joined_again, marks, takes};
 ghost use Rattle.c2_marks.specs.Runs.{AreRunsWithin, IsRunWithin, asked, run_test};
 
 use crate::entries::Ask;
@@ -153,14 +154,19 @@ fn takes_row<S: Source>(
     meets_all(source, row, front, &ask.tests)
 }
 
-// Adds a range, to the last of the others where it begins in that or at its end.
+// Adds a range, to the last of the others where it begins in that or at its end. Where memory runs out the others are as before.
 fn add_range(ranges: &mut Vec<Range>, range: Range) -> Result<(), NoMemory>
     requires fits { range.start + range.length < 2 ^ 64 }
     requires fit { All (IsRangeWithin (2 ^ 64 - 1)) ranges.old.items }
     ensures same { OnOk result ((i : ℕ) → is_excluded ranges.new.items i
         ≡ (is_excluded ranges.old.items i || holds i range)) }
-    ensures within { OnOk result ((n : ℕ) → All (IsRangeWithin n) ranges.old.items
-        → IsRangeWithin n range → All (IsRangeWithin n) ranges.new.items) }
+    ensures kept { OnErr result (ranges.new.items ≡ ranges.old.items) }
+    ensures within { (n : ℕ) → All (IsRangeWithin n) ranges.old.items
+        → IsRangeWithin n range → All (IsRangeWithin n) ranges.new.items }
+    ensures apart { OnOk result (All (StartsBy range.start) ranges.old.items
+        → AreApart 0 ranges.old.items → AreApart 0 ranges.new.items) }
+    ensures below { OnOk result ((n : ℕ) → range.start ≤ n
+        → All (StartsBy n) ranges.old.items → All (StartsBy n) ranges.new.items) }
 {
     if range.length == 0 {
         return Ok(());
@@ -203,14 +209,15 @@ fn is_held(ranges: &[Range], range: Range) -> bool
     false
 }
 
-// Adds a range, where none of the last holds it already.
+// Adds a range, where none of the last holds it already. Where memory runs out the others are as before.
 fn add_new(ranges: &mut Vec<Range>, range: Range) -> Result<(), NoMemory>
     requires fits { range.start + range.length < 2 ^ 64 }
     requires fit { All (IsRangeWithin (2 ^ 64 - 1)) ranges.old.items }
     ensures same { OnOk result ((i : ℕ) → is_excluded ranges.new.items i
         ≡ (is_excluded ranges.old.items i || holds i range)) }
-    ensures within { OnOk result ((n : ℕ) → All (IsRangeWithin n) ranges.old.items
-        → IsRangeWithin n range → All (IsRangeWithin n) ranges.new.items) }
+    ensures kept { OnErr result (ranges.new.items ≡ ranges.old.items) }
+    ensures within { (n : ℕ) → All (IsRangeWithin n) ranges.old.items
+        → IsRangeWithin n range → All (IsRangeWithin n) ranges.new.items }
 {
     if is_held(ranges, range) {
         return Ok(());
@@ -218,14 +225,18 @@ fn add_new(ranges: &mut Vec<Range>, range: Range) -> Result<(), NoMemory>
     add_range(ranges, range)
 }
 
-// Adds these ranges, one after the other.
+// Adds these ranges, one after the other. Where memory runs out some of them were added.
 fn add_each(ranges: &mut Vec<Range>, others: &[Range]) -> Result<(), NoMemory>
     requires fits { All (IsRangeWithin (2 ^ 64 - 1)) others.now }
     requires fit { All (IsRangeWithin (2 ^ 64 - 1)) ranges.old.items }
     ensures same { OnOk result ((i : ℕ) → is_excluded ranges.new.items i
         ≡ (is_excluded ranges.old.items i || is_excluded others.now i)) }
-    ensures within { OnOk result ((n : ℕ) → All (IsRangeWithin n) ranges.old.items
-        → All (IsRangeWithin n) others.now → All (IsRangeWithin n) ranges.new.items) }
+    ensures some { OnErr result
+        (GrowsWithin (is_excluded others.now) ranges.old.items ranges.new.items) }
+    ensures within { (n : ℕ) → All (IsRangeWithin n) ranges.old.items
+        → All (IsRangeWithin n) others.now → All (IsRangeWithin n) ranges.new.items }
+    ensures apart { OnOk result (AreRising others.now → ranges.old.items ≡ []
+        → AreApart 0 ranges.new.items) }
 {
     for other in others {
         add_range(ranges, *other)?;
@@ -234,27 +245,39 @@ fn add_each(ranges: &mut Vec<Range>, others: &[Range]) -> Result<(), NoMemory>
 }
 
 /// Adds these ranges, joined where they overlap or touch. They are sorted for that.
+///
+/// Where memory runs out some of them were added. Added to none, they are apart: between two of them there is a position.
 pub fn add_sorted(ranges: &mut Vec<Range>, others: &mut Vec<Range>) -> Result<(), NoMemory>
     requires fits { All (IsRangeWithin (2 ^ 64 - 1)) others.old.items }
     requires fit { All (IsRangeWithin (2 ^ 64 - 1)) ranges.old.items }
     ensures same { OnOk result ((i : ℕ) → is_excluded ranges.new.items i
         ≡ (is_excluded ranges.old.items i || is_excluded others.old.items i)) }
-    ensures within { OnOk result ((n : ℕ) → All (IsRangeWithin n) ranges.old.items
-        → All (IsRangeWithin n) others.old.items → All (IsRangeWithin n) ranges.new.items) }
+    ensures some { OnErr result
+        (GrowsWithin (is_excluded others.old.items) ranges.old.items ranges.new.items) }
+    ensures within { (n : ℕ) → All (IsRangeWithin n) ranges.old.items
+        → All (IsRangeWithin n) others.old.items → All (IsRangeWithin n) ranges.new.items }
+    ensures apart { OnOk result (ranges.old.items ≡ [] → AreApart 0 ranges.new.items) }
+    ensures sorted { IsPermutation others.old.items others.new.items }
 {
     others.sort_unstable_by_key(|range| range.start);
     add_each(ranges, others.as_slice())?;
     Ok(())
 }
 
-/// Joins these ranges where there are `full` of them, and gives how many there may be before they are joined again: no fewer than twice
-/// as many as are left.
+/// Joins these ranges where there are `full` of them or more, and gives how many there may be before they are joined again: no fewer than
+/// twice as many as are left, and no fewer than `full`.
+///
+/// Whatever is answered, they exclude the same positions. Joined, they are apart: between two of them there is a position.
 pub fn join_full(alloc: Global, ranges: &mut Vec<Range>, full: usize) -> Result<usize, NoMemory>
     requires fit { All (IsRangeWithin (2 ^ 64 - 1)) ranges.old.items }
-    ensures same { OnOk result ((i : ℕ)
-        → is_excluded ranges.new.items i ≡ is_excluded ranges.old.items i) }
-    ensures within { OnOk result ((n : ℕ) → All (IsRangeWithin n) ranges.old.items
-        → All (IsRangeWithin n) ranges.new.items) }
+    ensures same { (i : ℕ) → is_excluded ranges.new.items i ≡ is_excluded ranges.old.items i }
+    ensures within { (n : ℕ) → All (IsRangeWithin n) ranges.old.items
+        → All (IsRangeWithin n) ranges.new.items }
+    ensures few { OnOk result (length ranges.old.items < full
+        → ranges.new.items ≡ ranges.old.items) }
+    ensures joined { OnOk result (full ≤ length ranges.old.items → AreApart 0 ranges.new.items) }
+    ensures again { IfOk result (λ n.
+        n ≡ joined_again full (length ranges.old.items) (length ranges.new.items)) }
 {
     if ranges.len() < full {
         return Ok(full);
@@ -290,9 +313,12 @@ fn part_in(row: RootBox, part: Range) -> Range
     }
 }
 
-/// Whether the last of these ranges holds the box of this row whole.
+/// Whether the last of these ranges holds the box of this row whole. Takes no memory.
 pub fn is_whole(ranges: &[Range], row: RootBox) -> bool
-    ensures { result ≡ true → (i : ℕ) → in_row i row ≡ true → is_excluded ranges.now i ≡ true }
+    ensures last { result ≡ unwrap_or
+        (option_map (is_row_in row) (slice_get ranges.now (length ranges.now - 1))) false }
+    ensures holds { result ≡ true
+        → (i : ℕ) → in_row i row ≡ true → is_excluded ranges.now i ≡ true }
 {
     if ranges.is_empty() {
         return false;
@@ -303,7 +329,8 @@ pub fn is_whole(ranges: &[Range], row: RootBox) -> bool
 
 // Whether a range holds the box of this row whole.
 fn holds_row(range: Range, row: RootBox) -> bool
-    ensures { result ≡ true → (i : ℕ) → in_row i row ≡ true → holds i range ≡ true }
+    ensures is { result ≡ is_row_in row range }
+    ensures holds { result ≡ true → (i : ℕ) → in_row i row ≡ true → holds i range ≡ true }
 {
     range.start <= row.start
         && row.length <= range.length
@@ -325,8 +352,10 @@ fn add_parts(ranges: &mut Vec<Range>, row: RootBox, parts: &[Range]) -> Result<(
     requires fit { All (IsRangeWithin (2 ^ 64 - 1)) ranges.old.items }
     ensures same { OnOk result ((i : ℕ) → is_excluded ranges.new.items i
         ≡ (is_excluded ranges.old.items i || list_any (in_row_part i row) parts.now)) }
-    ensures within { OnOk result ((n : ℕ) → All (IsRangeWithin n) ranges.old.items
-        → row.start + row.length ≤ n → All (IsRangeWithin n) ranges.new.items) }
+    ensures some { OnErr result
+        (GrowsWithin (λ i. in_row i row) ranges.old.items ranges.new.items) }
+    ensures within { (n : ℕ) → All (IsRangeWithin n) ranges.old.items
+        → row.start + row.length ≤ n → All (IsRangeWithin n) ranges.new.items }
 {
     for part in parts {
         add_new(ranges, part_in(row, *part))?;
@@ -349,8 +378,10 @@ fn add_subset(
     ensures same { OnOk result ((i : ℕ) → is_excluded ranges.new.items i
         ≡ (is_excluded ranges.old.items i
         || in_row_subset i row (option_map (λ parts. parts.items) subset.now))) }
-    ensures within { OnOk result ((n : ℕ) → All (IsRangeWithin n) ranges.old.items
-        → row.start + row.length ≤ n → All (IsRangeWithin n) ranges.new.items) }
+    ensures some { OnErr result
+        (GrowsWithin (λ i. in_row i row) ranges.old.items ranges.new.items) }
+    ensures within { (n : ℕ) → All (IsRangeWithin n) ranges.old.items
+        → row.start + row.length ≤ n → All (IsRangeWithin n) ranges.new.items }
 {
     let Some(parts) = subset else {
         add_range(
@@ -367,6 +398,9 @@ fn add_subset(
 }
 
 /// Adds the positions that the exclusion excludes through the box of this row, which begins with `front`.
+///
+/// [`MediaError::ReadFault`] comes only where the source failed, [`MediaError::NoMemory`] where memory ran out, and no other error comes.
+/// After an error the ranges may hold some positions of the box more.
 pub fn mark_row<S: Source>(
     source: &mut S,
     ask: &Ask,
@@ -380,7 +414,9 @@ pub fn mark_row<S: Source>(
     ensures same { OnOk result (ForSome (S.known source.old) (λ file.
         (i : ℕ) → is_excluded ranges.new.items i
         ≡ (is_excluded ranges.old.items i || marks file ask.now i row))) }
-    ensures within { OnOk result (All (IsRangeWithin (S.len source.old)) ranges.new.items) }
+    ensures some { OnErr result
+        (GrowsWithin (λ i. in_row i row) ranges.old.items ranges.new.items) }
+    ensures within { All (IsRangeWithin (S.len source.old)) ranges.new.items }
     ensures stays { StaysSource S.len S.known S.faults source.old source.new }
     ensures count { OnOk result (S.faults source.new ≡ S.faults source.old) }
     ensures cause { IfErr result (IsCaused (S.faults source.old) (S.faults source.new)) }

@@ -1,2 +1,4 @@
 mod Finding
+mod OneMedia
+mod OneOpening
 mod Reading

@@ -1,5 +1,5 @@
 -- A store's bytes that were read, and those that are refused.
-use Rattle.std.proofs.Common.{◌≡◌, refl, sym, ◌∙◌, ap, subst, ◌⊎◌, inl, inr, List, ℕ, Option, Some, None, Ok}
+use Rattle.std.proofs.Common.{◌≡◌, refl, sym, ◌∙◌, ap, subst, ◌⊎◌, inl, inr, List, ℕ, Option, Some, None, Ok, Err, IfOk}
 use Rattle.std.specs.Option.{ok_or}
 use Rattle.std.specs.declared.result.Result.{Result}
 use Rattle.c2_base.specs.declared.media.Found.{Found}
@@ -14,8 +14,9 @@ use Rattle.c2_spec.specs.declared.reason.Refusal.{Refusal}
 use Rattle.c2_spec.specs.declared.store.ManifestBoxes.{ManifestBoxes}
 use Rattle.c2_spec.specs.declared.store.StoreError.{StoreError}
 use Rattle.c2_spec.specs.declared.store.StoreError.TheVariants as store
-use Rattle.c2_media.specs.Opened.{IsRead}
-use Rattle.c2_media.specs.declared.types.StoreRead.TheVariants.{Here, Refused}
+use Rattle.c2_opening.specs.Opened.{IsRead, IsReadFrom}
+use Rattle.c2_opening.specs.declared.types.StoreRead.{StoreRead}
+use Rattle.c2_opening.specs.declared.types.StoreRead.TheVariants.{Here, Refused}
 
 -- where there is a value, it is this
 pub given : {A E : Type 0} (o : Option A) (e : E) (x : A) → ◌≡◌ {A = Result A E} (Ok x) (ok_or o e) → o ≡ Some x
@@ -33,26 +34,31 @@ bad_store t e r refuses (inl memory) = absurd (let both = sym refuses ∙ ap man
 bad_store t e r refuses (inr fault) = fault
 
 -- the first test of the boxes that fails
-pub refused_boxes : (f : Found) (bytes : List ℕ) (e : JumbfError) (o : Option Refusal) (r : Refusal) → bytes ≡ f.store → (e ≡ boxes.NoMemory) ⊎ JumbfFault bytes e → o ≡ boxes_refusal e → o ≡ Some r → IsRead f (Refused r.reason r.number)
-refused_boxes f bytes e o r same fault is some =
+pub refused_boxes : (bytes : List ℕ) (e : JumbfError) (o : Option Refusal) (r : Refusal) → (e ≡ boxes.NoMemory) ⊎ JumbfFault bytes e → o ≡ boxes_refusal e → o ≡ Some r → IsReadFrom bytes (Refused r.reason r.number)
+refused_boxes bytes e o r fault is some start len =
     let refuses : boxes_refusal e ≡ Some r = sym is ∙ some in
     record {
-      store = (refused r.reason r.number, (e, subst (λ (l : List ℕ). JumbfFault l e) same (faulty bytes e r refuses fault), refuses), refl);
+      store = (refused r.reason r.number, (e, faulty bytes e r refuses fault, refuses), refl);
       boxes = tt;
     }
 
 -- the first test of the manifests that fails
-pub refused_manifests : (f : Found) (bytes : List ℕ) (t : Tree) (e : StoreError) (o : Option Refusal) (r : Refusal) → bytes ≡ f.store → SpellsTree bytes t → (e ≡ store.NoMemory) ⊎ (store_refusal t ≡ Some e) → o ≡ manifests_refusal e → o ≡ Some r → IsRead f (Refused r.reason r.number)
-refused_manifests f bytes t e o r same spells fault is some =
+pub refused_manifests : (bytes : List ℕ) (t : Tree) (e : StoreError) (o : Option Refusal) (r : Refusal) → SpellsTree bytes t → (e ≡ store.NoMemory) ⊎ (store_refusal t ≡ Some e) → o ≡ manifests_refusal e → o ≡ Some r → IsReadFrom bytes (Refused r.reason r.number)
+refused_manifests bytes t e o r spells fault is some start len =
     let refuses : manifests_refusal e ≡ Some r = sym is ∙ some in
     record {
-      store = (here f.start f.length t, (subst (λ (l : List ℕ). SpellsTree l t) same spells, refl), (e, bad_store t e r refuses fault, refuses));
+      store = (here start len t, (spells, refl), (e, bad_store t e r refuses fault, refuses));
       boxes = tt;
     }
 
 -- a store of manifests
-pub read_here : (f : Found) (bytes : List ℕ) (t : Tree) (s : List ManifestBoxes) → bytes ≡ f.store → SpellsTree bytes t → store_refusal t ≡ None → s ≡ store_of t → IsRead f (Here t s)
-read_here f bytes t s same spells none is = record {
-  store = (here f.start f.length t, (subst (λ (l : List ℕ). SpellsTree l t) same spells, refl), (none, refl));
+pub read_here : (bytes : List ℕ) (t : Tree) (s : List ManifestBoxes) → SpellsTree bytes t → store_refusal t ≡ None → s ≡ store_of t → IsReadFrom bytes (Here t s)
+read_here bytes t s spells none is start len = record {
+  store = (here start len t, (spells, refl), (none, refl));
   boxes = record { accepted = none; same = is };
 }
+
+-- bytes that were read are those of a store that was found
+pub read_found : {E : Type 0} (f : Found) (bytes : List ℕ) (r : Result StoreRead E) → bytes ≡ f.store → IfOk r (IsReadFrom bytes) → IfOk r (IsRead f)
+read_found f bytes (Err e) same h = tt
+read_found f bytes (Ok r) same h = subst (λ (l : List ℕ). IsRead (record { start = f.start; length = f.length; store = l }) r) same (h f.start f.length)

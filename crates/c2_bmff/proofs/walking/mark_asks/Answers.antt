@@ -38,4 +38,4 @@ returns-clause-same g c file known i =
 -- where the ranges hold the box whole, the other exclusions add nothing
 pub returns-then-is_whole-clause-same : goal.returns-then-is_whole-clause-same
 returns-then-is_whole-clause-same g c file known i =
-    whole_asks file i c.args.row c.args.asks.now c.loop-ask.ask-index (is_excluded c.loop-ask.ranges.items i) (is_excluded c.args.ranges.now.items i) (λ inside. ap (λ (rs : List Range). is_excluded rs i) (sym c.deref.ensures.value) ∙ c.is_whole.ensures c.if-is_whole.true i inside) (c.loop-ask.invariant.same file known i)
+    whole_asks file i c.args.row c.args.asks.now c.loop-ask.ask-index (is_excluded c.loop-ask.ranges.items i) (is_excluded c.args.ranges.now.items i) (λ inside. ap (λ (rs : List Range). is_excluded rs i) (sym c.deref.ensures.value) ∙ c.is_whole.ensures.holds c.if-is_whole.true i inside) (c.loop-ask.invariant.same file known i)

@@ -18,4 +18,4 @@ returns-clause-same g c file known i =
 pub returns-then-is_whole-clause-same : goal.returns-then-is_whole-clause-same
 returns-then-is_whole-clause-same g c file known i =
     let before : Bool = is_excluded c.args.ranges.now.items i in
-    whole_same file c.args.entries.now i c.args.row c.args.here.now 0 before before (λ inside. ap (λ (rs : List Range). is_excluded rs i) (sym c.deref.ensures.value) ∙ c.is_whole.ensures c.if-is_whole.true i inside) (sym (or_false before))
+    whole_same file c.args.entries.now i c.args.row c.args.here.now 0 before before (λ inside. ap (λ (rs : List Range). is_excluded rs i) (sym c.deref.ensures.value) ∙ c.is_whole.ensures.holds c.if-is_whole.true i inside) (sym (or_false before))

@@ -1,4 +1,4 @@
-use Rattle.std.proofs.Common.{◌≡◌, ◌∙◌, ◌<◌, length, false, [], sym, arith}
+use Rattle.std.proofs.Common.{◌∙◌, ◌<◌, length, false, [], sym, arith}
 use Rattle.c2_box_rows.specs.declared.row.RootBox.{RootBox}
 use Rattle.c2_boxes.proofs.PlaceLemmas.{behind_last, room_last}
 use Rattle.c2_boxes.proofs.placing.place_behind.Goals as goal

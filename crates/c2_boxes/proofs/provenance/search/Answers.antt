@@ -1,6 +1,7 @@
 use Rattle.std.proofs.Common.{◌≡◌, ◌∙◌, ℕ, suc, false, [], ◌∷◌, drop, refl, subst, sym, arith}
 use Rattle.std.specs.Prelude.{IfSome, slice_index_or}
 use Rattle.std.proofs.Math.Seq.{drop-cons}
+use Rattle.c2_boxes.specs.Causes.{IsStoreCause}
 use Rattle.c2_boxes.specs.Search.{IsFoundWithin}
 use Rattle.c2_box_rows.specs.declared.row.RootBox.{RootBox}
 use Rattle.c2_boxes.proofs.WalkLemmas.{outside_map}
@@ -55,3 +56,9 @@ loop-row-preserved g c =
 -- after the last root box, what is found is the file's store, or none
 pub returns-clause-found : goal.returns-clause-found
 returns-clause-found g c file known roots = rows_end file c.args.rows.now c.loop-row.row-index c.loop-row.found c.loop-row-test.false roots (c.loop-row.invariant.searched file known)
+
+-- a C2PA box is refused where it stands
+pub returns-in-Err-clause-cause : goal.returns-in-Err-clause-cause
+returns-in-Err-clause-cause g c =
+    subst (λ n. IsStoreCause (g.S.Source.len c.args.source.now) n (g.S.Source.faults c.step.new.source) c.in-Err.error) c.loop-row.invariant.count
+    (subst (λ n. IsStoreCause n (g.S.Source.faults c.loop-row.source) (g.S.Source.faults c.step.new.source) c.in-Err.error) c.loop-row.invariant.stays.same_len c.in-Err.ensures.cause)

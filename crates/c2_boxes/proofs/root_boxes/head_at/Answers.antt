@@ -28,3 +28,11 @@ returns-in-Err-Bad-clause-read g c file known =
     let left : length (drop c.args.at file) ≡ c.args.size - c.args.at = length-drop c.args.at file ∙ ap (λ n. n - c.args.at) len in
     fault_of c.args.at (drop c.args.at file) _ _ c.in-Err-Bad.field-0 (c.in_ok-fill_first.ensures.filled file known ∙ same_take _ 16 (drop c.args.at file) (omega arith) (λ lt. omega (arith, lt, left))) (sym left) c.in-Err-Bad.ensures.err
     ∙ ap (λ e. Some (media_error c.args.at (length (drop c.args.at file)) e)) c.in-Err-Bad.field-0-is
+
+-- a header or box that ends after the source has the source's length
+pub returns-in-Err-Short-clause-cause : goal.returns-in-Err-Short-clause-cause
+returns-in-Err-Short-clause-cause g c = (c.requires.size, omega (arith, c.requires.size, c.requires.bounded), c.in_ok-fill_first.ensures.cause.ok)
+
+-- a box that is bad begins in the source
+pub returns-in-Err-Bad-clause-cause : goal.returns-in-Err-Bad-clause-cause
+returns-in-Err-Bad-clause-cause g c = (omega (arith, c.requires.size, c.requires.inside), omega (arith, c.requires.size, c.requires.bounded), c.in_ok-fill_first.ensures.cause.ok)

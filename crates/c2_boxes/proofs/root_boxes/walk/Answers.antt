@@ -1,9 +1,10 @@
 use Rattle.std.proofs.Common.{◌≡◌, ◌∙◌, ◌+◌, ◌<◌, ◌≤◌, [], ◌∷◌, ◌++◌, length, drop, sym, ap, refl, subst, arith, length-append}
 use Rattle.c2_base.specs.declared.media.MediaError.TheVariants.{TooManyBoxes}
 use Rattle.c2_spec.specs.Bmff.Boxes.{most_roots}
+use Rattle.c2_boxes.specs.Causes.{IsRootsCause}
 use Rattle.c2_boxes.specs.Roots.{FillSource, Walks, row_at}
 use Rattle.c2_box_rows.proofs.BoxThere.{are_bytes}
-use Rattle.c2_boxes.proofs.WalkLemmas.{fill_more, many_fault, outside_map, room_fault, walks_end, walks_fault, walks_more, walks_start}
+use Rattle.c2_boxes.proofs.WalkLemmas.{fill_count, fill_more, many_fault, outside_map, room_fault, walks_end, walks_fault, walks_more, walks_start}
 use Rattle.c2_boxes.proofs.root_boxes.walk.Goals as goal
 
 -- before the first root box, the walk stands at position 0 and has no rows
@@ -59,3 +60,15 @@ pub returns-clause-walked : goal.returns-clause-walked
 returns-clause-walked g c file known =
     let len : length file ≡ c.args.size = g.met.S.Source.known_len c.args.source.now file known ∙ sym c.requires.size in
     walks_end file c.boxes.at c.boxes.rows.items (c.boxes.invariant.walked file known) (omega (arith, len, c.boxes-test.false)) (omega (arith, len, c.requires.bounded)) (c.requires.begins file known) c.boxes.invariant.few
+
+-- so many boxes have 8 bytes each, and a byte follows
+pub returns-then-len-ge-MAX_ROOT_BOXES-clause-cause : goal.returns-then-len-ge-MAX_ROOT_BOXES-clause-cause
+returns-then-len-ge-MAX_ROOT_BOXES-clause-cause g c =
+    let filled = fill_count c.boxes.at 0 c.boxes.rows.items c.boxes.invariant.fill in
+    (omega (arith, filled, c.if-len-ge-MAX_ROOT_BOXES.true, c.len.ensures, c.boxes-test.true, c.requires.size), omega (arith, c.requires.size, c.requires.bounded), c.boxes.invariant.count)
+
+-- a root box is refused where it stands
+pub returns-in-Err-clause-cause : goal.returns-in-Err-clause-cause
+returns-in-Err-clause-cause g c =
+    subst (λ n. IsRootsCause (g.S.Source.len c.args.source.now) n (g.S.Source.faults c.head_at.new.source) c.in-Err.error) c.boxes.invariant.count
+    (subst (λ n. IsRootsCause n (g.S.Source.faults c.boxes.source) (g.S.Source.faults c.head_at.new.source) c.in-Err.error) c.boxes.invariant.stays.same_len c.in-Err.ensures.cause)

@@ -1,4 +1,4 @@
-use Rattle.std.proofs.Common.{◌++◌, List, ℕ, refl, sym}
+use Rattle.std.proofs.Common.{◌++◌, refl, sym}
 use Rattle.std.proofs.lemmas.Result.{err_from_is_err_and}
 use Rattle.c2_spec.specs.Bmff.Store.{c2pa_user_type}
 use Rattle.c2_boxes.specs.Appends.{before_store}

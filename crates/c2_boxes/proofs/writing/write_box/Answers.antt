@@ -1,4 +1,4 @@
-use Rattle.std.proofs.Common.{arith, ap, subst}
+use Rattle.std.proofs.Common.{arith, subst}
 use Rattle.std.specs.Prelude.{OnOk}
 use Rattle.c2_base.specs.Sink.{Spends}
 use Rattle.c2_boxes.proofs.Appending.{box_size}

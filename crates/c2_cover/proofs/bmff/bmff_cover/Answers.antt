@@ -15,7 +15,7 @@ returns-in-Err-clause-cause g c =
 pub returns-clause-cover : goal.returns-clause-cover
 returns-clause-cover g c file known boxes has rows =
     let len : length file ≡ c.in_ok-size.size = g.met.S.Source.known_len c.args.source.now file known ∙ sym c.in_ok-size.ensures.length in
-    bmff_cover_of file boxes c.args.roots.now c.args.entries.now c.in_ok-size.size _ c.in-Ok.ranges c.in_ok-cover.cover c.in_ok-told.told len c.in_ok-cover.ensures
+    bmff_cover_of file boxes c.args.roots.now c.args.entries.now c.in_ok-size.size _ c.in-Ok.ranges c.in_ok-cover.cover c.in_ok-told.told len c.in_ok-cover.ensures.cover
     (c.as_mut_slice.ensures.value ∙ c.in_ok-sorted.ensures.items ∙ c.as_slice.ensures)
     (subst (λ (rs : List RootBox). IsToldBy rs c.in_ok-cover.cover c.in_ok-told.told) c.as_slice-2.ensures.boxes c.in_ok-told.ensures)
     (c.in-Ok.ensures.excluded file (c.in_ok-size.ensures.stays.same_bytes ∙ known) boxes has rows) has rows

@@ -1,10 +1,11 @@
-use Rattle.std.proofs.Common.{◌∙◌, ◌||◌, sym, ap₂, arith}
-use Rattle.std.proofs.Common.{Bool}
+use Rattle.std.proofs.Common.{◌∙◌, ◌||◌, Bool, take, sym, ap₂, subst, arith}
+use Rattle.std.specs.List.{list_any}
 use Rattle.c2_spec.specs.Cover.{is_excluded}
-use Rattle.c2_marks.specs.Marks.{in_row_part}
+use Rattle.c2_marks.specs.Marks.{GrowsWithin, in_row, in_row_part}
 use Rattle.c2_box_rows.proofs.Lists.{any_more}
 use Rattle.c2_marks.proofs.MarkLemmas.{no_range}
 use Rattle.c2_marks.proofs.OrderLemmas.{rest_adds_nothing}
+use Rattle.c2_marks.proofs.RangeLemmas.{any_first, grows_some, on_err, parts_in_row}
 use Rattle.c2_marks.proofs.marking.add_parts.Goals as goal
 
 -- with the next part, its positions are held too, and no range ends after the old ones and the box do
@@ -31,3 +32,12 @@ returns-then-ends_row-clause-same c i =
 -- and no range ends after the old ones and the box do
 pub returns-then-ends_row-clause-within : goal.returns-then-ends_row-clause-within
 returns-then-ends_row-clause-within c = λ n old fits. c.in_ok-add_new.ensures.within n (c.loop-part.invariant.within n old fits) (omega (arith, c.part_in.ensures.within, fits))
+
+-- without memory for a part, those before it were added, all inside the box
+pub returns-in_err-add_new-clause-some : goal.returns-in_err-add_new-clause-some
+returns-in_err-add_new-clause-some c =
+    let k = c.loop-part.part-index in
+    on_err c.from_residual.result
+    (subst (GrowsWithin (λ i. in_row i c.args.row) c.args.ranges.now.items) (sym c.in_err-add_new.ensures.kept)
+    (grows_some (λ i. in_row i c.args.row) (λ i. list_any (in_row_part i c.args.row) (take k c.args.parts.now)) c.args.ranges.now.items c.loop-part.ranges.items c.loop-part.invariant.same
+    (λ i h. parts_in_row i c.args.row c.args.parts.now (any_first (in_row_part i c.args.row) k c.args.parts.now h))))

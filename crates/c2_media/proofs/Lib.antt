@@ -1,4 +1,0 @@
-pub mod Containers
-pub mod Items
-pub mod Located
-pub mod OneOpening
