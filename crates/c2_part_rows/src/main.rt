@@ -4,6 +4,7 @@
 //! hold are counted. `tests/README.md` says how a table is written.
 #![tactic(auto)]
 
+mod chunks;
 mod claims;
 mod covers;
 mod fields;
@@ -12,6 +13,7 @@ mod items;
 mod line;
 mod media;
 mod messages;
+mod parts;
 mod read;
 mod settings;
 mod stores;

@@ -1,8 +1,8 @@
 // Files of media.
-use crate::films;
 use crate::line::{Line, shown};
 use crate::settings::Settings;
 use crate::trouble::Trouble;
+use crate::{chunks, films, parts};
 use c2_base::{Blob, Found, MediaError, MemSource};
 use c2_jpegseg::{free_number, insert_place, locate};
 use std::alloc::Global;
@@ -20,6 +20,12 @@ pub enum FileView {
     Film,
     BoxPlace,
     Exclusions,
+    Copied,
+    Inserted,
+    WithoutStore,
+    ChunkTables,
+    Shifted,
+    ShiftedPart,
 }
 
 /// What is said of a file that is read in pieces: the same for pieces of each length. Where a call fails, the file is read in the longest.
@@ -71,6 +77,12 @@ fn said(
         FileView::Film => films::store(alloc, source),
         FileView::BoxPlace => films::box_place(alloc, settings, source),
         FileView::Exclusions => films::excluded(alloc, settings, source),
+        FileView::Copied => parts::copied(alloc, settings, source),
+        FileView::Inserted => parts::inserted(alloc, settings, source),
+        FileView::WithoutStore => parts::without_store(alloc, settings, source),
+        FileView::ChunkTables => chunks::listed(alloc, source),
+        FileView::Shifted => chunks::moved(alloc, settings, source),
+        FileView::ShiftedPart => chunks::part(alloc, settings, source),
     }
 }
 

@@ -56,7 +56,7 @@ enum BytesView {
 }
 
 // The views by their names.
-const VIEWS: [(&str, Shown); 32] = [
+const VIEWS: [(&str, Shown); 38] = [
     ("label kind", Shown::Text(TextView::LabelKind)),
     ("uri", Shown::Text(TextView::Uri)),
     ("base label", Shown::Text(TextView::BaseLabel)),
@@ -98,6 +98,12 @@ const VIEWS: [(&str, Shown); 32] = [
     ("film", Shown::File(media::FileView::Film)),
     ("box place", Shown::File(media::FileView::BoxPlace)),
     ("exclusions", Shown::File(media::FileView::Exclusions)),
+    ("copied", Shown::File(media::FileView::Copied)),
+    ("inserted", Shown::File(media::FileView::Inserted)),
+    ("without store", Shown::File(media::FileView::WithoutStore)),
+    ("chunk tables", Shown::File(media::FileView::ChunkTables)),
+    ("shifted", Shown::File(media::FileView::Shifted)),
+    ("shifted part", Shown::File(media::FileView::ShiftedPart)),
 ];
 
 // The view with this name.

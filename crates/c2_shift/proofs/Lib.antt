@@ -1,0 +1,5 @@
+mod BoxLemmas
+mod Calls
+mod Overflows
+mod PartLemmas
+mod ReadBytes

@@ -1,0 +1,5 @@
+pub mod Causes
+pub mod Fitting
+pub mod Lengths
+pub mod Parts
+pub mod Walking

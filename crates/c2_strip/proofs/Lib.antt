@@ -1,0 +1,5 @@
+mod Answering
+mod Containers
+mod Endings
+mod Strips
+mod Taking

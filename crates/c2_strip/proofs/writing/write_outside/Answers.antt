@@ -1,0 +1,10 @@
+use Rattle.std.proofs.Common.{◌∙◌, arith}
+use Rattle.std.proofs.lemmas.Bool.{false≢true}
+use Rattle.c2_strip.specs.Stripping.{stripped}
+use Rattle.c2_strip.proofs.writing.write_outside.Goals as goal
+
+-- all was written, and the sink can't be finished
+pub returns-in-Err-finish-clause-whole : goal.returns-in-Err-finish-clause-whole
+returns-in-Err-finish-clause-whole g c = λ file known.
+    c.steps_follow.ensures.steps.open_end (stripped c.args.range file) c.args.sink.now c.copy_outside.new.sink c.finish.new.self (c.in-Ok-copy_outside.ensures.step file (c.in-Ok.ensures.stays.same_bytes ∙ known)) c.in-Err-finish.ensures.written c.in-Err-finish.ensures.unfinished
+    (λ s is. false≢true (c.in-Err-finish.ensures.within s is (omega arith)))

@@ -1,0 +1,74 @@
+// A media file without its store, written to a sink.
+ghost use Rattle.std.specs.Prelude.{◌≡◌, ◌<◌, length, IfOk};
+ghost use Rattle.std.specs.Option.{ForSome};
+ghost use Rattle.c2_base.specs.Sink.{WritesSink, unsaid};
+ghost use Rattle.c2_base.specs.Source.{ReadsSource};
+ghost use Rattle.c2_copying.specs.Writing.{EndsSink, WritesFile};
+ghost use Rattle.c2_strip.specs.Answers.{IsAnswerOf, IsReadCause, IsStripped, IsWriteCause, Writes, ending_of};
+ghost use Rattle.c2_strip.specs.Endings.{IsRefusedBy};
+
+use crate::ending::answer_of;
+use crate::laws::each_file_is_stripped;
+use crate::writing::write_outside;
+use crate::{StripError, Stripped};
+use c2_base::{MediaError, Sink, Source};
+use c2_container::locate;
+use c2_copying::{CopyError, steps_follow};
+use std::alloc::Global;
+
+// The answer for an error of the container.
+fn refused(error: MediaError) -> Result<Stripped, StripError>
+    ensures { IsRefusedBy error result }
+{
+    match error {
+        MediaError::ReadFault => Err(StripError::ReadFault),
+        MediaError::NoMemory => Err(StripError::NoMemory),
+        _ => Ok(Stripped::Refused(error)),
+    }
+}
+
+/// Writes a media file without its store, and says that nothing follows: every byte outside the embedded range, in order. The file is read
+/// in pieces of the buffer's length, which isn't 0; of the store nothing is looked at but the range.
+///
+/// The tests of the container alone decide between [`Stripped::Refused`], which holds no fault, [`Stripped::NoStore`] and a store.
+/// [`Stripped::Middle`] is answered for a BMFF file in which other boxes than one last `mfra` stand behind that of the store: their bytes
+/// would move, and places of them that the file keeps wouldn't (this is the project's own choice).
+///
+/// [`StripError::ReadFault`] and [`StripError::WriteFault`] come only where the source or the sink failed in this call; they leave a prefix
+/// of what is to be written, and the sink unfinished. Every other answer but [`Stripped::Done`] leaves the sink as it was.
+pub fn strip<S: Source, K: Sink>(
+    alloc: Global,
+    source: &mut S,
+    out: &mut K,
+    buf: &mut [u8],
+) -> Result<Stripped, StripError>
+    requires { 0 < length buf.old }
+    // Where the bytes are known: this is what the file comes to, and what the sink took. Within a stated spare it doesn't fail.
+    ensures answer { ForSome (S.known source.old) (λ file. IfOk result (IsStripped file)) }
+    ensures written { ForSome (S.known source.old) (λ file. WritesFile K.written K.spare K.finished
+        (Writes file) out.old out.new (ending_of result)) }
+
+    // These hold of every source.
+    ensures within { IfOk result (IsAnswerOf (S.len source.old)) }
+    ensures ends { EndsSink K.finished out.old out.new (ending_of result) }
+    ensures reads { ReadsSource S.len S.known S.faults IsReadCause source.old source.new result }
+    ensures writes { WritesSink K.written unsaid K.faults IsWriteCause out.old out.new result }
+{
+    // Only the prover needs these laws.
+    each_file_is_stripped();
+    steps_follow::<K>();
+    // Matched and not handed up by `?`, here and below: each way out has clauses of its own.
+    let contained = match locate(alloc, source) {
+        Ok(contained) => contained,
+        Err(error) => return refused(error),
+    };
+    let answer = answer_of(&contained);
+    let Stripped::Done(range) = answer else {
+        return Ok(answer);
+    };
+    match write_outside(source, out, range, buf) {
+        Ok(()) => Ok(answer),
+        Err(CopyError::ReadFault) => Err(StripError::ReadFault),
+        Err(CopyError::WriteFault) => Err(StripError::WriteFault),
+    }
+}
