@@ -5,6 +5,7 @@ use Rattle.c2_base.specs.declared.values.Question.{Question}
 use Rattle.c2_spec.specs.C2pa.Manifest.{Manifest, HasClaim}
 use Rattle.c2_spec.specs.declared.claim.Claim.{Claim}
 use Rattle.c2_spec.specs.declared.store.ManifestBoxes.{ManifestBoxes}
+use Rattle.c2_rules.specs.Chains.{LabelsDiffer}
 use Rattle.c2_rules.specs.Claims.{Chained, chained_of, HaveClaims}
 use Rattle.std.proofs.lemmas.List.{length-map}
 use Rattle.c2_rules.specs.Questions.{HasQuestion, IsQuestionOf}
@@ -31,9 +32,9 @@ have_claims law (m ∷ ms) (r ∷ rs) h = (law m r h.0, have_claims law ms rs h.
 pub claims_had : ((m : Manifest) (r : Reading) → IsReading m r → HasClaim m (claim_in r)) → (ms : List Manifest) (rs : List Reading) → AreReadings ms rs → HaveClaims (map (λ (r : Reading). r.manifest) rs) (map claim_in rs)
 claims_had law ms rs h = subst (λ (x : List Manifest). HaveClaims x (map claim_in rs)) (sym (same_manifests ms rs h)) (have_claims law ms rs h)
 
--- whatever manifests are read as is a chain: each reading is of its manifest and holds its claim
-pub is_chain : ((m : Manifest) (r : Reading) → IsReading m r → HasClaim m (claim_in r)) → (ms : List Manifest) (rs : List Reading) → AreReadings ms rs → IsChain rs
-is_chain law ms rs h = record { reads = subst (λ (x : List Manifest). AreReadings x rs) (sym (same_manifests ms rs h)) h; claims = claims_had law ms rs h }
+-- some manifests with different labels are read as a chain: each reading is of its manifest and holds its claim
+pub is_chain : ((m : Manifest) (r : Reading) → IsReading m r → HasClaim m (claim_in r)) → (ms : List Manifest) (rs : List Reading) → AreReadings ms rs → 0 < length rs → LabelsDiffer rs → IsChain rs
+is_chain law ms rs h some differ = record { some = some; reads = subst (λ (x : List Manifest). AreReadings x rs) (sym (same_manifests ms rs h)) h; claims = claims_had law ms rs h; differ = differ }
 
 -- ---- one of them
 

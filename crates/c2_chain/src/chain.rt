@@ -1,17 +1,20 @@
 // The manifests of a store, and the public calls on them.
-ghost use Rattle.std.specs.Prelude.{◌≡◌, ◌≢◌, ◌<◌, None, Some, length, map, slice_get, option_map, IfErr, IfOk, IfSome};
+ghost use Rattle.std.specs.Prelude.{◌≡◌, ◌≢◌, ◌<◌, ◌↔◌, IsTrue, None, Some, length, map, slice_get, option_map, IfOk, IfSome};
 ghost use Rattle.c2_base.specs.declared.values.Question.{Question as AnyQuestion};
 ghost use Rattle.c2_spec.specs.C2pa.Manifest.{IsStoreOf, HasClaim, manifests_of, store_of};
-ghost use Rattle.c2_spec.specs.Judges.Panel.{LeavesJudges, judges_of, panel_says};
+ghost use Rattle.c2_spec.specs.Judges.Panel.{panel_says};
+ghost use Rattle.c2_rules.specs.Asking.{HearsPanel};
 ghost use Rattle.c2_rules.specs.BoxPlaces.{child_at, ingredient_at};
 ghost use Rattle.c2_rules.specs.Chains as form;
+ghost use Rattle.c2_rules.specs.Chains.{IsRedacted, IsTouched, Reached, Reaches};
 ghost use Rattle.c2_rules.specs.CheckList.{judged_tests, questions_of, tests_of};
 ghost use Rattle.c2_rules.specs.Claims.{HaveClaims};
 ghost use Rattle.c2_rules.specs.Questions.{HasQuestion, IsQuestionOf};
 ghost use Rattle.c2_rules.specs.Readings.{AreReadings, question_in};
 ghost use Rattle.c2_rules.specs.Rules.{claim_tests};
 ghost use Rattle.c2_rules.specs.Tests.{first_failing};
-ghost use Rattle.c2_chain.specs.Checked.{HasPanel, IsChainCause};
+ghost use Rattle.c2_calls.specs.Asks.{AsksThese};
+ghost use Rattle.c2_chain.specs.Checked.{chain_heard};
 ghost use Rattle.c2_manifests.specs.Facts.{AreFacts};
 
 use crate::asking::{ChainError, own_question};
@@ -19,13 +22,14 @@ use crate::manifest::{check_alone, check_place};
 use c2_base::{NoMemory, Question};
 use c2_hash::Hashing;
 use c2_judge::Judge;
-use c2_jumbf::Tree;
+use c2_jumbf::{Tree, count};
 use c2_manifests::{Facts, child_in, facts_of_children, ingredient_in};
 use c2_reading::{
     ReadManifests, a_reading_is_the_claim_and_the_question, is_reached, is_redacted, is_touched,
-    manifests, one_question, reaches as is_below, read_claim_at, read_manifests,
+    labels_of_a_store_differ, manifests, one_question, reaches as is_below, read_claim_at,
+    read_manifests,
 };
-use c2_rules::Failing;
+use c2_rules::{Failing, a_question_where_the_claim_rules_hold, tests_decide_chains};
 use c2_spec::{Claim, Ingredient};
 use c2_store::Store;
 use std::alloc::Global;
@@ -65,22 +69,29 @@ pub fn of_store<'t>(
     ensures reads { IfOk result (λ chain. AreReadings (manifests_of tree.now) chain.readings) }
     ensures boxes { IfOk result (λ chain. chain.boxes ≡ store_of tree.now) }
 {
-    // Only the prover needs this law.
+    // Only the prover needs these laws, and the count: it takes from here that the tree is legal.
     a_reading_is_the_claim_and_the_question();
+    labels_of_a_store_differ();
+    let _boxes = count(tree);
     let all = read_manifests(alloc, tree, store)?;
     Ok(Chain { store, all })
 }
 
-/// The number of manifests. Takes no memory.
+/// The number of manifests, which is that of the claims and of the readings. Takes no memory.
 pub fn manifest_count(chain: &Chain<'_>) -> usize
-    ensures { result ≡ length chain.now.manifests }
+    ensures count { result ≡ length chain.now.manifests }
+    // As many were read as there are.
+    ensures read { result ≡ length chain.now.readings }
+    // A store has a manifest.
+    ensures some { 0 < result }
 {
     manifests(&chain.all).len()
 }
 
 /// What is read of the manifests.
 pub fn all<'c, 't>(chain: &'c Chain<'t>) -> &'c ReadManifests<'t>
-    ensures { result.now ≡ chain.now.readings }
+    ensures is { result.now ≡ chain.now.readings }
+    ensures some { 0 < length result.now }
 {
     &chain.all
 }
@@ -121,8 +132,12 @@ pub fn question_of(alloc: Global, chain: &Chain<'_>, i: usize) -> Result<Option<
 /// Whether a manifest is the active one, or is reached from it by child steps. Takes no memory.
 pub fn reached(chain: &Chain<'_>, i: usize) -> bool
     requires { i < length chain.now.readings }
-    ensures { result ≡ form.is_reached chain.now.readings i }
+    ensures is { IsTrue result ↔ Reached chain.now.readings i }
+    // The same as the test by which the rules go.
+    ensures value { result ≡ form.is_reached chain.now.readings i }
 {
+    // Only the prover needs this law.
+    tests_decide_chains();
     is_reached(&chain.all, i)
 }
 
@@ -130,8 +145,12 @@ pub fn reached(chain: &Chain<'_>, i: usize) -> bool
 pub fn reaches(chain: &Chain<'_>, n: usize, m: usize) -> bool
     requires n { n < length chain.now.readings }
     requires m { m < length chain.now.readings }
-    ensures { result ≡ form.reaches chain.now.readings n m }
+    ensures is { IsTrue result ↔ Reaches chain.now.readings n m }
+    // The same as the test by which the rules go.
+    ensures value { result ≡ form.reaches chain.now.readings n m }
 {
+    // Only the prover needs this law.
+    tests_decide_chains();
     is_below(&chain.all, n, m)
 }
 
@@ -139,16 +158,24 @@ pub fn reaches(chain: &Chain<'_>, n: usize, m: usize) -> bool
 /// the assertion with this label in it by an absolute URI. Takes no memory.
 pub fn redacted(chain: &Chain<'_>, i: usize, label: &str) -> bool
     requires { i < length chain.now.readings }
-    ensures { result ≡ form.is_redacted chain.now.readings i label.now }
+    ensures is { IsTrue result ↔ IsRedacted chain.now.readings i label.now }
+    // The same as the test by which the rules go.
+    ensures value { result ≡ form.is_redacted chain.now.readings i label.now }
 {
+    // Only the prover needs this law.
+    tests_decide_chains();
     is_redacted(&chain.all, i, label)
 }
 
 /// Whether the claim of manifest `i` lists a label that is redacted in it. Takes no memory.
 pub fn touched(chain: &Chain<'_>, i: usize) -> bool
     requires { i < length chain.now.readings }
-    ensures { result ≡ form.is_touched chain.now.readings i }
+    ensures is { IsTrue result ↔ IsTouched chain.now.readings i }
+    // The same as the test by which the rules go.
+    ensures value { result ≡ form.is_touched chain.now.readings i }
 {
+    // Only the prover needs this law.
+    tests_decide_chains();
     is_touched(&chain.all, i)
 }
 
@@ -165,28 +192,17 @@ pub fn check_manifest<H: Hashing>(
     judges: &mut Vec<Box<dyn Judge>>,
 ) -> Result<Option<Failing>, ChainError>
     requires { i < length chain.now.readings }
-    ensures answer { let said = panel_says (map (λ j. says j) judges.old.items) in
+    ensures answer { let said = panel_says (map says judges.old.items) in
         let rs = chain.now.readings in
         let tests = tests_of (judged_tests H.digest_of said) rs i (slice_get rs i) in
         IfOk result (λ found. found ≡ first_failing tests) }
-    ensures panel { let old = judges_of (λ j. says j) (λ j. asked_times j) (λ j. judge_faults j)
-        judges.old.items in
-        let new = judges_of (λ j. says j) (λ j. asked_times j) (λ j. judge_faults j)
-        judges.new.items in
-        HasPanel (questions_of (slice_get chain.now.readings i)) old new result }
-    ensures leaves { let old = judges_of (λ j. says j) (λ j. asked_times j) (λ j. judge_faults j)
-        judges.old.items in
-        let new = judges_of (λ j. says j) (λ j. asked_times j) (λ j. judge_faults j)
-        judges.new.items in
-        LeavesJudges old new result }
-    ensures cause { let old = judges_of (λ j. says j) (λ j. asked_times j) (λ j. judge_faults j)
-        judges.old.items in
-        let new = judges_of (λ j. says j) (λ j. asked_times j) (λ j. judge_faults j)
-        judges.new.items in
-        IfErr result (IsChainCause old new) }
+    ensures panel { HearsPanel says asked_times judge_faults chain_heard
+        (AsksThese (questions_of (slice_get chain.now.readings i))) judges.old judges.new result }
     ensures quiet { IfSome (slice_get chain.now.readings i)
         (λ r. first_failing (claim_tests r) ≢ None → judges.new ≡ judges.old) }
 {
+    // Only the prover needs this law.
+    a_question_where_the_claim_rules_hold();
     check_alone(alloc, hashing, all(chain), i, judges)
 }
 
@@ -216,28 +232,17 @@ pub fn check_known<H: Hashing>(
 ) -> Result<Option<Failing>, ChainError>
     requires inside { i < length chain.now.readings }
     requires known { AreFacts H.digest_of chain.now.readings facts.now }
-    ensures answer { let said = panel_says (map (λ j. says j) judges.old.items) in
+    ensures answer { let said = panel_says (map says judges.old.items) in
         let rs = chain.now.readings in
         let tests = tests_of (judged_tests H.digest_of said) rs i (slice_get rs i) in
         IfOk result (λ found. found ≡ first_failing tests) }
-    ensures panel { let old = judges_of (λ j. says j) (λ j. asked_times j) (λ j. judge_faults j)
-        judges.old.items in
-        let new = judges_of (λ j. says j) (λ j. asked_times j) (λ j. judge_faults j)
-        judges.new.items in
-        HasPanel (questions_of (slice_get chain.now.readings i)) old new result }
-    ensures leaves { let old = judges_of (λ j. says j) (λ j. asked_times j) (λ j. judge_faults j)
-        judges.old.items in
-        let new = judges_of (λ j. says j) (λ j. asked_times j) (λ j. judge_faults j)
-        judges.new.items in
-        LeavesJudges old new result }
-    ensures cause { let old = judges_of (λ j. says j) (λ j. asked_times j) (λ j. judge_faults j)
-        judges.old.items in
-        let new = judges_of (λ j. says j) (λ j. asked_times j) (λ j. judge_faults j)
-        judges.new.items in
-        IfErr result (IsChainCause old new) }
+    ensures panel { HearsPanel says asked_times judge_faults chain_heard
+        (AsksThese (questions_of (slice_get chain.now.readings i))) judges.old judges.new result }
     ensures quiet { IfSome (slice_get chain.now.readings i)
         (λ r. first_failing (claim_tests r) ≢ None → judges.new ≡ judges.old) }
 {
+    // Only the prover needs this law.
+    a_question_where_the_claim_rules_hold();
     check_place(alloc, hashing, all(chain), facts, i, judges)
 }
 

@@ -1,2 +1,4 @@
 pub mod Answering
-pub mod JudgesLater
+pub mod Ending
+pub mod Files
+pub mod Hearing

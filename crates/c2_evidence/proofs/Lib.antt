@@ -1,3 +1,4 @@
 pub mod EvidenceLines
+pub mod Leaving
 pub mod TextLines
 pub mod Written

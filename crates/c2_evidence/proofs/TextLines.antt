@@ -1,12 +1,9 @@
 -- A covered text that is written as hex digits.
-use Rattle.std.proofs.Common.{◌≡◌, inl, inr, ℕ, List, [], ◌++◌, codes, Option, Result, Ok, Err, IfErr, OnOk, sym, ap, ◌∙◌, subst}
+use Rattle.std.proofs.Common.{◌≡◌, ℕ, List, [], ◌++◌, codes, Option, sym, ap, ◌∙◌}
 use Rattle.std.proofs.lemmas.List.{append_assoc, append-nil}
 use Rattle.hex.specs.Hex.{encode_lower}
 use Rattle.c2_base.specs.Sink.{Appends, HasWrittenPrefix, then_written}
-use Rattle.c2_base.specs.Causes.{Rose}
-use Rattle.c2_evidence.specs.Covered.{IsCause, IsTextCause, IsWrittenTo, covered_head}
-use Rattle.c2_evidence.specs.declared.error.CompareError.{CompareError}
-use Rattle.c2_evidence.specs.declared.error.CompareError.TheVariants.{ReadFault, WriteFault, JudgeFault, NoMemory}
+use Rattle.c2_evidence.specs.Covered.{IsWrittenTo, covered_head}
 use Rattle.c2_binding.proofs.Unwritten.{then_nothing}
 use Rattle.c2_evidence.proofs.Written.{appends_after, hex_append, hex_none, prefix_after, prefix_all, prefix_first}
 
@@ -55,25 +52,3 @@ last_whole a b c s t all e f is = appends_after a b c s t e f ∙ ap (then_writt
 pub head_pieces : (alg : List ℕ) → covered_head alg ≡ codes "evidence digest " ++ (alg ++ (codes " covered\n" ++ []))
 unfolding covered_head
 head_pieces alg = append_assoc (codes "evidence digest ") alg (codes " covered\n")
-
--- ---- causes
-
--- what holds holds of every `Ok`
-pub always : {T E : Type 0} (P : Type 0) (r : Result T E) → P → OnOk r P
-always P (Ok x) h = h
-always P (Err e) h = tt
-
--- a cause of the first text is one of both
-pub cause_first : (a b c r s t : ℕ) (e : CompareError) → s ≡ r → IsTextCause a b s t e → IsCause a b c c r t e
-cause_first a b c r s t ReadFault same h = inl h
-cause_first a b c r s t WriteFault same h = subst (λ n. Rose n t) same h
-cause_first a b c r s t JudgeFault same h = h
-cause_first a b c r s t NoMemory same h = tt
-
--- and one of the second
-pub cause_second : {T : Type 0} (a b c d r s t : ℕ) (result : Result T CompareError) → s ≡ r → IfErr result (IsTextCause c d s t) → IfErr result (IsCause a b c d r t)
-cause_second a b c d r s t (Ok x) same h = tt
-cause_second a b c d r s t (Err ReadFault) same h = inr h
-cause_second a b c d r s t (Err WriteFault) same h = subst (λ n. Rose n t) same h
-cause_second a b c d r s t (Err JudgeFault) same h = absurd h
-cause_second a b c d r s t (Err NoMemory) same h = tt

@@ -1,3 +1,4 @@
+pub mod Causes
 pub mod Covered
 pub mod Differing
 pub mod Shown

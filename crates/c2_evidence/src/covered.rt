@@ -1,12 +1,13 @@
 // The covered texts of two files.
-ghost use Rattle.std.specs.Prelude.{◌≡◌, ◌<◌, ◌≤◌, length, IfOk, IfErr, OnOk};
+ghost use Rattle.std.specs.Prelude.{◌≡◌, ◌<◌, length, IfOk, IfErr};
 ghost use Rattle.std.specs.Option.{ForSome};
 ghost use Rattle.hex.specs.Hex.{encode_lower};
-ghost use Rattle.c2_base.specs.Causes.{HasCause};
-ghost use Rattle.c2_base.specs.Source.{StaysSource};
+ghost use Rattle.c2_base.specs.Sink.{WritesSink};
+ghost use Rattle.c2_base.specs.Source.{ReadsSource};
 ghost use Rattle.c2_cover.specs.Covers.{IsSameText, text_of};
 ghost use Rattle.c2_binding.specs.EvidenceText.{hex_line};
-ghost use Rattle.c2_evidence.specs.Covered.{IsCause, IsReadCause, IsTextCause, covered_evidence, covered_head};
+ghost use Rattle.c2_evidence.specs.Causes.{IsFailure, IsFault, IsLoneCause, IsOfReading, IsReadCause, IsUnjudged, IsWriteCause};
+ghost use Rattle.c2_evidence.specs.Covered.{covered_evidence, covered_head};
 ghost use Rattle.c2_evidence.specs.Writing.{IsWritten};
 
 use crate::error::CompareError;
@@ -15,6 +16,19 @@ use c2_base::limits::PIECE_LEN;
 use c2_base::{Failed, Sink, Source};
 use c2_cover::{Cover, CoveredReader, same_text};
 use std::alloc::Global;
+
+/// The covered texts of two files that one active claim binds.
+#[derive(Clone, Copy)]
+pub struct CoveredTexts<'c> {
+    /// The name of the algorithm of their digest.
+    pub alg: &'c str,
+
+    /// What the first file's binding covers of it.
+    pub left: &'c Cover,
+
+    /// What the second file's binding covers of it.
+    pub right: &'c Cover,
+}
 
 /// Whether two covered texts are equal. They are read in pieces, side by side.
 ///
@@ -30,12 +44,11 @@ pub fn same_covered<A: Source, B: Source>(
     requires other_size { B.len second.old ≡ other.now.size }
     ensures same { IfOk result
         (IsSameText cover.now (A.known first.old) other.now (B.known second.old)) }
-    ensures cause { IfErr result (IsReadCause (A.faults first.old) (A.faults first.new)
-        (B.faults second.old) (B.faults second.new)) }
-    ensures first_count { OnOk result (A.faults first.new ≡ A.faults first.old) }
-    ensures second_count { OnOk result (B.faults second.new ≡ B.faults second.old) }
-    ensures first_stays { StaysSource A.len A.known A.faults first.old first.new }
-    ensures second_stays { StaysSource B.len B.known B.faults second.old second.new }
+    ensures errors { IfErr result IsOfReading }
+    ensures first { ReadsSource A.len A.known A.faults
+        (IsReadCause (B.faults second.old) (B.faults second.new)) first.old first.new result }
+    ensures second { ReadsSource B.len B.known B.faults
+        (IsReadCause (A.faults first.old) (A.faults first.new)) second.old second.new result }
 {
     let mut left = match vec![in alloc; 0; PIECE_LEN] {
         Ok(left) => left,
@@ -63,13 +76,10 @@ fn write_text<S: Source, W: Sink>(
     ensures wrote { ForSome (S.known source.old) (λ file. IsWritten
         (encode_lower (text_of cover.now file))
         (W.written report.old) (W.written report.new) result) }
-    ensures cause { IfErr result (IsTextCause (S.faults source.old) (S.faults source.new)
-        (W.faults report.old) (W.faults report.new)) }
-    ensures count { OnOk result (S.faults source.new ≡ S.faults source.old) }
-    ensures report_count { OnOk result (W.faults report.new ≡ W.faults report.old) }
-    ensures stays { StaysSource S.len S.known S.faults source.old source.new }
-    ensures later { W.faults report.old ≤ W.faults report.new }
-    ensures unfinished { W.finished report.new ≡ W.finished report.old }
+    ensures errors { IfErr result IsFault }
+    ensures source { ReadsSource S.len S.known S.faults IsLoneCause source.old source.new result }
+    ensures report { WritesSink W.written W.finished W.faults IsWriteCause report.old report.new
+        result }
     ensures same_len { length buf.new ≡ length buf.old }
 {
     let mut reader = CoveredReader::new(cover);
@@ -100,13 +110,10 @@ fn write_line<S: Source, W: Sink>(
     requires size { S.len source.old ≡ cover.now.size }
     ensures wrote { ForSome (S.known source.old) (λ file. IsWritten
         (hex_line (text_of cover.now file)) (W.written report.old) (W.written report.new) result) }
-    ensures cause { IfErr result (IsTextCause (S.faults source.old) (S.faults source.new)
-        (W.faults report.old) (W.faults report.new)) }
-    ensures count { OnOk result (S.faults source.new ≡ S.faults source.old) }
-    ensures report_count { OnOk result (W.faults report.new ≡ W.faults report.old) }
-    ensures stays { StaysSource S.len S.known S.faults source.old source.new }
-    ensures later { W.faults report.old ≤ W.faults report.new }
-    ensures unfinished { W.finished report.new ≡ W.finished report.old }
+    ensures errors { IfErr result IsFault }
+    ensures source { ReadsSource S.len S.known S.faults IsLoneCause source.old source.new result }
+    ensures report { WritesSink W.written W.finished W.faults IsWriteCause report.old report.new
+        result }
     ensures same_len { length buf.new ≡ length buf.old }
 {
     // Matched and not handed up by `?`, here and below: each way out has clauses of its own.
@@ -124,8 +131,8 @@ fn write_line<S: Source, W: Sink>(
 fn write_head<W: Sink>(report: &mut W, alg: &str) -> Result<(), Failed>
     ensures wrote { IsWritten (covered_head alg.now) (W.written report.old) (W.written report.new)
         result }
-    ensures unfinished { W.finished report.new ≡ W.finished report.old }
-    ensures cause { HasCause (W.faults report.old) (W.faults report.new) result }
+    ensures report { WritesSink W.written W.finished W.faults IsFailure report.old report.new
+        result }
 {
     let head = [
         Piece::Plain("evidence digest "),
@@ -143,39 +150,36 @@ fn write_head<W: Sink>(report: &mut W, alg: &str) -> Result<(), Failed>
 pub fn write_covered<A: Source, B: Source, W: Sink>(
     alloc: Global,
     first: &mut A,
-    cover: &Cover,
     second: &mut B,
-    other: &Cover,
-    alg: &str,
+    texts: &CoveredTexts<'_>,
     report: &mut W,
 ) -> Result<(), CompareError>
-    requires size { A.len first.old ≡ cover.now.size }
-    requires other_size { B.len second.old ≡ other.now.size }
+    requires size { A.len first.old ≡ texts.now.left.now.size }
+    requires other_size { B.len second.old ≡ texts.now.right.now.size }
     ensures wrote { ForSome (A.known first.old) (λ file. ForSome (B.known second.old) (λ copy.
-        IsWritten (covered_evidence alg.now (text_of cover.now file) (text_of other.now copy))
+        let left = text_of texts.now.left.now file in
+        let right = text_of texts.now.right.now copy in
+        IsWritten (covered_evidence texts.now.alg.now left right)
         (W.written report.old) (W.written report.new) result)) }
-    ensures cause { IfErr result (IsCause (A.faults first.old) (A.faults first.new)
-        (B.faults second.old) (B.faults second.new)
-        (W.faults report.old) (W.faults report.new)) }
-    ensures first_count { OnOk result (A.faults first.new ≡ A.faults first.old) }
-    ensures second_count { OnOk result (B.faults second.new ≡ B.faults second.old) }
-    ensures report_count { OnOk result (W.faults report.new ≡ W.faults report.old) }
-    ensures first_stays { StaysSource A.len A.known A.faults first.old first.new }
-    ensures second_stays { StaysSource B.len B.known B.faults second.old second.new }
-    ensures later { W.faults report.old ≤ W.faults report.new }
-    ensures unfinished { W.finished report.new ≡ W.finished report.old }
+    ensures errors { IfErr result IsUnjudged }
+    ensures first { ReadsSource A.len A.known A.faults
+        (IsReadCause (B.faults second.old) (B.faults second.new)) first.old first.new result }
+    ensures second { ReadsSource B.len B.known B.faults
+        (IsReadCause (A.faults first.old) (A.faults first.new)) second.old second.new result }
+    ensures report { WritesSink W.written W.finished W.faults IsWriteCause report.old report.new
+        result }
 {
     let mut buf = match vec![in alloc; 0; PIECE_LEN] {
         Ok(buf) => buf,
         Err(_) => return Err(CompareError::NoMemory),
     };
-    match write_head(report, alg) {
+    match write_head(report, texts.alg) {
         Ok(()) => {}
         Err(Failed) => return Err(CompareError::WriteFault),
     }
-    match write_line(first, cover, &mut buf, report) {
+    match write_line(first, texts.left, &mut buf, report) {
         Ok(()) => {}
         Err(error) => return Err(error),
     }
-    write_line(second, other, &mut buf, report)
+    write_line(second, texts.right, &mut buf, report)
 }

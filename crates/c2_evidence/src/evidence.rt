@@ -1,8 +1,9 @@
 // The text of evidence.
 ghost use Rattle.std.specs.Prelude.{◌≡◌};
-ghost use Rattle.c2_base.specs.Causes.{HasCause};
+ghost use Rattle.c2_base.specs.Sink.{WritesSink};
 ghost use Rattle.c2_binding.specs.Evidence.{ListPair};
 ghost use Rattle.c2_binding.specs.EvidenceText as form;
+ghost use Rattle.c2_evidence.specs.Causes.{IsFailure};
 ghost use Rattle.c2_evidence.specs.Differing.{binder_view, location_view, view};
 ghost use Rattle.c2_evidence.specs.Shown.{shown};
 ghost use Rattle.c2_evidence.specs.Writing.{IsWritten, later_lines, opening};
@@ -15,8 +16,8 @@ use c2_base::{Failed, Sink};
 pub fn write_opening<W: Sink>(report: &mut W, bound_by: Binder<'_>) -> Result<(), Failed>
     ensures wrote { IsWritten (opening (binder_view bound_by.entry)) (W.written report.old)
         (W.written report.new) result }
-    ensures unfinished { W.finished report.new ≡ W.finished report.old }
-    ensures cause { HasCause (W.faults report.old) (W.faults report.new) result }
+    ensures report { WritesSink W.written W.finished W.faults IsFailure report.old report.new
+        result }
 {
     match bound_by {
         Binder::Digest(name) => {
@@ -35,8 +36,8 @@ pub fn write_opening<W: Sink>(report: &mut W, bound_by: Binder<'_>) -> Result<()
 fn write_location<'a, W: Sink>(report: &mut W, location: Location<'a>) -> Result<(), Failed>
     ensures wrote { IsWritten (form.printed (location_view location.entry)) (W.written report.old)
         (W.written report.new) result }
-    ensures unfinished { W.finished report.new ≡ W.finished report.old }
-    ensures cause { HasCause (W.faults report.old) (W.faults report.new) result }
+    ensures report { WritesSink W.written W.finished W.faults IsFailure report.old report.new
+        result }
 {
     match location {
         Location::Assertion(manifest, label) => {
@@ -75,8 +76,8 @@ fn write_later<'a, W: Sink>(
 ) -> Result<(), Failed>
     ensures wrote { IsWritten (later_lines (binder_view bound_by.entry) left.now right.now)
         (W.written report.old) (W.written report.new) result }
-    ensures unfinished { W.finished report.new ≡ W.finished report.old }
-    ensures cause { HasCause (W.faults report.old) (W.faults report.new) result }
+    ensures report { WritesSink W.written W.finished W.faults IsFailure report.old report.new
+        result }
 {
     match bound_by {
         Binder::Digest(_) => {
@@ -108,8 +109,8 @@ fn write_later<'a, W: Sink>(
 pub fn write_evidence<W: Sink>(report: &mut W, found: &Difference<'_>) -> Result<(), Failed>
     ensures wrote { (p : ListPair) → view found.now ≡ shown p
         → IsWritten (form.evidence_text p) (W.written report.old) (W.written report.new) result }
-    ensures unfinished { W.finished report.new ≡ W.finished report.old }
-    ensures cause { HasCause (W.faults report.old) (W.faults report.new) result }
+    ensures report { WritesSink W.written W.finished W.faults IsFailure report.old report.new
+        result }
 {
     match write_opening(report, found.bound_by) {
         Ok(()) => {}

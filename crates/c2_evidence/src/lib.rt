@@ -10,7 +10,7 @@ mod evidence;
 mod lists;
 mod pieces;
 
-pub use covered::{same_covered, write_covered};
+pub use covered::{CoveredTexts, same_covered, write_covered};
 pub use error::CompareError;
 pub use evidence::write_evidence;
 pub use lists::{Binder, Difference, Location, compare_known, compare_lists};

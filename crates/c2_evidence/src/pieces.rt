@@ -1,9 +1,10 @@
 // Texts that are written in pieces. Takes no memory.
-ghost use Rattle.std.specs.Prelude.{◌≡◌, ◌*◌, ◌≤◌, length};
+ghost use Rattle.std.specs.Prelude.{◌≡◌, ◌*◌, length};
 ghost use Rattle.std.specs.List.{flat_map};
 ghost use Rattle.hex.specs.Hex.{encode_lower};
-ghost use Rattle.c2_base.specs.Causes.{HasCause};
+ghost use Rattle.c2_base.specs.Sink.{WritesSink};
 ghost use Rattle.c2_binding.specs.EvidenceText as form;
+ghost use Rattle.c2_evidence.specs.Causes.{IsFailure};
 ghost use Rattle.c2_evidence.specs.Writing.{IsWritten, piece_text};
 
 use c2_base::{Failed, Sink, write_all};
@@ -35,16 +36,25 @@ fn printed_byte(byte: u8) -> u8
     }
 }
 
+/// Writes these bytes.
+fn write_bytes<W: Sink>(report: &mut W, bytes: &[u8]) -> Result<(), Failed>
+    ensures wrote { IsWritten bytes.now (W.written report.old) (W.written report.new) result }
+    ensures report { WritesSink W.written W.finished W.faults IsFailure report.old report.new
+        result }
+{
+    write_all(report, bytes)
+}
+
 /// Writes a text with a question mark for each control byte.
 fn write_printed<W: Sink>(report: &mut W, text: &[u8]) -> Result<(), Failed>
     ensures wrote { IsWritten (form.printed text.now) (W.written report.old)
         (W.written report.new) result }
-    ensures unfinished { W.finished report.new ≡ W.finished report.old }
-    ensures cause { HasCause (W.faults report.old) (W.faults report.new) result }
+    ensures report { WritesSink W.written W.finished W.faults IsFailure report.old report.new
+        result }
 {
     let mut done = 0;
     'bytes: while done < text.len() {
-        match write_all(report, &[printed_byte(text[done])]) {
+        match write_bytes(report, &[printed_byte(text[done])]) {
             Ok(()) => {}
             Err(failed) => return Err(failed),
         }
@@ -58,21 +68,21 @@ fn write_digits<W: Sink>(report: &mut W, bytes: &[u8], digits: &mut [u8]) -> Res
     requires { length digits.old ≡ 2 * length bytes.now }
     ensures wrote { IsWritten (encode_lower bytes.now) (W.written report.old)
         (W.written report.new) result }
-    ensures unfinished { W.finished report.new ≡ W.finished report.old }
-    ensures cause { HasCause (W.faults report.old) (W.faults report.new) result }
+    ensures report { WritesSink W.written W.finished W.faults IsFailure report.old report.new
+        result }
 {
     if hex::encode_to_slice(bytes, digits).is_err() {
         return Ok(());
     }
-    write_all(report, digits)
+    write_bytes(report, digits)
 }
 
 /// Writes bytes as hex digits.
 pub fn write_hex<W: Sink>(report: &mut W, bytes: &[u8]) -> Result<(), Failed>
     ensures wrote { IsWritten (encode_lower bytes.now) (W.written report.old)
         (W.written report.new) result }
-    ensures unfinished { W.finished report.new ≡ W.finished report.old }
-    ensures cause { HasCause (W.faults report.old) (W.faults report.new) result }
+    ensures report { WritesSink W.written W.finished W.faults IsFailure report.old report.new
+        result }
 {
     let mut digits = [0; 2 * HEX_PIECE_LEN];
     let mut done = 0;
@@ -91,11 +101,11 @@ pub fn write_hex<W: Sink>(report: &mut W, bytes: &[u8]) -> Result<(), Failed>
 fn write_piece<W: Sink>(report: &mut W, piece: Piece<'_>) -> Result<(), Failed>
     ensures wrote { IsWritten (piece_text piece.entry) (W.written report.old)
         (W.written report.new) result }
-    ensures unfinished { W.finished report.new ≡ W.finished report.old }
-    ensures cause { HasCause (W.faults report.old) (W.faults report.new) result }
+    ensures report { WritesSink W.written W.finished W.faults IsFailure report.old report.new
+        result }
 {
     match piece {
-        Piece::Plain(text) => write_all(report, text.as_bytes()),
+        Piece::Plain(text) => write_bytes(report, text.as_bytes()),
         Piece::Printed(text) => write_printed(report, text.as_bytes()),
         Piece::Hex(bytes) => write_hex(report, bytes),
     }
@@ -105,8 +115,8 @@ fn write_piece<W: Sink>(report: &mut W, piece: Piece<'_>) -> Result<(), Failed>
 pub fn write_pieces<W: Sink>(report: &mut W, pieces: &[Piece<'_>]) -> Result<(), Failed>
     ensures wrote { IsWritten (flat_map piece_text pieces.now) (W.written report.old)
         (W.written report.new) result }
-    ensures unfinished { W.finished report.new ≡ W.finished report.old }
-    ensures cause { HasCause (W.faults report.old) (W.faults report.new) result }
+    ensures report { WritesSink W.written W.finished W.faults IsFailure report.old report.new
+        result }
 {
     let mut done = 0;
     'pieces: while done < pieces.len() {

@@ -1,1 +1,5 @@
+mod BoundLemmas
+mod FieldLemmas
 mod FirstBinding
+mod Items
+mod Texts

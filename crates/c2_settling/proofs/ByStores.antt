@@ -14,8 +14,9 @@ use Rattle.c2_binding.specs.declared.compared.Compared.TheVariants as compared
 use Rattle.c2_binding.specs.declared.compared.EvidenceKind.{EvidenceKind}
 use Rattle.c2_binding.proofs.Unwritten.{then_nothing}
 use Rattle.c2_evidence.specs.declared.error.CompareError.{CompareError}
-use Rattle.c2_settling.specs.Opening.{IsComparedAs}
-use Rattle.c2_settling.specs.Settled.{HaveFirst, IsSettled}
+use Rattle.c2_settling.specs.Comparing.{IsComparedAs}
+use Rattle.c2_settling.specs.Settled.{HaveFirst, IsSettled, compared_of}
+use Rattle.c2_settling.specs.declared.settling.Settled.{Settled}
 use Rattle.c2_settling.specs.declared.settling.Settled.TheVariants.{DifferentClaims, Evidence, Same}
 
 module _ (hash : Alg → List ℕ → List ℕ) (said : Question → Verdict) (first second : List ℕ) where
@@ -44,7 +45,7 @@ module _ (hash : Alg → List ℕ → List ℕ) (said : Question → Verdict) (f
         }
 
     -- the active claims differ
-    pub different : (old new : Option (List ℕ)) → IsSettled s t old new (Ok DifferentClaims)
+    different : (old new : Option (List ℕ)) → IsSettled s t old new (Ok DifferentClaims)
         → IsComparedAs hash said first second old new (Ok compared.DifferentClaims)
     different old new d = (
       [],
@@ -53,12 +54,12 @@ module _ (hash : Alg → List ℕ → List ℕ) (said : Question → Verdict) (f
     )
 
     -- there is evidence
-    pub evidence : RealLaw → (kind : EvidenceKind) (old new : Option (List ℕ)) → IsSettled s t old new (Ok (Evidence kind))
+    evidence : RealLaw → (kind : EvidenceKind) (old new : Option (List ℕ)) → IsSettled s t old new (Ok (Evidence kind))
         → IsComparedAs hash said first second old new (Ok (compared.Evidence kind))
     evidence law kind old new d = (evidence_text d.0, evidence_is law d.0 d.1 kind d.2, d.3)
 
     -- all is equal
-    pub same : (summary : Summary) (old new : Option (List ℕ)) → summary ≡ summary_in first s h.opened
+    same : (summary : Summary) (old new : Option (List ℕ)) → summary ≡ summary_in first s h.opened
         → IsSettled s t old new (Ok Same) → IsComparedAs hash said first second old new (Ok (compared.Same summary))
     same summary old new is d = (
       [],
@@ -74,6 +75,13 @@ module _ (hash : Alg → List ℕ → List ℕ) (said : Question → Verdict) (f
       ),
       d.2 ∙ then_nothing old,
     )
+
+    -- whatever it is
+    pub settled_as : RealLaw → (summary : Summary) (old new : Option (List ℕ)) → summary ≡ summary_in first s h.opened → (x : Settled)
+        → IsSettled s t old new (Ok x) → IsComparedAs hash said first second old new (Ok (compared_of x summary))
+    settled_as law summary old new is DifferentClaims d = different old new d
+    settled_as law summary old new is (Evidence kind) d = evidence law kind old new d
+    settled_as law summary old new is Same d = same summary old new is d
 
     -- the call failed
     pub failed : RealLaw → (e : CompareError) (old new : Option (List ℕ)) → IsSettled s t old new (Err e)

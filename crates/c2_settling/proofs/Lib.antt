@@ -1,3 +1,3 @@
 pub mod ByStores
-pub mod OpenedStores
+pub mod Errors
 pub mod Outcomes

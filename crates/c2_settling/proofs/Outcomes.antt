@@ -11,6 +11,7 @@ use Rattle.c2_base.specs.declared.values.Question.{Question}
 use Rattle.c2_cover.specs.Covers.{IsSameText, text_of}
 use Rattle.c2_rules.specs.CheckList.{StoreReading}
 use Rattle.c2_rules.specs.Readings.{Reading}
+use Rattle.c2_rules.specs.declared.answer.Summary.{Summary}
 use Rattle.c2_spec.specs.declared.digest.Alg.{Alg}
 use Rattle.c2_spec.specs.declared.panel.Verdict.{Verdict}
 use Rattle.c2_binding.specs.Accepted.{AreSame, HaveOneClaim}
@@ -21,10 +22,11 @@ use Rattle.c2_binding.specs.Differences.{all_ingredients, all_unredacted, covere
 use Rattle.c2_binding.specs.Evidence.{BoundBy, by_digest, by_signature, ListPair, do_differ}
 use Rattle.c2_binding.specs.EvidenceText.{evidence_text, hex_line, printed, text_line}
 use Rattle.c2_binding.specs.declared.compared.EvidenceKind.{EvidenceKind}
-use Rattle.c2_covering.specs.declared.covering.BoundText.{BoundText}
+use Rattle.c2_hard_binding.specs.declared.bound.BoundText.{BoundText}
 use Rattle.c2_evidence.specs.Covered.{covered_evidence, covered_head}
 use Rattle.c2_evidence.specs.Differing.{IsFirstOf, binder_view, view}
-use Rattle.c2_settling.specs.Settled.{HaveFirst, IsSettled, IsStored, shown_kind}
+use Rattle.c2_settling.specs.Settled.{HaveFirst, IsSettled, shown_kind}
+use Rattle.c2_settling.specs.Sides.{IsCompareSide}
 use Rattle.c2_evidence.specs.Shown.{ShownPair, shown, shown_by}
 use Rattle.c2_evidence.specs.declared.error.CompareError.{CompareError}
 use Rattle.c2_evidence.specs.declared.lists.Difference.{Difference}
@@ -101,123 +103,123 @@ pairs_of : (s t : StoreReading) (rs ss : List Reading) → s.readings ≡ rs →
     → find do_differ (chain_pairs s.readings t.readings) ≡ find do_differ (chain_pairs rs ss)
 pairs_of s t rs ss e f = ap (λ x. find do_differ (chain_pairs x t.readings)) e ∙ ap (λ x. find do_differ (chain_pairs rs x)) f
 
-module _ (hash : Alg → List ℕ → List ℕ) (said : Question → Verdict) (a b : List ℕ) (rs ss : List Reading)
-    (text other : BoundText) (s t : StoreReading) (h : IsStored hash said a rs text s) (k : IsStored hash said b ss other t) where
+module _ {hash : Alg → List ℕ → List ℕ} {said : Question → Verdict} {a b : List ℕ} {rs ss : List Reading} {text other : BoundText} {summary summary' : Summary}
+    (h : IsCompareSide hash said a rs text summary) (k : IsCompareSide hash said b ss other summary') where
   -- a test of the covered texts
-  covered_test : (same : Bool) → same ≡ bytes_eq (text_of text.cover a) (text_of other.cover b) → same ≡ bytes_eq (covered_text s) (covered_text t)
-  covered_test same e = e ∙ ap (λ x. bytes_eq x (text_of other.cover b)) h.is_text ∙ ap (bytes_eq (covered_text s)) k.is_text
+  covered_test : (same : Bool) → same ≡ bytes_eq (text_of text.cover a) (text_of other.cover b) → same ≡ bytes_eq (covered_text h.store) (covered_text k.store)
+  covered_test same e = e ∙ ap (λ x. bytes_eq x (text_of other.cover b)) h.is_text ∙ ap (bytes_eq (covered_text h.store)) k.is_text
 
   -- a test of the chain contents
-  content_test : (same : Bool) → same ≡ has_same_content rs ss → same ≡ has_same_content s.readings t.readings
-  content_test same e = e ∙ sym (ap (λ x. has_same_content x ss) h.readings) ∙ sym (ap (has_same_content s.readings) k.readings)
+  content_test : (same : Bool) → same ≡ has_same_content rs ss → same ≡ has_same_content h.store.readings k.store.readings
+  content_test same e = e ∙ sym (ap (λ x. has_same_content x ss) h.readings) ∙ sym (ap (has_same_content h.store.readings) k.readings)
 
   -- whether both are equal
   abbrev pub Says : Bool → Type 0
-  Says same = (same ≡ true → AreSame s t) × (same ≡ false → AreSame s t → ⊥)
+  Says same = (same ≡ true → AreSame h.store k.store) × (same ≡ false → AreSame h.store k.store → ⊥)
 
   -- other chain contents
-  pub no_content : (has_same_content s.readings t.readings ≡ true) ↔ SameContent s.readings t.readings
+  pub no_content : (has_same_content h.store.readings k.store.readings ≡ true) ↔ SameContent h.store.readings k.store.readings
       → (same : Bool) → same ≡ has_same_content rs ss → same ≡ false → Says false
   no_content law same e no' = (
     λ bad. absurd (cc (bad)),
-    λ is equal. not_from_Decides (has_same_content s.readings t.readings) law (sym (content_test same e) ∙ no') equal.content,
+    λ is equal. not_from_Decides (has_same_content h.store.readings k.store.readings) law (sym (content_test same e) ∙ no') equal.content,
   )
 
   -- equal chain contents: the covered texts decide
-  pub with_content : (has_same_content s.readings t.readings ≡ true) ↔ SameContent s.readings t.readings
+  pub with_content : (has_same_content h.store.readings k.store.readings ≡ true) ↔ SameContent h.store.readings k.store.readings
       → (same : Bool) → same ≡ has_same_content rs ss → same ≡ true
       → (texts : Bool) → texts ≡ bytes_eq (text_of text.cover a) (text_of other.cover b) → Says texts
   with_content law same e yes' texts f = (
     λ is. record {
       content = law.0 (sym (content_test same e) ∙ yes');
-      covered = (bytes_eq-Decides (covered_text s) (covered_text t)).0 (sym (covered_test texts f) ∙ is);
+      covered = (bytes_eq-Decides (covered_text h.store) (covered_text k.store)).0 (sym (covered_test texts f) ∙ is);
     },
-    λ is equal. not_from_Decides (bytes_eq (covered_text s) (covered_text t)) (bytes_eq-Decides (covered_text s) (covered_text t))
+    λ is equal. not_from_Decides (bytes_eq (covered_text h.store) (covered_text k.store)) (bytes_eq-Decides (covered_text h.store) (covered_text k.store))
         (sym (covered_test texts f) ∙ is) equal.covered,
   )
 
   -- the first difference of the chain contents is that of both
-  first_of_chain : (found : Difference) → active_claim rs ≡ active_claim ss → IsFirstOf (chain_pairs rs ss) (Some found) → (AreSame s t → ⊥)
-      → (p : ListPair) × HaveFirst s t p × (view found ≡ shown p)
+  first_of_chain : (found : Difference) → active_claim rs ≡ active_claim ss → IsFirstOf (chain_pairs rs ss) (Some found) → (AreSame h.store k.store → ⊥)
+      → (p : ListPair) × HaveFirst h.store k.store p × (view found ≡ shown p)
   first_of_chain found claims first differ =
       let p = shown_some (find do_differ (chain_pairs rs ss)) (view found) first in (
         p.0,
         record {
-          claims = claims_of s t rs ss h.readings k.readings claims;
+          claims = claims_of h.store k.store rs ss h.readings k.readings claims;
           differ = differ;
-          is_first = chain_first s t p.0 (pairs_of s t rs ss h.readings k.readings ∙ p.1);
+          is_first = chain_first h.store k.store p.0 (pairs_of h.store k.store rs ss h.readings k.readings ∙ p.1);
         },
         p.2,
       )
 
   -- evidence on the chain contents was written
   pub chain_written : (found : Difference) (kind : EvidenceKind) (old new : Option (List ℕ)) → active_claim rs ≡ active_claim ss
-      → IsFirstOf (chain_pairs rs ss) (Some found) → (AreSame s t → ⊥) → kind ≡ shown_kind (binder_view found.bound_by)
-      → ((p : ListPair) → view found ≡ shown p → Appends old new (evidence_text p)) → IsSettled s t old new (Ok (Evidence kind))
+      → IsFirstOf (chain_pairs rs ss) (Some found) → (AreSame h.store k.store → ⊥) → kind ≡ shown_kind (binder_view found.bound_by)
+      → ((p : ListPair) → view found ≡ shown p → Appends old new (evidence_text p)) → IsSettled h.store k.store old new (Ok (Evidence kind))
   chain_written found kind old new claims first differ is wrote =
       let f = first_of_chain found claims first differ in
       (f.0, f.1, is ∙ ap (λ (v : ShownPair). shown_kind v.bound_by) f.2 ∙ kind_shown f.0.bound_by, wrote f.0 f.2)
 
   -- a prefix of it
   pub chain_prefix : (found : Difference) (e : CompareError) (old new : Option (List ℕ)) → active_claim rs ≡ active_claim ss
-      → IsFirstOf (chain_pairs rs ss) (Some found) → (AreSame s t → ⊥)
-      → ((p : ListPair) → view found ≡ shown p → HasWrittenPrefix old new (evidence_text p)) → IsSettled s t old new (Err e)
+      → IsFirstOf (chain_pairs rs ss) (Some found) → (AreSame h.store k.store → ⊥)
+      → ((p : ListPair) → view found ≡ shown p → HasWrittenPrefix old new (evidence_text p)) → IsSettled h.store k.store old new (Err e)
   chain_prefix found e old new claims first differ wrote =
       let f = first_of_chain found claims first differ in
       inr (f.0, f.1, wrote f.0 f.2)
 
   -- all is equal
-  pub all_equal : (old : Option (List ℕ)) → active_claim rs ≡ active_claim ss → AreSame s t → IsSettled s t old old (Ok Same)
-  all_equal old claims same = (claims_of s t rs ss h.readings k.readings claims, same, refl)
+  pub all_equal : (old : Option (List ℕ)) → active_claim rs ≡ active_claim ss → AreSame h.store k.store → IsSettled h.store k.store old old (Ok Same)
+  all_equal old claims same = (claims_of h.store k.store rs ss h.readings k.readings claims, same, refl)
 
   -- other active claims
-  pub other_claims : (old : Option (List ℕ)) → (active_claim rs ≡ active_claim ss → ⊥) → IsSettled s t old old (Ok DifferentClaims)
+  pub other_claims : (old : Option (List ℕ)) → (active_claim rs ≡ active_claim ss → ⊥) → IsSettled h.store k.store old old (Ok DifferentClaims)
   other_claims old differ = ((λ e. differ (sym (ap active_claim h.readings) ∙ e ∙ ap active_claim k.readings)), refl)
 
   -- no list of the chain contents differs, and the covered texts are equal
-  pub covered_equal : ((first second : List ℕ) → HaveOneClaim hash said first second s t → first_difference s t ≡ None → AreSame s t)
+  pub covered_equal : ((first second : List ℕ) → HaveOneClaim hash said first second h.store k.store → first_difference h.store k.store ≡ None → AreSame h.store k.store)
       → (same : Bool) (old : Option (List ℕ)) → active_claim rs ≡ active_claim ss → IsFirstOf (chain_pairs rs ss) None
-      → same ≡ bytes_eq (text_of text.cover a) (text_of other.cover b) → same ≡ true → IsSettled s t old old (Ok Same)
+      → same ≡ bytes_eq (text_of text.cover a) (text_of other.cover b) → same ≡ true → IsSettled h.store k.store old old (Ok Same)
   covered_equal law same old claims none e yes' =
-      let equal = claims_of s t rs ss h.readings k.readings claims in
-      let no_pair : first_difference s t ≡ None =
-      chain_none s t (pairs_of s t rs ss h.readings k.readings ∙ shown_none (find do_differ (chain_pairs rs ss)) none)
-      ∙ covered_same s t (sym (covered_test same e) ∙ yes') in
+      let equal = claims_of h.store k.store rs ss h.readings k.readings claims in
+      let no_pair : first_difference h.store k.store ≡ None =
+      chain_none h.store k.store (pairs_of h.store k.store rs ss h.readings k.readings ∙ shown_none (find do_differ (chain_pairs rs ss)) none)
+      ∙ covered_same h.store k.store (sym (covered_test same e) ∙ yes') in
       (equal, law a b (record { first_accepted = h.accepted; second_accepted = k.accepted; claims = equal }) no_pair, refl)
 
   -- the covered texts differ
   covered_first : (same : Bool) → active_claim rs ≡ active_claim ss → IsFirstOf (chain_pairs rs ss) None
-      → same ≡ bytes_eq (text_of text.cover a) (text_of other.cover b) → same ≡ false → HaveFirst s t (covered_pair s t)
+      → same ≡ bytes_eq (text_of text.cover a) (text_of other.cover b) → same ≡ false → HaveFirst h.store k.store (covered_pair h.store k.store)
   covered_first same claims none e no' =
-      let differ : bytes_eq (covered_text s) (covered_text t) ≡ false = sym (covered_test same e) ∙ no' in
+      let differ : bytes_eq (covered_text h.store) (covered_text k.store) ≡ false = sym (covered_test same e) ∙ no' in
       record {
-        claims = claims_of s t rs ss h.readings k.readings claims;
-        differ = λ equal. not_from_Decides (bytes_eq (covered_text s) (covered_text t)) (bytes_eq-Decides (covered_text s) (covered_text t)) differ equal.covered;
-        is_first = chain_none s t (pairs_of s t rs ss h.readings k.readings ∙ shown_none (find do_differ (chain_pairs rs ss)) none)
-            ∙ covered_other s t differ;
+        claims = claims_of h.store k.store rs ss h.readings k.readings claims;
+        differ = λ equal. not_from_Decides (bytes_eq (covered_text h.store) (covered_text k.store)) (bytes_eq-Decides (covered_text h.store) (covered_text k.store)) differ equal.covered;
+        is_first = chain_none h.store k.store (pairs_of h.store k.store rs ss h.readings k.readings ∙ shown_none (find do_differ (chain_pairs rs ss)) none)
+            ∙ covered_other h.store k.store differ;
       }
 
   -- the text that is written of them
-  covered_text_is : evidence_text (covered_pair s t) ≡ covered_evidence text.alg (text_of text.cover a) (text_of other.cover b)
+  covered_text_is : evidence_text (covered_pair h.store k.store) ≡ covered_evidence text.alg (text_of text.cover a) (text_of other.cover b)
   covered_text_is =
-      covered_lines s t
-      ∙ ap (λ x. covered_evidence x (covered_text s) (covered_text t)) (sym h.is_alg)
-      ∙ ap (λ x. covered_evidence text.alg x (covered_text t)) (sym h.is_text)
+      covered_lines h.store k.store
+      ∙ ap (λ x. covered_evidence x (covered_text h.store) (covered_text k.store)) (sym h.is_alg)
+      ∙ ap (λ x. covered_evidence text.alg x (covered_text k.store)) (sym h.is_text)
       ∙ ap (covered_evidence text.alg (text_of text.cover a)) (sym k.is_text)
 
   -- evidence on the covered texts was written
   pub covered_written : (same : Bool) (old new : Option (List ℕ)) → active_claim rs ≡ active_claim ss → IsFirstOf (chain_pairs rs ss) None
       → same ≡ bytes_eq (text_of text.cover a) (text_of other.cover b) → same ≡ false
-      → Appends old new (covered_evidence text.alg (text_of text.cover a) (text_of other.cover b)) → IsSettled s t old new (Ok (Evidence EvidenceKind.Digest))
+      → Appends old new (covered_evidence text.alg (text_of text.cover a) (text_of other.cover b)) → IsSettled h.store k.store old new (Ok (Evidence EvidenceKind.Digest))
   covered_written same old new claims none e no' wrote =
-      (covered_pair s t, covered_first same claims none e no', refl, subst (Appends old new) (sym covered_text_is) wrote)
+      (covered_pair h.store k.store, covered_first same claims none e no', refl, subst (Appends old new) (sym covered_text_is) wrote)
 
   -- a prefix of it
   pub covered_prefix : (same : Bool) (error : CompareError) (old new : Option (List ℕ)) → active_claim rs ≡ active_claim ss → IsFirstOf (chain_pairs rs ss) None
       → same ≡ bytes_eq (text_of text.cover a) (text_of other.cover b) → same ≡ false
-      → HasWrittenPrefix old new (covered_evidence text.alg (text_of text.cover a) (text_of other.cover b)) → IsSettled s t old new (Err error)
+      → HasWrittenPrefix old new (covered_evidence text.alg (text_of text.cover a) (text_of other.cover b)) → IsSettled h.store k.store old new (Err error)
   covered_prefix same error old new claims none e no' wrote =
-      inr (covered_pair s t, covered_first same claims none e no', subst (HasWrittenPrefix old new) (sym covered_text_is) wrote)
+      inr (covered_pair h.store k.store, covered_first same claims none e no', subst (HasWrittenPrefix old new) (sym covered_text_is) wrote)
 
   -- what the covered texts say, unless the call fails
   pub said_of : {E : Type 0} (r : Result Bool E) (ka kb : Option (List ℕ)) → ka ≡ Some a → kb ≡ Some b

@@ -2,21 +2,18 @@
 use Rattle.std.specs.Prelude.{◌≡◌, ◌≢◌, ◌⊎◌, ℕ, List, Option, Some, Ok, Err}
 use Rattle.std.specs.declared.result.Result.{Result}
 use Rattle.c2_base.specs.Sink.{Appends, HasWrittenPrefix}
-use Rattle.c2_base.specs.declared.values.Question.{Question}
-use Rattle.c2_cover.specs.Covers.{text_of}
 use Rattle.c2_rules.specs.CheckList.{StoreReading}
-use Rattle.c2_rules.specs.Readings.{Reading}
-use Rattle.c2_spec.specs.declared.digest.Alg.{Alg}
-use Rattle.c2_spec.specs.declared.panel.Verdict.{Verdict}
-use Rattle.c2_binding.specs.Accepted.{AreSame, IsAccepted}
-use Rattle.c2_binding.specs.ChainContent.{active_claim, covered_text}
+use Rattle.c2_rules.specs.declared.answer.Summary.{Summary}
+use Rattle.c2_binding.specs.Accepted.{AreSame}
+use Rattle.c2_binding.specs.ChainContent.{active_claim}
 use Rattle.c2_binding.specs.Comparison.{evidence_kind}
-use Rattle.c2_binding.specs.Differences.{covered_alg, first_difference}
+use Rattle.c2_binding.specs.Differences.{first_difference}
 use Rattle.c2_binding.specs.Evidence.{ListPair}
 use Rattle.c2_binding.specs.EvidenceText.{evidence_text}
+use Rattle.c2_binding.specs.declared.compared.Compared.{Compared}
+use Rattle.c2_binding.specs.declared.compared.Compared.TheVariants as compared
 use Rattle.c2_binding.specs.declared.compared.EvidenceKind.{EvidenceKind}
 use Rattle.c2_binding.specs.declared.compared.EvidenceKind.TheVariants.{Digest, Signature}
-use Rattle.c2_covering.specs.declared.covering.BoundText.{BoundText}
 use Rattle.c2_evidence.specs.Shown.{ShownBy, by_name, by_box}
 use Rattle.c2_evidence.specs.declared.error.CompareError.{CompareError}
 use Rattle.c2_settling.specs.declared.settling.Settled.{Settled}
@@ -27,13 +24,11 @@ abbrev pub shown_kind : ShownBy → EvidenceKind
 shown_kind (by_name name) = Digest
 shown_kind (by_box contents) = Signature
 
--- an accepted file, whose manifests were read so, and whose binding covers this text
-pub record IsStored (hash : Alg → List ℕ → List ℕ) (said : Question → Verdict) (file : List ℕ)
-    (rs : List Reading) (text : BoundText) (s : StoreReading) : Type 0 where
-  pub accepted : IsAccepted hash said file s
-  pub readings : s.readings ≡ rs
-  pub is_text : text_of text.cover file ≡ covered_text s
-  pub is_alg : text.alg ≡ covered_alg s
+-- what two accepted files come to, where the first has this summary
+abbrev pub compared_of : Settled → Summary → Compared
+compared_of DifferentClaims summary = compared.DifferentClaims
+compared_of (Evidence kind) summary = compared.Evidence kind
+compared_of Same summary = compared.Same summary
 
 -- the active claims are equal, the rest isn't, and this is the first difference
 pub record HaveFirst (s t : StoreReading) (pair : ListPair) : Type 0 where

@@ -1,10 +1,12 @@
 //! What two accepted media files come to: their active claims are compared, then the lists of their chain contents, and then their covered
 //! texts. Evidence is written; nothing else is.
 //!
-//! What two files come to stands in `c2_binding`.
+//! Both were opened and checked before, and nothing is opened here. What two files come to stands in `c2_binding`.
 #![tactic(auto)]
 
-mod opened;
 mod settling;
+mod sides;
+mod stores;
 
-pub use opened::compare_media;
+pub use sides::Sided;
+pub use stores::compare_stores;

@@ -1,23 +1,26 @@
 // What two accepted files come to.
-ghost use Rattle.std.specs.Prelude.{◌≡◌, ◌≤◌, ◌++◌, ℕ, List, false, true, Some, IfErr, IfOk, OnOk, option_map};
+ghost use Rattle.std.specs.Prelude.{◌≡◌, ◌++◌, ℕ, List, false, true, IfErr, IfOk, option_map};
 ghost use Rattle.std.specs.Option.{ForSome};
-ghost use Rattle.c2_base.specs.Source.{StaysSource};
+ghost use Rattle.c2_base.specs.Sink.{WritesSink};
+ghost use Rattle.c2_base.specs.Source.{ReadsSource};
 ghost use Rattle.c2_base.specs.declared.values.Question.{Question as AnyQuestion};
 ghost use Rattle.c2_binding.specs.Accepted.{AreSame};
 ghost use Rattle.c2_binding.specs.ChainContent as content;
 ghost use Rattle.c2_binding.specs.Differences as form;
-ghost use Rattle.c2_rules.specs.CheckList.{StoreReading};
 ghost use Rattle.c2_spec.specs.declared.digest.Alg.{Alg as AnyAlg};
 ghost use Rattle.c2_spec.specs.declared.panel.Verdict.{Verdict as AnyVerdict};
-ghost use Rattle.c2_evidence.specs.Covered.{IsCause, IsReadCause};
+ghost use Rattle.c2_evidence.specs.Causes.{IsOfReading, IsReadCause, IsUnjudged, IsWriteCause};
 ghost use Rattle.c2_evidence.specs.Differing.{IsFirstOf, binder_view};
-ghost use Rattle.c2_settling.specs.Settled.{IsSettled, IsStored, shown_kind};
+ghost use Rattle.c2_settling.specs.Settled.{IsSettled, shown_kind};
+ghost use Rattle.c2_settling.specs.Sides.{IsSided};
 
+use crate::sides::Sided;
 use c2_base::{Failed, NoMemory, Sink, Source};
 use c2_binding::{EvidenceKind, a_difference_is_found, a_test_decides_content};
-use c2_covering::BoundText;
 use c2_differences::{active, chain_difference};
-use c2_evidence::{Binder, CompareError, Difference, same_covered, write_covered, write_evidence};
+use c2_evidence::{
+    Binder, CompareError, CoveredTexts, same_covered, write_covered, write_evidence,
+};
 use c2_reading::{ReadManifests, claim_bytes};
 use c2_sameness::has_same_content;
 use std::alloc::Global;
@@ -59,128 +62,79 @@ fn kind_of(bound_by: Binder<'_>) -> EvidenceKind
 fn are_same<A: Source, B: Source>(
     alloc: Global,
     first: &mut A,
-    one: &ReadManifests<'_>,
-    text: &BoundText,
+    one: &Sided<'_, '_>,
     second: &mut B,
-    two: &ReadManifests<'_>,
-    other: &BoundText,
+    two: &Sided<'_, '_>,
 ) -> Result<bool, CompareError>
-    requires size { A.len first.old ≡ text.now.cover.size }
-    requires other_size { B.len second.old ≡ other.now.cover.size }
+    requires size { A.len first.old ≡ one.now.text.now.cover.size }
+    requires other_size { B.len second.old ≡ two.now.text.now.cover.size }
     ensures same { ForSome (A.known first.old) (λ a. ForSome (B.known second.old) (λ b.
-        (hash : AnyAlg → List ℕ → List ℕ) (said : AnyQuestion → AnyVerdict) (s t : StoreReading)
-        → IsStored hash said a one.now text.now s → IsStored hash said b two.now other.now t
-        → IfOk result (λ same. (same ≡ true → AreSame s t)
-        × (same ≡ false → AreSame s t → ⊥)))) }
-    ensures cause { IfErr result (IsReadCause (A.faults first.old) (A.faults first.new)
-        (B.faults second.old) (B.faults second.new)) }
-    ensures first_count { OnOk result (A.faults first.new ≡ A.faults first.old) }
-    ensures second_count { OnOk result (B.faults second.new ≡ B.faults second.old) }
-    ensures first_stays { StaysSource A.len A.known A.faults first.old first.new }
-    ensures second_stays { StaysSource B.len B.known B.faults second.old second.new }
+        (hash : AnyAlg → List ℕ → List ℕ) (said : AnyQuestion → AnyVerdict)
+        (h : IsSided hash said a one.now) (k : IsSided hash said b two.now)
+        → IfOk result (λ same. (same ≡ true → AreSame h.store k.store)
+        × (same ≡ false → AreSame h.store k.store → ⊥)))) }
+    ensures errors { IfErr result IsOfReading }
+    ensures first { ReadsSource A.len A.known A.faults
+        (IsReadCause (B.faults second.old) (B.faults second.new)) first.old first.new result }
+    ensures second { ReadsSource B.len B.known B.faults
+        (IsReadCause (A.faults first.old) (A.faults first.new)) second.old second.new result }
 {
     // Only the prover needs this law.
     a_test_decides_content();
-    let content = match has_same_content(alloc, one, two) {
+    let content = match has_same_content(alloc, one.readings, two.readings) {
         Ok(content) => content,
         Err(NoMemory) => return Err(CompareError::NoMemory),
     };
     if !content {
         return Ok(false);
     }
-    same_covered(alloc, first, &text.cover, second, &other.cover)
-}
-
-/// What two files with one active claim come to, where this is the first difference of their chain contents.
-fn settle_content<A: Source, B: Source, W: Sink>(
-    alloc: Global,
-    first: &mut A,
-    one: &ReadManifests<'_>,
-    text: &BoundText,
-    second: &mut B,
-    two: &ReadManifests<'_>,
-    other: &BoundText,
-    found: &Difference<'_>,
-    report: &mut W,
-) -> Result<Settled, CompareError>
-    requires size { A.len first.old ≡ text.now.cover.size }
-    requires other_size { B.len second.old ≡ other.now.cover.size }
-    requires found { let pairs = form.all_ingredients one.now two.now
-        ++ form.all_unredacted one.now two.now in
-        IsFirstOf pairs (Some found.now) }
-    requires claims { content.active_claim one.now ≡ content.active_claim two.now }
-    ensures settled { ForSome (A.known first.old) (λ a. ForSome (B.known second.old) (λ b.
-        (hash : AnyAlg → List ℕ → List ℕ) (said : AnyQuestion → AnyVerdict) (s t : StoreReading)
-        → IsStored hash said a one.now text.now s → IsStored hash said b two.now other.now t
-        → IsSettled s t (W.written report.old) (W.written report.new) result)) }
-    ensures cause { IfErr result (IsCause (A.faults first.old) (A.faults first.new)
-        (B.faults second.old) (B.faults second.new)
-        (W.faults report.old) (W.faults report.new)) }
-    ensures first_count { OnOk result (A.faults first.new ≡ A.faults first.old) }
-    ensures second_count { OnOk result (B.faults second.new ≡ B.faults second.old) }
-    ensures report_count { OnOk result (W.faults report.new ≡ W.faults report.old) }
-    ensures first_stays { StaysSource A.len A.known A.faults first.old first.new }
-    ensures second_stays { StaysSource B.len B.known B.faults second.old second.new }
-    ensures later { W.faults report.old ≤ W.faults report.new }
-    ensures unfinished { W.finished report.new ≡ W.finished report.old }
-{
-    // Matched and not handed up by `?`, here and below: each way out has clauses of its own.
-    let same = match are_same(alloc, first, one, text, second, two, other) {
-        Ok(same) => same,
-        Err(error) => return Err(error),
-    };
-    if same {
-        return Ok(Settled::Same);
-    }
-    match write_evidence(report, found) {
-        Ok(()) => Ok(Settled::Evidence(kind_of(found.bound_by))),
-        Err(Failed) => Err(CompareError::WriteFault),
-    }
+    same_covered(alloc, first, &one.text.cover, second, &two.text.cover)
 }
 
 /// What two files with one active claim come to, where no list of their chain contents differs.
 fn settle_covered<A: Source, B: Source, W: Sink>(
     alloc: Global,
     first: &mut A,
-    one: &ReadManifests<'_>,
-    text: &BoundText,
+    one: &Sided<'_, '_>,
     second: &mut B,
-    two: &ReadManifests<'_>,
-    other: &BoundText,
+    two: &Sided<'_, '_>,
     report: &mut W,
 ) -> Result<Settled, CompareError>
-    requires size { A.len first.old ≡ text.now.cover.size }
-    requires other_size { B.len second.old ≡ other.now.cover.size }
-    requires none { let pairs = form.all_ingredients one.now two.now
-        ++ form.all_unredacted one.now two.now in
+    requires size { A.len first.old ≡ one.now.text.now.cover.size }
+    requires other_size { B.len second.old ≡ two.now.text.now.cover.size }
+    requires none { let pairs = form.all_ingredients one.now.readings.now two.now.readings.now
+        ++ form.all_unredacted one.now.readings.now two.now.readings.now in
         IsFirstOf pairs None }
-    requires claims { content.active_claim one.now ≡ content.active_claim two.now }
+    requires claims { content.active_claim one.now.readings.now
+        ≡ content.active_claim two.now.readings.now }
     ensures settled { ForSome (A.known first.old) (λ a. ForSome (B.known second.old) (λ b.
-        (hash : AnyAlg → List ℕ → List ℕ) (said : AnyQuestion → AnyVerdict) (s t : StoreReading)
-        → IsStored hash said a one.now text.now s → IsStored hash said b two.now other.now t
-        → IsSettled s t (W.written report.old) (W.written report.new) result)) }
-    ensures cause { IfErr result (IsCause (A.faults first.old) (A.faults first.new)
-        (B.faults second.old) (B.faults second.new)
-        (W.faults report.old) (W.faults report.new)) }
-    ensures first_count { OnOk result (A.faults first.new ≡ A.faults first.old) }
-    ensures second_count { OnOk result (B.faults second.new ≡ B.faults second.old) }
-    ensures report_count { OnOk result (W.faults report.new ≡ W.faults report.old) }
-    ensures first_stays { StaysSource A.len A.known A.faults first.old first.new }
-    ensures second_stays { StaysSource B.len B.known B.faults second.old second.new }
-    ensures later { W.faults report.old ≤ W.faults report.new }
-    ensures unfinished { W.finished report.new ≡ W.finished report.old }
+        (hash : AnyAlg → List ℕ → List ℕ) (said : AnyQuestion → AnyVerdict)
+        (h : IsSided hash said a one.now) (k : IsSided hash said b two.now)
+        → IsSettled h.store k.store (W.written report.old) (W.written report.new) result)) }
+    ensures errors { IfErr result IsUnjudged }
+    ensures first { ReadsSource A.len A.known A.faults
+        (IsReadCause (B.faults second.old) (B.faults second.new)) first.old first.new result }
+    ensures second { ReadsSource B.len B.known B.faults
+        (IsReadCause (A.faults first.old) (A.faults first.new)) second.old second.new result }
+    ensures report { WritesSink W.written W.finished W.faults IsWriteCause report.old report.new
+        result }
 {
     // Only the prover needs this law.
     a_difference_is_found();
-    let same = match same_covered(alloc, first, &text.cover, second, &other.cover) {
+    // Matched and not handed up by `?`, here and below: each way out has clauses of its own.
+    let same = match same_covered(alloc, first, &one.text.cover, second, &two.text.cover) {
         Ok(same) => same,
         Err(error) => return Err(error),
     };
     if same {
         return Ok(Settled::Same);
     }
-    let alg = text.alg.as_str();
-    match write_covered(alloc, first, &text.cover, second, &other.cover, alg, report) {
+    let texts = CoveredTexts {
+        alg: one.text.alg.as_str(),
+        left: &one.text.cover,
+        right: &two.text.cover,
+    };
+    match write_covered(alloc, first, second, &texts, report) {
         Ok(()) => Ok(Settled::Evidence(EvidenceKind::Digest)),
         Err(error) => Err(error),
     }
@@ -191,43 +145,48 @@ fn settle_covered<A: Source, B: Source, W: Sink>(
 pub fn settle<A: Source, B: Source, W: Sink>(
     alloc: Global,
     first: &mut A,
-    one: &ReadManifests<'_>,
-    text: &BoundText,
+    one: &Sided<'_, '_>,
     second: &mut B,
-    two: &ReadManifests<'_>,
-    other: &BoundText,
+    two: &Sided<'_, '_>,
     report: &mut W,
 ) -> Result<Settled, CompareError>
-    requires size { A.len first.old ≡ text.now.cover.size }
-    requires other_size { B.len second.old ≡ other.now.cover.size }
+    requires size { A.len first.old ≡ one.now.text.now.cover.size }
+    requires other_size { B.len second.old ≡ two.now.text.now.cover.size }
     ensures settled { ForSome (A.known first.old) (λ a. ForSome (B.known second.old) (λ b.
-        (hash : AnyAlg → List ℕ → List ℕ) (said : AnyQuestion → AnyVerdict) (s t : StoreReading)
-        → IsStored hash said a one.now text.now s → IsStored hash said b two.now other.now t
-        → IsSettled s t (W.written report.old) (W.written report.new) result)) }
-    ensures cause { IfErr result (IsCause (A.faults first.old) (A.faults first.new)
-        (B.faults second.old) (B.faults second.new)
-        (W.faults report.old) (W.faults report.new)) }
-    ensures first_count { OnOk result (A.faults first.new ≡ A.faults first.old) }
-    ensures second_count { OnOk result (B.faults second.new ≡ B.faults second.old) }
-    ensures report_count { OnOk result (W.faults report.new ≡ W.faults report.old) }
-    ensures first_stays { StaysSource A.len A.known A.faults first.old first.new }
-    ensures second_stays { StaysSource B.len B.known B.faults second.old second.new }
-    ensures later { W.faults report.old ≤ W.faults report.new }
-    ensures unfinished { W.finished report.new ≡ W.finished report.old }
+        (hash : AnyAlg → List ℕ → List ℕ) (said : AnyQuestion → AnyVerdict)
+        (h : IsSided hash said a one.now) (k : IsSided hash said b two.now)
+        → IsSettled h.store k.store (W.written report.old) (W.written report.new) result)) }
+    ensures errors { IfErr result IsUnjudged }
+    ensures first { ReadsSource A.len A.known A.faults
+        (IsReadCause (B.faults second.old) (B.faults second.new)) first.old first.new result }
+    ensures second { ReadsSource B.len B.known B.faults
+        (IsReadCause (A.faults first.old) (A.faults first.new)) second.old second.new result }
+    ensures report { WritesSink W.written W.finished W.faults IsWriteCause report.old report.new
+        result }
 {
-    let equal = equal_claims(one, two);
+    let equal = equal_claims(one.readings, two.readings);
     if !equal {
         return Ok(Settled::DifferentClaims);
     }
-    let found = match chain_difference(alloc, one, two) {
-        Ok(found) => found,
+    let first_found = match chain_difference(alloc, one.readings, two.readings) {
+        Ok(first_found) => first_found,
         Err(NoMemory) => return Err(CompareError::NoMemory),
     };
-    match found {
-        Some(found) => {
-            settle_content(alloc, first, one, text, second, two, other, &found, report)
-        }
-        None => settle_covered(alloc, first, one, text, second, two, other, report),
+    let found = match first_found {
+        Some(found) => found,
+        None => return settle_covered(alloc, first, one, second, two, report),
+    };
+    // Pairs that lead to ingredients may differ where chain contents and covered texts are equal: that is no evidence.
+    let same = match are_same(alloc, first, one, second, two) {
+        Ok(same) => same,
+        Err(error) => return Err(error),
+    };
+    if same {
+        return Ok(Settled::Same);
+    }
+    match write_evidence(report, &found) {
+        Ok(()) => Ok(Settled::Evidence(kind_of(found.bound_by))),
+        Err(Failed) => Err(CompareError::WriteFault),
     }
 }
 

@@ -1,169 +1,176 @@
--- The answer of the check, part by part.
-use Rattle.std.proofs.Common.{◌≡◌, ℕ, Bool, true, false, cond, List, [], ◌++◌, length, Option, Some, None, Result, Ok, Err, IfOk, IfErr, is_none, refl, sym, ap, ap₂, ◌∙◌, subst}
-use Rattle.c2_base.specs.declared.media.Found.{Found}
+-- The answer of the check over an opened store, part by part.
+use Rattle.std.proofs.Common.{◌≡◌, ◌≢◌, ℕ, Bool, true, false, cond, List, [], ◌++◌, length, map, Option, Some, None, Result, Ok, Err, IfErr, is_none, refl, sym, ap, ap₂, ◌∙◌, subst}
+use Rattle.std.specs.declared.alloc.Global.{Global}
+use Rattle.std.specs.declared.vec.Vec.{Vec}
 use Rattle.c2_base.specs.declared.values.Question.{Question}
-use Rattle.c2_spec.specs.C2pa.Manifest.{Manifest, manifests_of}
+use Rattle.c2_spec.specs.Judges.Panel.{Judges, judges_of, panel_says}
 use Rattle.c2_spec.specs.Cover.{covered_count, outside_count}
-use Rattle.c2_spec.specs.Judges.Panel.{Judges}
-use Rattle.c2_spec.specs.Jumbf.Tree.{Tree}
 use Rattle.c2_spec.specs.declared.assertion.FieldError.{FieldError}
 use Rattle.c2_spec.specs.declared.digest.Alg.{Alg}
 use Rattle.c2_spec.specs.declared.panel.Verdict.{Verdict}
-use Rattle.c2_cover.specs.Covers.{Covered, excluded_of}
-use Rattle.c2_rules.specs.Asking.{HaveAsked}
-use Rattle.c2_rules.specs.Binding.{Binding, HasBinding, binding_value, media_tests}
-use Rattle.c2_rules.specs.Binding as form
-use Rattle.c2_rules.specs.CheckList.{StoreReading, IsStoreReading, HasBindingOf, active_in, active_tests, answer_of, asked_below, chain_tests, check_asks, judged_tests, last_tests, summary_of}
+use Rattle.c2_cover.specs.Covers.{excluded_of}
+use Rattle.c2_rules.specs.Asking.{HasHeardSoFar, HearsPanel, IsJudgeCause, broken, part}
+use Rattle.c2_rules.specs.Binding.{Binding, HasBinding, Media, binding_value, media_tests}
+use Rattle.c2_rules.specs.CheckList.{HasBindingOf, StoreReading, active_in, active_tests, answer_of, asked_below, chain_tests, check_asks, check_list, judged_tests, last_tests, summary_of}
 use Rattle.c2_rules.specs.CheckList as list
-use Rattle.c2_rules.specs.Readings.{Reading, AreReadings}
-use Rattle.c2_rules.specs.Tests.{Test, first_failing}
-use Rattle.c2_rules.specs.declared.answer.Answer.{Answer}
+use Rattle.c2_rules.specs.Readings.{Reading}
+use Rattle.c2_rules.specs.Tests.{first_failing}
 use Rattle.c2_rules.specs.declared.answer.Answer.TheVariants as answer
 use Rattle.c2_rules.specs.declared.answer.Failing.{Failing}
 use Rattle.c2_rules.specs.declared.answer.Summary.{Summary}
-use Rattle.c2_rules.proofs.AskingLemmas.{front_all, front_none}
+use Rattle.c2_rules.proofs.AskingLemmas.{front_none}
 use Rattle.c2_rules.proofs.TestLemmas.{part_fails, part_passes}
-use Rattle.c2_media.specs.Bindings.{IsMediaOf}
-use Rattle.c2_bound.specs.Found.{IsBoundAs, HasSize}
-use Rattle.c2_validate.specs.Checks.{IsAnswerOver, IsJudgeCause, IsTreeAnswered, TreeAsks, all_tests, binding_tests}
-use Rattle.c2_counts.specs.Counts.{summary_by}
-use Rattle.c2_media.specs.Opened.{IsCause}
-use Rattle.c2_validate.specs.Validation.{HasAsked, HasAskedThose, IsFaultCause}
-use Rattle.c2_bound.specs.declared.bound.Bound.{Bound}
-use Rattle.c2_bound.specs.declared.bound.Bound.TheVariants.{Fails, Covers}
-use Rattle.c2_media.specs.declared.error.ValidateError.{ValidateError}
-use Rattle.c2_media.specs.declared.error.ValidateError.TheVariants.{ReadFault, JudgeFault, NoMemory}
-use Rattle.c2_media.specs.declared.types.Container.{Container}
-use Rattle.c2_media.specs.declared.types.Media.{Media}
-use Rattle.c2_media.proofs.Containers.{OneRoots, contained_media}
+use Rattle.c2_chain.specs.Checked.{chain_heard}
+use Rattle.c2_chain.specs.declared.asking.ChainError.{ChainError}
+use Rattle.c2_chain.specs.declared.asking.ChainError.TheVariants as chain
+use Rattle.c2_opening.specs.Media.{IsMediaOf}
+use Rattle.c2_opening.specs.Opened.{IsCause}
+use Rattle.c2_opening.specs.declared.error.ValidateError.{ValidateError}
+use Rattle.c2_opening.specs.declared.error.ValidateError.TheVariants.{ReadFault, JudgeFault, NoMemory}
+use Rattle.c2_hard_binding.specs.Found.{HasSize, IsBoundAs}
+use Rattle.c2_hard_binding.specs.declared.bound.Bound.{Bound}
+use Rattle.c2_hard_binding.specs.declared.bound.Bound.TheVariants.{Fails, Holds}
+use Rattle.c2_hard_binding.specs.declared.bound.BoundText.{BoundText}
+use Rattle.c2_calls.proofs.PanelLemmas.{asked_none, hears_error, hears_later}
+use Rattle.c2_validate.specs.Checked.{IsCheckedOver, IsReadCause, StoreAsks, readings_of, validate_heard}
+use Rattle.c2_validate.specs.Checks.{ChainAsks, fault_of}
+use Rattle.c2_validate.specs.Counts.{summary_by}
+use Rattle.c2_validate.specs.Validation.{HasAsked, IsFaultCause}
+use Rattle.c2_validate.specs.declared.checking.Checked.TheVariants.{Valid, Failing as FailingOf}
+use Rattle.c2_validate.specs.declared.checking.OpenedStore.{OpenedStore}
 
--- ---- the binding
-
--- what was found of the binding of the active manifest
-of_active : (hash : Alg → List ℕ → List ℕ) (rs : List Reading) (m : form.Media) (own : Reading) (o : Bound) → active_in rs ≡ Some own → ((b : Option (Result Binding FieldError)) → HasBinding m own b → IsBoundAs hash own b o)
-    → (b : Option (Result Binding FieldError)) → HasBindingOf m (active_in rs) b → IsBoundAs hash own b o
-of_active hash rs m own o is h b has = h b (subst (λ (x : Option Reading). HasBindingOf m x b) is has)
-
--- the tests of the binding are those of the active manifest
-tests_of_active : (hash : Alg → List ℕ → List ℕ) (rs : List Reading) (own : Reading) (b : Option (Result Binding FieldError)) → active_in rs ≡ Some own → binding_tests hash rs b ≡ media_tests hash own b
-tests_of_active hash rs own b is = ap (last_tests hash b) is
-
--- the binding fails
-pub answer_fails : (hash : Alg → List ℕ → List ℕ) (rs : List Reading) (c : Container) (f : Found) (file : List ℕ) (own : Reading) (o : Bound) (failing : Failing) → active_in rs ≡ Some own → o ≡ Fails failing
-    → ((m : form.Media) → IsMediaOf file c m → (b : Option (Result Binding FieldError)) → HasBinding m own b → IsBoundAs hash own b o) → IsAnswerOver (binding_tests hash rs) rs c f file (answer.Failing failing)
-answer_fails hash rs c f file own o failing is found h m i b has =
-    let fails : Some failing ≡ first_failing (media_tests hash own b) = subst (IsBoundAs hash own b) found (of_active hash rs m own o is (h m i) b has) in
-    ap (answer_of (summary_of (length file) f.start f.length (record { readings = rs; binding = b }))) (fails ∙ ap first_failing (sym (tests_of_active hash rs own b is)))
-
--- the binding holds
-pub answer_covers : (hash : Alg → List ℕ → List ℕ) (rs : List Reading) (c : Container) (f : Found) (file : List ℕ) (own : Reading) (o : Bound) (cover : Covered) (s : Summary) (size : ℕ) → active_in rs ≡ Some own → o ≡ Covers cover → HasSize size o
-    → length file ≡ size → s ≡ summary_by rs cover f.start f.length → ((m : form.Media) → IsMediaOf file c m → (b : Option (Result Binding FieldError)) → HasBinding m own b → IsBoundAs hash own b o) → IsAnswerOver (binding_tests hash rs) rs c f file (answer.Valid s)
-answer_covers hash rs c f file own o cover s size is found sized long counted h m i b has =
-    let covers : (None ≡ first_failing (media_tests hash own b)) × (list.excluded_of (binding_value b) ≡ excluded_of cover) = subst (IsBoundAs hash own b) found (of_active hash rs m own o is (h m i) b has) in
-    let small : cover.size ≡ size = subst (HasSize size) found sized in
-    let same : summary_by rs cover f.start f.length ≡ summary_of (length file) f.start f.length (record { readings = rs; binding = b }) =
-    ap₂ (λ (xs : List ℕ) (n : ℕ). record {
-      manifests = length (list.reached_places rs);
-      assertions = (summary_by rs cover f.start f.length).assertions;
-      covered = covered_count xs n;
-      outside = outside_count xs f.start f.length;
-    }) (sym covers.1) (small ∙ sym long) in
-    ap (λ (x : Summary). answer.Valid x) (counted ∙ same) ∙ ap (answer_of (summary_of (length file) f.start f.length (record { readings = rs; binding = b }))) (covers.0 ∙ ap first_failing (sym (tests_of_active hash rs own b is)))
-
--- ---- a part of the list, and the rest
-
--- the answer where a part of the list fails
-pub part_answers : (xs : List Test) (ys : Option (Result Binding FieldError) → List Test) (rs : List Reading) (c : Container) (f : Found) (file : List ℕ) (o : Option Failing) (failing : Failing) → o ≡ Some failing → o ≡ first_failing xs
-    → IsAnswerOver (λ b. xs ++ ys b) rs c f file (answer.Failing failing)
-part_answers xs ys rs c f file o failing some is m i b has = ap (answer_of (summary_of (length file) f.start f.length (record { readings = rs; binding = b }))) (part_fails xs (ys b) failing (sym some ∙ is))
-
--- the answer where a part passes is that of the rest
-pub rest_answers : {E : Type 0} (xs : List Test) (ys : Option (Result Binding FieldError) → List Test) (rs : List Reading) (c : Container) (f : Found) (file : List ℕ) (o : Option Failing) (r : Result Answer E) → o ≡ None → o ≡ first_failing xs
-    → IfOk r (IsAnswerOver ys rs c f file) → IfOk r (IsAnswerOver (λ b. xs ++ ys b) rs c f file)
-rest_answers xs ys rs c f file o (Err e) none is h = tt
-rest_answers xs ys rs c f file o (Ok a) none is h = λ m i b has.
-    h m i b has ∙ ap (answer_of (summary_of (length file) f.start f.length (record { readings = rs; binding = b }))) (part_passes xs (ys b) (first_failing (ys b)) (sym none ∙ is) refl)
-
--- ---- what was asked
-
--- an error is the same of another result
-pub asked_error : (qs : List Question) (old new : Judges) (e : ValidateError) → HasAsked {T = Option Failing} qs old new (Err e) → HasAsked {T = Answer} qs old new (Err e)
-asked_error qs old new ReadFault h = h
-asked_error qs old new JudgeFault h = h
-asked_error qs old new NoMemory h = h
-
--- all were asked, and then the source may have failed
-pub asked_then : {T : Type 0} (qs : List Question) (old new : Judges) (before now : ℕ) (r : Result T ValidateError) → HaveAsked old.said qs old.asked new.asked → IfErr r (IsCause before now) → HasAsked qs old new r
-asked_then qs old new before now (Ok x) h cause = h
-asked_then qs old new before now (Err ReadFault) h cause = front_all old.said qs old.asked new.asked h
-asked_then qs old new before now (Err JudgeFault) h cause = absurd cause
-asked_then qs old new before now (Err NoMemory) h cause = front_all old.said qs old.asked new.asked h
-
--- the source's error has its cause
-pub cause_of_error : (old new : Judges) (before now : ℕ) (e : ValidateError) → IsCause before now e → IsFaultCause before now old new e
-cause_of_error old new before now ReadFault h = h
-cause_of_error old new before now JudgeFault h = absurd h
-cause_of_error old new before now NoMemory h = tt
-
--- so has a result of a call that asks no judge
-pub cause_of_source : {T : Type 0} (old new : Judges) (before now : ℕ) (r : Result T ValidateError) → IfErr r (IsCause before now) → IfErr r (IsFaultCause before now old new)
-cause_of_source old new before now (Ok x) h = tt
-cause_of_source old new before now (Err ReadFault) h = h
-cause_of_source old new before now (Err JudgeFault) h = absurd h
-cause_of_source old new before now (Err NoMemory) h = tt
-
--- a failure of a call that reads no source has its cause
-pub cause_of_judges : (old new : Judges) (before now : ℕ) (e : ValidateError) → IsJudgeCause old new e → IsFaultCause before now old new e
-cause_of_judges old new before now ReadFault h = absurd h
-cause_of_judges old new before now JudgeFault h = h
-cause_of_judges old new before now NoMemory h = tt
-
--- the source's count stood before
-pub cause_later : {T : Type 0} (old new : Judges) (a b c : ℕ) (r : Result T ValidateError) → b ≡ a → IfErr r (IsFaultCause b c old new) → IfErr r (IsFaultCause a c old new)
-cause_later {T} old new a b c r same h = subst (λ (n : ℕ). IfErr r (IsFaultCause n c old new)) same h
-
--- ---- the active manifest
+-- ---- what is asked
 
 -- what is asked, by whether the active manifest fails
-none_below : (hash : Alg → List ℕ → List ℕ) (said : Question → Verdict) (rs : List Reading) (o : Option Failing) (b : Bool) → is_none o ≡ b → o ≡ first_failing (active_tests (active_in rs)) → check_asks hash said rs ≡ cond b (asked_below (judged_tests hash said) rs (length rs)) []
-none_below hash said rs o b is same = ap (λ (t : Bool). cond t (asked_below (judged_tests hash said) rs (length rs)) []) (ap is_none (sym same) ∙ is)
+asks_by : (hash : Alg → List ℕ → List ℕ) (said : Question → Verdict) (rs : List Reading) (o : Option Failing) (b : Bool) → is_none o ≡ b → o ≡ first_failing (active_tests (active_in rs)) → check_asks hash said rs ≡ cond b (asked_below (judged_tests hash said) rs (length rs)) []
+asks_by hash said rs o b is same = ap (λ (t : Bool). cond t (asked_below (judged_tests hash said) rs (length rs)) []) (ap is_none (sym same) ∙ is)
 
 -- nothing is asked where the active manifest fails
-pub asks_none : (hash : Alg → List ℕ → List ℕ) (said : Question → Verdict) (rs : List Reading) (o : Option Failing) (failing : Failing) → o ≡ Some failing → o ≡ first_failing (active_tests (active_in rs)) → check_asks hash said rs ≡ []
-asks_none hash said rs o failing some is = none_below hash said rs o false (ap is_none some) is
+pub asks_none : (hash : Alg → List ℕ → List ℕ) (said : Question → Verdict) (rs : List Reading) (failing : Failing) → Some failing ≡ first_failing (active_tests (active_in rs)) → check_asks hash said rs ≡ []
+asks_none hash said rs failing fails = asks_by hash said rs (Some failing) false refl fails
 
 -- all reached manifests are asked of where it holds
-pub asks_below : (hash : Alg → List ℕ → List ℕ) (said : Question → Verdict) (rs : List Reading) (o : Option Failing) → o ≡ None → o ≡ first_failing (active_tests (active_in rs)) → check_asks hash said rs ≡ asked_below (judged_tests hash said) rs (length rs)
-asks_below hash said rs o none is = none_below hash said rs o true (ap is_none none) is
+pub asks_below : (hash : Alg → List ℕ → List ℕ) (said : Question → Verdict) (rs : List Reading) → None ≡ first_failing (active_tests (active_in rs)) → check_asks hash said rs ≡ asked_below (judged_tests hash said) rs (length rs)
+asks_below hash said rs passes = asks_by hash said rs None true refl passes
 
--- nobody is asked where there is nothing to ask
-pub nobody : (qs : List Question) (js : Judges) → qs ≡ [] → HaveAsked js.said qs js.asked js.asked
-nobody qs js none = subst (λ (ps : List Question). HaveAsked js.said ps js.asked js.asked) (sym none) refl
+-- a fault that is handed up tells the same of the questions
+pub heard_same : (e : ChainError) (f : ValidateError) → f ≡ fault_of e → chain_heard e ≡ validate_heard f
+heard_same chain.JudgeFault f is = ap validate_heard (sym is)
+heard_same chain.NoMemory f is = ap validate_heard (sym is)
 
--- equal lists were asked alike
-pub asked_same : {T : Type 0} (ps qs : List Question) (old new : Judges) (r : Result T ValidateError) → qs ≡ ps → HasAsked ps old new r → HasAsked qs old new r
-asked_same {T} ps qs old new r same h = subst (λ (xs : List Question). HasAsked xs old new r) (sym same) h
+-- the reached manifests were asked of, and no judge after that: whatever is answered then, these are all questions of the store
+pub store_heard : {J T U : Type 0} (says : J → Question → Verdict) (times faults : J → ℕ) (hash : Alg → List ℕ → List ℕ) (o : OpenedStore) (old new : Vec J Global) (x : T) (r : Result U ValidateError) → None ≡ first_failing (active_tests (active_in (readings_of o)))
+    → IfErr r (λ f. validate_heard f ≢ broken) → HearsPanel {E = ChainError} says times faults chain_heard (ChainAsks hash (readings_of o)) old new (Ok x) → HearsPanel says times faults validate_heard (StoreAsks hash o) old new r
+store_heard says times faults hash o old new x r passes never h =
+    hears_later says times faults chain_heard validate_heard (StoreAsks hash o) (ChainAsks hash (readings_of o)) old new x r never (λ qs asks. asks ∙ asks_below hash (panel_says (map says old.items)) (readings_of o) passes) h
 
--- ---- the box tree of a store
+-- asking of them broke off
+pub store_broke : {J T U : Type 0} (says : J → Question → Verdict) (times faults : J → ℕ) (hash : Alg → List ℕ → List ℕ) (o : OpenedStore) (old new : Vec J Global) (e : ChainError) (f : ValidateError) → None ≡ first_failing (active_tests (active_in (readings_of o))) → f ≡ fault_of e
+    → HearsPanel {T = T} says times faults chain_heard (ChainAsks hash (readings_of o)) old new (Err e) → HearsPanel {T = U} says times faults validate_heard (StoreAsks hash o) old new (Err f)
+store_broke says times faults hash o old new e f passes is h =
+    hears_error says times faults chain_heard validate_heard (StoreAsks hash o) (ChainAsks hash (readings_of o)) old new e f (heard_same e f is) (λ qs asks. asks ∙ asks_below hash (panel_says (map says old.items)) (readings_of o) passes) h
 
--- the answer over what was read is the one over the box tree
-pub tree_answered : {E : Type 0} → OneRoots → ((ms : List Manifest) (rs ss : List Reading) → AreReadings ms rs → AreReadings ms ss → rs ≡ ss) → (hash : Alg → List ℕ → List ℕ) (said : Question → Verdict) (m : Media) (t : Tree) (file : List ℕ) (rs : List Reading) (r : Result Answer E)
-    → AreReadings (manifests_of t) rs → IfOk r (IsAnswerOver (all_tests hash said rs) rs m.container m.found file) → IfOk r (IsTreeAnswered hash said m t file)
-tree_answered roots one hash said m t file rs (Err e) reads h = tt
-tree_answered roots one hash said m t file rs (Ok a) reads h = λ contained expected k.
-    let s : StoreReading = k.0 in
-    let is : IsMediaOf file m.container k.1.media = contained_media roots file m.container k.1.media contained k.1.is_media in
-    let same : rs ≡ s.readings = one (manifests_of t) rs s.readings reads k.1.reads.each in
-    let there : HasBindingOf k.1.media (active_in rs) s.binding = subst (λ (x : List Reading). HasBindingOf k.1.media (active_in x) s.binding) (sym same) k.1.reads.binding in
-    k.2 ∙ sym (h k.1.media is s.binding there ∙ ap (λ (x : List Reading). list.store_answer hash said (length file) m.found.start m.found.length (record { readings = x; binding = s.binding })) same)
+-- ---- errors
 
--- what is asked over what was read is asked over the box tree
-pub tree_asked : {T : Type 0} → ((ms : List Manifest) (rs ss : List Reading) → AreReadings ms rs → AreReadings ms ss → rs ≡ ss) → (hash : Alg → List ℕ → List ℕ) (said : Question → Verdict) (t : Tree) (rs : List Reading) (old new : Judges) (r : Result T ValidateError)
-    → AreReadings (manifests_of t) rs → HasAsked (check_asks hash said rs) old new r → HasAskedThose (TreeAsks hash said t) old new r
-tree_asked one hash said t rs old new r reads h qs k =
-    asked_same (check_asks hash said rs) qs old new r (k.2 ∙ ap (check_asks hash said) (one (manifests_of t) k.0 rs k.1 reads)) h
+-- a fault of a check that reads no source has its cause without one
+pub fault_reads : (before now : ℕ) (e : ChainError) (f : ValidateError) → f ≡ fault_of e → IsReadCause before now f
+fault_reads before now chain.JudgeFault f is = subst (IsReadCause before now) (sym is) tt
+fault_reads before now chain.NoMemory f is = subst (IsReadCause before now) (sym is) tt
 
--- nobody was asked where nothing is asked over the box tree
-pub tree_unasked : {J : Type 0} → ((ms : List Manifest) (rs ss : List Reading) → AreReadings ms rs → AreReadings ms ss → rs ≡ ss) → (hash : Alg → List ℕ → List ℕ) (said : Question → Verdict) (t : Tree) (rs : List Reading) (old new : J)
-    → AreReadings (manifests_of t) rs → (check_asks hash said rs ≡ [] → new ≡ old) → TreeAsks hash said t [] → new ≡ old
-tree_unasked one hash said t rs old new reads h k = h (ap (check_asks hash said) (one (manifests_of t) rs k.0 reads k.1) ∙ sym k.2)
+-- where no judge is asked, no error is that of a judge
+pub no_judge : (before now : ℕ) (e : ValidateError) → IsCause before now e → validate_heard e ≢ broken
+no_judge before now ReadFault h is = cc (is)
+no_judge before now JudgeFault h is = absurd h
+no_judge before now NoMemory h is = cc (is)
+
+-- so such an error leaves questions open
+pub part_heard : (before now : ℕ) (e : ValidateError) → IsCause before now e → part ≡ validate_heard e
+part_heard before now ReadFault h = refl
+part_heard before now JudgeFault h = absurd h
+part_heard before now NoMemory h = refl
+
+-- and has its cause where judges may be asked
+pub read_cause : (before now : ℕ) (e : ValidateError) → IsCause before now e → IsReadCause before now e
+read_cause before now ReadFault h = h
+read_cause before now JudgeFault h = tt
+read_cause before now NoMemory h = tt
+
+-- where nobody was asked, there was nothing to ask
+pub unasked : {J T : Type 0} (says : J → Question → Verdict) (times faults : J → ℕ) (js : List J) (qs : List Question) (x : T) → qs ≡ [] → HasAsked {T = T} qs (judges_of says times faults js) (judges_of says times faults js) (Ok x)
+unasked says times faults js qs x none = asked_none (map says js) qs (map times js) none
+
+-- where nobody was asked, an error that is none of a judge leaves all questions open
+pub unheard : {J : Type 0} (says : J → Question → Verdict) (times faults : J → ℕ) (js : List J) (before now : ℕ) (e : ValidateError) (qs : List Question) → IsCause before now e → HasHeardSoFar (validate_heard e) qs (judges_of says times faults js) (judges_of says times faults js)
+unheard says times faults js before now ReadFault qs h = front_none (map says js) qs (map times js)
+unheard says times faults js before now JudgeFault qs h = absurd h
+unheard says times faults js before now NoMemory qs h = front_none (map says js) qs (map times js)
+
+-- the cause of an error, by what is left of the source and of the judges
+pub cause_both : {T : Type 0} (old new : Judges) (before now : ℕ) (r : Result T ValidateError) → IfErr r (IsReadCause before now) → IfErr r (λ e. IsJudgeCause old.faults new.faults (validate_heard e)) → IfErr r (IsFaultCause before now old new)
+cause_both old new before now (Ok x) h k = tt
+cause_both old new before now (Err ReadFault) h k = h
+cause_both old new before now (Err JudgeFault) h k = k
+cause_both old new before now (Err NoMemory) h k = tt
+
+-- ---- the answer
+
+-- a part of the list fails
+part_checked : (hash : Alg → List ℕ → List ℕ) (said : Question → Verdict) (o : OpenedStore) (file : List ℕ) (failing : Failing) → ((b : Option (Result Binding FieldError)) → Some failing ≡ first_failing (check_list hash said (record { readings = readings_of o; binding = b })))
+    → IsCheckedOver hash said o file (FailingOf failing)
+part_checked hash said o file failing fails m i b has = record {
+  answer = ap (answer_of (summary_of (length file) o.range.start o.range.length (record { readings = readings_of o; binding = b }))) (fails b);
+  text = tt;
+}
+
+-- the rule on the active manifest fails
+pub active_fails : (hash : Alg → List ℕ → List ℕ) (said : Question → Verdict) (o : OpenedStore) (file : List ℕ) (failing : Failing) → Some failing ≡ first_failing (active_tests (active_in (readings_of o))) → IsCheckedOver hash said o file (FailingOf failing)
+active_fails hash said o file failing fails =
+    part_checked hash said o file failing
+    (λ b. part_fails (active_tests (active_in (readings_of o))) (chain_tests (judged_tests hash said) (readings_of o) ++ last_tests hash b (active_in (readings_of o))) failing fails)
+
+-- a rule on a reached manifest fails
+pub chain_fails : (hash : Alg → List ℕ → List ℕ) (said : Question → Verdict) (o : OpenedStore) (file : List ℕ) (failing : Failing) → None ≡ first_failing (active_tests (active_in (readings_of o)))
+    → Some failing ≡ first_failing (chain_tests (judged_tests hash said) (readings_of o)) → IsCheckedOver hash said o file (FailingOf failing)
+chain_fails hash said o file failing passes fails =
+    part_checked hash said o file failing
+    (λ b. part_passes (active_tests (active_in (readings_of o))) (chain_tests (judged_tests hash said) (readings_of o) ++ last_tests hash b (active_in (readings_of o))) (Some failing) passes
+    (part_fails (chain_tests (judged_tests hash said) (readings_of o)) (last_tests hash b (active_in (readings_of o))) failing fails))
+
+-- the rule on the binding decides
+last_decides : (hash : Alg → List ℕ → List ℕ) (said : Question → Verdict) (rs : List Reading) (own : Reading) (b : Option (Result Binding FieldError)) (o : Option Failing) → active_in rs ≡ Some own → None ≡ first_failing (active_tests (active_in rs)) → None ≡ first_failing (chain_tests (judged_tests hash said) rs)
+    → o ≡ first_failing (media_tests hash own b) → o ≡ first_failing (check_list hash said (record { readings = rs; binding = b }))
+last_decides hash said rs own b o is first passes h =
+    part_passes (active_tests (active_in rs)) (chain_tests (judged_tests hash said) rs ++ last_tests hash b (active_in rs)) o first
+    (part_passes (chain_tests (judged_tests hash said) rs) (last_tests hash b (active_in rs)) o passes (h ∙ ap first_failing (sym (ap (last_tests hash b) is))))
+
+-- the binding fails
+pub binding_fails : (hash : Alg → List ℕ → List ℕ) (said : Question → Verdict) (o : OpenedStore) (file : List ℕ) (own : Reading) (found : Bound) (failing : Failing) → active_in (readings_of o) ≡ Some own → None ≡ first_failing (active_tests (active_in (readings_of o)))
+    → None ≡ first_failing (chain_tests (judged_tests hash said) (readings_of o)) → found ≡ Fails failing → ((m : Media) → IsMediaOf file o.container.now m → (b : Option (Result Binding FieldError)) → HasBinding m own b → IsBoundAs hash own file b found)
+    → IsCheckedOver hash said o file (FailingOf failing)
+binding_fails hash said o file own found failing is first passes same h m i b has =
+    let fails : Some failing ≡ first_failing (media_tests hash own b) = subst (IsBoundAs hash own file b) same (h m i b (subst (λ (x : Option Reading). HasBindingOf m x b) is has)) in
+    record {
+      answer = ap (answer_of (summary_of (length file) o.range.start o.range.length (record { readings = readings_of o; binding = b }))) (last_decides hash said (readings_of o) own b (Some failing) is first passes fails);
+      text = tt;
+    }
+
+-- the binding holds
+pub binding_holds : (hash : Alg → List ℕ → List ℕ) (said : Question → Verdict) (o : OpenedStore) (file : List ℕ) (own : Reading) (found : Bound) (t : BoundText) (s : Summary) (size : ℕ) → active_in (readings_of o) ≡ Some own → None ≡ first_failing (active_tests (active_in (readings_of o)))
+    → None ≡ first_failing (chain_tests (judged_tests hash said) (readings_of o)) → found ≡ Holds t → HasSize size found → length file ≡ size → s ≡ summary_by (readings_of o) t.cover o.range.start o.range.length
+    → ((m : Media) → IsMediaOf file o.container.now m → (b : Option (Result Binding FieldError)) → HasBinding m own b → IsBoundAs hash own file b found) → IsCheckedOver hash said o file (Valid s t)
+binding_holds hash said o file own found t s size is first passes same sized long counted h m i b has =
+    let rs = readings_of o in
+    let holds = subst (IsBoundAs hash own file b) same (h m i b (subst (λ (x : Option Reading). HasBindingOf m x b) is has)) in
+    let small : t.cover.size ≡ size = subst (HasSize size) same sized in
+    let excluded : excluded_of t.cover ≡ list.excluded_of (binding_value b) = holds.3.excluded ∙ ap (λ (x : Option (Result Binding FieldError)). list.excluded_of (binding_value x)) (sym holds.2) in
+    let counts : summary_by rs t.cover o.range.start o.range.length ≡ summary_of (length file) o.range.start o.range.length (record { readings = rs; binding = b }) =
+    ap₂ (λ (xs : List ℕ) (n : ℕ). record {
+      manifests = length (list.reached_places rs);
+      assertions = (summary_by rs t.cover o.range.start o.range.length).assertions;
+      covered = covered_count xs n;
+      outside = outside_count xs o.range.start o.range.length;
+    }) excluded (small ∙ sym long) in
+    record {
+      answer = ap (λ (x : Summary). answer.Valid x) (counted ∙ counts) ∙ ap (answer_of (summary_of (length file) o.range.start o.range.length (record { readings = rs; binding = b }))) (last_decides hash said rs own b None is first passes holds.0);
+      text = (own, is, holds.1, holds.2, holds.3);
+    }

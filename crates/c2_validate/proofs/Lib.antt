@@ -1,6 +1,8 @@
+mod BesideLemmas
 mod ChainLemmas
 mod CheckLemmas
+mod CountLemmas
 mod EachCheck
+mod FileLemmas
+mod OneBeside
 mod OneCheck
-mod StoreLemmas
-mod TopLemmas

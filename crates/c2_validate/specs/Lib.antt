@@ -1,2 +1,5 @@
+pub mod Beside
+pub mod Checked
 pub mod Checks
+pub mod Counts
 pub mod Validation

@@ -1,5 +1,6 @@
 use Rattle.std.proofs.Common.{◌≡◌, ◌<◌, length}
 use Rattle.std.specs.Option.{ForSome}
+use Rattle.c2_base.specs.Sink.{StaysSink}
 use Rattle.c2_base.specs.Source.{StaysSource}
 use Rattle.c2_cover.specs.Covers.{text_of, rest_of, left_of}
 use Rattle.c2_evidence.specs.Covered.{IsWrittenTo}
@@ -13,8 +14,8 @@ invariant-pieces g l = record {
   size : g.S.Source.len l.fn.source ≡ l.reader.size;
   stays : StaysSource g.S.Source.len g.S.Source.known g.S.Source.faults l.fn.source l.source;
   count : g.S.Source.faults l.source ≡ g.S.Source.faults l.fn.source;
+  report_stays : StaysSink g.W.Sink.written g.W.Sink.finished g.W.Sink.faults l.fn.report l.report;
   report_count : g.W.Sink.faults l.report ≡ g.W.Sink.faults l.fn.report;
-  unfinished : g.W.Sink.finished l.report ≡ g.W.Sink.finished l.fn.report;
   wrote : ForSome (g.S.Source.known l.fn.source) (λ file. IsWrittenTo (text_of l.cover file) (rest_of l.reader file) (g.W.Sink.written l.fn.report) (g.W.Sink.written l.report));
 }
 

@@ -4,6 +4,7 @@ use Rattle.c2_binding.specs.EvidenceText.{evidence_text, printed}
 use Rattle.c2_evidence.specs.Differing.{binder_view, location_view}
 use Rattle.c2_evidence.specs.Writing.{later_lines, opening}
 use Rattle.c2_evidence.proofs.EvidenceLines.{found_parts}
+use Rattle.c2_calls.proofs.SinkLemmas.{sink_next, writes_next}
 use Rattle.c2_evidence.proofs.Written.{appends_after, prefix_after, prefix_first, written_last, written_prefix}
 use Rattle.c2_evidence.proofs.evidence.write_evidence.Goals as goal
 
@@ -28,3 +29,17 @@ returns-clause-wrote g c = λ p is.
     (appends_after (g.W.Sink.written c.args.report.now) (g.W.Sink.written c.write_opening.new.report) (g.W.Sink.written c.write_location.new.report) (opening (binder_view c.args.found.now.bound_by)) (printed (location_view c.args.found.now.location)) c.in-Ok.ensures.wrote.whole c.in-Ok-write_location.ensures.wrote.whole)
     c.write_later.ensures.wrote
     (found_parts c.args.found.now p is ∙ sym (append_assoc (opening (binder_view c.args.found.now.bound_by)) (printed (location_view c.args.found.now.location)) _))
+
+-- ---- what is left of the report
+
+-- it failed at the location
+pub returns-in-Err-write_location-clause-report : goal.returns-in-Err-write_location-clause-report
+returns-in-Err-write_location-clause-report g c =
+    writes_next c.args.report.now c.write_opening.new.report c.write_location.new.report _ c.in-Ok.ensures.report.stays c.in-Ok.ensures.report.quiet c.in-Err-write_location.ensures.report
+
+-- the lines behind it
+pub returns-clause-report : goal.returns-clause-report
+returns-clause-report g c =
+    writes_next c.args.report.now c.write_location.new.report c.write_later.new.report _
+    (sink_next c.args.report.now c.write_opening.new.report c.write_location.new.report c.in-Ok.ensures.report.stays c.in-Ok-write_location.ensures.report.stays)
+    (c.in-Ok-write_location.ensures.report.quiet ∙ c.in-Ok.ensures.report.quiet) c.write_later.ensures.report

@@ -1,0 +1,4 @@
+pub mod BesideLemmas
+pub mod PanelLemmas
+pub mod SinkLemmas
+pub mod SourceLemmas

@@ -1,7 +1,0 @@
-use Rattle.std.proofs.Common.{◌≡◌, length}
-use Rattle.c2_rules.specs.CheckList.{kept_labels}
-use Rattle.c2_rules.specs.Tests.{downward}
-use Rattle.c2_counts.proofs.counting.assertion_count.Given as goal
-
-abbrev pub invariant-loop-i : goal.invariant-loop-i
-invariant-loop-i l = l.found ≡ length (downward (kept_labels l.chain.readings) l.i)

@@ -1,0 +1,115 @@
+-- The answer of the check with a store beside the file.
+use Rattle.std.proofs.Common.{◌≡◌, ℕ, ◌<◌, ◌^◌, Bool, true, false, List, [], length, nat_lt, All, Result, Ok, Err, IfOk, sym, ap, ◌∙◌, subst}
+use Rattle.std.specs.Bool.{MatchBool}
+use Rattle.c2_base.specs.declared.limits.TheConstants.{MAX_STORE_LEN}
+use Rattle.c2_base.specs.declared.values.Question.{Question}
+use Rattle.c2_spec.specs.C2pa.Manifest.{IsStoreOf, manifests_of}
+use Rattle.c2_spec.specs.Jumbf.Tree.{Tree}
+use Rattle.c2_spec.specs.Located.{Located, Opening, here, refused}
+use Rattle.c2_spec.specs.declared.digest.Alg.{Alg}
+use Rattle.c2_spec.specs.declared.panel.Verdict.{Verdict}
+use Rattle.c2_spec.specs.declared.reason.Reason.{Reason}
+use Rattle.c2_spec.specs.declared.reason.Reason.TheVariants.{StoreTooLarge}
+use Rattle.c2_spec.specs.declared.store.ManifestBoxes.{ManifestBoxes}
+use Rattle.c2_rules.specs.CheckList.{check_asks}
+use Rattle.c2_rules.specs.Opened.{IsManifestStore}
+use Rattle.c2_rules.specs.Readings.{AreReadings, Reading}
+use Rattle.c2_rules.specs.Validated.{OpenedAsks}
+use Rattle.c2_rules.specs.declared.answer.Answer.{Answer}
+use Rattle.c2_rules.specs.declared.answer.Answer.TheVariants as answer
+use Rattle.c2_container.specs.declared.types.Container.{Container}
+use Rattle.c2_opening.specs.Opened.{IsFound, IsReadFrom, located_of, tree_of}
+use Rattle.c2_opening.specs.declared.types.Media.{Media as MediaFile}
+use Rattle.c2_opening.specs.declared.types.Opened.{Opened}
+use Rattle.c2_opening.specs.declared.types.Opened.TheVariants as opened
+use Rattle.c2_opening.specs.declared.types.StoreRead.{StoreRead}
+use Rattle.c2_opening.specs.declared.types.StoreRead.TheVariants as read
+use Rattle.c2_validate.specs.Beside.{AsksBeside, IsAnswerBeside, IsAnsweredBeside, IsListAnswered, IsLocatedAnswer, IsStoreAnswer, IsStoreBeside, ListAsks, LocatedAsks}
+use Rattle.c2_validate.specs.declared.external.External.{External}
+use Rattle.c2_validate.specs.declared.external.External.TheVariants.{Of, StoreRefused}
+use Rattle.c2_validate.proofs.FileLemmas.{AnswersOver, ContainsMedia, OneReading, tree_answered, tree_asks}
+use Rattle.c2_validate.proofs.OneBeside.{OneStore}
+
+-- ---- a list that was read
+
+-- what it is opened as is what was read
+seen : OneStore → (store : List ℕ) (r : StoreRead) (what : Opening Tree) → nat_lt MAX_STORE_LEN (length store) ≡ false → IsReadFrom store r → IsStoreBeside store what → what ≡ tree_of (record { start = 0; length = 0; store = store }) r
+seen one store r what small h k =
+    let whole : IsManifestStore 0 0 store what = subst (λ (b : Bool). MatchBool b (what ≡ refused StoreTooLarge (length store)) (IsManifestStore 0 0 store what)) small k in
+    one 0 0 store what (tree_of (record { start = 0; length = 0; store = store }) r) whole (h 0 0).store
+
+-- the boxes of its manifests are those of the tree
+pub boxes_read : (store : List ℕ) (t : Tree) (b : List ManifestBoxes) → IsReadFrom store (read.Here t b) → IsStoreOf t b
+boxes_read store t b h = (h 0 0).boxes
+
+-- a list that is too long is refused
+pub list_too_long : (hash : Alg → List ℕ → List ℕ) (said : Question → Verdict) (c : Container) (store file : List ℕ) → nat_lt MAX_STORE_LEN (length store) ≡ true → IsListAnswered hash said c store file (StoreRefused StoreTooLarge (length store))
+list_too_long hash said c store file long contained expected k =
+    let what : k.0 ≡ refused StoreTooLarge (length store) = subst (λ (b : Bool). MatchBool b (k.0 ≡ refused StoreTooLarge (length store)) (IsManifestStore 0 0 store k.0)) long k.1 in
+    subst (λ (o : Opening Tree). IsStoreAnswer hash said file o expected) what k.2
+
+-- and nothing is asked of it
+pub long_asks : (hash : Alg → List ℕ → List ℕ) (store : List ℕ) (said : Question → Verdict) (qs : List Question) → nat_lt MAX_STORE_LEN (length store) ≡ true → ListAsks hash store said qs → qs ≡ []
+long_asks hash store said qs long k =
+    let what : k.0 ≡ refused StoreTooLarge (length store) = subst (λ (b : Bool). MatchBool b (k.0 ≡ refused StoreTooLarge (length store)) (IsManifestStore 0 0 store k.0)) long k.1 in
+    subst (λ (o : Opening Tree). OpenedAsks (check_asks hash said) o qs) what k.2
+
+-- a list that is refused has that answer
+pub list_refused : OneStore → (hash : Alg → List ℕ → List ℕ) (said : Question → Verdict) (c : Container) (store file : List ℕ) (reason : Reason) (number : ℕ) → nat_lt MAX_STORE_LEN (length store) ≡ false → IsReadFrom store (read.Refused reason number)
+    → IsListAnswered hash said c store file (StoreRefused reason number)
+list_refused one hash said c store file reason number small h contained expected k = subst (λ (o : Opening Tree). IsStoreAnswer hash said file o expected) (seen one store (read.Refused reason number) k.0 small h k.1) k.2
+
+-- and nothing is asked of it
+pub refused_asks : OneStore → (hash : Alg → List ℕ → List ℕ) (store : List ℕ) (said : Question → Verdict) (reason : Reason) (number : ℕ) (qs : List Question) → nat_lt MAX_STORE_LEN (length store) ≡ false → IsReadFrom store (read.Refused reason number) → ListAsks hash store said qs → qs ≡ []
+refused_asks one hash store said reason number qs small h k = subst (λ (o : Opening Tree). OpenedAsks (check_asks hash said) o qs) (seen one store (read.Refused reason number) k.0 small h k.1) k.2
+
+-- the answer over the manifests of the list is that over the list
+pub list_answered : ContainsMedia → OneReading → OneStore → (hash : Alg → List ℕ → List ℕ) (said : Question → Verdict) (c : Container) (store file : List ℕ) (t : Tree) (b : List ManifestBoxes) (rs : List Reading) (a : Answer) → nat_lt MAX_STORE_LEN (length store) ≡ false → IsReadFrom store (read.Here t b)
+    → AreReadings (manifests_of t) rs → AnswersOver hash said file c 0 0 rs a → IsListAnswered hash said c store file (Of a)
+list_answered media reading one hash said c store file t b rs a small h reads k contained expected l =
+    let there : IsStoreAnswer hash said file (here 0 0 t) expected = subst (λ (w : Opening Tree). IsStoreAnswer hash said file w expected) (seen one store (read.Here t b) l.0 small h l.1) l.2 in
+    there.2 ∙ ap Of (sym (tree_answered media reading hash said file c 0 0 t rs a there.0 contained reads k there.1))
+
+-- what is asked over the list is asked over its manifests
+pub list_asks : OneReading → OneStore → (hash : Alg → List ℕ → List ℕ) (store : List ℕ) (said : Question → Verdict) (t : Tree) (b : List ManifestBoxes) (rs : List Reading) (qs : List Question) → nat_lt MAX_STORE_LEN (length store) ≡ false → IsReadFrom store (read.Here t b) → AreReadings (manifests_of t) rs
+    → ListAsks hash store said qs → qs ≡ check_asks hash said rs
+list_asks reading one hash store said t b rs qs small h reads k =
+    let there = subst (λ (w : Opening Tree). OpenedAsks (check_asks hash said) w qs) (seen one store (read.Here t b) k.0 small h k.1) k.2 in
+    tree_asks reading hash said t rs there.0 qs reads there.1 there.2
+
+-- ---- a file
+
+-- each file and each list have an answer
+abbrev pub EachBeside : Type 0
+EachBeside = (hash : Alg → List ℕ → List ℕ) (said : Question → Verdict) (file store : List ℕ) → All (λ b. b < 2 ^ 8) file → All (λ b. b < 2 ^ 8) store → (e : External) × IsAnswerBeside hash said file store e
+
+-- what a file is as a container follows from what was found
+at_found : (hash : Alg → List ℕ → List ℕ) (said : Question → Verdict) (file store : List ℕ) (o : Opened) (e : External) → IsFound file o → IsAnswerBeside hash said file store e → IsLocatedAnswer hash said file store (located_of o) e
+at_found hash said file store o e h k = subst (λ (l : Located). IsLocatedAnswer hash said file store l e) (h.only k.0 k.1) k.2
+
+-- so does what is asked
+pub asks_found : (hash : Alg → List ℕ → List ℕ) (store file : List ℕ) (said : Question → Verdict) (o : Opened) (qs : List Question) → IsFound file o → AsksBeside hash store file said qs → LocatedAsks hash store said (located_of o) qs
+asks_found hash store file said o qs h k = subst (λ (l : Located). LocatedAsks hash store said l qs) (h.only k.0 k.1) k.2
+
+-- the answer that any is, is the one
+answered : EachBeside → (hash : Alg → List ℕ → List ℕ) (said : Question → Verdict) (file store : List ℕ) (e : External) → All (λ b. b < 2 ^ 8) file → All (λ b. b < 2 ^ 8) store → ((expected : External) → IsAnswerBeside hash said file store expected → expected ≡ e)
+    → IsAnsweredBeside hash said file store e
+answered each hash said file store e bytes held only = let a = each hash said file store bytes held in record { is = subst (IsAnswerBeside hash said file store) (only a.0 a.1) a.1; only = only }
+
+-- what is answered over the list is answered of a file with a store
+pub beside_here : {E : Type 0} → EachBeside → (hash : Alg → List ℕ → List ℕ) (said : Question → Verdict) (file store : List ℕ) (m : MediaFile) (r : Result External E) → All (λ b. b < 2 ^ 8) file → All (λ b. b < 2 ^ 8) store → IsFound file (opened.Here m) → IfOk r (IsListAnswered hash said m.container store file)
+    → IfOk r (IsAnsweredBeside hash said file store)
+beside_here each hash said file store m (Ok e) bytes held h k = answered each hash said file store e bytes held (λ expected answers. k h.container expected (at_found hash said file store (opened.Here m) expected h answers))
+beside_here each hash said file store m (Err e) bytes held h k = tt
+
+-- and of one without
+pub beside_none : {E : Type 0} → EachBeside → (hash : Alg → List ℕ → List ℕ) (said : Question → Verdict) (file store : List ℕ) (c : Container) (r : Result External E) → All (λ b. b < 2 ^ 8) file → All (λ b. b < 2 ^ 8) store → IsFound file (opened.NoStore c) → IfOk r (IsListAnswered hash said c store file)
+    → IfOk r (IsAnsweredBeside hash said file store)
+beside_none each hash said file store c (Ok e) bytes held h k = answered each hash said file store e bytes held (λ expected answers. k h.container expected (at_found hash said file store (opened.NoStore c) expected h answers))
+beside_none each hash said file store c (Err e) bytes held h k = tt
+
+-- a file that is refused has that answer
+pub beside_refused : EachBeside → (hash : Alg → List ℕ → List ℕ) (said : Question → Verdict) (file store : List ℕ) (reason : Reason) (number : ℕ) → All (λ b. b < 2 ^ 8) file → All (λ b. b < 2 ^ 8) store → IsFound file (opened.Refused reason number)
+    → IsAnsweredBeside hash said file store (Of (answer.Refused reason number))
+beside_refused each hash said file store reason number bytes held h =
+    answered each hash said file store (Of (answer.Refused reason number)) bytes held (λ expected answers. at_found hash said file store (opened.Refused reason number) expected h answers)

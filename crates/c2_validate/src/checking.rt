@@ -1,0 +1,189 @@
+// The check of opened manifests, and of a media file.
+ghost use Rattle.std.specs.Prelude.{◌≡◌, [], IfOk, IfErr, OnOk, map, vec_len};
+ghost use Rattle.std.specs.Option.{ForSome};
+ghost use Rattle.c2_base.specs.Source.{ReadsSource, StaysSource};
+ghost use Rattle.c2_spec.specs.Judges.Panel.{LeavesJudges, judges_of, panel_says};
+ghost use Rattle.c2_rules.specs.Asking.{HearsPanel};
+ghost use Rattle.c2_rules.specs.Validated.{CheckAsks};
+ghost use Rattle.c2_container.specs.Contained.{HasRootsInside};
+ghost use Rattle.c2_validate.specs.Checked.{HasTextSize, IsCheckedOver, IsReadCause, StoreAsks, answer_as, validate_heard};
+ghost use Rattle.c2_validate.specs.Checks.{fault_of};
+ghost use Rattle.c2_validate.specs.Validation.{HasAskedThose, IsAnswered, IsFaultCause};
+
+use crate::chain::check_chain;
+use crate::counting::summary;
+use crate::laws::{a_file_answers_by_what_it_is_opened_as, each_file_has_a_check, one_check};
+use c2_base::{NoMemory, Range, Source};
+use c2_chain::{Chain, ChainError, active_manifest, check_active, of_store, one_reading};
+use c2_hard_binding::{Bound, BoundText, check_binding};
+use c2_hash::Hashing;
+use c2_judge::Judge;
+use c2_opening::types::{Container, Opened, StoreRead};
+use c2_opening::{ValidateError, find_store, one_media, one_opening, read_store};
+use c2_rules::{Answer, Failing, Summary};
+use std::alloc::Global;
+
+/// A store that was opened, as it is checked against a media file.
+#[derive(Clone, Copy)]
+pub struct OpenedStore<'c, 't> {
+    /// The container of the media file.
+    pub container: &'c Container,
+
+    /// The embedded range of the store in the file; that of a store beside the file has the length 0.
+    pub range: Range,
+
+    /// The store's manifests.
+    pub chain: &'c Chain<'t>,
+}
+
+/// What the check of an opened store says.
+#[derive(Drop)]
+pub enum Checked {
+    /// All rules hold: what is counted, and what the binding of the active manifest covers of the file.
+    Valid(Summary, BoundText),
+
+    /// This rule fails first.
+    Failing(Failing),
+}
+
+/// The same fault of a check that reads no source.
+fn fault(error: ChainError) -> ValidateError
+    ensures { result ≡ fault_of error }
+{
+    match error {
+        ChainError::JudgeFault => ValidateError::JudgeFault,
+        ChainError::NoMemory => ValidateError::NoMemory,
+    }
+}
+
+/// The answer that this stands for.
+pub fn answer(checked: Checked) -> Answer
+    ensures { result ≡ answer_as checked }
+{
+    match checked {
+        Checked::Valid(summary, _) => Answer::Valid(summary),
+        Checked::Failing(failing) => Answer::Failing(failing),
+    }
+}
+
+/// Checks a store that was opened: its active manifest is no update; then the rules of each reached manifest, from the last to
+/// the first; then the binding of the active one to the file's bytes (C2PA Technical Specification 2.x, "Validation").
+///
+/// The panel is asked of each reached manifest whose rules before the verdict hold, while no rule of a later one fails. `ReadFault`
+/// comes only where the source failed in this call, `JudgeFault` only where a judge did that was due.
+pub fn check<S: Source, H: Hashing>(
+    alloc: Global,
+    hashing: &H,
+    source: &mut S,
+    store: &OpenedStore<'_, '_>,
+    judges: &mut Vec<Box<dyn Judge>>,
+) -> Result<Checked, ValidateError>
+    requires { HasRootsInside (S.len source.old) store.now.container.now }
+    // Where the bytes are known: this is the answer of the check, and its text that of the active manifest's binding.
+    ensures answer { let said = panel_says (map says judges.old.items) in
+        ForSome (S.known source.old)
+        (λ file. IfOk result (IsCheckedOver H.digest_of said store.now file)) }
+
+    // These hold of every source.
+    ensures size { IfOk result (HasTextSize (S.len source.old)) }
+    ensures reads { ReadsSource S.len S.known S.faults IsReadCause source.old source.new result }
+    ensures panel { HearsPanel says asked_times judge_faults validate_heard
+        (StoreAsks H.digest_of store.now) judges.old judges.new result }
+{
+    // Matched and not handed up by `?`, here and below: each way out has clauses of its own.
+    match check_active(alloc, store.chain) {
+        Ok(None) => {}
+        Ok(Some(failing)) => return Ok(Checked::Failing(failing)),
+        Err(NoMemory) => return Err(ValidateError::NoMemory),
+    }
+    match check_chain(alloc, hashing, store.chain, judges) {
+        Ok(None) => {}
+        Ok(Some(failing)) => return Ok(Checked::Failing(failing)),
+        Err(error) => return Err(fault(error)),
+    }
+    let active = active_manifest(store.chain);
+    let text = match check_binding(alloc, hashing, source, store.container, active) {
+        Ok(Bound::Holds(text)) => text,
+        Ok(Bound::Fails(failing)) => return Ok(Checked::Failing(failing)),
+        Err(error) => return Err(error),
+    };
+    match summary(store.chain, &text.cover, store.range) {
+        Some(summary) => Ok(Checked::Valid(summary, text)),
+        // More entries than a count holds don't fit into memory.
+        None => Err(ValidateError::NoMemory),
+    }
+}
+
+/// Checks a media file: its container, its store, the rules of its reached manifests from the last to the first, and the
+/// binding of the active one to its bytes (C2PA Technical Specification 2.x, "Validation").
+///
+/// The panel is asked of each reached manifest whose rules before the verdict hold, while no rule of a later one fails; nobody
+/// is asked where the file has no well-formed store, or its active manifest is an update. `ReadFault` comes only where the
+/// source failed in this call, `JudgeFault` only where a judge did that was due. The file is read in pieces.
+// The condition always holds: a function that changes boxed judges is called under a contract only where it
+// has one.
+pub fn validate<S: Source, H: Hashing>(
+    alloc: Global,
+    hashing: &H,
+    source: &mut S,
+    judges: &mut Vec<Box<dyn Judge>>,
+) -> Result<Answer, ValidateError>
+    requires { Unit {0} }
+    // Where the bytes are known: this is the answer of the check and nothing else is, and just its questions were asked.
+    ensures answer { let said = panel_says (map says judges.old.items) in
+        ForSome (S.known source.old) (λ file. IfOk result (IsAnswered H.digest_of said file)) }
+    ensures asked { let said = panel_says (map says judges.old.items) in
+        let old = judges_of says asked_times judge_faults judges.old.items in
+        let new = judges_of says asked_times judge_faults judges.new.items in
+        ForSome (S.known source.old)
+        (λ file. HasAskedThose (CheckAsks H.digest_of said file) old new result) }
+    ensures unasked { let said = panel_says (map says judges.old.items) in
+        ForSome (S.known source.old)
+        (λ file. CheckAsks H.digest_of said file [] → judges.new ≡ judges.old) }
+
+    // These hold of every source.
+    ensures cause { let old = judges_of says asked_times judge_faults judges.old.items in
+        let new = judges_of says asked_times judge_faults judges.new.items in
+        IfErr result (IsFaultCause (S.faults source.old) (S.faults source.new) old new) }
+    ensures count { OnOk result (S.faults source.new ≡ S.faults source.old) }
+    ensures stays { StaysSource S.len S.known S.faults source.old source.new }
+    ensures leaves { let old = judges_of says asked_times judge_faults judges.old.items in
+        let new = judges_of says asked_times judge_faults judges.new.items in
+        LeavesJudges old new result }
+    ensures judges_len { vec_len judges.new ≡ vec_len judges.old }
+{
+    // Only the prover needs these laws.
+    a_file_answers_by_what_it_is_opened_as();
+    one_check();
+    each_file_has_a_check();
+    one_media();
+    one_opening();
+    one_reading();
+    let media = match find_store(alloc, source) {
+        Ok(Opened::Here(media)) => media,
+        Ok(Opened::NoStore(_)) => return Ok(Answer::NoStore),
+        Ok(Opened::Refused(reason, number)) => return Ok(Answer::Refused(reason, number)),
+        Err(error) => return Err(error),
+    };
+    let (tree, store) = match read_store(alloc, &media.found) {
+        Ok(StoreRead::Here(tree, store)) => (tree, store),
+        Ok(StoreRead::Refused(reason, number)) => return Ok(Answer::Refused(reason, number)),
+        Err(NoMemory) => return Err(ValidateError::NoMemory),
+    };
+    let chain = match of_store(alloc, &tree, &store) {
+        Ok(chain) => chain,
+        Err(NoMemory) => return Err(ValidateError::NoMemory),
+    };
+    let opened = OpenedStore {
+        container: &media.container,
+        range: Range {
+            start: media.found.start,
+            length: media.found.length,
+        },
+        chain: &chain,
+    };
+    match check(alloc, hashing, source, &opened, judges) {
+        Ok(checked) => Ok(answer(checked)),
+        Err(error) => Err(error),
+    }
+}

@@ -1,0 +1,143 @@
+// The check of a media file with a store that stands beside it.
+ghost use Rattle.std.specs.Prelude.{◌≡◌, IfOk, map};
+ghost use Rattle.std.specs.Option.{ForSome};
+ghost use Rattle.c2_base.specs.Source.{ReadsSource};
+ghost use Rattle.c2_spec.specs.Judges.Panel.{panel_says};
+ghost use Rattle.c2_rules.specs.Asking.{HearsPanel};
+ghost use Rattle.c2_calls.specs.Asks.{AsksKnown};
+ghost use Rattle.c2_container.specs.Contained.{HasRootsInside};
+ghost use Rattle.c2_validate.specs.Beside.{AsksBeside, IsAnsweredBeside, IsListAnswered, ListAsks};
+ghost use Rattle.c2_validate.specs.Checked.{IsReadCause, validate_heard};
+
+use crate::checking::{OpenedStore, answer, check};
+use crate::laws::{each_file_has_a_check_beside, one_check_beside};
+use c2_base::limits::MAX_STORE_LEN;
+use c2_base::{NoMemory, Range, Source};
+use c2_chain::{Chain, of_store, one_reading};
+use c2_container::Container;
+use c2_hash::Hashing;
+use c2_judge::Judge;
+use c2_opening::types::{Opened, StoreRead};
+use c2_opening::{ValidateError, find_store, one_media, one_opening, read_tree};
+use c2_rules::Answer;
+use c2_spec::Reason;
+use std::alloc::Global;
+
+/// What the check of a file with a store beside it answers.
+#[derive(Debug, Drop)]
+pub enum External {
+    /// This: the file's container is refused, a rule fails, or every rule holds.
+    Of(Answer),
+
+    /// The store is refused for this reason, with its number.
+    StoreRefused(Reason, u64),
+}
+
+// The store beside a file has no range in it.
+const NO_RANGE: Range = Range {
+    start: 0,
+    length: 0,
+};
+
+/// A store beside a media file of this container, as it is checked against the file.
+fn opened_beside<'c, 't>(container: &'c Container, chain: &'c Chain<'t>) -> OpenedStore<'c, 't>
+    ensures container { result.container.now ≡ container.now }
+    ensures start { result.range.start ≡ 0 }
+    ensures count { result.range.length ≡ 0 }
+    ensures chain { result.chain.now ≡ chain.now }
+{
+    OpenedStore {
+        container,
+        range: NO_RANGE,
+        chain,
+    }
+}
+
+/// Checks a media file of this container with a store that stands beside it: the length of the store, its boxes and its manifests,
+/// and then as [`check`] does (C2PA Technical Specification 2.x, "External manifests").
+///
+/// The panel is asked as by `check`, and of nothing where the store is refused. `ReadFault` comes only where the source failed in
+/// this call, `JudgeFault` only where a judge did that was due.
+pub fn check_beside<S: Source, H: Hashing>(
+    alloc: Global,
+    hashing: &H,
+    source: &mut S,
+    container: &Container,
+    store: &[u8],
+    judges: &mut Vec<Box<dyn Judge>>,
+) -> Result<External, ValidateError>
+    requires { HasRootsInside (S.len source.old) container.now }
+    ensures answer { let said = panel_says (map says judges.old.items) in
+        ForSome (S.known source.old)
+        (λ file. IfOk result (IsListAnswered H.digest_of said container.now store.now file)) }
+    ensures reads { ReadsSource S.len S.known S.faults IsReadCause source.old source.new result }
+    ensures panel { HearsPanel says asked_times judge_faults validate_heard
+        (ListAsks H.digest_of store.now) judges.old judges.new result }
+{
+    // Only the prover needs these laws.
+    one_media();
+    one_opening();
+    one_reading();
+    if store.len() > MAX_STORE_LEN as usize {
+        return Ok(External::StoreRefused(Reason::StoreTooLarge, store.len() as u64));
+    }
+    // Matched and not handed up by `?`, here and below: each way out has clauses of its own.
+    let (tree, boxes) = match read_tree(alloc, store) {
+        Ok(StoreRead::Here(tree, boxes)) => (tree, boxes),
+        Ok(StoreRead::Refused(reason, number)) => {
+            return Ok(External::StoreRefused(reason, number));
+        }
+        Err(NoMemory) => return Err(ValidateError::NoMemory),
+    };
+    let chain = match of_store(alloc, &tree, &boxes) {
+        Ok(chain) => chain,
+        Err(NoMemory) => return Err(ValidateError::NoMemory),
+    };
+    let opened = opened_beside(container, &chain);
+    match check(alloc, hashing, source, &opened, judges) {
+        Ok(checked) => Ok(External::Of(answer(checked))),
+        Err(error) => Err(error),
+    }
+}
+
+/// Checks a media file with a store that stands beside it, and not the store that it may have: the file's container, and then as
+/// [`check_beside`] does (C2PA Technical Specification 2.x, "External manifests").
+///
+/// The panel is asked as by `validate`, and of nothing where the container or the store is refused. `ReadFault` comes only where the
+/// source failed in this call, `JudgeFault` only where a judge did that was due. The file is read in pieces.
+// The condition always holds: a function that changes boxed judges is called under a contract only where it
+// has one.
+pub fn check_with<S: Source, H: Hashing>(
+    alloc: Global,
+    hashing: &H,
+    source: &mut S,
+    store: &[u8],
+    judges: &mut Vec<Box<dyn Judge>>,
+) -> Result<External, ValidateError>
+    requires { Unit {0} }
+    // Where the bytes are known: this is the answer of the check and nothing else is, and just its questions are asked.
+    ensures answer { let said = panel_says (map says judges.old.items) in
+        ForSome (S.known source.old)
+        (λ file. IfOk result (IsAnsweredBeside H.digest_of said file store.now)) }
+    ensures reads { ReadsSource S.len S.known S.faults IsReadCause source.old source.new result }
+    ensures panel { HearsPanel says asked_times judge_faults validate_heard
+        (AsksKnown (S.known source.old) (AsksBeside H.digest_of store.now))
+        judges.old judges.new result }
+{
+    // Only the prover needs these laws.
+    one_check_beside();
+    each_file_has_a_check_beside();
+    let opened = match find_store(alloc, source) {
+        Ok(opened) => opened,
+        Err(error) => return Err(error),
+    };
+    match opened {
+        Opened::Here(media) => {
+            check_beside(alloc, hashing, source, &media.container, store, judges)
+        }
+        Opened::NoStore(container) => {
+            check_beside(alloc, hashing, source, &container, store, judges)
+        }
+        Opened::Refused(reason, number) => Ok(External::Of(Answer::Refused(reason, number))),
+    }
+}
