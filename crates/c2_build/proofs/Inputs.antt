@@ -20,13 +20,14 @@ use Rattle.c2_rules.specs.Opened.{IsManifestStore}
 use Rattle.c2_spec.specs.Located.{absent, here, refused}
 use Rattle.c2_spec.specs.declared.reason.Reason.{Reason}
 use Rattle.c2_spec.specs.declared.store.ManifestBoxes.{ManifestBoxes}
-use Rattle.c2_media.specs.Opened.{IsContainerOf, IsFound, IsRead}
-use Rattle.c2_media.specs.declared.types.Container.{Container}
-use Rattle.c2_media.specs.declared.types.Media.{Media}
-use Rattle.c2_media.specs.declared.types.Opened.{Opened}
-use Rattle.c2_media.specs.declared.types.Opened.TheVariants as opened
-use Rattle.c2_media.specs.declared.types.StoreRead.{StoreRead}
-use Rattle.c2_media.specs.declared.types.StoreRead.TheVariants as read
+use Rattle.c2_container.specs.Contained.{IsContainerOf}
+use Rattle.c2_opening.specs.Opened.{IsFound, IsRead}
+use Rattle.c2_container.specs.declared.types.Container.{Container}
+use Rattle.c2_opening.specs.declared.types.Media.{Media}
+use Rattle.c2_opening.specs.declared.types.Opened.{Opened}
+use Rattle.c2_opening.specs.declared.types.Opened.TheVariants as opened
+use Rattle.c2_opening.specs.declared.types.StoreRead.{StoreRead}
+use Rattle.c2_opening.specs.declared.types.StoreRead.TheVariants as read
 use Rattle.c2_definition.specs.DefinitionFile.{Agrees, IsDefinition, definition_in, definition_of}
 use Rattle.c2_definition.specs.declared.error.DefinitionError.{DefinitionError}
 use Rattle.c2_definition.specs.declared.error.DefinitionError.TheVariants as error

@@ -9,7 +9,7 @@ use Rattle.c2_rules.specs.Asking.{HaveAsked}
 use Rattle.c2_spec.specs.C2pa.Sign1.{SignParts}
 use Rattle.c2_definition.specs.declared.types.Definition.{Definition}
 use Rattle.c2_validate.specs.Validation.{HasAsked}
-use Rattle.c2_media.specs.declared.error.ValidateError.{ValidateError}
+use Rattle.c2_opening.specs.declared.error.ValidateError.{ValidateError}
 use Rattle.c2_build.specs.Answers.{HasAskedAll, HasAskedThose}
 use Rattle.c2_build.specs.Steps.{ComesAs, IsAskCause, IsEmbedCause, IsQuiet, IsReadCause, IsReserveRefusal, SaysNothing}
 use Rattle.c2_build.specs.declared.error.BuildError.{BuildError}

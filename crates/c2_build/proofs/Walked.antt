@@ -11,7 +11,7 @@ use Rattle.c2_spec.specs.Located.{HasReason, Located, absent, refused, refused_b
 use Rattle.c2_jpegseg.specs.Refusals.{TellsFault}
 use Rattle.c2_boxes.specs.Roots.{AreRootsOf}
 use Rattle.c2_box_rows.specs.declared.row.RootBox.{RootBox}
-use Rattle.c2_boxes.specs.Causes.{IsCaused, OrOutside}
+use Rattle.c2_boxes.specs.Causes.{IsRootsCause, OrOutside}
 use Rattle.c2_spec.specs.Bmff.Store.{HasNoBmffStore, IsBmffLocated}
 use Rattle.c2_box_rows.specs.Faults.{FirstRootsFault}
 use Rattle.c2_box_rows.proofs.Faults.{first_of_all}
@@ -78,20 +78,20 @@ pub boxes_seat : (file : List ℕ) (rows : List RootBox) → is_bmff file ≡ tr
 boxes_seat file rows form h = (in_boxes h.boxes, (form, h.has_roots), h.are)
 
 -- an error that is no fault and not of memory left the count of a walk over boxes
-pub left_boxes : (before now : ℕ) (e : MediaError) → (e ≡ media.ReadFault → ⊥) → (e ≡ media.NoMemory → ⊥) → IsCaused before now e → now ≡ before
-left_boxes before now media.NotMedia read memory h = h
-left_boxes before now (media.FileTooLarge n) read memory h = h
-left_boxes before now (media.Truncated n) read memory h = h
-left_boxes before now (media.BadMarker n) read memory h = h
-left_boxes before now (media.BadSegment n) read memory h = h
-left_boxes before now (media.BadPacket n) read memory h = h
-left_boxes before now (media.TwoStores n) read memory h = h
-left_boxes before now (media.BadBox n) read memory h = h
-left_boxes before now (media.BadProvenanceBox n) read memory h = h
-left_boxes before now (media.StoreTooLarge n) read memory h = h
-left_boxes before now media.TooManyBoxes read memory h = h
-left_boxes before now media.ReadFault read memory h = absurd (read refl)
-left_boxes before now media.NoMemory read memory h = absurd (memory refl)
+pub left_boxes : (len before now : ℕ) (e : MediaError) → (e ≡ media.ReadFault → ⊥) → (e ≡ media.NoMemory → ⊥) → IsRootsCause len before now e → now ≡ before
+left_boxes len before now media.NotMedia read memory h = h.1
+left_boxes len before now (media.FileTooLarge n) read memory h = h.2
+left_boxes len before now (media.Truncated n) read memory h = h.2
+left_boxes len before now (media.BadMarker n) read memory h = absurd h
+left_boxes len before now (media.BadSegment n) read memory h = absurd h
+left_boxes len before now (media.BadPacket n) read memory h = absurd h
+left_boxes len before now (media.TwoStores n) read memory h = absurd h
+left_boxes len before now (media.BadBox n) read memory h = h.2
+left_boxes len before now (media.BadProvenanceBox n) read memory h = absurd h
+left_boxes len before now (media.StoreTooLarge n) read memory h = absurd h
+left_boxes len before now media.TooManyBoxes read memory h = h.2
+left_boxes len before now media.ReadFault read memory h = absurd (read refl)
+left_boxes len before now media.NoMemory read memory h = absurd (memory refl)
 
 -- and tells the first test that fails
 pub told_boxes : (claim : Type 0) (e : MediaError) → (e ≡ media.ReadFault → ⊥) → (e ≡ media.NoMemory → ⊥) → OrOutside e claim → claim

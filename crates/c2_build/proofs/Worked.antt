@@ -22,6 +22,7 @@ use Rattle.c2_spec.specs.Jpeg.Store.{HasNoJpegStore, NoneBegins}
 use Rattle.c2_spec.specs.Jpeg.Packets.{is_first_packet, is_store_start}
 use Rattle.c2_spec.specs.Located as located
 use Rattle.c2_spec.specs.declared.digest.Alg.{Alg}
+use Rattle.c2_spec.specs.declared.digest.Alg.TheVariants.{Sha256}
 use Rattle.c2_spec.specs.declared.panel.Verdict.{Verdict}
 use Rattle.c2_rules.specs.Opened.{IsOpened}
 use Rattle.c2_definition.specs.DefinitionFile.{HavePayloads, HasPayload, IsDefinition, assertions_in, definition_in}
@@ -47,7 +48,7 @@ use Rattle.c2_built.specs.Store.{new_alg}
 
 -- what the file is
 abbrev pub defined : Definition
-defined = record { label = codes "urn:c2pa:00000000-0000-4000-8000-00000000000a"; instance_id = codes "i"; generator = codes "g"; title = None; protected = 10 ∷ []; reserve = 64; assertions = []; redact = [] }
+defined = record { label = codes "urn:c2pa:00000000-0000-4000-8000-00000000000a"; instance_id = codes "i"; generator = codes "g"; title = None; protected = 10 ∷ []; reserve = 64; assertions = []; redact = []; alg = Sha256 }
 
 -- {"label":"urn:c2pa:00000000-0000-4000-8000-00000000000a","instance_id":"i","generator":"g","protected":"0A","reserve":64}
 abbrev pub definition_file : List ℕ

@@ -38,7 +38,7 @@ use Rattle.c2_built.specs.Built.{HasDigestLen, no_digest}
 use Rattle.c2_built.specs.Fresh.{GivesDigests, Meets, fresh_content}
 use Rattle.c2_built.specs.FreshBoxes.{contents_of, item_box, store_box}
 use Rattle.c2_built.specs.Manifests.{manifest_of}
-use Rattle.c2_built.specs.Store.{Content, Parent, data_binding, new_manifest}
+use Rattle.c2_built.specs.Store.{Content, Parent, data_binding, new_alg, new_manifest}
 use Rattle.c2_built.specs.Written.{HasTexts}
 use Rattle.c2_built.proofs.ByIndex.{same_manifests}
 use Rattle.c2_built.proofs.StoreSize.{store_len as store_len_is}
@@ -77,7 +77,7 @@ pub record OverLaws : Type 0 where
 
 -- what the second file is
 abbrev pub second : Definition
-second = record { label = codes "urn:c2pa:00000000-0000-4000-8000-00000000000b"; instance_id = codes "i"; generator = codes "g"; title = None; protected = 10 ∷ []; reserve = 64; assertions = []; redact = [] }
+second = record { label = codes "urn:c2pa:00000000-0000-4000-8000-00000000000b"; instance_id = codes "i"; generator = codes "g"; title = None; protected = 10 ∷ []; reserve = 64; assertions = []; redact = []; alg = Sha256 }
 
 -- {"label":"urn:c2pa:00000000-0000-4000-8000-00000000000b","instance_id":"i","generator":"g","protected":"0A","reserve":64}
 abbrev second_file : List ℕ
@@ -143,10 +143,14 @@ IsLeftAgain file p = (hash : List ℕ → List ℕ) (padded bytes : List ℕ) �
 
 -- ---- lengths
 
--- a binding in such a place without a digest
+-- a binding in such a place by this algorithm, without a digest
+abbrev no_binding_by : Alg → Place → NewAssertion
+no_binding_by alg (in_segments segments number) = data_binding alg 0 0 (zero_digest alg)
+no_binding_by alg (in_boxes roots) = film_binding alg (zero_digest alg)
+
+-- that of both definitions
 abbrev pub no_binding : Place → NewAssertion
-no_binding (in_segments segments number) = data_binding Sha256 0 0 (zero_digest Sha256)
-no_binding (in_boxes roots) = film_binding Sha256 (zero_digest Sha256)
+no_binding p = no_binding_by Sha256 p
 
 -- that of a store of so many bytes
 abbrev pub range_of : Place → ℕ → ℕ
@@ -276,7 +280,7 @@ is_over hash padded file p = record {
 -- ---- its length
 
 -- a store's length in such a place is that of one with no digest in its binding
-length_in : (p : Place) (c : Content) (reserve : ℕ) → store_len p c reserve ≡ length (tree_bytes (store_box c.carried (new_manifest (no_digest Sha256) c (no_binding p) (replicate reserve 0))))
+length_in : (p : Place) (c : Content) (reserve : ℕ) → store_len p c reserve ≡ length (tree_bytes (store_box c.carried (new_manifest (no_digest (new_alg c.definition)) c (no_binding_by (new_alg c.definition) p) (replicate reserve 0))))
 length_in (in_segments segments number) c reserve = refl
 length_in (in_boxes roots) c reserve = refl
 

@@ -4,7 +4,7 @@ use Rattle.std.proofs.Math.Seq.{take-add, take-append-add}
 use Rattle.std.proofs.lemmas.Bool.{cases_lt}
 use Rattle.std.proofs.lemmas.List.{take-append-drop, take-append-le, take_all, take-take, drop-drop, length-take, length-take-le, length-drop}
 use Rattle.std.specs.declared.option.Option.TheVariants.{Some, None}
-use Rattle.c2_base.specs.Sink.{HasWrittenPrefix, then_written, spare_less}
+use Rattle.c2_base.specs.Sink.{HasWrittenPrefix, StaysSink, then_written, spare_less, unsaid}
 use Rattle.c2_spec.specs.Bmff.Boxes.{box_bytes}
 use Rattle.c2_spec.specs.Bmff.Writing.{c2pa_box, c2pa_frame_len}
 use Rattle.c2_spec.specs.PutIn.{put_in}
@@ -187,4 +187,19 @@ finish_breaks written spare finished bytes old mid new h same unfinished over = 
   prefix = (length bytes, same ∙ h.all ∙ ap (then_written (written old)) (sym (take_all (length bytes) bytes (omega arith))));
   same = unfinished ∙ h.same;
   over = λ s is. absurd (over (s - length bytes) (h.less ∙ ap (λ (o : Option ℕ). spare_less o (length bytes)) is) (omega arith));
+}
+
+-- ---- what is left of a sink that may be finished
+
+-- a call that finished no sink is one that may finish it
+pub unsaid_stays : {K : Type 0} (written : K → Option (List ℕ)) (finished : K → Bool) (faults : K → ℕ) (old new : K) → StaysSink written finished faults old new → StaysSink written unsaid faults old new
+unsaid_stays {K} written finished faults old new h = record { later = h.later; grows = h.grows; unfinished = refl }
+
+-- a sink that took bytes and then was to be finished
+pub finish_stays : {K : Type 0} (written : K → Option (List ℕ)) (finished : K → Bool) (faults : K → ℕ) (old mid new : K)
+    → StaysSink written finished faults old mid → written new ≡ written mid → faults mid ≤ faults new → StaysSink written unsaid faults old new
+finish_stays {K} written finished faults old mid new h same later = record {
+  later = omega (arith, h.later, later);
+  grows = (h.grows.0, same ∙ h.grows.1);
+  unfinished = refl;
 }

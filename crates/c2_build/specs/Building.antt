@@ -5,6 +5,7 @@ use Rattle.std.specs.declared.option.Option.{Option}
 use Rattle.std.specs.declared.option.Option.TheVariants.{Some, None}
 use Rattle.std.specs.declared.result.Result.{Result}
 use Rattle.std.specs.declared.result.Result.TheVariants.{Ok, Err}
+use Rattle.c2_base.specs.Source.{IsKnownWhereDue}
 use Rattle.c2_base.specs.declared.values.Question.{Question}
 use Rattle.c2_spec.specs.C2pa.Sign1.{SignParts, SpellsMessage, sig_structure}
 use Rattle.c2_spec.specs.Cbor.Deterministic.{deterministic}
@@ -106,6 +107,16 @@ IsMessageStage protected bytes r = (m : Result SignParts SignaturePart) × IsMes
 abbrev pub IsMessageRefused : List ℕ → List ℕ → Type 0
 IsMessageRefused definition message =
     (d : Definition) × IsDefinitionStage definition (Ok d) × ((e : BuildError) × IsMessageStage d.protected message (Err e))
+
+-- ---- the inputs that are due
+
+-- these are the bytes of the definition file, which isn't due where the media is refused
+abbrev pub IsDefinitionTold : List ℕ → Option (List ℕ) → List ℕ → Type 0
+IsDefinitionTold media known bytes = IsKnownWhereDue known (IsMediaRefused media) bytes
+
+-- these are the bytes of the message, which isn't due where the media is refused or the definition is
+abbrev pub IsMessageTold : List ℕ → List ℕ → Option (List ℕ) → List ℕ → Type 0
+IsMessageTold media definition known bytes = IsKnownWhereDue known (IsMediaRefused media ⊎ IsDefinitionRefused definition) bytes
 
 -- ---- the older store
 

@@ -1,6 +1,7 @@
 // Copying parts of a file into the new file.
 ghost use Rattle.std.specs.Prelude.{◌≡◌, ◌+◌, ◌<◌, ◌≤◌, length, take, drop, IfErr, OnOk};
 ghost use Rattle.std.specs.Option.{ForSome};
+ghost use Rattle.c2_base.specs.Sink.{StaysSink};
 ghost use Rattle.c2_base.specs.Source.{StaysSource};
 ghost use Rattle.c2_build.specs.Steps.{IsCopyCause, IsStep, piece_of};
 
@@ -8,6 +9,7 @@ use crate::BuildError;
 use c2_base::{Failed, Sink, Source, fill_at, write_all};
 
 // Appends the bytes of a source from a place on, as many as the buffer holds.
+#[tactic(auto, using(c2_base::proofs::Growing::stays_still, c2_base::proofs::Growing::stays_taken))]
 fn copy_piece<S: Source, K: Sink>(
     source: &mut S,
     sink: &mut K,
@@ -17,13 +19,12 @@ fn copy_piece<S: Source, K: Sink>(
     requires { at + length piece.old ≤ S.len source.old }
     ensures step { ForSome (S.known source.old) (λ file. IsStep K.written K.spare K.finished
         (take (length piece.old) (drop at file)) sink.old sink.new result) }
-    ensures unfinished { K.finished sink.new ≡ K.finished sink.old }
+    ensures sink_stays { StaysSink K.written K.finished K.faults sink.old sink.new }
     ensures cause { IfErr result (IsCopyCause (S.faults source.old) (S.faults source.new)
         (K.faults sink.old) (K.faults sink.new)) }
     ensures count { OnOk result (S.faults source.new ≡ S.faults source.old) }
     ensures out_count { OnOk result (K.faults sink.new ≡ K.faults sink.old) }
     ensures stays { StaysSource S.len S.known S.faults source.old source.new }
-    ensures later { K.faults sink.old ≤ K.faults sink.new }
 {
     match fill_at(source, at, piece) {
         Ok(()) => {}
@@ -36,6 +37,7 @@ fn copy_piece<S: Source, K: Sink>(
 }
 
 /// Appends the bytes of a source from one place to another, read in pieces through a buffer that isn't empty. Takes no memory.
+#[tactic(auto, using(c2_base::proofs::Growing::stays_still))]
 pub fn copy<S: Source, K: Sink>(
     source: &mut S,
     sink: &mut K,
@@ -48,13 +50,12 @@ pub fn copy<S: Source, K: Sink>(
     requires room { 0 < length buf.old }
     ensures step { ForSome (S.known source.old) (λ file. IsStep K.written K.spare K.finished
         (piece_of file from to) sink.old sink.new result) }
-    ensures unfinished { K.finished sink.new ≡ K.finished sink.old }
+    ensures sink_stays { StaysSink K.written K.finished K.faults sink.old sink.new }
     ensures cause { IfErr result (IsCopyCause (S.faults source.old) (S.faults source.new)
         (K.faults sink.old) (K.faults sink.new)) }
     ensures count { OnOk result (S.faults source.new ≡ S.faults source.old) }
     ensures out_count { OnOk result (K.faults sink.new ≡ K.faults sink.old) }
     ensures stays { StaysSource S.len S.known S.faults source.old source.new }
-    ensures later { K.faults sink.old ≤ K.faults sink.new }
 {
     let mut at = from;
     'pieces: while at < to {

@@ -130,7 +130,7 @@ fn store_len(
         → n ≡ min (seat_store_len seat.now c) (2 ^ 64 - 1)) }
     ensures least { IfOk result (λ n. LEAST_STORE_LEN ≤ n) }
 {
-    let binding = blank_binding(alloc, Alg::Sha256, seat)?;
+    let binding = blank_binding(alloc, definition.alg, seat)?;
     bound_size(alloc, definition, carried, binding)
 }
 

@@ -1,7 +1,8 @@
 // Writing a new file.
-ghost use Rattle.std.specs.Prelude.{◌≡◌, ◌≤◌, IfErr, Ok, OnErr, OnOk, map, true, vec_len, []};
+ghost use Rattle.std.specs.Prelude.{◌≡◌, ◌≤◌, IfErr, Ok, OnErr, OnOk, map, true, vec_len, [], ℕ, List};
 ghost use Rattle.std.specs.Option.{ForSome};
 ghost use Rattle.c2_base.specs.Causes.{Rose};
+ghost use Rattle.c2_base.specs.Sink.{StaysSink, unsaid};
 ghost use Rattle.c2_base.specs.Source.{StaysSource};
 ghost use Rattle.c2_cleared.specs.Clears.{cleared};
 ghost use Rattle.c2_spec.specs.Bmff.Boxes.{box_bytes};
@@ -9,7 +10,7 @@ ghost use Rattle.c2_spec.specs.Bmff.Writing.{c2pa_box};
 ghost use Rattle.c2_spec.specs.Jpeg.Writing.{IsPacketStore, packets_bytes};
 ghost use Rattle.c2_spec.specs.Judges.Panel.{LeavesJudges, judges_of, panel_says};
 ghost use Rattle.c2_build.specs.Answers.{Faults, HasAskedThose, HasFinish, HasSpare, IsBuildCause, IsEmbedding, LeavesSink, SinkState};
-ghost use Rattle.c2_build.specs.Building.{EmbedAsks, HasNothingToAsk, IsDefinitionRefused, IsMediaRefused, IsMessageRefused};
+ghost use Rattle.c2_build.specs.Building.{EmbedAsks, HasNothingToAsk, IsDefinitionRefused, IsMediaRefused, IsMessageRefused, IsDefinitionTold, IsMessageTold};
 ghost use Rattle.c2_build.specs.Meeting.{IsMet};
 ghost use Rattle.c2_build.specs.declared.error.BuildError.TheVariants as build;
 ghost use Rattle.c2_build.specs.Steps.{CanWrite, CanWriteOver, IsCopyCause, IsStep, IsWhole, put_of, ready_file};
@@ -29,15 +30,15 @@ use std::alloc::Global;
 use std::marker::Brand;
 
 // Appends the packets of a store under this number.
+#[tactic(auto, using(c2_base::proofs::Growing::stays_taken))]
 fn write_packets<K: Sink>(store: &[u8], number: u16, out: &mut K) -> Result<(), BuildError>
     requires { IsPacketStore store.now }
     ensures step { IsStep K.written K.spare K.finished (packets_bytes store.now number)
         out.old out.new result }
-    ensures unfinished { K.finished out.new ≡ K.finished out.old }
+    ensures out_stays { StaysSink K.written K.finished K.faults out.old out.new }
     ensures fault { IfErr result (λ e. (e ≡ build.WriteFault)
         × Rose (K.faults out.old) (K.faults out.new)) }
     ensures out_count { OnOk result (K.faults out.new ≡ K.faults out.old) }
-    ensures later { K.faults out.old ≤ K.faults out.new }
 {
     // Only the prover needs this law.
     packets_hold_the_store();
@@ -48,15 +49,15 @@ fn write_packets<K: Sink>(store: &[u8], number: u16, out: &mut K) -> Result<(), 
 }
 
 // Appends the box of a store.
+#[tactic(auto, using(c2_base::proofs::Growing::stays_taken))]
 fn write_boxed<K: Sink>(store: &[u8], out: &mut K) -> Result<(), BuildError>
     requires { IsPacketStore store.now }
     ensures step { IsStep K.written K.spare K.finished (box_bytes (c2pa_box store.now))
         out.old out.new result }
-    ensures unfinished { K.finished out.new ≡ K.finished out.old }
+    ensures out_stays { StaysSink K.written K.finished K.faults out.old out.new }
     ensures fault { IfErr result (λ e. (e ≡ build.WriteFault)
         × Rose (K.faults out.old) (K.faults out.new)) }
     ensures out_count { OnOk result (K.faults out.new ≡ K.faults out.old) }
-    ensures later { K.faults out.old ≤ K.faults out.new }
 {
     match write_box(store, out) {
         Ok(()) => Ok(()),
@@ -69,11 +70,10 @@ fn put_store<K: Sink>(store: &[u8], put: Put, out: &mut K) -> Result<(), BuildEr
     requires { IsPacketStore store.now }
     ensures step { IsStep K.written K.spare K.finished (put_of put store.now)
         out.old out.new result }
-    ensures unfinished { K.finished out.new ≡ K.finished out.old }
+    ensures out_stays { StaysSink K.written K.finished K.faults out.old out.new }
     ensures fault { IfErr result (λ e. (e ≡ build.WriteFault)
         × Rose (K.faults out.old) (K.faults out.new)) }
     ensures out_count { OnOk result (K.faults out.new ≡ K.faults out.old) }
-    ensures later { K.faults out.old ≤ K.faults out.new }
 {
     match put {
         Put::Packets(number) => write_packets(store, number, out),
@@ -91,13 +91,12 @@ fn write_over<B: Source, K: Sink>(
     ensures step { ForSome (B.known base.old) (λ file. IsStep K.written K.spare K.finished
         (ready_file ready file)
         out.old out.new result) }
-    ensures unfinished { K.finished out.new ≡ K.finished out.old }
+    ensures out_stays { StaysSink K.written K.finished K.faults out.old out.new }
     ensures cause { IfErr result (IsCopyCause (B.faults base.old) (B.faults base.new)
         (K.faults out.old) (K.faults out.new)) }
     ensures count { OnOk result (B.faults base.new ≡ B.faults base.old) }
     ensures out_count { OnOk result (K.faults out.new ≡ K.faults out.old) }
     ensures stays { StaysSource B.len B.known B.faults base.old base.new }
-    ensures later { K.faults out.old ≤ K.faults out.new }
 {
     let draft = ready.draft;
     // Matched and not handed up by `?`, here and below: each way out has clauses of its own.
@@ -127,13 +126,12 @@ fn write_left<'m, A: Source, L: Named, K: Sink>(
     ensures step { ForSome (A.known media.old) (λ file. IsStep K.written K.spare K.finished
         (ready_file ready (cleared ready.clearing file))
         out.old out.new done.new) }
-    ensures unfinished { K.finished out.new ≡ K.finished out.old }
+    ensures out_stays { StaysSink K.written K.finished K.faults out.old out.new }
     ensures cause { IfErr done.new (IsCopyCause (A.faults media.old) (A.faults result.now)
         (K.faults out.old) (K.faults out.new)) }
     ensures count { OnOk done.new (A.faults result.now ≡ A.faults media.old) }
     ensures out_count { OnOk done.new (K.faults out.new ≡ K.faults out.old) }
     ensures stays { StaysSource A.len A.known A.faults media.old result.now }
-    ensures later { K.faults out.old ≤ K.faults out.new }
 {
     let mut base = Cleared::<A, L>::new(media, ready.clearing);
     *done = write_over(&mut base, ready, out);
@@ -150,13 +148,12 @@ fn write_bytes<A: Source, K: Sink>(
     ensures step { ForSome (A.known media.old) (λ file. IsStep K.written K.spare K.finished
         (ready_file ready (cleared ready.clearing file))
         out.old out.new result) }
-    ensures unfinished { K.finished out.new ≡ K.finished out.old }
+    ensures out_stays { StaysSink K.written K.finished K.faults out.old out.new }
     ensures cause { IfErr result (IsCopyCause (A.faults media.old) (A.faults media.new)
         (K.faults out.old) (K.faults out.new)) }
     ensures count { OnOk result (A.faults media.new ≡ A.faults media.old) }
     ensures out_count { OnOk result (K.faults out.new ≡ K.faults out.old) }
     ensures stays { StaysSource A.len A.known A.faults media.old media.new }
-    ensures later { K.faults out.old ≤ K.faults out.new }
 {
     let mut done = Err(BuildError::NoMemory);
     let _media = write_left::<A, Brand, K>(media, ready, out, &mut done);
@@ -164,6 +161,7 @@ fn write_bytes<A: Source, K: Sink>(
 }
 
 // Appends the new file, and says that nothing follows.
+#[tactic(auto, using(crate::proofs::Written::unsaid_stays, crate::proofs::Written::finish_stays))]
 fn write_file<A: Source, K: Sink>(
     media: &mut A,
     ready: Ready,
@@ -180,7 +178,7 @@ fn write_file<A: Source, K: Sink>(
     ensures count { OnOk result (A.faults media.new ≡ A.faults media.old) }
     ensures out_count { OnOk result (K.faults out.new ≡ K.faults out.old) }
     ensures stays { StaysSource A.len A.known A.faults media.old media.new }
-    ensures later { K.faults out.old ≤ K.faults out.new }
+    ensures out_stays { StaysSink K.written unsaid K.faults out.old out.new }
 {
     match write_bytes(media, ready, out) {
         Ok(()) => {}
@@ -202,6 +200,7 @@ fn write_file<A: Source, K: Sink>(
 /// and nothing otherwise. The definition isn't read where the media is refused, and the message isn't where the media or the
 /// definition is. The media is read in pieces.
 // The condition always holds: a function that is lent boxed judges is called under a contract only where it has one.
+#[tactic(auto, using(c2_base::proofs::Growing::stays_still))]
 pub fn embed<A: Source, B: Source, C: Source, K: Sink, H: Hashing>(
     alloc: Global,
     hashing: &H,
@@ -212,7 +211,7 @@ pub fn embed<A: Source, B: Source, C: Source, K: Sink, H: Hashing>(
     out: &mut K,
 ) -> Result<Embedded, BuildError>
     requires { Unit {0} }
-    // Where the bytes are known: this is what they come to, and what the sink took.
+    // Where the bytes that are due are known: this is what they come to, and what the sink took.
     ensures embedded { let said = panel_says (map (λ j. says j) judges.old.items) in
         let old : SinkState = record {
           written = K.written out.old;
@@ -220,25 +219,29 @@ pub fn embed<A: Source, B: Source, C: Source, K: Sink, H: Hashing>(
         } in let new : SinkState = record {
           written = K.written out.new;
           finished = K.finished out.new;
-        } in ForSome (A.known media.old) (λ file. ForSome (B.known definition.old)
-        (λ bytes. ForSome (C.known signature.old) (λ message.
-        IsEmbedding H.digest_of said file bytes message old new result))) }
+        } in ForSome (A.known media.old) (λ file. (bytes : List ℕ)
+        → IsDefinitionTold file (B.known definition.old) bytes → (message : List ℕ)
+        → IsMessageTold file bytes (C.known signature.old) message
+        → IsEmbedding H.digest_of said file bytes message old new result) }
     ensures spare { let said = panel_says (map (λ j. says j) judges.old.items) in
-        ForSome (A.known media.old) (λ file. ForSome (B.known definition.old)
-        (λ bytes. ForSome (C.known signature.old) (λ message.
-        HasSpare H.digest_of said file bytes message (K.spare out.old) result))) }
+        ForSome (A.known media.old) (λ file. (bytes : List ℕ)
+        → IsDefinitionTold file (B.known definition.old) bytes → (message : List ℕ)
+        → IsMessageTold file bytes (C.known signature.old) message
+        → HasSpare H.digest_of said file bytes message (K.spare out.old) result) }
     ensures asked { let said = panel_says (map (λ j. says j) judges.old.items) in
         let old = judges_of (λ j. says j) (λ j. asked_times j) (λ j. judge_faults j)
         judges.old.items in
         let new = judges_of (λ j. says j) (λ j. asked_times j) (λ j. judge_faults j)
         judges.new.items in
-        ForSome (A.known media.old) (λ file. ForSome (B.known definition.old) (λ bytes.
-        ForSome (C.known signature.old) (λ message.
-        HasAskedThose (EmbedAsks H.digest_of said file bytes message) old new result))) }
+        ForSome (A.known media.old) (λ file. (bytes : List ℕ)
+        → IsDefinitionTold file (B.known definition.old) bytes → (message : List ℕ)
+        → IsMessageTold file bytes (C.known signature.old) message
+        → HasAskedThose (EmbedAsks H.digest_of said file bytes message) old new result) }
     ensures unasked { let said = panel_says (map (λ j. says j) judges.old.items) in
-        ForSome (A.known media.old) (λ file. ForSome (B.known definition.old) (λ bytes.
-        ForSome (C.known signature.old) (λ message.
-        EmbedAsks H.digest_of said file bytes message [] → judges.new ≡ judges.old))) }
+        ForSome (A.known media.old) (λ file. (bytes : List ℕ)
+        → IsDefinitionTold file (B.known definition.old) bytes → (message : List ℕ)
+        → IsMessageTold file bytes (C.known signature.old) message
+        → EmbedAsks H.digest_of said file bytes message [] → judges.new ≡ judges.old) }
     // What is known of one file, or of two, is enough for it.
     ensures unasked_media { ForSome (A.known media.old) (λ file.
         HasNothingToAsk file → judges.new ≡ judges.old) }
@@ -256,9 +259,10 @@ pub fn embed<A: Source, B: Source, C: Source, K: Sink, H: Hashing>(
         IsDefinitionRefused bytes → signature.new ≡ signature.old) }
     // What is written meets every rule but that on the verdict.
     ensures meets { let said = panel_says (map (λ j. says j) judges.old.items) in
-        ForSome (A.known media.old) (λ file. ForSome (B.known definition.old)
-        (λ bytes. ForSome (C.known signature.old) (λ message.
-        IsMet H.digest_of said file bytes message result))) }
+        ForSome (A.known media.old) (λ file. (bytes : List ℕ)
+        → IsDefinitionTold file (B.known definition.old) bytes → (message : List ℕ)
+        → IsMessageTold file bytes (C.known signature.old) message
+        → IsMet H.digest_of said file bytes message result) }
 
     // These hold of every source.
     ensures untouched { LeavesSink result (out.new ≡ out.old) }
@@ -284,7 +288,7 @@ pub fn embed<A: Source, B: Source, C: Source, K: Sink, H: Hashing>(
     ensures media_stays { StaysSource A.len A.known A.faults media.old media.new }
     ensures definition_stays { StaysSource B.len B.known B.faults definition.old definition.new }
     ensures message_stays { StaysSource C.len C.known C.faults signature.old signature.new }
-    ensures out_later { K.faults out.old ≤ K.faults out.new }
+    ensures out_stays { StaysSink K.written unsaid K.faults out.old out.new }
     ensures leaves { let old = judges_of (λ j. says j) (λ j. asked_times j) (λ j. judge_faults j)
         judges.old.items in
         let new = judges_of (λ j. says j) (λ j. asked_times j) (λ j. judge_faults j)

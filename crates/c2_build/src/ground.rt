@@ -26,7 +26,7 @@ use c2_carried::a_valid_store_is_carried;
 use c2_chain::{labels_of_a_store_differ, of_store, one_reading, readings};
 use c2_cleared::Clearing;
 use c2_definition::Definition;
-use c2_hash::{Alg, Hashing};
+use c2_hash::Hashing;
 use c2_judge::Judge;
 use c2_jumbf::{Tree, count};
 use c2_layout::{Carried, ParentRefs};
@@ -149,7 +149,7 @@ fn carried_of<'u, H: Hashing>(
         Err(NoMemory) => return Err(NoMemory),
     };
     // The parent first: its contents are let go before the boxes are copied.
-    let parent = match parent_digests(alloc, hashing, Alg::Sha256, tree, store, &redactions) {
+    let parent = match parent_digests(alloc, hashing, definition.alg, tree, store, &redactions) {
         Ok(parent) => parent,
         Err(NoMemory) => return Err(NoMemory),
     };

@@ -6,7 +6,7 @@ ghost use Rattle.c2_spec.specs.Container.{IsLocated};
 ghost use Rattle.c2_spec.specs.Jumbf.Tree.{Tree as AnyTree};
 ghost use Rattle.c2_spec.specs.Located.{absent, here};
 ghost use Rattle.c2_rules.specs.Opened.{IsManifestStore};
-ghost use Rattle.c2_media.specs.Opened.{IsContainerOf};
+ghost use Rattle.c2_container.specs.Contained.{IsContainerOf};
 ghost use Rattle.c2_cleared.specs.Clears.{cleared};
 ghost use Rattle.c2_places.specs.Bases.{IsLeft};
 ghost use Rattle.c2_build.specs.Building.{IsMediaStage, fresh, stored};

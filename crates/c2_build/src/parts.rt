@@ -47,7 +47,7 @@ fn digest_of<B: Source, H: Hashing>(
     ensures count { OnOk result (B.faults base.new ≡ B.faults base.old) }
     ensures stays { StaysSource B.len B.known B.faults base.old base.new }
 {
-    let alg = Alg::Sha256;
+    let alg = definition.alg;
     match &drafted.seat {
         Seat::Segments { .. } => match hash_all(hashing, alg, base, drafted.draft.size, buf) {
             Ok(digest) => Ok(digest),
@@ -173,7 +173,7 @@ fn parts_with<H: Hashing>(
         start: drafted.draft.start,
         length: drafted.draft.length,
     };
-    let binding = binding_at(alloc, Alg::Sha256, &drafted.seat, range, digest)?;
+    let binding = binding_at(alloc, definition.alg, &drafted.seat, range, digest)?;
     bound_parts(alloc, hashing, definition, &drafted.ground.carried, binding)
 }
 

@@ -4,7 +4,7 @@ ghost use Rattle.std.specs.Option.{ForSome};
 ghost use Rattle.c2_base.specs.Source.{StaysSource};
 ghost use Rattle.c2_base.specs.declared.limits.TheConstants.{FILE_LEN_LIMIT};
 ghost use Rattle.c2_box_rows.specs.Faults.{FirstRootsFault};
-ghost use Rattle.c2_boxes.specs.Causes.{IsCaused, OrOutside};
+ghost use Rattle.c2_boxes.specs.Causes.{IsRootsCause, OrOutside};
 ghost use Rattle.c2_cleared.specs.Clears.{cleared, cleared_len};
 ghost use Rattle.c2_spec.specs.Jpeg.Places.{IsOfSegments};
 ghost use Rattle.c2_spec.specs.Jpeg.Segments.{Segment};
@@ -63,7 +63,7 @@ fn walk_error(error: MediaError) -> BuildError
         → HasReason len before now error → IsReadCause before now result }
     ensures boxes { (file : List ℕ) → OrOutside error (FirstRootsFault file error)
         → IsForm file FileForm.Bmff → TellsNoPlace file result }
-    ensures boxes_cause { (before now : ℕ) → IsCaused before now error
+    ensures boxes_cause { (len before now : ℕ) → IsRootsCause len before now error
         → IsReadCause before now result }
 {
     // Only the prover needs these laws.

@@ -1,5 +1,5 @@
 // What is ready to be written, before anything is.
-ghost use Rattle.std.specs.Prelude.{◌≡◌, ℕ, IfErr, IfOk, Ok, OnOk, length, map, vec_len, []};
+ghost use Rattle.std.specs.Prelude.{◌≡◌, ℕ, IfErr, IfOk, Ok, OnOk, length, map, vec_len, [], List};
 ghost use Rattle.std.specs.Option.{ForSome};
 ghost use Rattle.c2_base.specs.Source.{StaysSource};
 ghost use Rattle.c2_cleared.specs.Clears.{cleared_len};
@@ -12,7 +12,7 @@ ghost use Rattle.c2_definition.specs.DefinitionFile.{IsWellFormed};
 ghost use Rattle.c2_message.specs.Signed.{IsSigned};
 ghost use Rattle.c2_places.specs.Places.{IsPlace, Place};
 ghost use Rattle.c2_build.specs.Answers.{Faults, HasAskedThose, IsBuildCause};
-ghost use Rattle.c2_build.specs.Building.{EmbedAsks, HasNothingToAsk, IsDefinitionRefused, IsMessageRefused, IsEmbedded, IsEmbeddedOver, IsMediaRefused, IsMediaStage, KindAsks, MediaKind};
+ghost use Rattle.c2_build.specs.Building.{EmbedAsks, HasNothingToAsk, IsDefinitionRefused, IsMessageRefused, IsEmbedded, IsEmbeddedOver, IsMediaRefused, IsMediaStage, KindAsks, MediaKind, IsDefinitionTold, IsMessageTold};
 ghost use Rattle.c2_build.specs.Meeting.{HasTextsIn};
 ghost use Rattle.c2_build.specs.Refusals.{Ground};
 ghost use Rattle.c2_build.specs.Steps.{CanWrite, ComesAs, IsEmbedCause, IsGround, IsKind, IsNumbered, IsPutReady, IsReadCause, IsReady, IsReserveRefusal, IsSeat, IsSmall, SaysNothing};
@@ -189,21 +189,24 @@ pub fn prepare<A: Source, B: Source, C: Source, H: Hashing>(
 ) -> Result<Ready, BuildError>
     requires { Unit {0} }
     ensures ready { let said = panel_says (map (λ j. says j) judges.old.items) in
-        ForSome (A.known media.old) (λ file. ForSome (B.known definition.old)
-        (λ bytes. ForSome (C.known signature.old) (λ message.
-        ComesAs (IsReady file) (IsEmbedded H.digest_of said file bytes message) result))) }
+        ForSome (A.known media.old) (λ file. (bytes : List ℕ)
+        → IsDefinitionTold file (B.known definition.old) bytes → (message : List ℕ)
+        → IsMessageTold file bytes (C.known signature.old) message
+        → ComesAs (IsReady file) (IsEmbedded H.digest_of said file bytes message) result) }
     ensures asked { let said = panel_says (map (λ j. says j) judges.old.items) in
         let old = judges_of (λ j. says j) (λ j. asked_times j) (λ j. judge_faults j)
         judges.old.items in
         let new = judges_of (λ j. says j) (λ j. asked_times j) (λ j. judge_faults j)
         judges.new.items in
-        ForSome (A.known media.old) (λ file. ForSome (B.known definition.old) (λ bytes.
-        ForSome (C.known signature.old) (λ message.
-        HasAskedThose (EmbedAsks H.digest_of said file bytes message) old new result))) }
+        ForSome (A.known media.old) (λ file. (bytes : List ℕ)
+        → IsDefinitionTold file (B.known definition.old) bytes → (message : List ℕ)
+        → IsMessageTold file bytes (C.known signature.old) message
+        → HasAskedThose (EmbedAsks H.digest_of said file bytes message) old new result) }
     ensures unasked { let said = panel_says (map (λ j. says j) judges.old.items) in
-        ForSome (A.known media.old) (λ file. ForSome (B.known definition.old) (λ bytes.
-        ForSome (C.known signature.old) (λ message.
-        EmbedAsks H.digest_of said file bytes message [] → judges.new ≡ judges.old))) }
+        ForSome (A.known media.old) (λ file. (bytes : List ℕ)
+        → IsDefinitionTold file (B.known definition.old) bytes → (message : List ℕ)
+        → IsMessageTold file bytes (C.known signature.old) message
+        → EmbedAsks H.digest_of said file bytes message [] → judges.new ≡ judges.old) }
     // What is known of one file, or of two, is enough for it.
     ensures unasked_media { ForSome (A.known media.old) (λ file.
         HasNothingToAsk file → judges.new ≡ judges.old) }
@@ -212,7 +215,8 @@ pub fn prepare<A: Source, B: Source, C: Source, H: Hashing>(
     ensures unasked_message { ForSome (B.known definition.old) (λ bytes.
         ForSome (C.known signature.old) (λ message.
         IsMessageRefused bytes message → judges.new ≡ judges.old)) }
-    ensures texts { ForSome (B.known definition.old) (λ bytes. OnOk result (HasTextsIn bytes)) }
+    ensures texts { ForSome (A.known media.old) (λ file. (bytes : List ℕ)
+        → IsDefinitionTold file (B.known definition.old) bytes → OnOk result (HasTextsIn bytes)) }
     ensures definition_unread { ForSome (A.known media.old) (λ file.
         IsMediaRefused file → definition.new ≡ definition.old) }
     ensures message_unread_first { ForSome (A.known media.old) (λ file.

@@ -12,7 +12,6 @@ use Rattle.c2_spec.specs.declared.assertion.Ingredient.{Ingredient}
 use Rattle.c2_spec.specs.declared.assertion.Relationship.TheVariants.{ParentOf}
 use Rattle.c2_spec.specs.declared.cbor.Ref.{Ref}
 use Rattle.c2_spec.specs.declared.digest.Alg.{Alg}
-use Rattle.c2_spec.specs.declared.digest.Alg.TheVariants.{Sha256}
 use Rattle.c2_assertion.specs.Written.{data_hash_item, ingredient_item, one_exclusion}
 use Rattle.c2_claim.specs.Written.{claim_item}
 use Rattle.c2_claim.specs.declared.writing.ClaimParts.{ClaimParts}
@@ -109,7 +108,7 @@ new_assertions hash c binding = c.definition.assertions ++ (parent_assertions ha
 
 -- the algorithm of each digest in the new manifest of a definition
 abbrev pub new_alg : Definition → Alg
-new_alg d = Sha256
+new_alg d = d.alg
 
 -- what a claim of a definition says, with these entries
 abbrev pub claim_with : Definition → List Ref → ClaimParts

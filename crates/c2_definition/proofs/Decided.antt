@@ -14,7 +14,7 @@ use Rattle.c2_definition.specs.declared.types.NewAssertion.{NewAssertion}
 use Rattle.c2_definition.specs.declared.types.Payload.{Payload}
 use Rattle.c2_definition.specs.declared.types.Payload.TheVariants as payload
 use Rattle.c2_definition.specs.Json.{object_of}
-use Rattle.c2_definition.specs.DefinitionFile.{IsWholeItem, IsPayload, HasPayload, HavePayloads, assertions_in, definition_in, TellsPayloads, IsDefinition}
+use Rattle.c2_definition.specs.DefinitionFile.{IsWholeItem, IsPayload, HasPayload, HavePayloads, assertions_in, definition_in, IsDefinition}
 
 -- ---- facts that a test tells
 

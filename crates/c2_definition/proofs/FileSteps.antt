@@ -1,5 +1,5 @@
 -- A file, and the object that it is.
-use Rattle.std.proofs.Common.{◌≡◌, ◌↔◌, ℕ, ◌<◌, ◌≤◌, Bool, true, false, cond, List, length, Option, Some, None, Result, Ok, Err, nat_lt, refl, sym, ap, subst, ◌∙◌}
+use Rattle.std.proofs.Common.{◌≡◌, ◌↔◌, ℕ, ◌<◌, ◌≤◌, Bool, true, false, cond, List, length, Option, Some, None, Result, Err, refl, sym, ap, subst, ◌∙◌}
 use Rattle.std.specs.Str.{IsUtf8, is_utf8}
 use Rattle.std.proofs.lemmas.Bool.{lt-ltb, le-ltb}
 use Rattle.std.proofs.lemmas.Str.{IsUtf8-from_is_utf8, is_utf8-from_IsUtf8}
@@ -12,7 +12,7 @@ use Rattle.c2_definition.specs.declared.types.DefinitionField.{DefinitionField}
 use Rattle.c2_definition.specs.declared.types.DefinitionField.TheVariants as field
 use Rattle.c2_definition.specs.declared.error.DefinitionError.{DefinitionError}
 use Rattle.c2_definition.specs.Json.{json_of, object_of, kept, is_object}
-use Rattle.c2_definition.specs.DefinitionFile.{HavePayloads, definition_of, definition_in, TellsPayloads, IsDefinition, Agrees}
+use Rattle.c2_definition.specs.DefinitionFile.{HavePayloads, definition_of, TellsPayloads, IsDefinition, Agrees}
 
 -- ---- bytes as a value
 

@@ -1,5 +1,5 @@
 -- A definition that a file is keeps what is asked of its fields.
-use Rattle.std.proofs.Common.{◌≡◌, ℕ, ◌≤◌, Bool, true, false, not, cond, List, [], ◌∷◌, length, codes, Option, Some, None, option_and_then, Result, Ok, Err, nat_le, nat_lt, ◌&&◌, refl, sym, ap, subst, ◌∙◌, if◌then◌else◌}
+use Rattle.std.proofs.Common.{◌≡◌, ℕ, Bool, true, false, not, cond, List, [], ◌∷◌, length, codes, Option, Some, None, option_and_then, Result, Ok, Err, nat_le, nat_lt, ◌&&◌, refl, sym, ap, subst, ◌∙◌, if◌then◌else◌}
 use Rattle.std.specs.List.{AllByRecursion}
 use Rattle.std.proofs.lemmas.Bool.{and_parts, leb-true}
 use Rattle.serde_json.specs.Data.{Data, Items, no_items, item}
@@ -13,7 +13,7 @@ use Rattle.c2_definition.specs.declared.types.DefinitionField.TheVariants as fie
 use Rattle.c2_definition.specs.declared.types.NewAssertion.{NewAssertion}
 use Rattle.c2_definition.specs.declared.types.Payload.{Payload}
 use Rattle.c2_definition.specs.Json.{kept, object_of, has_keys, text_at, number_at, optional_text_at, optional_list_at, list_or_missing, each_of}
-use Rattle.c2_definition.specs.DefinitionFile.{is_field, is_filled, is_manifest_label, is_new_label, is_assertion_field, payload_of, label_in, filled_at, hex_at, protected_in, reserve_in, redactions_in, assertion_from, assertion_of, labels_differ, assertions_in, HasPayload, HavePayloads, fields_of, definition_of, definition_in, IsDefinition, IsWellFormed}
+use Rattle.c2_definition.specs.DefinitionFile.{is_field, is_filled, is_manifest_label, is_new_label, is_assertion_field, payload_of, label_in, filled_at, hex_at, protected_in, reserve_in, redactions_in, alg_in, assertion_from, assertion_of, labels_differ, assertions_in, HavePayloads, fields_of, definition_of, IsDefinition, IsWellFormed}
 
 -- ---- what is there
 
@@ -96,10 +96,11 @@ of_object v payloads d told h =
     let reserve = required field.Reserve (reserve_in v) _ d protected.2 in
     let assertions = required field.Assertions (if payloads then assertions_in v else None) _ d reserve.2 in
     let redact = required field.Redact (redactions_in v) _ d assertions.2 in
+    let alg = required field.Alg (alg_in v) _ d redact.2 in
     let listed = told_list v payloads assertions.0 assertions.1 in
     let differing = passes labels_differ (optional_list_at assertion_of (codes "assertions") v) assertions.0 listed.1 in
     let in_range = and_parts (nat_le MIN_RESERVE reserve.0) (nat_le reserve.0 MAX_RESERVE) (passes (λ n. nat_le MIN_RESERVE n && nat_le n MAX_RESERVE) (number_at (codes "reserve") v) reserve.0 reserve.1).1 in
-    subst IsWellFormed (same_ok redact.2) (record {
+    subst IsWellFormed (same_ok alg.2) (record {
       label = (passes is_manifest_label (text_at (codes "label") v) label.0 label.1).1;
       instance = (passes is_filled (text_at (codes "instance_id") v) instance.0 instance.1).1;
       generator = (passes is_filled (text_at (codes "generator") v) generator.0 generator.1).1;

@@ -14,8 +14,11 @@ use Rattle.c2_spec.specs.C2pa.Assertion.{kind_of}
 use Rattle.c2_spec.specs.C2pa.Uri.{after_piece}
 use Rattle.c2_spec.specs.Cbor.Item.{Item}
 use Rattle.c2_spec.specs.Cbor.Fields.{HasItem, require}
+use Rattle.c2_spec.specs.Digest.{alg_named}
 use Rattle.c2_spec.specs.declared.assertion.Kind.{Kind}
 use Rattle.c2_spec.specs.declared.assertion.Kind.TheVariants as kinds
+use Rattle.c2_spec.specs.declared.digest.Alg.{Alg}
+use Rattle.c2_spec.specs.declared.digest.Alg.TheVariants.{Sha256}
 use Rattle.c2_definition.specs.Json.{kept, object_of, has_keys, text_at, number_at, optional_text_at, optional_list_at}
 use Rattle.c2_definition.specs.declared.types.TheConstants.{MAX_PROTECTED, MIN_RESERVE, MAX_RESERVE}
 use Rattle.c2_definition.specs.declared.types.Definition.{Definition}
@@ -34,6 +37,7 @@ abbrev pub is_field : List ℕ → Bool
 is_field k =
     bytes_eq k (codes "label") || bytes_eq k (codes "instance_id") || bytes_eq k (codes "generator") || bytes_eq k (codes "title")
     || bytes_eq k (codes "protected") || bytes_eq k (codes "reserve") || bytes_eq k (codes "assertions") || bytes_eq k (codes "redact")
+    || bytes_eq k (codes "alg")
 
 -- a UUID in five groups with hyphens and lower case digits (RFC 9562, section 4): it is written back as it was read
 abbrev pub is_uuid : List ℕ → Bool
@@ -70,6 +74,15 @@ reserve_in v = kept (λ n. nat_le MIN_RESERVE n && nat_le n MAX_RESERVE) (number
 -- the URIs that are redacted, each a text
 abbrev pub redactions_in : Data → Option (List (List ℕ))
 redactions_in v = optional_list_at as_str (codes "redact") v
+
+-- the algorithm of this name; without a name it is SHA-256
+abbrev pub alg_or_sha256 : Option (List ℕ) → Option Alg
+alg_or_sha256 None = Some Sha256
+alg_or_sha256 (Some name) = alg_named name
+
+-- the algorithm of each digest in the new manifest
+abbrev pub alg_in : Data → Option Alg
+alg_in v = option_and_then alg_or_sha256 (optional_text_at (codes "alg") v)
 
 -- ---- the assertions
 
@@ -158,6 +171,7 @@ fields_of payloads v =
     require field.Reserve (reserve_in v) (λ reserve.
     require field.Assertions (if payloads then assertions_in v else None) (λ assertions.
     require field.Redact (redactions_in v) (λ redact.
+    require field.Alg (alg_in v) (λ alg.
     Ok (record {
       label = label;
       instance_id = instance;
@@ -167,7 +181,8 @@ fields_of payloads v =
       reserve = reserve;
       assertions = assertions;
       redact = redact;
-    })))))))))
+      alg = alg;
+    }))))))))))
 
 -- the definition that an object is, or what of it is refused first: another key, a field
 abbrev pub definition_of : Bool → Data → Result Definition DefinitionField

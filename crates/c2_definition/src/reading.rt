@@ -2,6 +2,7 @@
 ghost use Rattle.std.specs.Prelude.{◌≡◌, ◌↔◌, Bool, true, option_map, IfOk, Result};
 ghost use Rattle.serde_json.specs.View.{view};
 ghost use Rattle.c2_definition.specs.Json.{object_of};
+ghost use Rattle.c2_definition.specs.DefinitionFile as file;
 ghost use Rattle.c2_definition.specs.DefinitionFile.{HavePayloads, definition_of, IsDefinition, Agrees};
 ghost use Rattle.c2_definition.specs.declared.types.Definition.{Definition as AnyDefinition};
 ghost use Rattle.c2_definition.specs.declared.types.DefinitionField.{DefinitionField as AnyField};
@@ -13,8 +14,20 @@ use crate::payloads::whole_assertions;
 use crate::types::{Definition, DefinitionField};
 use c2_base::NoMemory;
 use c2_base::limits::MAX_INPUT_LEN;
+use c2_hash::{Alg, alg_of};
 use serde_json::Value;
 use std::alloc::Global;
+
+// The algorithm of each digest; None where something stands there that is no name of one.
+fn alg_in(value: &Value) -> Option<Alg>
+    ensures { result ≡ file.alg_in (view value.now) }
+{
+    let Some(member) = value.get("alg") else {
+        return Some(Alg::Sha256);
+    };
+    let name = member.as_str()?;
+    alg_of(name)
+}
 
 // The definition that an object is, or its first field that is refused.
 fn definition_of(alloc: Global, value: &Value) -> Result<Definition, DefinitionError>
@@ -28,6 +41,9 @@ fn definition_of(alloc: Global, value: &Value) -> Result<Definition, DefinitionE
     let Some(redact) = optional_texts_at(alloc, value, "redact")? else {
         return Err(DefinitionError::BadDefinition(DefinitionField::Redact));
     };
+    let Some(alg) = alg_in(value) else {
+        return Err(DefinitionError::BadDefinition(DefinitionField::Alg));
+    };
     Ok(Definition {
         label: first.label,
         instance_id: first.instance_id,
@@ -37,6 +53,7 @@ fn definition_of(alloc: Global, value: &Value) -> Result<Definition, DefinitionE
         reserve: first.reserve,
         assertions,
         redact,
+        alg,
     })
 }
 
@@ -63,7 +80,8 @@ fn object_of(alloc: Global, bytes: &[u8]) -> Result<Option<Value>, NoMemory>
 /// The definition that a file is.
 ///
 /// `BadDefinition` with what is refused first, in the order of `DefinitionField`. Of several members with one key the last
-/// holds; `assertions` and `redact` may be missing, and are empty then; a null is refused wherever it stands.
+/// holds; `assertions` and `redact` may be missing, and are empty then; `alg` may be missing, and is SHA-256 then; a null is
+/// refused wherever it stands.
 pub fn read_definition(alloc: Global, bytes: &[u8]) -> Result<Definition, DefinitionError>
     // What the file is, or what is refused first, is answered, unless memory runs out.
     ensures { (r : Result AnyDefinition AnyField) → IsDefinition bytes.now r → Agrees r result }

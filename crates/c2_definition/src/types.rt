@@ -1,6 +1,7 @@
 // What a definition file says.
 
 use c2_base::{Blob, Text, Texts};
+use c2_hash::Alg;
 use std::marker::Model;
 
 /// The most bytes of a protected header.
@@ -94,6 +95,9 @@ pub struct Definition {
 
     /// The URIs of the assertions of older manifests that are redacted.
     pub redact: Texts,
+
+    /// The algorithm of each digest in the new manifest.
+    pub alg: Alg,
 }
 
 /// What is refused of a definition file, in the order in which it is tested.
@@ -131,4 +135,7 @@ pub enum DefinitionField {
 
     /// `redact` is there and no list of texts.
     Redact,
+
+    /// `alg` is there and none of the texts `sha256`, `sha384` and `sha512`.
+    Alg,
 }

@@ -6,15 +6,18 @@ use std::alloc::{AllocError, Global};
 use std::test::Fail;
 
 // Files, and what they are: the label, the instance, the generator, the title in brackets (or `-`), the protected header in
-// hex, the reserve, each new assertion as its label, box and bytes, and the redactions; or what is refused first.
+// hex, the reserve, the algorithm, each new assertion as its label, box and bytes, and the redactions; or what is refused first.
 const FILES: &str =
-    r#"{"label":"urn:c2pa:00000000-0000-4000-8000-000000000000","instance_id":"xmp:iid:sample","generator":"c2","protected":"a10126","reserve":256,"assertions":[{"label":"c2pa.actions.v2","kind":"cbor","hex":"a167616374696f6e7381a166616374696f6e6c633270612e63726561746564"}]} => urn:c2pa:00000000-0000-4000-8000-000000000000 xmp:iid:sample c2 - a10126 256 (c2pa.actions.v2 cbor a167616374696f6e7381a166616374696f6e6c633270612e63726561746564)
-{"label":"urn:c2pa:00000000-0000-4000-8000-00000000000a","instance_id":"i","generator":"g","protected":"","reserve":64} => urn:c2pa:00000000-0000-4000-8000-00000000000a i g -  64
- { "redact" : [ ] , "assertions" : [ ] , "reserve" : 1048576 , "protected" : "A10126" , "title" : "" , "generator" : " " , "instance_id" : "\u00fc" , "label" : "urn:c2pa:ffffffff-ffff-ffff-ffff-ffffffffffff" } => urn:c2pa:ffffffff-ffff-ffff-ffff-ffffffffffff ü   [] a10126 1048576
-{"label":"urn:c2pa:00000000-0000-4000-8000-00000000000a","instance_id":"i","generator":"g","title":"t","protected":"","reserve":64,"redact":["u","","u"]} => urn:c2pa:00000000-0000-4000-8000-00000000000a i g [t]  64 <u> <> <u>
-{"label":"x","label":"urn:c2pa:00000000-0000-4000-8000-00000000000a","instance_id":"i","generator":"g","protected":"","reserve":64} => urn:c2pa:00000000-0000-4000-8000-00000000000a i g -  64
+    r#"{"label":"urn:c2pa:00000000-0000-4000-8000-000000000000","instance_id":"xmp:iid:sample","generator":"c2","protected":"a10126","reserve":256,"assertions":[{"label":"c2pa.actions.v2","kind":"cbor","hex":"a167616374696f6e7381a166616374696f6e6c633270612e63726561746564"}]} => urn:c2pa:00000000-0000-4000-8000-000000000000 xmp:iid:sample c2 - a10126 256 Sha256 (c2pa.actions.v2 cbor a167616374696f6e7381a166616374696f6e6c633270612e63726561746564)
+{"label":"urn:c2pa:00000000-0000-4000-8000-00000000000a","instance_id":"i","generator":"g","protected":"","reserve":64} => urn:c2pa:00000000-0000-4000-8000-00000000000a i g -  64 Sha256
+ { "redact" : [ ] , "assertions" : [ ] , "reserve" : 1048576 , "protected" : "A10126" , "title" : "" , "generator" : " " , "instance_id" : "\u00fc" , "label" : "urn:c2pa:ffffffff-ffff-ffff-ffff-ffffffffffff" } => urn:c2pa:ffffffff-ffff-ffff-ffff-ffffffffffff ü   [] a10126 1048576 Sha256
+{"label":"urn:c2pa:00000000-0000-4000-8000-00000000000a","instance_id":"i","generator":"g","title":"t","protected":"","reserve":64,"redact":["u","","u"]} => urn:c2pa:00000000-0000-4000-8000-00000000000a i g [t]  64 Sha256 <u> <> <u>
+{"label":"x","label":"urn:c2pa:00000000-0000-4000-8000-00000000000a","instance_id":"i","generator":"g","protected":"","reserve":64} => urn:c2pa:00000000-0000-4000-8000-00000000000a i g -  64 Sha256
 {"label":"urn:c2pa:00000000-0000-4000-8000-00000000000a","\u006cabel":"x","instance_id":"i","generator":"g","protected":"","reserve":64} => Label
-{"label":"urn:c2pa:00000000-0000-4000-8000-00000000000a","instance_id":"i","generator":"g","protected":"","reserve":64,"assertions":[{"label":"a","kind":"json","hex":""},{"label":"b","kind":"cbor","hex":"1805"},{"label":"c2pa.actions__1","kind":"json","hex":"7B7d"},{"label":"a__1","kind":"json","hex":"00"},{"label":" ~ü","kind":"cbor","hex":"A0"}]} => urn:c2pa:00000000-0000-4000-8000-00000000000a i g -  64 (a json ) (b cbor 1805) (c2pa.actions__1 json 7b7d) (a__1 json 00) ( ~ü cbor a0)
+{"label":"urn:c2pa:00000000-0000-4000-8000-00000000000a","instance_id":"i","generator":"g","protected":"","reserve":64,"assertions":[{"label":"a","kind":"json","hex":""},{"label":"b","kind":"cbor","hex":"1805"},{"label":"c2pa.actions__1","kind":"json","hex":"7B7d"},{"label":"a__1","kind":"json","hex":"00"},{"label":" ~ü","kind":"cbor","hex":"A0"}]} => urn:c2pa:00000000-0000-4000-8000-00000000000a i g -  64 Sha256 (a json ) (b cbor 1805) (c2pa.actions__1 json 7b7d) (a__1 json 00) ( ~ü cbor a0)
+{"label":"urn:c2pa:00000000-0000-4000-8000-00000000000a","instance_id":"i","generator":"g","protected":"","reserve":64,"alg":"sha384"} => urn:c2pa:00000000-0000-4000-8000-00000000000a i g -  64 Sha384
+{"label":"urn:c2pa:00000000-0000-4000-8000-00000000000a","instance_id":"i","generator":"g","protected":"","reserve":64,"alg":"sha512"} => urn:c2pa:00000000-0000-4000-8000-00000000000a i g -  64 Sha512
+{"label":"urn:c2pa:00000000-0000-4000-8000-00000000000a","instance_id":"i","generator":"g","protected":"","reserve":64,"alg":"sha256"} => urn:c2pa:00000000-0000-4000-8000-00000000000a i g -  64 Sha256
  => Json
 [] => Json
 null => Json
@@ -57,7 +60,17 @@ null => Json
 {"label":"urn:c2pa:00000000-0000-4000-8000-00000000000a","instance_id":"i","generator":"g","protected":"","reserve":null} => Reserve
 {"label":"urn:c2pa:00000000-0000-4000-8000-00000000000a","instance_id":"i","generator":"g","protected":"","reserve":64,"redact":null} => Redact
 {"label":"urn:c2pa:00000000-0000-4000-8000-00000000000a","instance_id":"i","generator":"g","protected":"","reserve":64,"redact":"u"} => Redact
-{"label":"urn:c2pa:00000000-0000-4000-8000-00000000000a","instance_id":"i","generator":"g","protected":"","reserve":64,"redact":["u",null]} => Redact"#;
+{"label":"urn:c2pa:00000000-0000-4000-8000-00000000000a","instance_id":"i","generator":"g","protected":"","reserve":64,"redact":["u",null]} => Redact
+{"label":"urn:c2pa:00000000-0000-4000-8000-00000000000a","instance_id":"i","generator":"g","protected":"","reserve":64,"alg":"md5"} => Alg
+{"label":"urn:c2pa:00000000-0000-4000-8000-00000000000a","instance_id":"i","generator":"g","protected":"","reserve":64,"alg":"SHA256"} => Alg
+{"label":"urn:c2pa:00000000-0000-4000-8000-00000000000a","instance_id":"i","generator":"g","protected":"","reserve":64,"alg":"sha-256"} => Alg
+{"label":"urn:c2pa:00000000-0000-4000-8000-00000000000a","instance_id":"i","generator":"g","protected":"","reserve":64,"alg":"sha512/256"} => Alg
+{"label":"urn:c2pa:00000000-0000-4000-8000-00000000000a","instance_id":"i","generator":"g","protected":"","reserve":64,"alg":""} => Alg
+{"label":"urn:c2pa:00000000-0000-4000-8000-00000000000a","instance_id":"i","generator":"g","protected":"","reserve":64,"alg":null} => Alg
+{"label":"urn:c2pa:00000000-0000-4000-8000-00000000000a","instance_id":"i","generator":"g","protected":"","reserve":64,"alg":256} => Alg
+{"label":"urn:c2pa:00000000-0000-4000-8000-00000000000a","instance_id":"i","generator":"g","protected":"","reserve":64,"alg":["sha256"]} => Alg
+{"alg":"md5","label":"urn:c2pa:00000000-0000-4000-8000-00000000000a","instance_id":"i","generator":"g","protected":"","reserve":64,"redact":null} => Redact
+{"label":"urn:c2pa:00000000-0000-4000-8000-00000000000a","instance_id":"i","generator":"g","protected":"","reserve":64,"algorithm":"sha256"} => Other"#;
 
 // A file up to the value of its field `assertions`, a wrong `redact` behind it.
 const BEFORE: &str =
@@ -139,6 +152,8 @@ fn show_fields(alloc: Global, d: &Definition) -> Result<String, AllocError> {
     out.push_str(protected.as_str())?;
     let reserve = format!(in alloc; " {}", d.reserve)?;
     out.push_str(reserve.as_str())?;
+    let alg = format!(in alloc; " {:?}", d.alg)?;
+    out.push_str(alg.as_str())?;
     Ok(out)
 }
 

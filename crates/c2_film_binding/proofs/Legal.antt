@@ -1,6 +1,6 @@
 -- The item of the binding is legal.
 use Rattle.std.specs.Prelude.{◌⊎◌}
-use Rattle.std.proofs.Common.{◌≡◌, ⊎_elim, ℕ, List, length, ap, arith, codes, lit≤}
+use Rattle.std.proofs.Common.{◌≡◌, ⊎_elim, ℕ, List, length, ap, arith, lit≤}
 use Rattle.c2_assertion.specs.Written.{bmff_hash_item}
 use Rattle.c2_films.specs.Films.{film_hash}
 use Rattle.c2_spec.specs.Cbor.Item.{Item, text}

@@ -1,5 +1,6 @@
 -- Worked films, computed: a definition with one assertion of actions, without a title, and 256 bytes reserved for the message, in a
--- file of 25 bytes; and the same definition under another label in that file with the C2PA box of the first store in the middle.
+-- file of 25 bytes, by each algorithm; and the same definition under another label in that file with the C2PA box of the first store, by
+-- SHA-256, in the middle.
 use Rattle.std.proofs.Common.{◌≡◌, ℕ, List, [], ◌∷◌, ◌++◌, length, replicate, None, Some, refl, codes}
 use Rattle.std.specs.Prelude.{Ok, Err}
 use Rattle.std.specs.List.{flat_map}
@@ -9,6 +10,7 @@ use Rattle.c2_spec.specs.Cbor.Deterministic.{shortest_head}
 use Rattle.c2_spec.specs.Jumbf.Tree.{Tree, tree_bytes}
 use Rattle.c2_spec.specs.Bmff.Writing.{base_roots, built_text, c2pa_box, freed, insert_place, place_without}
 use Rattle.c2_definition.specs.declared.types.Definition.{Definition}
+use Rattle.c2_definition.specs.declared.types.NewAssertion.{NewAssertion}
 use Rattle.c2_built.specs.Built.{no_digest}
 use Rattle.c2_built.specs.Fresh.{fresh_content}
 use Rattle.c2_built.specs.FreshBoxes.{contents_of, item_box}
@@ -18,7 +20,8 @@ use Rattle.c2_carried.specs.Parents.{IsContentOver}
 use Rattle.c2_carried.specs.Redacting.{boxes_in, redacted_boxes}
 use Rattle.c2_films.specs.Films.{film_binding, film_file, film_len, film_store, film_store_size}
 use Rattle.c2_spec.specs.Digest.{zero_digest}
-use Rattle.c2_spec.specs.declared.digest.Alg.TheVariants.{Sha256}
+use Rattle.c2_spec.specs.declared.digest.Alg.{Alg}
+use Rattle.c2_spec.specs.declared.digest.Alg.TheVariants.{Sha256, Sha384, Sha512}
 
 -- ---- a file without a store
 
@@ -57,9 +60,9 @@ film_text = refl
 abbrev label : List ℕ → List ℕ
 label last = codes "urn:c2pa:00000000-0000-4000-8000-00000000000" ++ last
 
--- a definition under such a label
-unfoldable defined : List ℕ → Definition
-defined last = record {
+-- a definition under such a label, by this algorithm
+unfoldable defined : Alg → List ℕ → Definition
+defined alg last = record {
   label = label last;
   instance_id = codes "xmp:iid:sample";
   generator = codes "c2";
@@ -68,47 +71,64 @@ defined last = record {
   reserve = 256;
   assertions = actions ∷ [];
   redact = [];
+  alg = alg;
 }
 
--- the item of the binding
-binding_item : length (film_binding Sha256 (zero_digest Sha256)).bytes ≡ 140
-unfolding shortest_head
-binding_item = refl
+-- the binding by an algorithm, with zeros for the digest
+abbrev blank : Alg → NewAssertion
+blank alg = film_binding alg (zero_digest alg)
 
--- and its box
-binding_box : length (tree_bytes (assertion_box (film_binding Sha256 (zero_digest Sha256)))) ≡ 199
+-- its item
+binding_item : (length (blank Sha256).bytes ≡ 140) × (length (blank Sha384).bytes ≡ 156) × (length (blank Sha512).bytes ≡ 172)
 unfolding shortest_head
-binding_box = refl
+binding_item = (refl, refl, refl)
+
+-- how long its box is
+abbrev box_size : Alg → ℕ
+box_size alg = length (tree_bytes (assertion_box (blank alg)))
+
+-- so long
+binding_box : (box_size Sha256 ≡ 199) × (box_size Sha384 ≡ 215) × (box_size Sha512 ≡ 231)
+unfolding shortest_head
+binding_box = (refl, refl, refl)
 
 -- what goes into the store
-unfoldable fresh : Content
-fresh = fresh_content (defined (codes "0"))
+unfoldable fresh : Alg → Content
+fresh alg = fresh_content (defined alg (codes "0"))
 
--- the claim
-claim : length (new_claim (no_digest Sha256) fresh (film_binding Sha256 (zero_digest Sha256))) ≡ 355
-unfolding fresh defined actions shortest_head
-claim = refl
+-- how long the claim is
+abbrev claim_size : Alg → ℕ
+claim_size alg = length (new_claim (no_digest alg) (fresh alg) (blank alg))
 
--- the store
-store : film_store_size fresh 256 ≡ 1175
+-- it has two digests
+claim : (claim_size Sha256 ≡ 355) × (claim_size Sha384 ≡ 387) × (claim_size Sha512 ≡ 419)
 unfolding fresh defined actions shortest_head
-store = refl
+claim = (refl, refl, refl)
+
+-- the store has one more, that of the binding
+store : (film_store_size (fresh Sha256) 256 ≡ 1175) × (film_store_size (fresh Sha384) 256 ≡ 1223) × (film_store_size (fresh Sha512) 256 ≡ 1271)
+unfolding fresh defined actions shortest_head
+store = (refl, refl, refl)
 
 -- its box
-store_box : film_len fresh 256 ≡ 1220
+store_box : (film_len (fresh Sha256) 256 ≡ 1220) × (film_len (fresh Sha384) 256 ≡ 1268) × (film_len (fresh Sha512) 256 ≡ 1316)
 unfolding fresh defined actions shortest_head
-store_box = refl
+store_box = (refl, refl, refl)
 
--- the new file
-file : length (film_file (no_digest Sha256) fresh (replicate 256 0) (flat_map box_bytes film) film) ≡ 1245
+-- how long the new file is
+abbrev file_size : Alg → ℕ
+file_size alg = length (film_file (no_digest alg) (fresh alg) (replicate 256 0) (flat_map box_bytes film) film)
+
+-- so long
+file : (file_size Sha256 ≡ 1245) × (file_size Sha384 ≡ 1293) × (file_size Sha512 ≡ 1341)
 unfolding fresh defined actions shortest_head
-file = refl
+file = (refl, refl, refl)
 
 -- ---- the file with that box in the middle
 
--- the first store
+-- the first store, by SHA-256
 unfoldable first : Tree
-first = film_store (no_digest Sha256) fresh (replicate 256 0) film
+first = film_store (no_digest Sha256) (fresh Sha256) (replicate 256 0) film
 
 -- its box
 abbrev old : Box
@@ -134,7 +154,7 @@ new_place = refl
 
 -- the manifest that is carried, and that is the parent
 unfoldable manifest : Tree
-manifest = new_manifest (no_digest Sha256) fresh (film_binding Sha256 (zero_digest Sha256)) (replicate 256 0)
+manifest = new_manifest (no_digest Sha256) (fresh Sha256) (blank Sha256) (replicate 256 0)
 
 -- its signature box
 abbrev signature : Tree
@@ -145,13 +165,13 @@ unfoldable parent : Parent
 parent = record { label = label (codes "0"); contents = contents_of manifest; signed = contents_of signature }
 
 -- what goes into the new store
-unfoldable second : Content
-second = record { definition = defined (codes "1"); carried = redacted_boxes [] (boxes_in first); parent = Some parent }
+unfoldable second : Alg → Content
+second alg = record { definition = defined alg (codes "1"); carried = redacted_boxes [] (boxes_in first); parent = Some parent }
 
--- as it is over the first
-is_over : IsContentOver (defined (codes "1")) first second
+-- as it is over the first, whatever its own algorithm is
+is_over : (alg : Alg) → IsContentOver (defined alg (codes "1")) first (second alg)
 unfolding second parent first manifest fresh defined actions shortest_head
-is_over = record {
+is_over alg = record {
   definition = refl;
   carried = refl;
   parent = parent;
@@ -159,7 +179,7 @@ is_over = record {
   is_parent = record { active = manifest; is_active = refl; label = refl; contents = refl; signature = signature; is_signature = refl; signed = refl };
 }
 
--- its box
-second_box : film_len second 256 ≡ 2792
+-- its box: what is carried keeps its digests, and the new manifest has six of its own
+second_box : (film_len (second Sha256) 256 ≡ 2792) × (film_len (second Sha384) 256 ≡ 2888) × (film_len (second Sha512) 256 ≡ 2984)
 unfolding second parent first fresh defined actions shortest_head
-second_box = refl
+second_box = (refl, refl, refl)

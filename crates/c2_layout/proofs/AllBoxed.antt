@@ -1,7 +1,7 @@
 -- The boxes of assertions, one after the other, and the references to them: one turn of a loop, and its end.
 use Rattle.std.proofs.Common.{◌≡◌, ℕ, suc, ◌+◌, ◌<◌, ◌≤◌, List, [], ◌∷◌, ◌++◌, length, get_or, drop, map, refl, sym, ap, ◌∙◌, append_assoc, append-nil, arith}
 use Rattle.std.proofs.Math.Seq.{drop-cons}
-use Rattle.std.proofs.lemmas.List.{map-append, drop_all}
+use Rattle.std.proofs.lemmas.List.{drop_all}
 use Rattle.c2_spec.specs.Jumbf.Tree.{tree_bytes, trees_bytes}
 use Rattle.c2_definition.specs.declared.types.NewAssertion.{NewAssertion}
 use Rattle.c2_built.specs.Store.{assertion_box, assertion_boxes}

@@ -1,10 +1,9 @@
 -- How many bytes a new store has, by its parts; and that the boxes of assertions can be written where the store isn't too large.
 use Rattle.std.proofs.Common.{◌≡◌, ℕ, ◌+◌, ◌≤◌, true, inl, inr, min, take, List, [], ◌∷◌, ◌++◌, length, map, replicate, Option, Some, None, refl, sym, ap, ◌∙◌, subst, arith, codes, length-append, lit<}
-use Rattle.std.specs.Prelude.{◌⊎◌, sum_by, All, Result, Ok, Err, IfOk, option_map}
+use Rattle.std.specs.Prelude.{sum_by, All, Result, Ok, Err, IfOk, option_map}
 use Rattle.std.specs.List.{AllByRecursion}
 use Rattle.std.proofs.lemmas.List.{length-replicate, take_all}
 use Rattle.std.proofs.lemmas.List.Sums.{sum_by-cons}
-use Rattle.std.proofs.lemmas.Result.{IfOk-at_ok}
 use Rattle.std.proofs.lemmas.List.Elements.{All-nil, All-cons}
 use Rattle.c2_base.specs.declared.limits.TheConstants.{MAX_STORE_LEN}
 use Rattle.c2_spec.specs.C2pa.Uri.{signature, whole}

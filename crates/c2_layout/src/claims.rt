@@ -8,7 +8,7 @@ use c2_base::{Blob, NoMemory, Text, Texts};
 use c2_cbor::{Ref, Refs};
 use c2_claim::{ClaimParts, write};
 use c2_definition::Definition;
-use c2_hash::{Alg, alg_name};
+use c2_hash::alg_name;
 use std::alloc::Global;
 
 // A copy of a title, where there is one.
@@ -46,7 +46,7 @@ pub(crate) fn claim_of(
         instance: Text::copied(alloc, definition.instance_id.as_str())?,
         generator: Text::copied(alloc, definition.generator.as_str())?,
         title: copied_title(alloc, &definition.title)?,
-        alg: Text::copied(alloc, alg_name(Alg::Sha256))?,
+        alg: Text::copied(alloc, alg_name(definition.alg))?,
         entries: Refs::from_list(entries),
         redacted: copied_texts(alloc, definition.redact.as_slice())?,
     };

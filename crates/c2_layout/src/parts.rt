@@ -19,7 +19,7 @@ use crate::parent::own_assertions;
 use c2_base::{Blob, NoMemory, Range};
 use c2_built::{a_new_store_has_one_length, new_stores_have_one_length};
 use c2_definition::{Definition, NewAssertion};
-use c2_hash::{Alg, Digest, Hashing};
+use c2_hash::{Digest, Hashing};
 use std::alloc::Global;
 
 /// The parts of a new manifest that don't depend on its signed message.
@@ -48,7 +48,7 @@ fn parts_over<H: Hashing>(
         (map (store.entry_of (H.digest_of (store.new_alg definition.now)))
         (definition.now.assertions ++ own.now))))) }
 {
-    let alg = Alg::Sha256;
+    let alg = definition.alg;
     let mut boxes = Vec::new(alloc);
     let mut entries = Vec::new(alloc);
     let defined = definition.assertions.as_slice();
@@ -124,6 +124,6 @@ pub fn new_parts<H: Hashing>(
     // Only the prover needs these laws.
     a_new_store_has_one_length();
     new_stores_have_one_length();
-    let binding = data_binding(alloc, Alg::Sha256, range, digest.as_slice())?;
+    let binding = data_binding(alloc, definition.alg, range, digest.as_slice())?;
     bound_parts(alloc, hashing, definition, carried, binding)
 }

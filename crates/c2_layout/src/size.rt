@@ -71,7 +71,7 @@ fn claim_len(alloc: Global, definition: &Definition, own: &[NewAssertion]) -> Re
         (map (store.entry_of (no_digest (store.new_alg definition.now)))
         (definition.now.assertions ++ own.now)))))) }
 {
-    let alg = Alg::Sha256;
+    let alg = definition.alg;
     let mut entries = Vec::new(alloc);
     push_blank(alloc, alg, &mut entries, definition.assertions.as_slice())?;
     push_blank(alloc, alg, &mut entries, own)?;
@@ -93,7 +93,7 @@ pub fn bound_size(
         → n ≡ min (built.bound_len c binding definition.now.reserve) (2 ^ 64 - 1)) }
     ensures least { IfOk result (λ n. LEAST_STORE_LEN ≤ n) }
 {
-    let parent = blank_refs(alloc, Alg::Sha256, &carried.parent)?;
+    let parent = blank_refs(alloc, definition.alg, &carried.parent)?;
     let own = own_assertions(alloc, &parent, binding)?;
     let claim = claim_len(alloc, definition, own.as_slice())?;
     let label = definition.label.as_str().len() as u64;
@@ -118,7 +118,7 @@ pub fn store_size(
         → n ≡ min (built.store_size c definition.now.reserve) (2 ^ 64 - 1)) }
     ensures least { IfOk result (λ n. LEAST_STORE_LEN ≤ n) }
 {
-    let blank = Digest::zeros(Alg::Sha256);
-    let binding = data_binding(alloc, Alg::Sha256, NO_RANGE, blank.as_slice())?;
+    let blank = Digest::zeros(definition.alg);
+    let binding = data_binding(alloc, definition.alg, NO_RANGE, blank.as_slice())?;
     bound_size(alloc, definition, carried, binding)
 }

@@ -22,6 +22,14 @@ const NOTE_BOX: &str =
 const BINDING: &str =
     "a463616c6766736861323536637061644e00000000000000000000000000006468617368582007070707070707070707070707070707070707070707070707070707070707076a6578636c7573696f6e7381a265737461727414666c656e677468190475";
 
+// The item that binds a file outside 1,189 bytes from place 20 on, by a digest of 48 bytes 07.
+const BINDING_BY_SHA384: &str =
+    "a463616c6766736861333834637061644e0000000000000000000000000000646861736858300707070707070707070707070707070707070707070707070707070707070707070707070707070707070707070707076a6578636c7573696f6e7381a265737461727414666c656e6774681904a5";
+
+// The item that binds a file outside 1,237 bytes from place 20 on, by a digest of 64 bytes 07.
+const BINDING_BY_SHA512: &str =
+    "a463616c6766736861353132637061644e000000000000000000000000000064686173685840070707070707070707070707070707070707070707070707070707070707070707070707070707070707070707070707070707070707070707070707070707076a6578636c7573696f6e7381a265737461727414666c656e6774681904d5";
+
 // A digest of 32 bytes 07.
 const DIGEST: &str = "0707070707070707070707070707070707070707070707070707070707070707";
 
@@ -85,6 +93,24 @@ fn a_binding_holds_its_range_and_digest(rt: HostRuntime) -> Result<(), Fail> {
         }
         Err(NoMemory) => assert!(rt; false),
     }
+    Ok(())
+}
+
+// The item in hex that binds a file outside so many bytes from place 20 on.
+fn bound(alloc: Global, alg: Alg, length: u64, digest: &[u8]) -> Result<String, AllocError> {
+    match data_binding(alloc, alg, Range { start: 20, length }, digest) {
+        Ok(binding) => hex::encode(alloc, binding.bytes.as_slice()),
+        Err(NoMemory) => Err(AllocError),
+    }
+}
+
+#[test]
+fn a_binding_is_as_long_as_its_digest_asks(rt: HostRuntime) -> Result<(), Fail> {
+    let alloc = rt.alloc();
+    let item = bound(alloc, Alg::Sha384, 1_189, &[7; 48])?;
+    assert_eq!(rt; item.as_str(), BINDING_BY_SHA384);
+    let item = bound(alloc, Alg::Sha512, 1_237, &[7; 64])?;
+    assert_eq!(rt; item.as_str(), BINDING_BY_SHA512);
     Ok(())
 }
 

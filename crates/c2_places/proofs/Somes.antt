@@ -1,5 +1,5 @@
 -- A media file has a place for a new store, and something is left of it without an older one.
-use Rattle.std.proofs.Common.{◌≡◌, ℕ, zero, suc, ◌+◌, ◌-◌, ◌^◌, ◌<◌, ◌≤◌, Bool, true, false, List, Option, Some, None, refl, sym, ap, ap₂, ◌∙◌, subst, arith, below_more}
+use Rattle.std.proofs.Common.{◌≡◌, ℕ, Bool, true, false, List, Option, refl, sym, ap, ap₂, ◌∙◌, subst}
 use Rattle.std.specs.Bool.{MatchBool}
 use Rattle.std.specs.List.{flat_map}
 use Rattle.c2_spec.specs.Bmff.Boxes.{Box, HasRoots, box_bytes}
@@ -10,8 +10,7 @@ use Rattle.c2_spec.specs.Jpeg.Places.{IsOfSegments}
 use Rattle.c2_spec.specs.Jpeg.Segments.{Segment}
 use Rattle.c2_spec.specs.Jpeg.Store as jpeg
 use Rattle.c2_spec.specs.Jpeg.Store.{NoneBegins}
-use Rattle.c2_spec.specs.Jpeg.Writing.{IsNumberOf, is_taken}
-use Rattle.c2_spec.specs.declared.packets.TheConstants.{LEAST_NUMBER}
+use Rattle.c2_spec.specs.Jpeg.Writing.{IsNumberOf}
 use Rattle.c2_spec.specs.Jumbf.Tree.{Tree}
 use Rattle.c2_spec.specs.Located.{Located, Opening, absent, here, refused}
 use Rattle.c2_spec.specs.PutIn.{taken_out}
@@ -25,28 +24,16 @@ use Rattle.c2_places.specs.Bases.{IsLeftOfBoxes}
 use Rattle.c2_places.specs.Laws.{FreshHasPlace, LeftHasContainer, LeftHasPlace, SomeLeft}
 use Rattle.c2_places.specs.Places.{IsFreePlace, Place, in_boxes, in_segments}
 
--- ---- a number
+-- ---- a place
 
--- a number is free from here on, where none before is, or none at all
-free_from : (segments : List Segment) (count at : ℕ) → at + count ≡ 2 ^ 16 → LEAST_NUMBER ≤ at → ((n : ℕ) → LEAST_NUMBER ≤ n → n < at → is_taken segments n ≡ true) → (o : Option ℕ) × IsNumberOf segments o
-free_from segments zero at e least h = (None, λ n from to. h n from (omega arith))
-free_from segments (suc count) at e least h = by (is_taken segments at) refl (λ k. free_from segments count (at + 1) (omega arith) (omega arith) k)
-  where
-    more : is_taken segments at ≡ true → (n : ℕ) → LEAST_NUMBER ≤ n → n < at + 1 → is_taken segments n ≡ true
-    more t n from to = below_more (λ (m : ℕ). LEAST_NUMBER ≤ m → is_taken segments m ≡ true) at (λ m lt le. h m le lt) (λ le. t) n to from
-
-    by : (b : Bool) → is_taken segments at ≡ b → (((n : ℕ) → LEAST_NUMBER ≤ n → n < at + 1 → is_taken segments n ≡ true) → (o : Option ℕ) × IsNumberOf segments o) → (o : Option ℕ) × IsNumberOf segments o
-    by true t later = later (more t)
-    by false t later = (Some at, record { least = least; most = omega arith; free = t; first = h })
-
--- one number is free, or none
-some_number : (segments : List Segment) → (o : Option ℕ) × IsNumberOf segments o
-some_number segments = free_from segments (2 ^ 16 - LEAST_NUMBER) LEAST_NUMBER (omega arith) (omega arith) (λ n from to. absurd (omega arith))
+-- of each list of segments one number is free, or none
+abbrev pub SomeNumber : Type 0
+SomeNumber = (segments : List Segment) → (o : Option ℕ) × IsNumberOf segments o
 
 -- so a file of segments has a place
-of_segments : (base : List ℕ) (segments : List Segment) → IsOfSegments base segments → NoneBegins segments → (p : Place) × IsFreePlace base p
-of_segments base segments is none =
-    let number = some_number segments in
+of_segments : SomeNumber → (base : List ℕ) (segments : List Segment) → IsOfSegments base segments → NoneBegins segments → (p : Place) × IsFreePlace base p
+of_segments some base segments is none =
+    let number = some segments in
     (in_segments segments number.0, record { is = (no_bmff base segments is.rest is.begins, is, number.1); free = none })
 
 -- and a file of root boxes
@@ -90,12 +77,12 @@ is_stored media start len t o =
 -- ---- places
 
 -- a media file without a store has a place for one
-pub fresh_place : FreshHasPlace
-fresh_place media o = go (is_bmff media) refl (subst (IsLocated media) (located_absent o.0 o.2) o.1)
+pub fresh_place : SomeNumber → FreshHasPlace
+fresh_place some media o = go (is_bmff media) refl (subst (IsLocated media) (located_absent o.0 o.2) o.1)
   where
     go : (t : Bool) → is_bmff media ≡ t → MatchBool t (HasNoBmffStore media) (jpeg.HasNoJpegStore media) → (p : Place) × IsFreePlace media p
     go true is h = of_boxes media h.roots is h.has_roots h.none
-    go false is h = of_segments media h.segments (record { fits = h.fits; rest = h.rest; begins = h.begins; ends = h.ends }) h.none
+    go false is h = of_segments some media h.segments (record { fits = h.fits; rest = h.rest; begins = h.begins; ends = h.ends }) h.none
 
 -- the base of a BMFF file with a store
 base_of : (media : List ℕ) (start len : ℕ) (store : List ℕ) → HasBmffStore media start len store → (base : List ℕ) × IsLeftOfBoxes media base
@@ -124,8 +111,8 @@ left_container boxes segments media start len t base o left = go (is_bmff media)
         ap is_bmff k ∙ no_bmff (taken_out start len media) free.segments free.is_of.rest free.is_of.begins ∙ sym is
 
 -- and has a place for another
-pub left_place : boxed.BaseHasNoStore → BaseHasNoStore → LeftHasPlace
-left_place boxes segments media start len t base o left = go (is_bmff media) refl (is_stored media start len t o) left
+pub left_place : SomeNumber → boxed.BaseHasNoStore → BaseHasNoStore → LeftHasPlace
+left_place some boxes segments media start len t base o left = go (is_bmff media) refl (is_stored media start len t o) left
   where
     go : (b : Bool) → is_bmff media ≡ b → ((store : List ℕ) × MatchBool b (HasBmffStore media start len store) (jpeg.HasJpegStore media start len store)) → MatchBool b (IsLeftOfBoxes media base) (base ≡ taken_out start len media)
         → (p : Place) × IsFreePlace base p
@@ -134,4 +121,4 @@ left_place boxes segments media start len t base o left = go (is_bmff media) ref
         of_boxes base k.0 (base_media media base k.0 k.1 has.0 is) has.0 has.1
     go false is h k =
         let free = segments media start len h.0 h.1 in
-        subst (λ (b : List ℕ). (p : Place) × IsFreePlace b p) (sym k) (of_segments (taken_out start len media) free.segments free.is_of free.none)
+        subst (λ (b : List ℕ). (p : Place) × IsFreePlace b p) (sym k) (of_segments some (taken_out start len media) free.segments free.is_of free.none)

@@ -56,6 +56,7 @@ pub fn each_media_has_a_place()
     ensures place { LeftHasPlace }
 {
     // Only the prover needs these laws.
+    place_and_number_are_one();
     c2_carried::a_base_has_no_store();
     a_base_has_no_store();
 }

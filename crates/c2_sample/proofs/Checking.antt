@@ -10,8 +10,8 @@ use Rattle.c2_spec.specs.declared.panel.Verdict.{Verdict}
 use Rattle.c2_rules.specs.Validated.{IsAnswer}
 use Rattle.c2_rules.specs.declared.answer.Answer.{Answer}
 use Rattle.c2_validate.specs.Validation.{HasAsked}
-use Rattle.c2_media.specs.declared.error.ValidateError.{ValidateError}
-use Rattle.c2_media.specs.declared.error.ValidateError.TheVariants.{ReadFault, JudgeFault, NoMemory}
+use Rattle.c2_opening.specs.declared.error.ValidateError.{ValidateError}
+use Rattle.c2_opening.specs.declared.error.ValidateError.TheVariants.{ReadFault, JudgeFault, NoMemory}
 use Rattle.c2_sample.specs.Sample.{HasSampleAsked, IsFileSampled, IsLength, IsSameError}
 use Rattle.c2_sample.specs.declared.types.SampleError.{SampleError}
 use Rattle.c2_sample.specs.declared.types.Sampled.TheVariants.{Checked}

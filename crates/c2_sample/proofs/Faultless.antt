@@ -11,9 +11,9 @@ use Rattle.c2_spec.specs.Container.{is_bmff}
 use Rattle.c2_spec.specs.Judges.Panel.{Judges, SomeRose, panel_says}
 use Rattle.c2_spec.specs.declared.digest.Alg.{Alg}
 use Rattle.c2_spec.specs.declared.panel.Verdict.{Verdict}
-use Rattle.c2_media.specs.Opened.{IsCause}
-use Rattle.c2_media.specs.declared.error.ValidateError.{ValidateError}
-use Rattle.c2_media.specs.declared.error.ValidateError.TheVariants as check
+use Rattle.c2_opening.specs.Opened.{IsCause}
+use Rattle.c2_opening.specs.declared.error.ValidateError.{ValidateError}
+use Rattle.c2_opening.specs.declared.error.ValidateError.TheVariants as check
 use Rattle.c2_validate.specs.Validation.{IsFaultCause}
 use Rattle.c2_built.specs.Fresh.{GivesDigests}
 use Rattle.c2_build.specs.Answers.{Faults, HasSpare, IsBuildCause}

@@ -6,6 +6,7 @@ use Rattle.std.proofs.lemmas.Bool.{false≢true}
 use Rattle.hex.proofs.OnLiterals.{hex_on_literals}
 use Rattle.uuid.proofs.OnLiterals.{uuid_on_literals}
 use Rattle.serde_json.proofs.OnLiterals.{serde_json_on_literals}
+use Rattle.c2_spec.specs.declared.digest.Alg.TheVariants.{Sha256}
 use Rattle.c2_definition.specs.DefinitionFile.{IsDefinition, definition_in}
 use Rattle.c2_definition.specs.declared.types.Definition.{Definition}
 use Rattle.c2_definition.specs.declared.types.DefinitionField.{DefinitionField}
@@ -29,6 +30,7 @@ defined = record {
   reserve = 256;
   assertions = record { label = codes "c2pa.actions.v2"; kind = payload.Cbor; bytes = actions } ∷ [];
   redact = [];
+  alg = Sha256;
 }
 
 -- where its item is one, that is what it is read as

@@ -15,8 +15,8 @@ use Rattle.c2_built.specs.Fresh.{GivesDigests}
 use Rattle.c2_build.specs.Building.{Built, IsEmbedded}
 use Rattle.c2_build.specs.declared.error.BuildError.{BuildError}
 use Rattle.c2_build.specs.declared.error.BuildError.TheVariants as build
-use Rattle.c2_media.specs.declared.error.ValidateError.{ValidateError}
-use Rattle.c2_media.specs.declared.error.ValidateError.TheVariants as check
+use Rattle.c2_opening.specs.declared.error.ValidateError.{ValidateError}
+use Rattle.c2_opening.specs.declared.error.ValidateError.TheVariants as check
 use Rattle.c2_sample.specs.declared.building.NewFile.{NewFile}
 use Rattle.c2_sample.specs.declared.building.NewFile.TheVariants as new
 use Rattle.c2_sample.specs.declared.media.TheConstants.{PIECE_BYTES}

@@ -3,7 +3,7 @@ ghost use Rattle.std.specs.Prelude.{◌≡◌, [], map, length, IfOk, IfErr, vec
 ghost use Rattle.c2_rules.specs.Validated.{CheckAsks};
 ghost use Rattle.c2_spec.specs.Judges.Panel.{LeavesJudges, judges_of, panel_says};
 ghost use Rattle.c2_base.specs.InMemory.{sure_bytes};
-ghost use Rattle.c2_media.specs.declared.error.ValidateError.TheVariants as check;
+ghost use Rattle.c2_opening.specs.declared.error.ValidateError.TheVariants as check;
 ghost use Rattle.c2_sample.specs.Sample.{HasAskedThose, IsFileSampled, IsLength, IsSameError, IsSampleCause, IsSampled, IsSureFault, SampleAsks};
 
 use crate::building::{NewFile, build};

@@ -32,6 +32,7 @@ defined last more = record {
   reserve = 256;
   assertions = actions ∷ more;
   redact = [];
+  alg = Sha256;
 }
 
 -- ---- a store over a store

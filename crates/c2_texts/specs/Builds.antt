@@ -45,6 +45,7 @@ field_name field.Protected = codes "protected"
 field_name field.Reserve = codes "reserve"
 field_name field.Assertions = codes "assertions"
 field_name field.Redact = codes "redact"
+field_name field.Alg = codes "alg"
 
 -- the name of what is refused of a signed message
 abbrev pub part_name : SignaturePart → List ℕ

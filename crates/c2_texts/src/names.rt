@@ -123,6 +123,7 @@ pub fn field_name(field: DefinitionField) -> &'static str
         DefinitionField::Reserve => "reserve",
         DefinitionField::Assertions => "assertions",
         DefinitionField::Redact => "redact",
+        DefinitionField::Alg => "alg",
     }
 }
 

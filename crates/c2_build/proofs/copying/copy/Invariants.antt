@@ -1,5 +1,6 @@
 use Rattle.std.proofs.Common.{◌≡◌, ◌≤◌, ◌-◌}
 use Rattle.std.specs.Option.{ForSome}
+use Rattle.c2_base.specs.Sink.{StaysSink}
 use Rattle.c2_base.specs.Source.{StaysSource}
 use Rattle.c2_build.specs.Steps.{Puts, piece_of}
 use Rattle.c2_build.proofs.copying.copy.Given as goal
@@ -12,7 +13,7 @@ invariant-pieces g l = record {
   stays : StaysSource g.S.Source.len g.S.Source.known g.S.Source.faults l.fn.source l.source;
   count : g.S.Source.faults l.source ≡ g.S.Source.faults l.fn.source;
   out_count : g.K.Sink.faults l.sink ≡ g.K.Sink.faults l.fn.sink;
-  unfinished : g.K.Sink.finished l.sink ≡ g.K.Sink.finished l.fn.sink;
+  sink_stays : StaysSink g.K.Sink.written g.K.Sink.finished g.K.Sink.faults l.fn.sink l.sink;
   puts : ForSome (g.S.Source.known l.fn.source) (λ file. Puts g.K.Sink.written g.K.Sink.spare g.K.Sink.finished (piece_of file l.from l.at) l.fn.sink l.sink);
 }
 

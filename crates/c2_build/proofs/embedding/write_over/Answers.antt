@@ -1,4 +1,5 @@
 use Rattle.std.proofs.Common.{◌≡◌, ◌+◌, ◌++◌, ◌≤◌, List, ℕ, length, sym, ◌∙◌, subst, arith}
+use Rattle.c2_base.proofs.Growing.{stays_then}
 use Rattle.c2_build.specs.Steps.{Breaks, IsStep, Puts, piece_of, put_of}
 use Rattle.c2_build.proofs.Written.{breaks_back, breaks_front, new_parts, step_back}
 use Rattle.c2_build.proofs.embedding.write_over.Goals as goal
@@ -39,3 +40,13 @@ returns-clause-step g c = λ file known.
     (step_back g.K.Sink.written g.K.Sink.spare g.K.Sink.finished (piece_of file 0 draft.start) (packets ++ rest) c.args.out.now c.copy.new.sink c.copy-2.new.sink c.copy-2.result (c.in-Ok.ensures.step file known)
     (step_back g.K.Sink.written g.K.Sink.spare g.K.Sink.finished packets rest c.copy.new.sink c.put_store.new.out c.copy-2.new.sink c.copy-2.result step
     (c.copy-2.ensures.step file (c.in-Ok.ensures.stays.same_bytes ∙ known))))
+
+-- what the sink took of the front stays under what it took of the store
+pub returns-in-Err-put_store-clause-out_stays : goal.returns-in-Err-put_store-clause-out_stays
+returns-in-Err-put_store-clause-out_stays g c = stays_then g.K.Sink.written g.K.Sink.finished g.K.Sink.faults c.args.out.now c.copy.new.sink c.put_store.new.out c.in-Ok.ensures.sink_stays c.in-Err-put_store.ensures.out_stays
+
+-- and both under what it took of the rest
+pub returns-clause-out_stays : goal.returns-clause-out_stays
+returns-clause-out_stays g c =
+    let front = stays_then g.K.Sink.written g.K.Sink.finished g.K.Sink.faults c.args.out.now c.copy.new.sink c.put_store.new.out c.in-Ok.ensures.sink_stays c.in-Ok-put_store.ensures.out_stays in
+    stays_then g.K.Sink.written g.K.Sink.finished g.K.Sink.faults c.args.out.now c.put_store.new.out c.copy-2.new.sink front c.copy-2.ensures.sink_stays

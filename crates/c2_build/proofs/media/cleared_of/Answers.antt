@@ -1,7 +1,7 @@
 use Rattle.std.proofs.Common.{List, ℕ, ap, subst, sym}
 use Rattle.c2_base.specs.declared.values.Range.{Range}
 use Rattle.c2_spec.specs.PutIn.{taken_out}
-use Rattle.c2_media.specs.Opened.{IsContainerOf}
+use Rattle.c2_container.specs.Contained.{IsContainerOf}
 use Rattle.c2_places.specs.Bases.{IsLeft}
 use Rattle.c2_build.proofs.Inputs.{film_found, film_left, jpeg_form, jpeg_left}
 use Rattle.c2_build.proofs.media.cleared_of.Goals as goal

@@ -1,5 +1,5 @@
 use Rattle.std.proofs.Common.{subst}
-use Rattle.c2_media.specs.Opened.{IsContainerOf}
+use Rattle.c2_container.specs.Contained.{IsContainerOf}
 use Rattle.c2_build.proofs.Inputs.{jpeg_form}
 use Rattle.c2_build.proofs.media.form_of.Goals as goal
 

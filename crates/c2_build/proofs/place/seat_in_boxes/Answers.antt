@@ -9,4 +9,4 @@ pub returns-in-Err-clause-told : goal.returns-in-Err-clause-told
 returns-in-Err-clause-told g c = λ file known form. c.walk_error.ensures.boxes file (c.in-Err.ensures.refused file known) form
 
 pub returns-in-Err-clause-cause : goal.returns-in-Err-clause-cause
-returns-in-Err-clause-cause g c = c.walk_error.ensures.boxes_cause _ _ c.in-Err.ensures.cause
+returns-in-Err-clause-cause g c = c.walk_error.ensures.boxes_cause _ _ _ c.in-Err.ensures.cause

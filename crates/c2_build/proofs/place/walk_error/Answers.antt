@@ -17,4 +17,4 @@ returns-in-Some-clause-boxes c = λ file tells form p free.
     free_film c.a_bmff_file_comes_to_one_thing.ensures file c.args.error c.in-Some.refusal form (told_boxes _ c.args.error c.in_default.not-ReadFault c.in_default.not-NoMemory tells) (sym c.of_media.ensures ∙ c.in-Some.is) p free
 
 pub returns-in-Some-clause-boxes_cause : goal.returns-in-Some-clause-boxes_cause
-returns-in-Some-clause-boxes_cause c = λ before now caused. left_boxes before now c.args.error c.in_default.not-ReadFault c.in_default.not-NoMemory caused
+returns-in-Some-clause-boxes_cause c = λ len before now caused. left_boxes len before now c.args.error c.in_default.not-ReadFault c.in_default.not-NoMemory caused

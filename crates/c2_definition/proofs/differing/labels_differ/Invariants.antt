@@ -1,4 +1,3 @@
-use Rattle.std.proofs.Common.{ℕ}
 use Rattle.c2_definition.proofs.LabelSteps.{Behind}
 use Rattle.c2_definition.proofs.differing.labels_differ.Given as goal
 

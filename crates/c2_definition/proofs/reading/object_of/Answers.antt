@@ -1,4 +1,4 @@
-use Rattle.std.proofs.Common.{rules, sym}
+use Rattle.std.proofs.Common.{rules}
 use Rattle.serde_json.specs.View.{view}
 use Rattle.c2_definition.proofs.FileSteps.{object_is, no_value}
 use Rattle.c2_definition.proofs.reading.object_of.Goals as goal

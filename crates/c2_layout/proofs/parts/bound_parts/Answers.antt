@@ -1,10 +1,10 @@
-use Rattle.std.proofs.Common.{ℕ, List, [], ◌∷◌, ◌++◌, refl, sym, ap, ◌∙◌, subst}
+use Rattle.std.proofs.Common.{List, [], ◌∷◌, ◌++◌, refl, sym, ap, ◌∙◌, subst}
 use Rattle.std.specs.Prelude.{All}
 use Rattle.c2_definition.specs.DefinitionFile.{IsWellFormed}
 use Rattle.c2_definition.specs.declared.types.Definition.{Definition}
 use Rattle.c2_definition.specs.declared.types.NewAssertion.{NewAssertion}
 use Rattle.c2_layout.specs.Parts.{CanBeBoxed}
-use Rattle.c2_built.specs.Store.{parent_assertions, new_alg}
+use Rattle.c2_built.specs.Store.{new_alg}
 use Rattle.c2_layout.proofs.Sizes.{are_parts, both_ok, parts_are, refs_give, stored_boxed, own_digests}
 use Rattle.c2_layout.proofs.parts.bound_parts.Goals as goal
 

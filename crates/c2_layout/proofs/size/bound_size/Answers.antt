@@ -1,11 +1,11 @@
-use Rattle.std.proofs.Common.{◌≡◌, ℕ, ◌+◌, ◌-◌, ◌^◌, min, List, [], ◌∷◌, ◌++◌, length, map, Option, option_map, sym, ap, ◌∙◌}
+use Rattle.std.proofs.Common.{◌≡◌, ℕ, ◌+◌, ◌-◌, ◌^◌, min, List, [], ◌∷◌, ◌++◌, length, map, Option, sym, ap, ◌∙◌}
 use Rattle.c2_spec.specs.Cbor.Deterministic.{deterministic}
 use Rattle.c2_spec.specs.Jumbf.Tree.{trees_bytes}
 use Rattle.c2_claim.specs.Written.{claim_item}
 use Rattle.c2_definition.specs.declared.types.Definition.{Definition}
 use Rattle.c2_definition.specs.declared.types.NewAssertion.{NewAssertion}
 use Rattle.c2_built.specs.Built.{no_digest}
-use Rattle.c2_layout.specs.Parts.{told, told_parent}
+use Rattle.c2_layout.specs.Parts.{told}
 use Rattle.c2_built.specs.Store.{Parent, assertion_boxes, claim_with, entry_of, parent_assertions, new_alg}
 use Rattle.c2_layout.proofs.Sizes.{blank_own, blanks_give, reckoned_size, saturated}
 use Rattle.c2_layout.proofs.size.bound_size.Goals as goal

@@ -1,4 +1,4 @@
-use Rattle.std.proofs.Common.{◌≡◌, ◌-◌, ◌^◌, ◌∙◌, ap, min, sym, List, ℕ}
+use Rattle.std.proofs.Common.{◌-◌, ◌^◌, ◌∙◌, ap, min, sym, List, ℕ}
 use Rattle.std.proofs.lemmas.Result.{IfOk-weaker}
 use Rattle.c2_spec.specs.Digest.{zero_digest}
 use Rattle.c2_definition.specs.declared.types.Definition.{Definition}

@@ -3,7 +3,7 @@ use Rattle.c2_places.proofs.laws.each_media_has_a_place.Goals as goal
 
 -- a file without a store is what is built over
 pub returns-clause-fresh : goal.returns-clause-fresh
-returns-clause-fresh c = fresh_place
+returns-clause-fresh c = fresh_place c.place_and_number_are_one.ensures.each
 
 -- a store is taken away by its container
 pub returns-clause-left : goal.returns-clause-left
@@ -15,4 +15,4 @@ returns-clause-container c = left_container c.a_base_has_no_store-2.ensures.none
 
 -- and what is left has a place
 pub returns-clause-place : goal.returns-clause-place
-returns-clause-place c = left_place c.a_base_has_no_store-2.ensures.none c.a_base_has_no_store.ensures
+returns-clause-place c = left_place c.place_and_number_are_one.ensures.each c.a_base_has_no_store-2.ensures.none c.a_base_has_no_store.ensures

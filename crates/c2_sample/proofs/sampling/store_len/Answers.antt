@@ -1,6 +1,6 @@
 use Rattle.std.proofs.Common.{refl, ap, length, subst}
-use Rattle.c2_media.specs.Opened.{IsFound, located_of}
-use Rattle.c2_media.specs.declared.types.Opened.TheVariants as opened
+use Rattle.c2_opening.specs.Opened.{IsFound, located_of}
+use Rattle.c2_opening.specs.declared.types.Opened.TheVariants as opened
 use Rattle.c2_base.specs.InMemory.{sure_bytes}
 use Rattle.c2_sample.proofs.Faultless.{search_error}
 use Rattle.c2_sample.proofs.sampling.store_len.Goals as goal
