@@ -1,6 +1,6 @@
 -- What `compare` reports and asks, by what two files come to.
 use Rattle.std.proofs.Common.{◌≡◌, refl, sym, ◌∙◌, ap, subst, inl, inr, ◌⊎◌, ℕ, Bool, true, List, [], ◌++◌, append-nil, Option, Some, None}
-use Rattle.std.specs.Prelude.{is_some, IsSome, IfErr, IfOk}
+use Rattle.std.specs.Prelude.{IsSome, IfErr, IfOk, unwrap_or}
 use Rattle.std.proofs.lemmas.Bool.{false≢true}
 use Rattle.std.specs.declared.result.Result.{Result}
 use Rattle.std.specs.declared.result.Result.TheVariants.{Ok, Err}
@@ -10,11 +10,13 @@ use Rattle.c2_base.specs.declared.values.Question.{Question}
 use Rattle.c2_spec.specs.declared.digest.Alg.{Alg}
 use Rattle.c2_spec.specs.declared.panel.Verdict.{Verdict}
 use Rattle.c2_spec.specs.Judges.Panel.{Judges}
+use Rattle.c2_rules.specs.Asking.{HasHeardSoFar, IsJudgeCause}
 use Rattle.c2_binding.specs.Comparison.{CompareAsks, IsComparison}
 use Rattle.c2_binding.specs.declared.compared.Compared.{Compared}
 use Rattle.c2_binding.specs.declared.compared.Compared.TheVariants as compared
 use Rattle.c2_binding.specs.declared.compared.Side.TheVariants.{First, Second}
-use Rattle.c2_compare.specs.Comparing.{HasAsked, IsCompareCause, IsCompared}
+use Rattle.c2_compare.specs.Comparing.{IsCompared, compare_heard}
+use Rattle.c2_evidence.specs.Causes.{IsReadCause, IsWriteCause}
 use Rattle.c2_evidence.specs.declared.error.CompareError.{CompareError}
 use Rattle.c2_evidence.specs.declared.error.CompareError.TheVariants.{ReadFault, WriteFault, JudgeFault, NoMemory}
 use Rattle.c2_texts.specs.Texts.{different_line, not_accepted_line, same_line}
@@ -22,7 +24,7 @@ use Rattle.c2_words.specs.CommandLine.{has_word, is_media, is_out, is_second, is
 use Rattle.c2_words.specs.declared.types.Role.{Role}
 use Rattle.c2_cmd.specs.Outcome.{Outcome, Asks, CommandAsks, IsCommandOutcome, IsCompareOutcome, IsOutcome, compare_outcome, inputs, names, reports}
 use Rattle.c2_cmd.specs.Reply.{AskedFor, Begins, CausedBy, IsCause, IsMediaCause, StandsFor, compare_fault, outcome_of}
-use Rattle.c2_cmd.specs.Run.{HasFailed}
+use Rattle.c2_cmd.specs.Run.{HasFailed, IsKnownAs}
 use Rattle.c2_cmd.specs.declared.reply.Fault.{Fault}
 use Rattle.c2_cmd.specs.declared.reply.Fault.TheVariants.{Input, Output, Judge, Memory}
 use Rattle.c2_cmd.specs.declared.reply.Reply.{Reply}
@@ -82,14 +84,15 @@ reply_begins one hash said first second old new what (Err e) h out = λ expected
 -- ---- faults and questions
 
 -- the cause of a fault of the comparison is that of the run
-pub compare_cause : (a b c d r s : ℕ) (old new : Judges) (e : CompareError) (f : Fault) → f ≡ compare_fault e → IsCompareCause a b c d r s old new e → CausedBy (Rose a b ⊎ Rose c d) (Rose r s) old new f
-compare_cause a b c d r s old new e f is h = subst (λ (x : Fault). CausedBy (Rose a b ⊎ Rose c d) (Rose r s) old new x) (sym is) (by e h)
+pub compare_cause : (a b c d r s : ℕ) (old new : Judges) (e : CompareError) (f : Fault) → f ≡ compare_fault e → IsReadCause c d a b e → IsWriteCause r s e
+    → IsJudgeCause old.faults new.faults (compare_heard e) → CausedBy (Rose a b ⊎ Rose c d) (Rose r s) old new f
+compare_cause a b c d r s old new e f is read write judge = subst (λ (x : Fault). CausedBy (Rose a b ⊎ Rose c d) (Rose r s) old new x) (sym is) (by e read write judge)
   where
-    by : (e : CompareError) → IsCompareCause a b c d r s old new e → CausedBy (Rose a b ⊎ Rose c d) (Rose r s) old new (compare_fault e)
-    by ReadFault h = h
-    by WriteFault h = h
-    by JudgeFault h = h
-    by NoMemory h = tt
+    by : (e : CompareError) → IsReadCause c d a b e → IsWriteCause r s e → IsJudgeCause old.faults new.faults (compare_heard e) → CausedBy (Rose a b ⊎ Rose c d) (Rose r s) old new (compare_fault e)
+    by ReadFault read write judge = read
+    by WriteFault read write judge = write
+    by JudgeFault read write judge = judge
+    by NoMemory read write judge = tt
 
 -- a judge fails the run where one failed the comparison
 pub judge_failed : (claim : Type 0) (e : CompareError) (f : Fault) → f ≡ compare_fault e → (e ≡ JudgeFault → claim) → f ≡ Judge → claim
@@ -102,10 +105,10 @@ judge_failed claim e f is h judge = by e (sym is ∙ judge) h
     by NoMemory same h = absurd (cc (same))
 
 -- and who was asked until then
-pub compare_asked : (qs : List Question) (old new : Judges) (e : CompareError) (f : Fault) → f ≡ compare_fault e → HasAsked qs old new (Err e) → AskedFor {T = Reply} qs old new (Err f)
+pub compare_asked : (qs : List Question) (old new : Judges) (e : CompareError) (f : Fault) → f ≡ compare_fault e → HasHeardSoFar (compare_heard e) qs old new → AskedFor {T = Reply} qs old new (Err f)
 compare_asked qs old new e f is h = subst (λ (x : Fault). AskedFor {T = Reply} qs old new (Err x)) (sym is) (by e h)
   where
-    by : (e : CompareError) → HasAsked qs old new (Err e) → AskedFor {T = Reply} qs old new (Err (compare_fault e))
+    by : (e : CompareError) → HasHeardSoFar (compare_heard e) qs old new → AskedFor {T = Reply} qs old new (Err (compare_fault e))
     by ReadFault h = h
     by WriteFault h = h
     by JudgeFault h = h
@@ -181,31 +184,38 @@ pub there : (used : Option (List ℕ)) → IsSome used → (file : List ℕ) × 
 there None h = absurd (false≢true h)
 there (Some file) h = (file, refl)
 
+-- what is known of a file whose bytes are these
+pub held : (P : List ℕ → Type 0) (known : Option (List ℕ)) (a : List ℕ) → known ≡ Some a → IsKnownAs P known → P a
+held P known a is k = let both = sym k.is_known ∙ is in let same : k.file ≡ a = cc (both) in subst P same k.holds
+
+-- the bytes of a source that is due are told
+pub as_told : (known : Option (List ℕ)) (N M : Type 0) → (N → M) → IsSome known ⊎ N → (known ≡ Some (unwrap_or known [])) ⊎ M
+as_told None N M to (inl some) = absurd (false≢true some)
+as_told None N M to (inr n) = inr (to n)
+as_told (Some file) N M to h = inl refl
+
 -- what a call of `compare` comes to is what its two files come to
-pub as_compare : (said : Question → Verdict) (hash : Alg → List ℕ → List ℕ) (known other last : Option (List ℕ)) (found : Option Roles) (roles : Roles) (a b : List ℕ) (e : Outcome) → found ≡ Some roles → roles.command ≡ command.Compare → known ≡ Some a → other ≡ Some b
-    → IsOutcome found (inputs known other last said hash) e → IsCompareOutcome hash said a b e
-as_compare said hash known other last found roles a b e is named ka kb h =
-    let i = inputs (Some a) (Some b) last said hash in
+pub as_compare : (said : Question → Verdict) (hash : Alg → List ℕ → List ℕ) (known other last : Option (List ℕ)) (found : Option Roles) (roles : Roles) (a : List ℕ) (e : Outcome) → found ≡ Some roles → roles.command ≡ command.Compare → known ≡ Some a
+    → IsOutcome found (inputs known other last said hash) e → IsCompareOutcome hash said a (unwrap_or other []) e
+as_compare said hash known other last found roles a e is named ka h =
     let p = subst (λ (x : Option Roles). IsOutcome x (inputs known other last said hash) e) is h in
     let q = subst (λ (x : Option (List ℕ)). IsCommandOutcome roles.command roles (inputs x other last said hash) e) ka p in
-    let r = subst (λ (x : Option (List ℕ)). IsCommandOutcome roles.command roles (inputs (Some a) x last said hash) e) kb q in
-    subst (λ (c : Command). IsCommandOutcome c roles i e) named r
+    subst (λ (c : Command). IsCommandOutcome c roles (inputs (Some a) other last said hash) e) named q
 
 -- so the reply of the one is that of the other
-pub compare_begins : (said : Question → Verdict) (hash : Alg → List ℕ → List ℕ) (known other last : Option (List ℕ)) (found : Option Roles) (roles : Roles) (a b : List ℕ) (old new : Option (List ℕ)) (r : Result Reply Fault) → found ≡ Some roles → roles.command ≡ command.Compare → known ≡ Some a → other ≡ Some b
-    → Begins (IsCompareOutcome hash said a b) old new r → Begins (IsOutcome found (inputs known other last said hash)) old new r
-compare_begins said hash known other last found roles a b old new (Ok reply) is named ka kb h = record {
+pub compare_begins : (said : Question → Verdict) (hash : Alg → List ℕ → List ℕ) (known other last : Option (List ℕ)) (found : Option Roles) (roles : Roles) (a : List ℕ) (old new : Option (List ℕ)) (r : Result Reply Fault) → found ≡ Some roles → roles.command ≡ command.Compare → known ≡ Some a
+    → Begins (IsCompareOutcome hash said a (unwrap_or other [])) old new r → Begins (IsOutcome found (inputs known other last said hash)) old new r
+compare_begins said hash known other last found roles a old new (Ok reply) is named ka h = record {
   before = h.before;
   written = h.written;
-  stands = λ expected k. h.stands expected (as_compare said hash known other last found roles a b expected is named ka kb k);
+  stands = λ expected k. h.stands expected (as_compare said hash known other last found roles a expected is named ka k);
 }
-compare_begins said hash known other last found roles a b old new (Err e) is named ka kb h = λ expected k. h expected (as_compare said hash known other last found roles a b expected is named ka kb k)
+compare_begins said hash known other last found roles a old new (Err e) is named ka h = λ expected k. h expected (as_compare said hash known other last found roles a expected is named ka k)
 
 -- and what the call asks is what the comparison asks
-pub asks_compare : (said : Question → Verdict) (hash : Alg → List ℕ → List ℕ) (known other last : Option (List ℕ)) (found : Option Roles) (roles : Roles) (a b : List ℕ) (qs : List Question) → found ≡ Some roles → roles.command ≡ command.Compare → known ≡ Some a → other ≡ Some b
-    → Asks found (inputs known other last said hash) qs → CompareAsks hash said a b qs
-asks_compare said hash known other last found roles a b qs is named ka kb h =
+pub asks_compare : (said : Question → Verdict) (hash : Alg → List ℕ → List ℕ) (known other last : Option (List ℕ)) (found : Option Roles) (roles : Roles) (a : List ℕ) (qs : List Question) → found ≡ Some roles → roles.command ≡ command.Compare → known ≡ Some a
+    → Asks found (inputs known other last said hash) qs → CompareAsks hash said a (unwrap_or other []) qs
+asks_compare said hash known other last found roles a qs is named ka h =
     let p = subst (λ (x : Option Roles). Asks x (inputs known other last said hash) qs) is h in
     let q = subst (λ (x : Option (List ℕ)). CommandAsks roles.command roles (inputs x other last said hash) qs) ka p in
-    let r = subst (λ (x : Option (List ℕ)). CommandAsks roles.command roles (inputs (Some a) x last said hash) qs) kb q in
-    subst (λ (c : Command). CommandAsks c roles (inputs (Some a) (Some b) last said hash) qs) named r
+    subst (λ (c : Command). CommandAsks c roles (inputs (Some a) other last said hash) qs) named q

@@ -13,8 +13,8 @@ use Rattle.c2_rules.specs.declared.answer.Answer.{Answer as Checked}
 use Rattle.c2_rules.specs.declared.answer.Answer.TheVariants as checked
 use Rattle.c2_rules.proofs.AskingLemmas.{front_all}
 use Rattle.c2_validate.specs.Validation.{HasAsked, IsAnswered, IsFaultCause}
-use Rattle.c2_media.specs.declared.error.ValidateError.{ValidateError}
-use Rattle.c2_media.specs.declared.error.ValidateError.TheVariants.{ReadFault, JudgeFault, NoMemory}
+use Rattle.c2_opening.specs.declared.error.ValidateError.{ValidateError}
+use Rattle.c2_opening.specs.declared.error.ValidateError.TheVariants.{ReadFault, JudgeFault, NoMemory}
 use Rattle.c2_cmd.specs.Outcome.{Outcome, IsValidated, answered}
 use Rattle.c2_cmd.specs.Reply.{AskedFor, IsCause, fault_of, outcome_of}
 use Rattle.c2_cmd.specs.declared.reply.Fault.{Fault}

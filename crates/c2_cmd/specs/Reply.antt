@@ -1,10 +1,10 @@
 -- For private clauses: replies in memory.
-use Rattle.std.specs.Prelude.{◌≡◌, ◌≢◌, ◌⊎◌, ℕ, ◌+◌, ◌≤◌, List, [], ◌++◌, string_bytes, Result, Ok, Err, Some, None, ⊤}
+use Rattle.std.specs.Prelude.{◌≡◌, ◌≢◌, ◌⊎◌, ℕ, ◌+◌, ◌≤◌, Bool, true, List, [], ◌++◌, string_bytes, IfErr, OnOk, Result, Ok, Err, Some, None, ⊤}
 use Rattle.std.specs.declared.option.Option.{Option}
 use Rattle.std.specs.List.{flat_map}
 use Rattle.std.specs.Option.{ForSome, option_to_list}
 use Rattle.c2_base.specs.Causes.{Rose}
-use Rattle.c2_base.specs.Sink.{Appends, HasWrittenPrefix}
+use Rattle.c2_base.specs.Sink.{Appends, Grows, HasWrittenPrefix}
 use Rattle.c2_base.specs.declared.media.Found.{Found}
 use Rattle.c2_base.specs.declared.values.Question.{Question}
 use Rattle.c2_spec.specs.declared.panel.Verdict.{Verdict}
@@ -25,10 +25,12 @@ use Rattle.c2_build.specs.declared.error.BuildError.{BuildError}
 use Rattle.c2_build.specs.declared.error.BuildError.TheVariants as build_error
 use Rattle.c2_evidence.specs.declared.error.CompareError.{CompareError}
 use Rattle.c2_evidence.specs.declared.error.CompareError.TheVariants as compare_error
-use Rattle.c2_media.specs.declared.error.ValidateError.{ValidateError}
-use Rattle.c2_media.specs.declared.error.ValidateError.TheVariants as error
+use Rattle.c2_opening.specs.declared.error.ValidateError.{ValidateError}
+use Rattle.c2_opening.specs.declared.error.ValidateError.TheVariants as error
 use Rattle.c2_cmd.specs.Outcome.{Outcome, reports, Reports, IsListing, IsMediaOutcome, IsQuestioned, refused_build, verdict_lines}
-use Rattle.c2_cmd.specs.Run.{SinkState, Delivers, Finishes, Leaves}
+use Rattle.c2_cmd.specs.Run.{Call, ComesTo, Delivers, Finishes, HasMet, Leaves, Puts, RunState, SinkState, status_of}
+use Rattle.c2_cmd.specs.declared.types.Status.{Status}
+use Rattle.c2_cmd.specs.declared.types.Status.TheVariants as status
 use Rattle.c2_cmd.specs.declared.open.Stored.{Stored}
 use Rattle.c2_cmd.specs.declared.open.Stored.TheVariants as stored
 use Rattle.c2_cmd.specs.declared.prepare.Prepared.{Prepared}
@@ -131,8 +133,8 @@ build_fault build_error.NoMemory = Some Memory
 build_fault e = None
 
 -- the reply to an error of a build: what is reported of a refusal
-abbrev pub RepliesTo : BuildError → Reply → Type 0
-RepliesTo e reply = (build_fault e ≡ None) × (outcome_of reply ≡ refused_build e)
+abbrev pub AnswersBuild : BuildError → Reply → Type 0
+AnswersBuild e reply = (build_fault e ≡ None) × (outcome_of reply ≡ refused_build e)
 
 -- an error of a build is this fault of the run, or memory ran out under the reply to a refusal
 abbrev pub IsFaultOf : BuildError → Fault → Type 0
@@ -227,6 +229,35 @@ AskedFor qs old new (Err Memory) = HaveAskedPrefix old.said qs old.asked new.ask
 -- the judges were asked the questions of which this holds
 abbrev pub AskedThose : {T : Type 0} → (List Question → Type 0) → Judges → Judges → Result T Fault → Type 0
 AskedThose AreQuestions old new result = (qs : List Question) → AreQuestions qs → AskedFor qs old new result
+
+-- ---- a call
+
+-- the status that the result of a call leads to, unless the report fails behind it
+abbrev pub end_of : Result Reply Fault → Status
+end_of (Ok reply) = status_of reply.answer
+end_of (Err Input) = status.InputFault
+end_of (Err Output) = status.OutputFault
+end_of (Err Judge) = status.JudgeFault
+end_of (Err Memory) = status.NoMemory
+
+-- A call whose sources are known, before its reply is written: what it replies behind what was written, what the sink for the new
+-- file has taken and what that meets, and who was asked.
+pub record RepliesTo (call : Call) (old new : RunState) (SameJudges : Type 0) (result : Result Reply Fault) : Type 0 where
+  pub reply : Begins (ComesTo call) old.report.written new.report.written result
+  pub file : (expected : Outcome) → ComesTo call expected → TakesFile expected.file old.file new.file result
+  pub met : HasWhole old.file new.file result → HasMet call
+  pub asked : AskedThose (Puts call) old.judges new.judges result
+  pub unasked : Puts call [] → SameJudges
+
+-- What is left of the report before the reply is written: it isn't finished, and untouched where the whole of it is there before any
+-- of it is written, or where a judge failed.
+pub record LeavesReport {W : Type 0} (written : W → Option (List ℕ)) (finished : W → Bool) (faults : W → ℕ) (whole : Bool) (old new : W) (result : Result Reply Fault) : Type 0 where
+  pub later : faults old ≤ faults new
+  pub quiet : OnOk result (faults new ≡ faults old)
+  pub grows : Grows (written old) (written new)
+  pub unfinished : finished new ≡ finished old
+  pub unwritten : whole ≡ true → new ≡ old
+  pub judged : IfErr result (λ e. e ≡ Judge → new ≡ old)
 
 -- of these questions those before the rest were asked
 pub record AsksSoFar (said : List (Question → Verdict)) (all rest : List Question) (before now : List ℕ) : Type 0 where

@@ -1,13 +1,14 @@
 // The commands `plan` and `embed`.
-ghost use Rattle.std.specs.Prelude.{◌≡◌, ◌≢◌, ◌⊎◌, ◌<◌, ◌≤◌, [], map, true, Ok, IfErr, IfOk, OnOk, string_bytes, vec_len};
+ghost use Rattle.std.specs.Prelude.{◌≡◌, ◌≢◌, ◌⊎◌, ◌<◌, ◌≤◌, ℕ, List, [], map, true, Ok, IfErr, IfOk, OnOk, string_bytes, vec_len};
 ghost use Rattle.std.specs.Option.{ForSome};
 ghost use Rattle.c2_base.specs.Causes.{Rose};
+ghost use Rattle.c2_base.specs.Sink.{StaysSink, unsaid};
 ghost use Rattle.c2_base.specs.Source.{StaysSource};
-ghost use Rattle.c2_build.specs.Building.{Built as AnyBuilt, EmbedAsks, IsDefinitionRefused, IsEmbedded, IsMediaRefused, PlanAsks};
+ghost use Rattle.c2_build.specs.Building.{Built as AnyBuilt, EmbedAsks, IsDefinitionRefused, IsDefinitionTold, IsEmbedded, IsMediaRefused, IsMessageTold, PlanAsks};
 ghost use Rattle.c2_build.specs.Meeting.{BuiltMeets};
 ghost use Rattle.c2_spec.specs.Judges.Panel.{LeavesJudges, judges_of, panel_says};
 ghost use Rattle.c2_cmd.specs.Outcome.{IsEmbedOutcome, IsPlanOutcome, Outcome, refusal_line};
-ghost use Rattle.c2_cmd.specs.Reply.{AskedThose, CausedBy, HasWhole, IsFaultOf, RepliesTo, StandsFor, TakesFile, outcome_of};
+ghost use Rattle.c2_cmd.specs.Reply.{AskedThose, CausedBy, HasWhole, IsFaultOf, AnswersBuild, StandsFor, TakesFile, outcome_of};
 ghost use Rattle.c2_cmd.specs.Run.{state_of};
 
 use crate::laws::one_outcome;
@@ -35,19 +36,22 @@ pub fn reply_to_plan<H: Hashing, A: Source, B: Source>(
 ) -> Result<Reply, Fault>
     requires { Unit {0} }
     ensures reply { let said = panel_says (map (λ j. says j) judges.old.items) in
-        ForSome (A.known media.old) (λ a. ForSome (B.known definition.old) (λ b.
-        IfOk result (λ reply. IsPlanOutcome H.digest_of said a b (outcome_of reply)))) }
+        ForSome (A.known media.old) (λ a. (b : List ℕ)
+        → IsDefinitionTold a (B.known definition.old) b →
+        IfOk result (λ reply. IsPlanOutcome H.digest_of said a b (outcome_of reply))) }
     ensures asked { let said = panel_says (map (λ j. says j) judges.old.items) in
         let old = judges_of (λ j. says j) (λ j. asked_times j) (λ j. judge_faults j)
         judges.old.items in
         let new = judges_of (λ j. says j) (λ j. asked_times j) (λ j. judge_faults j)
         judges.new.items in
         let asks = PlanAsks H.digest_of said in
-        ForSome (A.known media.old) (λ a. ForSome (B.known definition.old) (λ b.
-        AskedThose (asks a b) old new result)) }
+        ForSome (A.known media.old) (λ a. (b : List ℕ)
+        → IsDefinitionTold a (B.known definition.old) b →
+        AskedThose (asks a b) old new result) }
     ensures unasked { let said = panel_says (map (λ j. says j) judges.old.items) in
-        ForSome (A.known media.old) (λ a. ForSome (B.known definition.old) (λ b.
-        PlanAsks H.digest_of said a b [] → judges.new ≡ judges.old)) }
+        ForSome (A.known media.old) (λ a. (b : List ℕ)
+        → IsDefinitionTold a (B.known definition.old) b →
+        PlanAsks H.digest_of said a b [] → judges.new ≡ judges.old) }
     ensures unread { ForSome (A.known media.old) (λ a.
         IsMediaRefused a → definition.new ≡ definition.old) }
     ensures words { IfOk result (λ reply. reply.answer ≢ Answer.Usage) }
@@ -76,6 +80,7 @@ pub fn reply_to_plan<H: Hashing, A: Source, B: Source>(
 }
 
 /// The reply to `embed`: the range of the new store in the new file, once this is whole and finished.
+#[tactic(auto, using(c2_base::proofs::Growing::stays_still))]
 pub fn reply_to_embed<H: Hashing, A: Source, B: Source, C: Source, K: Sink>(
     alloc: Global,
     hashing: &H,
@@ -88,24 +93,27 @@ pub fn reply_to_embed<H: Hashing, A: Source, B: Source, C: Source, K: Sink>(
     requires { Unit {0} }
     // Where the bytes are known: what is replied, what is written, and what that meets.
     ensures reply { let said = panel_says (map (λ j. says j) judges.old.items) in
-        ForSome (A.known media.old) (λ a. ForSome (B.known definition.old) (λ b.
-        ForSome (C.known message.old) (λ c. (expected : Outcome)
+        ForSome (A.known media.old) (λ a. (b : List ℕ)
+        → IsDefinitionTold a (B.known definition.old) b → (c : List ℕ)
+        → IsMessageTold a b (C.known message.old) c → (expected : Outcome)
         → IsEmbedOutcome H.digest_of said a b c expected
-        → IfOk result (λ reply. StandsFor expected [] reply)))) }
+        → IfOk result (λ reply. StandsFor expected [] reply)) }
     ensures file { let said = panel_says (map (λ j. says j) judges.old.items) in
         let old = state_of K.written K.finished out.old in
         let new = state_of K.written K.finished out.new in
-        ForSome (A.known media.old) (λ a. ForSome (B.known definition.old) (λ b.
-        ForSome (C.known message.old) (λ c. (expected : Outcome)
+        ForSome (A.known media.old) (λ a. (b : List ℕ)
+        → IsDefinitionTold a (B.known definition.old) b → (c : List ℕ)
+        → IsMessageTold a b (C.known message.old) c → (expected : Outcome)
         → IsEmbedOutcome H.digest_of said a b c expected
-        → TakesFile expected.file old new result))) }
+        → TakesFile expected.file old new result) }
     ensures met { let said = panel_says (map (λ j. says j) judges.old.items) in
         let old = state_of K.written K.finished out.old in
         let new = state_of K.written K.finished out.new in
-        ForSome (A.known media.old) (λ a. ForSome (B.known definition.old) (λ b.
-        ForSome (C.known message.old) (λ c. HasWhole old new result
+        ForSome (A.known media.old) (λ a. (b : List ℕ)
+        → IsDefinitionTold a (B.known definition.old) b → (c : List ℕ)
+        → IsMessageTold a b (C.known message.old) c → HasWhole old new result
         → (built : AnyBuilt) → IsEmbedded H.digest_of said a b c (Ok built)
-        → BuiltMeets H.digest_of said a b c built))) }
+        → BuiltMeets H.digest_of said a b c built) }
     // Where the bytes are known: who was asked what.
     ensures asked { let said = panel_says (map (λ j. says j) judges.old.items) in
         let old = judges_of (λ j. says j) (λ j. asked_times j) (λ j. judge_faults j)
@@ -113,12 +121,14 @@ pub fn reply_to_embed<H: Hashing, A: Source, B: Source, C: Source, K: Sink>(
         let new = judges_of (λ j. says j) (λ j. asked_times j) (λ j. judge_faults j)
         judges.new.items in
         let asks = EmbedAsks H.digest_of said in
-        ForSome (A.known media.old) (λ a. ForSome (B.known definition.old) (λ b.
-        ForSome (C.known message.old) (λ c. AskedThose (asks a b c) old new result))) }
+        ForSome (A.known media.old) (λ a. (b : List ℕ)
+        → IsDefinitionTold a (B.known definition.old) b → (c : List ℕ)
+        → IsMessageTold a b (C.known message.old) c → AskedThose (asks a b c) old new result) }
     ensures unasked { let said = panel_says (map (λ j. says j) judges.old.items) in
-        ForSome (A.known media.old) (λ a. ForSome (B.known definition.old) (λ b.
-        ForSome (C.known message.old) (λ c.
-        EmbedAsks H.digest_of said a b c [] → judges.new ≡ judges.old))) }
+        ForSome (A.known media.old) (λ a. (b : List ℕ)
+        → IsDefinitionTold a (B.known definition.old) b → (c : List ℕ)
+        → IsMessageTold a b (C.known message.old) c →
+        EmbedAsks H.digest_of said a b c [] → judges.new ≡ judges.old) }
     // What isn't due isn't read.
     ensures unread { ForSome (A.known media.old) (λ a.
         IsMediaRefused a → definition.new ≡ definition.old) }
@@ -150,11 +160,12 @@ pub fn reply_to_embed<H: Hashing, A: Source, B: Source, C: Source, K: Sink>(
         (λ e. e ≡ Fault.Input → K.finished out.new ≡ K.finished out.old) }
     ensures memory { IfErr result
         (λ e. e ≡ Fault.Memory → (out.new ≡ out.old) ⊎ (K.finished out.new ≡ true)) }
-    ensures refused { IfOk result
-        (λ reply. reply.answer ≡ Answer.BuildRefused → out.new ≡ out.old) }
+    ensures others { IfOk result (λ reply. (reply.answer ≡ Answer.Done) ⊎ (out.new ≡ out.old)) }
+    ensures left { IfErr result
+        (λ e. e ≡ Fault.Output → K.finished out.new ≡ K.finished out.old) }
     ensures judged { IfErr result (λ e. e ≡ Fault.Judge → out.new ≡ out.old) }
     ensures out_count { OnOk result (K.faults out.new ≡ K.faults out.old) }
-    ensures out_later { K.faults out.old ≤ K.faults out.new }
+    ensures out_stays { StaysSink K.written unsaid K.faults out.old out.new }
     ensures out_unfinished { K.faults out.old < K.faults out.new
         → K.finished out.new ≡ K.finished out.old }
     ensures judges { let old = judges_of (λ j. says j) (λ j. asked_times j) (λ j. judge_faults j)
@@ -174,7 +185,7 @@ pub fn reply_to_embed<H: Hashing, A: Source, B: Source, C: Source, K: Sink>(
 
 // The reply to an error of a build: what is refused is reported, and everything else is a fault of the run.
 fn refusal_reply(alloc: Global, error: &BuildError) -> Result<Reply, Fault>
-    ensures reply { IfOk result (RepliesTo error.now) }
+    ensures reply { IfOk result (AnswersBuild error.now) }
     ensures fault { IfErr result (IsFaultOf error.now) }
 {
     match build_fault(error) {

@@ -1,9 +1,11 @@
 // The command `compare`.
-ghost use Rattle.std.specs.Prelude.{◌≡◌, ◌≢◌, ◌⊎◌, ◌≤◌, [], map, IfErr, IfOk, OnOk, vec_len};
+ghost use Rattle.std.specs.Prelude.{◌≡◌, ◌≢◌, ◌⊎◌, ◌≤◌, ℕ, List, [], map, IfErr, IfOk, OnOk, vec_len};
 ghost use Rattle.std.specs.Option.{ForSome};
 ghost use Rattle.c2_base.specs.Causes.{Rose};
-ghost use Rattle.c2_base.specs.Source.{StaysSource};
+ghost use Rattle.c2_base.specs.Sink.{StaysSink};
+ghost use Rattle.c2_base.specs.Source.{IsKnownWhereDue, StaysSource};
 ghost use Rattle.c2_binding.specs.Comparison.{CompareAsks, IsRefusedFirst};
+ghost use Rattle.c2_compare.specs.Comparing.{IsNotAccepted};
 ghost use Rattle.c2_rules.specs.declared.answer.Answer.{Answer as AnyAnswer};
 ghost use Rattle.c2_spec.specs.Judges.Panel.{LeavesJudges, judges_of, panel_says};
 ghost use Rattle.c2_cmd.specs.Outcome.{IsCompareOutcome, compare_outcome};
@@ -30,9 +32,10 @@ pub fn reply_to_compare<H: Hashing, A: Source, B: Source, W: Sink>(
 ) -> Result<Reply, Fault>
     requires { Unit {0} }
     ensures reply { let said = panel_says (map (λ j. says j) judges.old.items) in
-        ForSome (A.known media.old) (λ a. ForSome (B.known second.old) (λ b.
-        Begins (IsCompareOutcome H.digest_of said a b) (W.written report.old) (W.written report.new)
-        result)) }
+        ForSome (A.known media.old) (λ a. (b : List ℕ)
+        → IsKnownWhereDue (B.known second.old) (IsNotAccepted H.digest_of said a) b
+        → Begins (IsCompareOutcome H.digest_of said a b) (W.written report.old)
+        (W.written report.new) result) }
     ensures words { IfOk result (λ reply. reply.answer ≢ Answer.Usage) }
     ensures asked { let said = panel_says (map (λ j. says j) judges.old.items) in
         let old = judges_of (λ j. says j) (λ j. asked_times j) (λ j. judge_faults j)
@@ -40,11 +43,13 @@ pub fn reply_to_compare<H: Hashing, A: Source, B: Source, W: Sink>(
         let new = judges_of (λ j. says j) (λ j. asked_times j) (λ j. judge_faults j)
         judges.new.items in
         let asks = CompareAsks H.digest_of said in
-        ForSome (A.known media.old) (λ a. ForSome (B.known second.old) (λ b.
-        AskedThose (asks a b) old new result)) }
+        ForSome (A.known media.old) (λ a. (b : List ℕ)
+        → IsKnownWhereDue (B.known second.old) (IsNotAccepted H.digest_of said a) b
+        → AskedThose (asks a b) old new result) }
     ensures unasked { let said = panel_says (map (λ j. says j) judges.old.items) in
-        ForSome (A.known media.old) (λ a. ForSome (B.known second.old) (λ b.
-        CompareAsks H.digest_of said a b [] → judges.new ≡ judges.old)) }
+        ForSome (A.known media.old) (λ a. (b : List ℕ)
+        → IsKnownWhereDue (B.known second.old) (IsNotAccepted H.digest_of said a) b
+        → CompareAsks H.digest_of said a b [] → judges.new ≡ judges.old) }
     ensures unread { let said = panel_says (map (λ j. says j) judges.old.items) in
         ForSome (A.known media.old) (λ a. (found : AnyAnswer)
         → IsRefusedFirst H.digest_of said a found → second.new ≡ second.old) }
@@ -61,8 +66,7 @@ pub fn reply_to_compare<H: Hashing, A: Source, B: Source, W: Sink>(
     ensures second_stays { StaysSource B.len B.known B.faults second.old second.new }
     ensures second_count { OnOk result (B.faults second.new ≡ B.faults second.old) }
     ensures report_count { OnOk result (W.faults report.new ≡ W.faults report.old) }
-    ensures report_later { W.faults report.old ≤ W.faults report.new }
-    ensures report_unfinished { W.finished report.new ≡ W.finished report.old }
+    ensures report_stays { StaysSink W.written W.finished W.faults report.old report.new }
     ensures judged { IfErr result (λ e. e ≡ Fault.Judge → report.new ≡ report.old) }
     ensures judges { let old = judges_of (λ j. says j) (λ j. asked_times j) (λ j. judge_faults j)
         judges.old.items in

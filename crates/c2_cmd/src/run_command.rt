@@ -1,14 +1,13 @@
 // The top call.
-ghost use Rattle.std.specs.Prelude.{◌≡◌, ◌⊎◌, ◌<◌, ◌≤◌, map, string_bytes, None, true, false, OnOk, OnErr, IfOk, IfErr, List, [], vec_len};
-ghost use Rattle.c2_base.specs.Causes.{HasCause};
+ghost use Rattle.std.specs.Prelude.{◌≡◌, ◌⊎◌, ◌<◌, ◌≤◌, map, string_bytes, None, true, false, OnOk, OnErr, IfOk, IfErr, [], vec_len};
+ghost use Rattle.c2_base.specs.Causes.{HasCause, Rose};
 ghost use Rattle.c2_base.specs.Source.{StaysSource};
-ghost use Rattle.c2_base.specs.Sink.{HasWrittenPrefix};
-ghost use Rattle.c2_base.specs.declared.values.Question.{Question};
+ghost use Rattle.c2_base.specs.Sink.{HasWrittenPrefix, StaysSink, unsaid};
 ghost use Rattle.c2_spec.specs.Judges.Panel.{LeavesJudges, judges_of};
-ghost use Rattle.c2_cmd.specs.Outcome.{Outcome, has_whole_report, names};
 ghost use Rattle.c2_words.specs.CommandLine.{is_media, is_out, is_second, is_third, lets_ask};
-ghost use Rattle.c2_cmd.specs.Reply.{AskedThose, Begins, CausedBy, HasWhole, TakesFile};
-ghost use Rattle.c2_cmd.specs.Run.{AskedPanel, ComesTo, Delivers, HasFailed, HasFile, HasMet, HasNoFile, HasNoReply, HasReport, HasWholeFile, IsFileFirst, IsKnown, IsSecondNotDue, IsThirdNotDue, KeepsJudges, Puts, WithoutFault, call_of, roles_in, state_of};
+ghost use Rattle.c2_cmd.specs.Outcome.{Outcome, has_whole_report, names};
+ghost use Rattle.c2_cmd.specs.Reply.{AskedThose, Begins, CausedBy, HasWhole, LeavesReport, RepliesTo, TakesFile, end_of};
+ghost use Rattle.c2_cmd.specs.Run.{ComesTo, Delivers, HasFailed, HasMet, IsKnown, IsSecondNotDue, IsThirdNotDue, JudgeFailed, KeepsFile, KeepsJudges, KeepsReport, KeepsSource, Puts, RunState, RunsTo, SinkFailed, SourceFailed, call_of, faults_of, roles_in, state_of};
 
 use crate::building::{reply_to_embed, reply_to_plan};
 use crate::comparison::reply_to_compare;
@@ -61,131 +60,75 @@ pub fn run<H: Hashing, A: Source, B: Source, C: Source, K: Sink, W: Sink>(
     judges: &mut Vec<Box<dyn Judge>>,
 ) -> Status
     requires { Unit {0} }
-    // Where the bytes are known: the call comes to an outcome, and that is reported.
-    ensures report { let said = map (λ j. says j) judges.old.items in
-        let known = A.known media.old in
-        let other = B.known second.old in
-        let last = C.known third.old in
-        let call = call_of words.now.items known other last said H.digest_of in
-        let old = state_of W.written W.finished report.old in
-        let new = state_of W.written W.finished report.new in
-        IsKnown call → (expected : Outcome) → ComesTo call expected
-        → HasReport expected old new result }
-    ensures file { let said = map (λ j. says j) judges.old.items in
-        let known = A.known media.old in
-        let other = B.known second.old in
-        let last = C.known third.old in
-        let call = call_of words.now.items known other last said H.digest_of in
-        let old = state_of K.written K.finished out.old in
-        let new = state_of K.written K.finished out.new in
-        IsKnown call → (expected : Outcome) → ComesTo call expected
-        → HasFile expected.file old new result }
-    ensures order { let said = map (λ j. says j) judges.old.items in
-        let known = A.known media.old in
-        let other = B.known second.old in
-        let last = C.known third.old in
-        let call = call_of words.now.items known other last said H.digest_of in
-        let report_old = state_of W.written W.finished report.old in
-        let report_new = state_of W.written W.finished report.new in
-        let old = state_of K.written K.finished out.old in
-        let new = state_of K.written K.finished out.new in
-        IsKnown call → (expected : Outcome) → ComesTo call expected
-        → IsFileFirst expected.file report_old report_new old new }
-    ensures met { let said = map (λ j. says j) judges.old.items in
-        let known = A.known media.old in
-        let other = B.known second.old in
-        let last = C.known third.old in
-        let call = call_of words.now.items known other last said H.digest_of in
-        let old = state_of K.written K.finished out.old in
-        let new = state_of K.written K.finished out.new in
-        IsKnown call → HasWholeFile old new result → HasMet call }
-    ensures outcome { let said = map (λ j. says j) judges.old.items in
-        let known = A.known media.old in
-        let other = B.known second.old in
-        let last = C.known third.old in
-        let call = call_of words.now.items known other last said H.digest_of in
-        IsKnown call → (expected : Outcome) × ComesTo call expected }
-    ensures asked { let said = map (λ j. says j) judges.old.items in
-        let known = A.known media.old in
-        let other = B.known second.old in
-        let last = C.known third.old in
-        let call = call_of words.now.items known other last said H.digest_of in
+    // Where the sources that the call comes to read tell their bytes.
+    ensures known { let said = map (λ j. says j) judges.old.items in
+        let call = call_of words.now.items (A.known media.old) (B.known second.old)
+        (C.known third.old) said H.digest_of in
+        let old : RunState = record {
+          report = state_of W.written W.finished report.old;
+          file = state_of K.written K.finished out.old;
+          judges = judges_of (λ j. says j) (λ j. asked_times j) (λ j. judge_faults j)
+              judges.old.items;
+          faults = faults_of A.faults B.faults C.faults K.faults W.faults
+              media.old second.old third.old out.old report.old;
+        } in let new : RunState = record {
+          report = state_of W.written W.finished report.new;
+          file = state_of K.written K.finished out.new;
+          judges = judges_of (λ j. says j) (λ j. asked_times j) (λ j. judge_faults j)
+              judges.new.items;
+          faults = faults_of A.faults B.faults C.faults K.faults W.faults
+              media.new second.new third.new out.new report.new;
+        } in
+        IsKnown call → (expected : Outcome) × ComesTo call expected
+        × RunsTo call expected old new (judges.new ≡ judges.old) result }
+
+    // Whatever the objects hold: when the words are refused, and whose fault is answered.
+    ensures usage { result ≡ Status.Usage → roles_in words.now.items ≡ None }
+    ensures input { let roles = roles_in words.now.items in
+        let before = faults_of A.faults B.faults C.faults K.faults W.faults
+        media.old second.old third.old out.old report.old in
+        let now = faults_of A.faults B.faults C.faults K.faults W.faults
+        media.new second.new third.new out.new report.new in
+        result ≡ Status.InputFault → SourceFailed roles before now }
+    ensures output { let roles = roles_in words.now.items in
+        let before = faults_of A.faults B.faults C.faults K.faults W.faults
+        media.old second.old third.old out.old report.old in
+        let now = faults_of A.faults B.faults C.faults K.faults W.faults
+        media.new second.new third.new out.new report.new in
+        result ≡ Status.OutputFault → SinkFailed roles before now }
+    ensures judge_fault { let roles = roles_in words.now.items in
         let old = judges_of (λ j. says j) (λ j. asked_times j) (λ j. judge_faults j)
         judges.old.items in
         let new = judges_of (λ j. says j) (λ j. asked_times j) (λ j. judge_faults j)
         judges.new.items in
-        IsKnown call → (qs : List Question) → Puts call qs → AskedPanel qs old new result }
-    ensures usage { result ≡ Status.Usage → roles_in words.now.items ≡ None }
+        result ≡ Status.JudgeFault → JudgeFailed roles old.faults new.faults }
 
-    // The files: when a fault of theirs is answered, and what stays as it was.
-    ensures input { let roles = roles_in words.now.items in
-        let first = HasFailed (names is_media roles) (A.faults media.old) (A.faults media.new) in
-        let other = HasFailed (names is_second roles) (B.faults second.old) (B.faults second.new) in
-        let last = HasFailed (names is_third roles) (C.faults third.old) (C.faults third.new) in
-        result ≡ Status.InputFault → first ⊎ (other ⊎ last) }
-    ensures media_quiet { WithoutFault (A.faults media.new ≡ A.faults media.old) result }
-    ensures media_stays { StaysSource A.len A.known A.faults media.old media.new }
-    ensures media_unnamed { names is_media (roles_in words.now.items) ≡ false → media.new ≡ media.old }
-    ensures second_quiet { WithoutFault (B.faults second.new ≡ B.faults second.old) result }
-    ensures second_stays { StaysSource B.len B.known B.faults second.old second.new }
-    ensures second_unnamed { names is_second (roles_in words.now.items) ≡ false
-        → second.new ≡ second.old }
-    ensures second_unread { let said = map (λ j. says j) judges.old.items in
-        let known = A.known media.old in
-        let other = B.known second.old in
-        let last = C.known third.old in
-        let call = call_of words.now.items known other last said H.digest_of in
-        IsSecondNotDue call → second.new ≡ second.old }
-    ensures third_quiet { WithoutFault (C.faults third.new ≡ C.faults third.old) result }
-    ensures third_stays { StaysSource C.len C.known C.faults third.old third.new }
-    ensures third_unnamed { names is_third (roles_in words.now.items) ≡ false → third.new ≡ third.old }
-    ensures third_unread { let said = map (λ j. says j) judges.old.items in
-        let known = A.known media.old in
-        let other = B.known second.old in
-        let last = C.known third.old in
-        let call = call_of words.now.items known other last said H.digest_of in
-        IsThirdNotDue call → third.new ≡ third.old }
-
-    // The sinks: when a fault of theirs is answered, and what becomes of them whatever the files hold.
-    ensures output { let roles = roles_in words.now.items in
-        let told = HasFailed true (W.faults report.old) (W.faults report.new) in
-        let file = HasFailed (names is_out roles) (K.faults out.old) (K.faults out.new) in
-        result ≡ Status.OutputFault → told ⊎ file }
-    ensures out_quiet { WithoutFault (K.faults out.new ≡ K.faults out.old) result }
-    ensures out_later { K.faults out.old ≤ K.faults out.new }
-    ensures out_unfinished { K.faults out.old < K.faults out.new
-        → K.finished out.new ≡ K.finished out.old }
-    ensures out_finished { names is_out (roles_in words.now.items) ≡ true → result ≡ Status.Done
-        → K.finished out.new ≡ true }
-    ensures out_unnamed { names is_out (roles_in words.now.items) ≡ false → out.new ≡ out.old }
-    ensures out_begun { result ≡ Status.InputFault → K.finished out.new ≡ K.finished out.old }
-    ensures out_memory { result ≡ Status.NoMemory
-        → (out.new ≡ out.old) ⊎ (K.finished out.new ≡ true) }
-    ensures refused { HasNoFile result → out.new ≡ out.old }
-    ensures report_quiet { WithoutFault (W.faults report.new ≡ W.faults report.old) result }
-    ensures report_finished { WithoutFault (W.finished report.new ≡ true) result }
-    ensures report_unwritten { has_whole_report (roles_in words.now.items) ≡ true
-        → HasNoReply result → report.new ≡ report.old }
-    ensures report_judged { result ≡ Status.JudgeFault → report.new ≡ report.old }
-    ensures report_later { W.faults report.old ≤ W.faults report.new }
-    ensures report_unfinished { W.faults report.old < W.faults report.new
-        → W.finished report.new ≡ W.finished report.old }
-
-    // The judges.
-    ensures judges { let old = judges_of (λ j. says j) (λ j. asked_times j) (λ j. judge_faults j)
+    // What is left of each object, whatever it holds.
+    ensures media { let named = names is_media (roles_in words.now.items) in
+        KeepsSource A.len A.known A.faults named ⊥ media.old media.new result }
+    ensures second { let said = map (λ j. says j) judges.old.items in
+        let call = call_of words.now.items (A.known media.old) (B.known second.old)
+        (C.known third.old) said H.digest_of in
+        let named = names is_second call.roles in
+        KeepsSource B.len B.known B.faults named (IsSecondNotDue call)
+        second.old second.new result }
+    ensures third { let said = map (λ j. says j) judges.old.items in
+        let call = call_of words.now.items (A.known media.old) (B.known second.old)
+        (C.known third.old) said H.digest_of in
+        let named = names is_third call.roles in
+        KeepsSource C.len C.known C.faults named (IsThirdNotDue call)
+        third.old third.new result }
+    ensures out { let named = names is_out (roles_in words.now.items) in
+        let failed = Rose (W.faults report.old) (W.faults report.new) in
+        KeepsFile K.written K.finished K.faults named failed out.old out.new result }
+    ensures report { let whole = has_whole_report (roles_in words.now.items) in
+        KeepsReport W.written W.finished W.faults whole report.old report.new result }
+    ensures judges { let named = names lets_ask (roles_in words.now.items) in
+        let old = judges_of (λ j. says j) (λ j. asked_times j) (λ j. judge_faults j)
         judges.old.items in
         let new = judges_of (λ j. says j) (λ j. asked_times j) (λ j. judge_faults j)
         judges.new.items in
-        KeepsJudges (roles_in words.now.items) old new result }
-    ensures judges_len { vec_len judges.new ≡ vec_len judges.old }
-    ensures judges_unnamed { names lets_ask (roles_in words.now.items) ≡ false
-        → judges.new ≡ judges.old }
-    ensures judges_unasked { let said = map (λ j. says j) judges.old.items in
-        let known = A.known media.old in
-        let other = B.known second.old in
-        let last = C.known third.old in
-        let call = call_of words.now.items known other last said H.digest_of in
-        IsKnown call → Puts call [] → judges.new ≡ judges.old }
+        KeepsJudges named judges.old judges.new old new result }
 {
     // Only the prover needs this law.
     each_run_has_an_outcome();
@@ -206,6 +149,94 @@ pub fn run<H: Hashing, A: Source, B: Source, C: Source, K: Sink, W: Sink>(
 
 // The reply to a command line. `compare` alone writes to the report, and `embed` alone to the new file.
 fn reply_to<H: Hashing, A: Source, B: Source, C: Source, K: Sink, W: Sink>(
+    alloc: Global,
+    hashing: &H,
+    words: &Vec<String>,
+    media: &mut A,
+    second: &mut B,
+    third: &mut C,
+    out: &mut K,
+    report: &mut W,
+    judges: &mut Vec<Box<dyn Judge>>,
+) -> Result<Reply, Fault>
+    requires { Unit {0} }
+    // Where the sources that the call comes to read tell their bytes.
+    ensures known { let said = map (λ j. says j) judges.old.items in
+        let call = call_of words.now.items (A.known media.old) (B.known second.old)
+        (C.known third.old) said H.digest_of in
+        let old : RunState = record {
+          report = state_of W.written W.finished report.old;
+          file = state_of K.written K.finished out.old;
+          judges = judges_of (λ j. says j) (λ j. asked_times j) (λ j. judge_faults j)
+              judges.old.items;
+          faults = faults_of A.faults B.faults C.faults K.faults W.faults
+              media.old second.old third.old out.old report.old;
+        } in let new : RunState = record {
+          report = state_of W.written W.finished report.new;
+          file = state_of K.written K.finished out.new;
+          judges = judges_of (λ j. says j) (λ j. asked_times j) (λ j. judge_faults j)
+              judges.new.items;
+          faults = faults_of A.faults B.faults C.faults K.faults W.faults
+              media.new second.new third.new out.new report.new;
+        } in
+        IsKnown call → RepliesTo call old new (judges.new ≡ judges.old) result }
+
+    // Whatever the objects hold: when the words are refused, and whose fault is answered.
+    ensures usage { (end_of result) ≡ Status.Usage → roles_in words.now.items ≡ None }
+    ensures input { let roles = roles_in words.now.items in
+        let before = faults_of A.faults B.faults C.faults K.faults W.faults
+        media.old second.old third.old out.old report.old in
+        let now = faults_of A.faults B.faults C.faults K.faults W.faults
+        media.new second.new third.new out.new report.new in
+        (end_of result) ≡ Status.InputFault → SourceFailed roles before now }
+    ensures output { let roles = roles_in words.now.items in
+        let before = faults_of A.faults B.faults C.faults K.faults W.faults
+        media.old second.old third.old out.old report.old in
+        let now = faults_of A.faults B.faults C.faults K.faults W.faults
+        media.new second.new third.new out.new report.new in
+        (end_of result) ≡ Status.OutputFault → SinkFailed roles before now }
+    ensures judge_fault { let roles = roles_in words.now.items in
+        let old = judges_of (λ j. says j) (λ j. asked_times j) (λ j. judge_faults j)
+        judges.old.items in
+        let new = judges_of (λ j. says j) (λ j. asked_times j) (λ j. judge_faults j)
+        judges.new.items in
+        (end_of result) ≡ Status.JudgeFault → JudgeFailed roles old.faults new.faults }
+
+    // What is left of each object, whatever it holds.
+    ensures media { let named = names is_media (roles_in words.now.items) in
+        KeepsSource A.len A.known A.faults named ⊥ media.old media.new (end_of result) }
+    ensures second { let said = map (λ j. says j) judges.old.items in
+        let call = call_of words.now.items (A.known media.old) (B.known second.old)
+        (C.known third.old) said H.digest_of in
+        let named = names is_second call.roles in
+        KeepsSource B.len B.known B.faults named (IsSecondNotDue call)
+        second.old second.new (end_of result) }
+    ensures third { let said = map (λ j. says j) judges.old.items in
+        let call = call_of words.now.items (A.known media.old) (B.known second.old)
+        (C.known third.old) said H.digest_of in
+        let named = names is_third call.roles in
+        KeepsSource C.len C.known C.faults named (IsThirdNotDue call)
+        third.old third.new (end_of result) }
+    ensures out { let named = names is_out (roles_in words.now.items) in
+        let failed = Rose (W.faults report.old) (W.faults report.new) in
+        KeepsFile K.written K.finished K.faults named failed out.old out.new (end_of result) }
+    ensures report { let whole = has_whole_report (roles_in words.now.items) in
+        LeavesReport W.written W.finished W.faults whole report.old report.new result }
+    ensures judges { let named = names lets_ask (roles_in words.now.items) in
+        let old = judges_of (λ j. says j) (λ j. asked_times j) (λ j. judge_faults j)
+        judges.old.items in
+        let new = judges_of (λ j. says j) (λ j. asked_times j) (λ j. judge_faults j)
+        judges.new.items in
+        KeepsJudges named judges.old judges.new old new (end_of result) }
+{
+    dispatch(
+        alloc, hashing, words, media, second, third, out, report, judges,
+    )
+}
+
+// The reply to a command line, object by object.
+#[tactic(auto, using(c2_base::proofs::Growing::stays_still))]
+fn dispatch<H: Hashing, A: Source, B: Source, C: Source, K: Sink, W: Sink>(
     alloc: Global,
     hashing: &H,
     words: &Vec<String>,
@@ -266,7 +297,8 @@ fn reply_to<H: Hashing, A: Source, B: Source, C: Source, K: Sink, W: Sink>(
         IfErr result (CausedBy (first ⊎ (other ⊎ last)) (told ⊎ file) old new) }
     ensures media_stays { StaysSource A.len A.known A.faults media.old media.new }
     ensures media_count { OnOk result (A.faults media.new ≡ A.faults media.old) }
-    ensures media_unnamed { names is_media (roles_in words.now.items) ≡ false → media.new ≡ media.old }
+    ensures media_unnamed { names is_media (roles_in words.now.items) ≡ false
+        → media.new ≡ media.old }
     ensures second_stays { StaysSource B.len B.known B.faults second.old second.new }
     ensures second_count { OnOk result (B.faults second.new ≡ B.faults second.old) }
     ensures second_unnamed { names is_second (roles_in words.now.items) ≡ false
@@ -279,7 +311,8 @@ fn reply_to<H: Hashing, A: Source, B: Source, C: Source, K: Sink, W: Sink>(
         IsSecondNotDue call → second.new ≡ second.old }
     ensures third_stays { StaysSource C.len C.known C.faults third.old third.new }
     ensures third_count { OnOk result (C.faults third.new ≡ C.faults third.old) }
-    ensures third_unnamed { names is_third (roles_in words.now.items) ≡ false → third.new ≡ third.old }
+    ensures third_unnamed { names is_third (roles_in words.now.items) ≡ false
+        → third.new ≡ third.old }
     ensures third_unread { let said = map (λ j. says j) judges.old.items in
         let known = A.known media.old in
         let other = B.known second.old in
@@ -287,22 +320,23 @@ fn reply_to<H: Hashing, A: Source, B: Source, C: Source, K: Sink, W: Sink>(
         let call = call_of words.now.items known other last said H.digest_of in
         IsThirdNotDue call → third.new ≡ third.old }
     ensures out_count { OnOk result (K.faults out.new ≡ K.faults out.old) }
-    ensures out_later { K.faults out.old ≤ K.faults out.new }
+    ensures out_stays { StaysSink K.written unsaid K.faults out.old out.new }
     ensures out_unfinished { K.faults out.old < K.faults out.new
         → K.finished out.new ≡ K.finished out.old }
     ensures out_finished { names is_out (roles_in words.now.items) ≡ true
         → IfOk result (λ reply. reply.answer ≡ Answer.Done → K.finished out.new ≡ true) }
     ensures out_unnamed { names is_out (roles_in words.now.items) ≡ false → out.new ≡ out.old }
-    ensures refused { IfOk result
-        (λ reply. reply.answer ≡ Answer.BuildRefused → out.new ≡ out.old) }
+    ensures others { names is_out (roles_in words.now.items) ≡ true
+        → IfOk result (λ reply. (reply.answer ≡ Answer.Done) ⊎ (out.new ≡ out.old)) }
+    ensures out_left { IfErr result
+        (λ e. e ≡ Fault.Output → K.finished out.new ≡ K.finished out.old) }
     ensures out_begun { IfErr result
         (λ e. e ≡ Fault.Input → K.finished out.new ≡ K.finished out.old) }
     ensures out_memory { IfErr result
         (λ e. e ≡ Fault.Memory → (out.new ≡ out.old) ⊎ (K.finished out.new ≡ true)) }
     ensures judged { IfErr result (λ e. e ≡ Fault.Judge → out.new ≡ out.old) }
     ensures report_count { OnOk result (W.faults report.new ≡ W.faults report.old) }
-    ensures report_later { W.faults report.old ≤ W.faults report.new }
-    ensures report_unfinished { W.finished report.new ≡ W.finished report.old }
+    ensures report_stays { StaysSink W.written W.finished W.faults report.old report.new }
     ensures report_unwritten { has_whole_report (roles_in words.now.items) ≡ true
         → report.new ≡ report.old }
     ensures report_judged { IfErr result (λ e. e ≡ Fault.Judge → report.new ≡ report.old) }

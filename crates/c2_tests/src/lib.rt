@@ -9,5 +9,3 @@ mod host;
 mod lines;
 #[cfg(test)]
 mod outside;
-#[cfg(test)]
-mod vast;

@@ -2,9 +2,9 @@ use Rattle.std.proofs.Common.{inr, map}
 use Rattle.c2_spec.specs.Judges.Panel.{judges_of, panel_says}
 use Rattle.c2_build.specs.declared.types.Embedded.{Embedded}
 use Rattle.c2_cmd.specs.Run.{state_of}
-use Rattle.c2_cmd.specs.declared.reply.Fault.TheVariants.{Input, Judge, Memory}
+use Rattle.c2_cmd.specs.declared.reply.Fault.TheVariants.{Input, Judge, Memory, Output}
 use Rattle.c2_cmd.proofs.Comparing.{memory_caused}
-use Rattle.c2_cmd.proofs.Embedding.{after_fault, delivered, embed_caused, embed_filed, embed_refused, embed_replied, embed_unfiled, error_asked, judge_leaves, memory_leaves, not_done, not_whole, only_memory, refused_embedding, refused_unfiled}
+use Rattle.c2_cmd.proofs.Embedding.{after_fault, delivered, done_left, embed_caused, embed_filed, embed_refused, embed_replied, embed_unfiled, error_asked, judge_leaves, memory_leaves, not_done, not_whole, only_memory, refused_embedding, refused_left}
 use Rattle.c2_cmd.proofs.Validating.{asked_before}
 use Rattle.c2_cmd.proofs.building.reply_to_embed.Goals as goal
 
@@ -65,9 +65,21 @@ returns-in-Err-clause-memory g c = memory_leaves _ _ c.in-Err.error c.refusal_re
 pub returns-in-Err-clause-finished : goal.returns-in-Err-clause-finished
 returns-in-Err-clause-finished g c = not_done c.in-Err.error c.refusal_reply.result _ c.refusal_reply.ensures.reply
 
+-- once the file is whole, the reply is that it is done
+pub returns-in-Ok-clause-others : goal.returns-in-Ok-clause-others
+returns-in-Ok-clause-others g c = done_left _ _ c.embedded_reply.result c.embedded_reply.ensures.reply
+
 -- a refused build leaves the sink as it was
-pub returns-in-Err-clause-refused : goal.returns-in-Err-clause-refused
-returns-in-Err-clause-refused g c = refused_unfiled _ c.in-Err.error c.refusal_reply.result c.refusal_reply.ensures.reply c.in-Err.ensures.untouched
+pub returns-in-Err-clause-others : goal.returns-in-Err-clause-others
+returns-in-Err-clause-others g c = refused_left _ c.in-Err.error c.refusal_reply.result c.refusal_reply.ensures.reply c.in-Err.ensures.untouched
+
+-- no sink fails once the file is whole
+pub returns-in-Ok-clause-left : goal.returns-in-Ok-clause-left
+returns-in-Ok-clause-left g c = only_memory Output _ c.embedded_reply.result (λ e. cc (e)) c.embedded_reply.ensures.memory
+
+-- and one that fails before isn't finished
+pub returns-in-Err-clause-left : goal.returns-in-Err-clause-left
+returns-in-Err-clause-left g c = after_fault Output _ c.refusal_reply.result c.in-Err.ensures.finished
 
 -- once the file is whole, the panel was asked what the build asks, also if the reply finds no memory
 pub returns-in-Ok-clause-asked : goal.returns-in-Ok-clause-asked

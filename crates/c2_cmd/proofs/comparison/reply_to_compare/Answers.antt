@@ -23,22 +23,22 @@ pub returns-in-Ok-clause-asked : goal.returns-in-Ok-clause-asked
 returns-in-Ok-clause-asked g c a known b other qs asks =
     let old = judges_of (λ j. (goal.Judge-dyn g (j.vtable, j.value)).says j.value) (λ j. (goal.Judge-dyn g (j.vtable, j.value)).asked_times j.value) (λ j. (goal.Judge-dyn g (j.vtable, j.value)).judge_faults j.value) c.args.judges.now.items in
     let new = judges_of (λ j. (goal.Judge-dyn g (j.vtable, j.value)).says j.value) (λ j. (goal.Judge-dyn g (j.vtable, j.value)).asked_times j.value) (λ j. (goal.Judge-dyn g (j.vtable, j.value)).judge_faults j.value) c.compare.new.judges.items in
-    asked_before qs old new c.reply_to_compared.result c.reply_to_compared.ensures.memory (c.in-Ok.ensures.asked a known b other qs asks)
+    asked_before qs old new c.reply_to_compared.result c.reply_to_compared.ensures.memory (c.in-Ok.ensures.panel.asked qs (record { file = a; is_file = known; other = b; is_other = other; asks = asks }))
 
 -- where the comparison ends in a fault, the panel was asked what it asks up to this fault
 pub returns-in-Err-clause-asked : goal.returns-in-Err-clause-asked
 returns-in-Err-clause-asked g c a known b other qs asks =
     let old = judges_of (λ j. (goal.Judge-dyn g (j.vtable, j.value)).says j.value) (λ j. (goal.Judge-dyn g (j.vtable, j.value)).asked_times j.value) (λ j. (goal.Judge-dyn g (j.vtable, j.value)).judge_faults j.value) c.args.judges.now.items in
     let new = judges_of (λ j. (goal.Judge-dyn g (j.vtable, j.value)).says j.value) (λ j. (goal.Judge-dyn g (j.vtable, j.value)).asked_times j.value) (λ j. (goal.Judge-dyn g (j.vtable, j.value)).judge_faults j.value) c.compare.new.judges.items in
-    compare_asked qs old new c.in-Err.error c.from.result c.from.ensures (c.in-Err.ensures.asked a known b other qs asks)
+    compare_asked qs old new c.in-Err.error c.from.result c.from.ensures (c.in-Err.ensures.panel.asked qs (record { file = a; is_file = known; other = b; is_other = other; asks = asks }))
 
 -- the second file is left alone where the first isn't accepted
 pub returns-in-Ok-clause-unread : goal.returns-in-Ok-clause-unread
-returns-in-Ok-clause-unread g c a known found refused = (c.in-Ok.ensures.refused a known found refused.is_answer refused.invalid).0
+returns-in-Ok-clause-unread g c a known found refused = c.in-Ok.ensures.not_due a known (found, refused)
 
 -- also after a fault
 pub returns-in-Err-clause-unread : goal.returns-in-Err-clause-unread
-returns-in-Err-clause-unread g c a known found refused = (c.in-Err.ensures.refused a known found refused.is_answer refused.invalid).0
+returns-in-Err-clause-unread g c a known found refused = c.in-Err.ensures.not_due a known (found, refused)
 
 -- once the files are compared no judge fails
 pub returns-in-Ok-clause-judged : goal.returns-in-Ok-clause-judged
@@ -60,4 +60,12 @@ pub returns-in-Err-clause-fault : goal.returns-in-Err-clause-fault
 returns-in-Err-clause-fault g c =
     let old = judges_of (λ j. (goal.Judge-dyn g (j.vtable, j.value)).says j.value) (λ j. (goal.Judge-dyn g (j.vtable, j.value)).asked_times j.value) (λ j. (goal.Judge-dyn g (j.vtable, j.value)).judge_faults j.value) c.args.judges.now.items in
     let new = judges_of (λ j. (goal.Judge-dyn g (j.vtable, j.value)).says j.value) (λ j. (goal.Judge-dyn g (j.vtable, j.value)).asked_times j.value) (λ j. (goal.Judge-dyn g (j.vtable, j.value)).judge_faults j.value) c.compare.new.judges.items in
-    compare_cause _ _ _ _ _ _ old new c.in-Err.error c.from.result c.from.ensures c.in-Err.ensures.cause
+    compare_cause _ _ _ _ _ _ old new c.in-Err.error c.from.result c.from.ensures c.in-Err.ensures.first.cause c.in-Err.ensures.report.cause c.in-Err.ensures.panel.cause
+
+-- nobody is asked by the comparison where there is no question
+pub returns-in-Ok-clause-unasked : goal.returns-in-Ok-clause-unasked
+returns-in-Ok-clause-unasked g c a known b other asks = c.in-Ok.ensures.panel.unasked (record { file = a; is_file = known; other = b; is_other = other; asks = asks })
+
+-- also where it fails
+pub returns-in-Err-clause-unasked : goal.returns-in-Err-clause-unasked
+returns-in-Err-clause-unasked g c a known b other asks = c.in-Err.ensures.panel.unasked (record { file = a; is_file = known; other = b; is_other = other; asks = asks })

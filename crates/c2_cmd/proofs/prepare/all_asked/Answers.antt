@@ -7,7 +7,7 @@ use Rattle.c2_cmd.proofs.prepare.all_asked.Goals as goal
 pub loop-i-init : goal.loop-i-init
 loop-i-init c = record {
   within = omega arith;
-  so_far = all_start c.args.tree.now c.args.store.now c.args.chain.now _ _ c.requires c.new-asked.ensures.items c.manifest_count-i.ensures;
+  so_far = all_start c.args.tree.now c.args.store.now c.args.chain.now _ _ c.requires c.new-asked.ensures.items c.manifest_count-i.ensures.count;
 }
 
 -- a step lists the next manifest down where it is reached, and leaves those below it to come

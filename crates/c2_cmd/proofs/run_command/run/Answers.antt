@@ -1,195 +1,239 @@
-use Rattle.std.proofs.Common.{map, ◌∙◌, ap, sym, inr}
-use Rattle.c2_spec.specs.Judges.Panel.{judges_of, panel_says}
-use Rattle.c2_cmd.specs.Run.{state_of}
+use Rattle.std.proofs.Common.{map, ◌∙◌, ap, sym, inl, inr, refl, subst, take, string_bytes, arith}
+use Rattle.std.specs.Prelude.{Err}
+use Rattle.c2_base.proofs.Growing.{grows_then}
+use Rattle.c2_spec.specs.Judges.Panel.{panel_says}
+use Rattle.c2_cmd.specs.Reply.{end_of}
+use Rattle.c2_cmd.specs.Run.{HasNoReply, state_of}
+use Rattle.c2_cmd.specs.declared.reply.Fault.{Fault}
 use Rattle.c2_cmd.specs.declared.types.Status.TheVariants.{InputFault, OutputFault, JudgeFault, NoMemory}
-use Rattle.c2_cmd.proofs.Delivering.{asked_whole, comes_to, done_alone, file_before, file_delivered, file_input, file_judge, file_memory, file_output, first_filed, first_unwritten, no_fault, refused_alone, whole_answered, whole_failed, whole_where_filed, without, wrote_all, wrote_prefix}
+use Rattle.c2_cmd.proofs.Delivering.{comes_to, no_end, no_fault, whole_where_filed, without}
+use Rattle.c2_cmd.proofs.Ending.{file_told, file_untold, judges_told, judges_untold, no_output, rose_since, runs_answered, runs_input, runs_judge, runs_memory, runs_output, runs_untold, source_told, source_untold, without_fault}
 use Rattle.c2_cmd.proofs.run_command.run.Goals as goal
 
--- where a source failed, the call has an outcome
-pub returns-in-Err-Input-clause-outcome : goal.returns-in-Err-Input-clause-outcome
-returns-in-Err-Input-clause-outcome g c known = comes_to c.each_run_has_an_outcome.ensures.outcome _ (g.A.Source.known c.args.media.now) (g.B.Source.known c.args.second.now) (g.C.Source.known c.args.third.now) (panel_says (map (λ j. (goal.Judge-dyn g (j.vtable, j.value)).says j.value) c.args.judges.now.items)) g.H.Hashing.digest_of (g.met.A.Source.known_bytes c.args.media.now) (g.met.B.Source.known_bytes c.args.second.now) (g.met.C.Source.known_bytes c.args.third.now) g.met.H.Hashing.is_digest
+-- ---- where the sources are known
 
--- where the report failed before the reply, the call has an outcome
-pub returns-in-Err-Output-clause-outcome : goal.returns-in-Err-Output-clause-outcome
-returns-in-Err-Output-clause-outcome g c known = comes_to c.each_run_has_an_outcome.ensures.outcome _ (g.A.Source.known c.args.media.now) (g.B.Source.known c.args.second.now) (g.C.Source.known c.args.third.now) (panel_says (map (λ j. (goal.Judge-dyn g (j.vtable, j.value)).says j.value) c.args.judges.now.items)) g.H.Hashing.digest_of (g.met.A.Source.known_bytes c.args.media.now) (g.met.B.Source.known_bytes c.args.second.now) (g.met.C.Source.known_bytes c.args.third.now) g.met.H.Hashing.is_digest
+-- where a source failed
+pub returns-in-Err-Input-clause-known : goal.returns-in-Err-Input-clause-known
+returns-in-Err-Input-clause-known g c known =
+    let e = comes_to c.each_run_has_an_outcome.ensures.outcome _ (g.A.Source.known c.args.media.now) (g.B.Source.known c.args.second.now) (g.C.Source.known c.args.third.now) (panel_says (map (λ j. (goal.Judge-dyn g (j.vtable, j.value)).says j.value) c.args.judges.now.items)) g.H.Hashing.digest_of (g.met.A.Source.known_bytes c.args.media.now) (g.met.B.Source.known_bytes c.args.second.now) (g.met.C.Source.known_bytes c.args.third.now) g.met.H.Hashing.is_digest in
+    let replies = c.in-Err-Input.ensures.known known in
+    (e.0, e.1, runs_input _ e.0 _ _ _ e.1 (rw c.in-Err-Input.field-0-is at replies) c.in-Err-Input.ensures.report.unfinished (λ some. ap (λ w. state_of g.W.Sink.written g.W.Sink.finished w) (c.in-Err-Input.ensures.report.unwritten (whole_where_filed _ _ e.0 e.1 some))) (c.in-Err-Input.ensures.input (ap (λ (f : Fault). end_of (Err f)) c.in-Err-Input.field-0-is)))
 
--- where a judge failed, the call has an outcome
-pub returns-in-Err-Judge-clause-outcome : goal.returns-in-Err-Judge-clause-outcome
-returns-in-Err-Judge-clause-outcome g c known = comes_to c.each_run_has_an_outcome.ensures.outcome _ (g.A.Source.known c.args.media.now) (g.B.Source.known c.args.second.now) (g.C.Source.known c.args.third.now) (panel_says (map (λ j. (goal.Judge-dyn g (j.vtable, j.value)).says j.value) c.args.judges.now.items)) g.H.Hashing.digest_of (g.met.A.Source.known_bytes c.args.media.now) (g.met.B.Source.known_bytes c.args.second.now) (g.met.C.Source.known_bytes c.args.third.now) g.met.H.Hashing.is_digest
+-- where a sink failed before the reply
+pub returns-in-Err-Output-clause-known : goal.returns-in-Err-Output-clause-known
+returns-in-Err-Output-clause-known g c known =
+    let e = comes_to c.each_run_has_an_outcome.ensures.outcome _ (g.A.Source.known c.args.media.now) (g.B.Source.known c.args.second.now) (g.C.Source.known c.args.third.now) (panel_says (map (λ j. (goal.Judge-dyn g (j.vtable, j.value)).says j.value) c.args.judges.now.items)) g.H.Hashing.digest_of (g.met.A.Source.known_bytes c.args.media.now) (g.met.B.Source.known_bytes c.args.second.now) (g.met.C.Source.known_bytes c.args.third.now) g.met.H.Hashing.is_digest in
+    let replies = c.in-Err-Output.ensures.known known in
+    (e.0, e.1, runs_output _ e.0 _ _ _ e.1 (rw c.in-Err-Output.field-0-is at replies) c.in-Err-Output.ensures.report.unfinished (λ some. ap (λ w. state_of g.W.Sink.written g.W.Sink.finished w) (c.in-Err-Output.ensures.report.unwritten (whole_where_filed _ _ e.0 e.1 some))) (c.in-Err-Output.ensures.output (ap (λ (f : Fault). end_of (Err f)) c.in-Err-Output.field-0-is)))
 
--- where memory ran out, the call has an outcome
-pub returns-in-Err-Memory-clause-outcome : goal.returns-in-Err-Memory-clause-outcome
-returns-in-Err-Memory-clause-outcome g c known = comes_to c.each_run_has_an_outcome.ensures.outcome _ (g.A.Source.known c.args.media.now) (g.B.Source.known c.args.second.now) (g.C.Source.known c.args.third.now) (panel_says (map (λ j. (goal.Judge-dyn g (j.vtable, j.value)).says j.value) c.args.judges.now.items)) g.H.Hashing.digest_of (g.met.A.Source.known_bytes c.args.media.now) (g.met.B.Source.known_bytes c.args.second.now) (g.met.C.Source.known_bytes c.args.third.now) g.met.H.Hashing.is_digest
+-- where a judge failed
+pub returns-in-Err-Judge-clause-known : goal.returns-in-Err-Judge-clause-known
+returns-in-Err-Judge-clause-known g c known =
+    let e = comes_to c.each_run_has_an_outcome.ensures.outcome _ (g.A.Source.known c.args.media.now) (g.B.Source.known c.args.second.now) (g.C.Source.known c.args.third.now) (panel_says (map (λ j. (goal.Judge-dyn g (j.vtable, j.value)).says j.value) c.args.judges.now.items)) g.H.Hashing.digest_of (g.met.A.Source.known_bytes c.args.media.now) (g.met.B.Source.known_bytes c.args.second.now) (g.met.C.Source.known_bytes c.args.third.now) g.met.H.Hashing.is_digest in
+    let replies = c.in-Err-Judge.ensures.known known in
+    (e.0, e.1, runs_judge _ e.0 _ _ _ e.1 (rw c.in-Err-Judge.field-0-is at replies) c.in-Err-Judge.ensures.report.unfinished (λ some. ap (λ w. state_of g.W.Sink.written g.W.Sink.finished w) (c.in-Err-Judge.ensures.report.unwritten (whole_where_filed _ _ e.0 e.1 some))) (c.in-Err-Judge.ensures.judge_fault (ap (λ (f : Fault). end_of (Err f)) c.in-Err-Judge.field-0-is)))
 
--- where the reply was delivered, the call has an outcome
-pub returns-in-Ok-deliver-clause-outcome : goal.returns-in-Ok-deliver-clause-outcome
-returns-in-Ok-deliver-clause-outcome g c known = comes_to c.each_run_has_an_outcome.ensures.outcome _ (g.A.Source.known c.args.media.now) (g.B.Source.known c.args.second.now) (g.C.Source.known c.args.third.now) (panel_says (map (λ j. (goal.Judge-dyn g (j.vtable, j.value)).says j.value) c.args.judges.now.items)) g.H.Hashing.digest_of (g.met.A.Source.known_bytes c.args.media.now) (g.met.B.Source.known_bytes c.args.second.now) (g.met.C.Source.known_bytes c.args.third.now) g.met.H.Hashing.is_digest
+-- where memory ran out
+pub returns-in-Err-Memory-clause-known : goal.returns-in-Err-Memory-clause-known
+returns-in-Err-Memory-clause-known g c known =
+    let e = comes_to c.each_run_has_an_outcome.ensures.outcome _ (g.A.Source.known c.args.media.now) (g.B.Source.known c.args.second.now) (g.C.Source.known c.args.third.now) (panel_says (map (λ j. (goal.Judge-dyn g (j.vtable, j.value)).says j.value) c.args.judges.now.items)) g.H.Hashing.digest_of (g.met.A.Source.known_bytes c.args.media.now) (g.met.B.Source.known_bytes c.args.second.now) (g.met.C.Source.known_bytes c.args.third.now) g.met.H.Hashing.is_digest in
+    let replies = c.in-Err-Memory.ensures.known known in
+    (e.0, e.1, runs_memory _ e.0 _ _ _ e.1 (rw c.in-Err-Memory.field-0-is at replies) c.in-Err-Memory.ensures.report.unfinished (λ some. ap (λ w. state_of g.W.Sink.written g.W.Sink.finished w) (c.in-Err-Memory.ensures.report.unwritten (whole_where_filed _ _ e.0 e.1 some))))
 
--- where the report failed under the reply, the call has an outcome
-pub returns-clause-outcome : goal.returns-clause-outcome
-returns-clause-outcome g c known = comes_to c.each_run_has_an_outcome.ensures.outcome _ (g.A.Source.known c.args.media.now) (g.B.Source.known c.args.second.now) (g.C.Source.known c.args.third.now) (panel_says (map (λ j. (goal.Judge-dyn g (j.vtable, j.value)).says j.value) c.args.judges.now.items)) g.H.Hashing.digest_of (g.met.A.Source.known_bytes c.args.media.now) (g.met.B.Source.known_bytes c.args.second.now) (g.met.C.Source.known_bytes c.args.third.now) g.met.H.Hashing.is_digest
+-- once the reply is delivered
+pub returns-in-Ok-deliver-clause-known : goal.returns-in-Ok-deliver-clause-known
+returns-in-Ok-deliver-clause-known g c known =
+    let e = comes_to c.each_run_has_an_outcome.ensures.outcome _ (g.A.Source.known c.args.media.now) (g.B.Source.known c.args.second.now) (g.C.Source.known c.args.third.now) (panel_says (map (λ j. (goal.Judge-dyn g (j.vtable, j.value)).says j.value) c.args.judges.now.items)) g.H.Hashing.digest_of (g.met.A.Source.known_bytes c.args.media.now) (g.met.B.Source.known_bytes c.args.second.now) (g.met.C.Source.known_bytes c.args.third.now) g.met.H.Hashing.is_digest in
+    (e.0, e.1, runs_answered _ e.0 c.in-Ok.reply _ _ _ _ _ c.status.result e.1 (c.in-Ok.ensures.known known) c.status.ensures c.in-Ok-deliver.ensures.delivered)
 
--- where a source failed, the report has a prefix of the outcome's text, and this call hasn't finished it
+-- where the report fails under it
+pub returns-clause-known : goal.returns-clause-known
+returns-clause-known g c known =
+    let e = comes_to c.each_run_has_an_outcome.ensures.outcome _ (g.A.Source.known c.args.media.now) (g.B.Source.known c.args.second.now) (g.C.Source.known c.args.third.now) (panel_says (map (λ j. (goal.Judge-dyn g (j.vtable, j.value)).says j.value) c.args.judges.now.items)) g.H.Hashing.digest_of (g.met.A.Source.known_bytes c.args.media.now) (g.met.B.Source.known_bytes c.args.second.now) (g.met.C.Source.known_bytes c.args.third.now) g.met.H.Hashing.is_digest in
+    (e.0, e.1, runs_untold _ e.0 c.in-Ok.reply _ _ _ _ _ e.1 (c.in-Ok.ensures.known known) c.deliver.ensures.prefix (c.in-Err.ensures.unfinished ∙ c.in-Ok.ensures.report.unfinished) (inl (refl, rose_since _ _ _ c.in-Ok.ensures.report.quiet c.in-Err.ensures.cause.failed)))
+
+-- ---- words, and whose fault it is
+
+pub returns-in-Err-Input-clause-input : goal.returns-in-Err-Input-clause-input
+returns-in-Err-Input-clause-input g c same = c.in-Err-Input.ensures.input (ap (λ (f : Fault). end_of (Err f)) c.in-Err-Input.field-0-is)
+
+pub returns-in-Err-Output-clause-output : goal.returns-in-Err-Output-clause-output
+returns-in-Err-Output-clause-output g c same = c.in-Err-Output.ensures.output (ap (λ (f : Fault). end_of (Err f)) c.in-Err-Output.field-0-is)
+
+pub returns-in-Err-Judge-clause-judge_fault : goal.returns-in-Err-Judge-clause-judge_fault
+returns-in-Err-Judge-clause-judge_fault g c same = c.in-Err-Judge.ensures.judge_fault (ap (λ (f : Fault). end_of (Err f)) c.in-Err-Judge.field-0-is)
+
+pub returns-in-Ok-deliver-clause-usage : goal.returns-in-Ok-deliver-clause-usage
+returns-in-Ok-deliver-clause-usage g c same = c.in-Ok.ensures.usage (sym c.status.ensures ∙ same)
+
+-- an answer is no fault
+pub returns-in-Ok-deliver-clause-input : goal.returns-in-Ok-deliver-clause-input
+returns-in-Ok-deliver-clause-input g c same = no_fault _ c.in-Ok.reply.answer c.status.result InputFault c.status.ensures tt same
+
+pub returns-in-Ok-deliver-clause-output : goal.returns-in-Ok-deliver-clause-output
+returns-in-Ok-deliver-clause-output g c same = absurd (no_output c.in-Ok.reply.answer (sym c.status.ensures ∙ same))
+
+pub returns-in-Ok-deliver-clause-judge_fault : goal.returns-in-Ok-deliver-clause-judge_fault
+returns-in-Ok-deliver-clause-judge_fault g c same = no_fault _ c.in-Ok.reply.answer c.status.result JudgeFault c.status.ensures tt same
+
+-- the report failed under the reply
+pub returns-clause-output : goal.returns-clause-output
+returns-clause-output g c same = inl (refl, rose_since _ _ _ c.in-Ok.ensures.report.quiet c.in-Err.ensures.cause.failed)
+
+-- ---- what is left
+
+pub returns-in-Err-Input-clause-media : goal.returns-in-Err-Input-clause-media
+returns-in-Err-Input-clause-media g c = let kept = c.in-Err-Input.ensures.media in rw c.in-Err-Input.field-0-is at kept
+
+pub returns-in-Err-Input-clause-second : goal.returns-in-Err-Input-clause-second
+returns-in-Err-Input-clause-second g c = let kept = c.in-Err-Input.ensures.second in rw c.in-Err-Input.field-0-is at kept
+
+pub returns-in-Err-Input-clause-third : goal.returns-in-Err-Input-clause-third
+returns-in-Err-Input-clause-third g c = let kept = c.in-Err-Input.ensures.third in rw c.in-Err-Input.field-0-is at kept
+
+pub returns-in-Err-Input-clause-out : goal.returns-in-Err-Input-clause-out
+returns-in-Err-Input-clause-out g c = let kept = c.in-Err-Input.ensures.out in rw c.in-Err-Input.field-0-is at kept
+
+pub returns-in-Err-Input-clause-judges : goal.returns-in-Err-Input-clause-judges
+returns-in-Err-Input-clause-judges g c = let kept = c.in-Err-Input.ensures.judges in rw c.in-Err-Input.field-0-is at kept
+
 pub returns-in-Err-Input-clause-report : goal.returns-in-Err-Input-clause-report
-returns-in-Err-Input-clause-report g c known expected comes = record { prefix = c.in-Err-Input.ensures.reply known expected comes; same = c.in-Err-Input.ensures.report_unfinished }
+returns-in-Err-Input-clause-report g c = record {
+  later = c.in-Err-Input.ensures.report.later;
+  quiet = tt;
+  grows = c.in-Err-Input.ensures.report.grows;
+  is_finished = tt;
+  unfinished = c.in-Err-Input.ensures.report.unfinished;
+  unwritten = λ whole none. c.in-Err-Input.ensures.report.unwritten whole;
+  judged = λ same. absurd (cc (same));
+}
 
--- where the report failed before the reply, the report has a prefix of the outcome's text, and this call hasn't finished it
+pub returns-in-Err-Output-clause-media : goal.returns-in-Err-Output-clause-media
+returns-in-Err-Output-clause-media g c = let kept = c.in-Err-Output.ensures.media in rw c.in-Err-Output.field-0-is at kept
+
+pub returns-in-Err-Output-clause-second : goal.returns-in-Err-Output-clause-second
+returns-in-Err-Output-clause-second g c = let kept = c.in-Err-Output.ensures.second in rw c.in-Err-Output.field-0-is at kept
+
+pub returns-in-Err-Output-clause-third : goal.returns-in-Err-Output-clause-third
+returns-in-Err-Output-clause-third g c = let kept = c.in-Err-Output.ensures.third in rw c.in-Err-Output.field-0-is at kept
+
+pub returns-in-Err-Output-clause-out : goal.returns-in-Err-Output-clause-out
+returns-in-Err-Output-clause-out g c = let kept = c.in-Err-Output.ensures.out in rw c.in-Err-Output.field-0-is at kept
+
+pub returns-in-Err-Output-clause-judges : goal.returns-in-Err-Output-clause-judges
+returns-in-Err-Output-clause-judges g c = let kept = c.in-Err-Output.ensures.judges in rw c.in-Err-Output.field-0-is at kept
+
 pub returns-in-Err-Output-clause-report : goal.returns-in-Err-Output-clause-report
-returns-in-Err-Output-clause-report g c known expected comes = record { prefix = c.in-Err-Output.ensures.reply known expected comes; same = c.in-Err-Output.ensures.report_unfinished }
+returns-in-Err-Output-clause-report g c = record {
+  later = c.in-Err-Output.ensures.report.later;
+  quiet = tt;
+  grows = c.in-Err-Output.ensures.report.grows;
+  is_finished = tt;
+  unfinished = c.in-Err-Output.ensures.report.unfinished;
+  unwritten = λ whole none. absurd none;
+  judged = λ same. absurd (cc (same));
+}
 
--- where a judge failed, the report has a prefix of the outcome's text, and this call hasn't finished it
+pub returns-in-Err-Judge-clause-media : goal.returns-in-Err-Judge-clause-media
+returns-in-Err-Judge-clause-media g c = let kept = c.in-Err-Judge.ensures.media in rw c.in-Err-Judge.field-0-is at kept
+
+pub returns-in-Err-Judge-clause-second : goal.returns-in-Err-Judge-clause-second
+returns-in-Err-Judge-clause-second g c = let kept = c.in-Err-Judge.ensures.second in rw c.in-Err-Judge.field-0-is at kept
+
+pub returns-in-Err-Judge-clause-third : goal.returns-in-Err-Judge-clause-third
+returns-in-Err-Judge-clause-third g c = let kept = c.in-Err-Judge.ensures.third in rw c.in-Err-Judge.field-0-is at kept
+
+pub returns-in-Err-Judge-clause-out : goal.returns-in-Err-Judge-clause-out
+returns-in-Err-Judge-clause-out g c = let kept = c.in-Err-Judge.ensures.out in rw c.in-Err-Judge.field-0-is at kept
+
+pub returns-in-Err-Judge-clause-judges : goal.returns-in-Err-Judge-clause-judges
+returns-in-Err-Judge-clause-judges g c = let kept = c.in-Err-Judge.ensures.judges in rw c.in-Err-Judge.field-0-is at kept
+
 pub returns-in-Err-Judge-clause-report : goal.returns-in-Err-Judge-clause-report
-returns-in-Err-Judge-clause-report g c known expected comes = record { prefix = c.in-Err-Judge.ensures.reply known expected comes; same = c.in-Err-Judge.ensures.report_unfinished }
+returns-in-Err-Judge-clause-report g c = record {
+  later = c.in-Err-Judge.ensures.report.later;
+  quiet = tt;
+  grows = c.in-Err-Judge.ensures.report.grows;
+  is_finished = tt;
+  unfinished = c.in-Err-Judge.ensures.report.unfinished;
+  unwritten = λ whole none. c.in-Err-Judge.ensures.report.unwritten whole;
+  judged = λ same. c.in-Err-Judge.ensures.report.judged c.in-Err-Judge.field-0-is;
+}
 
--- where memory ran out, the report has a prefix of the outcome's text, and this call hasn't finished it
+pub returns-in-Err-Memory-clause-media : goal.returns-in-Err-Memory-clause-media
+returns-in-Err-Memory-clause-media g c = let kept = c.in-Err-Memory.ensures.media in rw c.in-Err-Memory.field-0-is at kept
+
+pub returns-in-Err-Memory-clause-second : goal.returns-in-Err-Memory-clause-second
+returns-in-Err-Memory-clause-second g c = let kept = c.in-Err-Memory.ensures.second in rw c.in-Err-Memory.field-0-is at kept
+
+pub returns-in-Err-Memory-clause-third : goal.returns-in-Err-Memory-clause-third
+returns-in-Err-Memory-clause-third g c = let kept = c.in-Err-Memory.ensures.third in rw c.in-Err-Memory.field-0-is at kept
+
+pub returns-in-Err-Memory-clause-out : goal.returns-in-Err-Memory-clause-out
+returns-in-Err-Memory-clause-out g c = let kept = c.in-Err-Memory.ensures.out in rw c.in-Err-Memory.field-0-is at kept
+
+pub returns-in-Err-Memory-clause-judges : goal.returns-in-Err-Memory-clause-judges
+returns-in-Err-Memory-clause-judges g c = let kept = c.in-Err-Memory.ensures.judges in rw c.in-Err-Memory.field-0-is at kept
+
 pub returns-in-Err-Memory-clause-report : goal.returns-in-Err-Memory-clause-report
-returns-in-Err-Memory-clause-report g c known expected comes = record { prefix = c.in-Err-Memory.ensures.reply known expected comes; same = c.in-Err-Memory.ensures.report_unfinished }
+returns-in-Err-Memory-clause-report g c = record {
+  later = c.in-Err-Memory.ensures.report.later;
+  quiet = tt;
+  grows = c.in-Err-Memory.ensures.report.grows;
+  is_finished = tt;
+  unfinished = c.in-Err-Memory.ensures.report.unfinished;
+  unwritten = λ whole none. c.in-Err-Memory.ensures.report.unwritten whole;
+  judged = λ same. absurd (cc (same));
+}
 
--- where a source failed, the panel was asked a prefix of the questions of the call
-pub returns-in-Err-Input-clause-asked : goal.returns-in-Err-Input-clause-asked
-returns-in-Err-Input-clause-asked g c known qs asks = let asked = c.in-Err-Input.ensures.asked known qs asks in rw c.in-Err-Input.field-0-is at asked
+pub returns-in-Ok-deliver-clause-media : goal.returns-in-Ok-deliver-clause-media
+returns-in-Ok-deliver-clause-media g c = source_told c.in-Ok.reply.answer c.status.ensures c.in-Ok.ensures.media
 
--- where the report failed before the reply, the panel had been asked every question of the call
-pub returns-in-Err-Output-clause-asked : goal.returns-in-Err-Output-clause-asked
-returns-in-Err-Output-clause-asked g c known qs asks = let asked = c.in-Err-Output.ensures.asked known qs asks in rw c.in-Err-Output.field-0-is at asked
+pub returns-clause-media : goal.returns-clause-media
+returns-clause-media g c = source_untold c.in-Ok.ensures.media
 
--- where a judge failed, the panel was asked the questions before, and one judge failed at the next
-pub returns-in-Err-Judge-clause-asked : goal.returns-in-Err-Judge-clause-asked
-returns-in-Err-Judge-clause-asked g c known qs asks = let asked = c.in-Err-Judge.ensures.asked known qs asks in rw c.in-Err-Judge.field-0-is at asked
+pub returns-in-Ok-deliver-clause-second : goal.returns-in-Ok-deliver-clause-second
+returns-in-Ok-deliver-clause-second g c = source_told c.in-Ok.reply.answer c.status.ensures c.in-Ok.ensures.second
 
--- where memory ran out, the panel was asked a prefix of the questions of the call
-pub returns-in-Err-Memory-clause-asked : goal.returns-in-Err-Memory-clause-asked
-returns-in-Err-Memory-clause-asked g c known qs asks = let asked = c.in-Err-Memory.ensures.asked known qs asks in rw c.in-Err-Memory.field-0-is at asked
+pub returns-clause-second : goal.returns-clause-second
+returns-clause-second g c = source_untold c.in-Ok.ensures.second
 
--- a reply that was delivered completes the outcome's text, and its status is the outcome's
+pub returns-in-Ok-deliver-clause-third : goal.returns-in-Ok-deliver-clause-third
+returns-in-Ok-deliver-clause-third g c = source_told c.in-Ok.reply.answer c.status.ensures c.in-Ok.ensures.third
+
+pub returns-clause-third : goal.returns-clause-third
+returns-clause-third g c = source_untold c.in-Ok.ensures.third
+
+pub returns-in-Ok-deliver-clause-judges : goal.returns-in-Ok-deliver-clause-judges
+returns-in-Ok-deliver-clause-judges g c = judges_told c.in-Ok.reply.answer c.status.ensures c.in-Ok.ensures.judges
+
+pub returns-clause-judges : goal.returns-clause-judges
+returns-clause-judges g c = judges_untold c.in-Ok.ensures.judges
+
+pub returns-in-Ok-deliver-clause-out : goal.returns-in-Ok-deliver-clause-out
+returns-in-Ok-deliver-clause-out g c = file_told _ _ _ _ _ _ _ _ c.in-Ok.reply.answer c.status.result c.status.ensures c.in-Ok.ensures.out
+
+pub returns-clause-out : goal.returns-clause-out
+returns-clause-out g c = file_untold _ (rose_since _ _ _ c.in-Ok.ensures.report.quiet c.in-Err.ensures.cause.failed) c.in-Ok.ensures.out
+
 pub returns-in-Ok-deliver-clause-report : goal.returns-in-Ok-deliver-clause-report
-returns-in-Ok-deliver-clause-report g c known expected comes =
-    let made = c.in-Ok.ensures.reply known in
-    wrote_all expected made.before c.in-Ok.reply _ _ _ c.status.result (made.stands expected comes) c.status.ensures made.written c.in-Ok-deliver.ensures.delivered
+returns-in-Ok-deliver-clause-report g c = record {
+  later = let first = c.in-Ok.ensures.report.later in let then = c.in-Ok-deliver.ensures.cause.later in omega (arith, first, then);
+  quiet = without _ c.status.result (c.in-Ok-deliver.ensures.cause.ok ∙ c.in-Ok.ensures.report.quiet);
+  grows = grows_then _ _ _ c.in-Ok.ensures.report.grows (string_bytes c.in-Ok.reply.text, c.in-Ok-deliver.ensures.delivered.written);
+  is_finished = without _ c.status.result c.in-Ok-deliver.ensures.delivered.is_finished;
+  unfinished = without_fault _ c.in-Ok.reply.answer c.status.result c.status.ensures;
+  unwritten = λ whole none. absurd (no_end c.in-Ok.reply.answer (subst HasNoReply c.status.ensures none));
+  judged = λ same. no_fault _ c.in-Ok.reply.answer c.status.result JudgeFault c.status.ensures tt same;
+}
 
--- a report that fails under the reply has taken a prefix of the outcome's text, and this call hasn't finished it
 pub returns-clause-report : goal.returns-clause-report
-returns-clause-report g c known expected comes =
-    let made = c.in-Ok.ensures.reply known in
-    let mid = state_of g.W.Sink.written g.W.Sink.finished c.reply_to.new.report in
-    wrote_prefix expected made.before c.in-Ok.reply _ mid _ (made.stands expected comes) made.written c.deliver.ensures.prefix (c.in-Err.ensures.unfinished ∙ c.in-Ok.ensures.report_unfinished)
-
--- a run that ends with an answer has asked the panel every question of the call
-pub returns-in-Ok-deliver-clause-asked : goal.returns-in-Ok-deliver-clause-asked
-returns-in-Ok-deliver-clause-asked g c known qs asks =
-    let old = judges_of (λ j. (goal.Judge-dyn g (j.vtable, j.value)).says j.value) (λ j. (goal.Judge-dyn g (j.vtable, j.value)).asked_times j.value) (λ j. (goal.Judge-dyn g (j.vtable, j.value)).judge_faults j.value) c.args.judges.now.items in
-    let new = judges_of (λ j. (goal.Judge-dyn g (j.vtable, j.value)).says j.value) (λ j. (goal.Judge-dyn g (j.vtable, j.value)).asked_times j.value) (λ j. (goal.Judge-dyn g (j.vtable, j.value)).judge_faults j.value) c.reply_to.new.judges.items in
-    asked_whole qs old new c.in-Ok.reply.answer c.status.result c.status.ensures (c.in-Ok.ensures.asked known qs asks)
-
--- and so has one whose report fails under the reply
-pub returns-clause-asked : goal.returns-clause-asked
-returns-clause-asked g c known qs asks = c.in-Ok.ensures.asked known qs asks
-
--- where a source failed, the new file has what that leaves of the outcome's
-pub returns-in-Err-Input-clause-file : goal.returns-in-Err-Input-clause-file
-returns-in-Err-Input-clause-file g c known expected comes = let filed = c.in-Err-Input.ensures.file known expected comes in file_input expected.file _ _ (rw c.in-Err-Input.field-0-is at filed)
-
--- and the report has nothing, where the outcome has a file
-pub returns-in-Err-Input-clause-order : goal.returns-in-Err-Input-clause-order
-returns-in-Err-Input-clause-order g c known expected comes = first_unwritten expected.file _ _ _ _ (λ some. ap (λ w. state_of g.W.Sink.written g.W.Sink.finished w) (c.in-Err-Input.ensures.report_unwritten (whole_where_filed _ _ expected comes some)))
-
--- where a sink failed before the reply, the new file has what that leaves of the outcome's
-pub returns-in-Err-Output-clause-file : goal.returns-in-Err-Output-clause-file
-returns-in-Err-Output-clause-file g c known expected comes = let filed = c.in-Err-Output.ensures.file known expected comes in file_output expected.file _ _ (rw c.in-Err-Output.field-0-is at filed)
-
--- and the report has nothing, where the outcome has a file
-pub returns-in-Err-Output-clause-order : goal.returns-in-Err-Output-clause-order
-returns-in-Err-Output-clause-order g c known expected comes = first_unwritten expected.file _ _ _ _ (λ some. ap (λ w. state_of g.W.Sink.written g.W.Sink.finished w) (c.in-Err-Output.ensures.report_unwritten (whole_where_filed _ _ expected comes some)))
-
--- where a judge failed, the new file has what that leaves of the outcome's
-pub returns-in-Err-Judge-clause-file : goal.returns-in-Err-Judge-clause-file
-returns-in-Err-Judge-clause-file g c known expected comes = let filed = c.in-Err-Judge.ensures.file known expected comes in file_judge expected.file _ _ (rw c.in-Err-Judge.field-0-is at filed)
-
--- and the report has nothing, where the outcome has a file
-pub returns-in-Err-Judge-clause-order : goal.returns-in-Err-Judge-clause-order
-returns-in-Err-Judge-clause-order g c known expected comes = first_unwritten expected.file _ _ _ _ (λ some. ap (λ w. state_of g.W.Sink.written g.W.Sink.finished w) (c.in-Err-Judge.ensures.report_unwritten (whole_where_filed _ _ expected comes some)))
-
--- where memory ran out, the new file has what that leaves of the outcome's
-pub returns-in-Err-Memory-clause-file : goal.returns-in-Err-Memory-clause-file
-returns-in-Err-Memory-clause-file g c known expected comes = let filed = c.in-Err-Memory.ensures.file known expected comes in file_memory expected.file _ _ (rw c.in-Err-Memory.field-0-is at filed)
-
--- and the report has nothing, where the outcome has a file
-pub returns-in-Err-Memory-clause-order : goal.returns-in-Err-Memory-clause-order
-returns-in-Err-Memory-clause-order g c known expected comes = first_unwritten expected.file _ _ _ _ (λ some. ap (λ w. state_of g.W.Sink.written g.W.Sink.finished w) (c.in-Err-Memory.ensures.report_unwritten (whole_where_filed _ _ expected comes some)))
-
--- a judge's failure leaves the new file as it was
-pub returns-in-Err-Judge-clause-refused : goal.returns-in-Err-Judge-clause-refused
-returns-in-Err-Judge-clause-refused g c none = c.in-Err-Judge.ensures.judged c.in-Err-Judge.field-0-is
-
--- with a reply the new file is the outcome's, whole and finished, before the report is begun
-pub returns-in-Ok-deliver-clause-file : goal.returns-in-Ok-deliver-clause-file
-returns-in-Ok-deliver-clause-file g c known expected comes = file_delivered expected.file c.in-Ok.reply _ _ c.status.result c.status.ensures (c.in-Ok.ensures.file known expected comes)
-
--- also where the report fails under the reply
-pub returns-clause-file : goal.returns-clause-file
-returns-clause-file g c known expected comes = file_before expected.file c.in-Ok.reply _ _ (c.in-Ok.ensures.file known expected comes)
-
--- so it is whole before the report
-pub returns-in-Ok-deliver-clause-order : goal.returns-in-Ok-deliver-clause-order
-returns-in-Ok-deliver-clause-order g c known expected comes = first_filed expected.file c.in-Ok.reply _ _ _ _ (c.in-Ok.ensures.file known expected comes)
-
--- and also where the report fails
-pub returns-clause-order : goal.returns-clause-order
-returns-clause-order g c known expected comes = first_filed expected.file c.in-Ok.reply _ _ _ _ (c.in-Ok.ensures.file known expected comes)
-
--- a run that is done, or that finished the file, has written one that meets what is promised of it
-pub returns-in-Ok-deliver-clause-met : goal.returns-in-Ok-deliver-clause-met
-returns-in-Ok-deliver-clause-met g c known whole = c.in-Ok.ensures.met known (whole_answered c.in-Ok.reply.answer c.status.result _ _ c.status.ensures whole)
-
--- also where the report failed behind it
-pub returns-clause-met : goal.returns-clause-met
-returns-clause-met g c known whole = c.in-Ok.ensures.met known (inr (whole_failed OutputFault _ _ (λ e. cc (e)) whole))
-
--- and where a source failed, a sink, a judge, or memory ran out
-pub returns-in-Err-Input-clause-met : goal.returns-in-Err-Input-clause-met
-returns-in-Err-Input-clause-met g c known whole = c.in-Err-Input.ensures.met known (whole_failed InputFault _ _ (λ e. cc (e)) whole)
-
-pub returns-in-Err-Output-clause-met : goal.returns-in-Err-Output-clause-met
-returns-in-Err-Output-clause-met g c known whole = c.in-Err-Output.ensures.met known (whole_failed OutputFault _ _ (λ e. cc (e)) whole)
-
-pub returns-in-Err-Judge-clause-met : goal.returns-in-Err-Judge-clause-met
-returns-in-Err-Judge-clause-met g c known whole = c.in-Err-Judge.ensures.met known (whole_failed JudgeFault _ _ (λ e. cc (e)) whole)
-
-pub returns-in-Err-Memory-clause-met : goal.returns-in-Err-Memory-clause-met
-returns-in-Err-Memory-clause-met g c known whole = c.in-Err-Memory.ensures.met known (whole_failed NoMemory _ _ (λ e. cc (e)) whole)
-
--- a source that failed leaves the file unfinished
-pub returns-in-Err-Input-clause-out_begun : goal.returns-in-Err-Input-clause-out_begun
-returns-in-Err-Input-clause-out_begun g c same = c.in-Err-Input.ensures.out_begun c.in-Err-Input.field-0-is
-
--- a run with an answer had no such fault
-pub returns-in-Ok-deliver-clause-out_begun : goal.returns-in-Ok-deliver-clause-out_begun
-returns-in-Ok-deliver-clause-out_begun g c same = no_fault _ c.in-Ok.reply.answer c.status.result InputFault c.status.ensures tt same
-
--- out of memory the file is as it was, or finished
-pub returns-in-Err-Memory-clause-out_memory : goal.returns-in-Err-Memory-clause-out_memory
-returns-in-Err-Memory-clause-out_memory g c same = c.in-Err-Memory.ensures.out_memory c.in-Err-Memory.field-0-is
-
--- a run with an answer didn't run out of it
-pub returns-in-Ok-deliver-clause-out_memory : goal.returns-in-Ok-deliver-clause-out_memory
-returns-in-Ok-deliver-clause-out_memory g c same = no_fault _ c.in-Ok.reply.answer c.status.result NoMemory c.status.ensures tt same
-
--- a judge's failure leaves the report as it was
-pub returns-in-Err-Judge-clause-report_judged : goal.returns-in-Err-Judge-clause-report_judged
-returns-in-Err-Judge-clause-report_judged g c same = c.in-Err-Judge.ensures.report_judged c.in-Err-Judge.field-0-is
-
--- a run with an answer had none
-pub returns-in-Ok-deliver-clause-report_judged : goal.returns-in-Ok-deliver-clause-report_judged
-returns-in-Ok-deliver-clause-report_judged g c same = no_fault _ c.in-Ok.reply.answer c.status.result JudgeFault c.status.ensures tt same
-
--- and has finished its report
-pub returns-in-Ok-deliver-clause-report_finished : goal.returns-in-Ok-deliver-clause-report_finished
-returns-in-Ok-deliver-clause-report_finished g c = without _ c.status.result c.in-Ok-deliver.ensures.delivered.is_finished
-
--- and the sink for it is finished
-pub returns-in-Ok-deliver-clause-out_finished : goal.returns-in-Ok-deliver-clause-out_finished
-returns-in-Ok-deliver-clause-out_finished g c used done = c.in-Ok.ensures.out_finished used (done_alone c.in-Ok.reply.answer (sym c.status.ensures ∙ done))
-
--- a refused build has left it as it was
-pub returns-in-Ok-deliver-clause-refused : goal.returns-in-Ok-deliver-clause-refused
-returns-in-Ok-deliver-clause-refused g c none = c.in-Ok.ensures.refused (refused_alone c.in-Ok.reply.answer c.status.result c.status.ensures none)
+returns-clause-report g c = record {
+  later = let first = c.in-Ok.ensures.report.later in let then = c.in-Err.ensures.cause.later in omega (arith, first, then);
+  quiet = tt;
+  grows = grows_then _ _ _ c.in-Ok.ensures.report.grows (take c.deliver.ensures.prefix.0 (string_bytes c.in-Ok.reply.text), c.deliver.ensures.prefix.1);
+  is_finished = tt;
+  unfinished = c.in-Err.ensures.unfinished ∙ c.in-Ok.ensures.report.unfinished;
+  unwritten = λ whole none. absurd none;
+  judged = λ same. absurd (cc (same));
+}
