@@ -45,7 +45,9 @@ def prepare(folder, program):
     """What the documents name: the program, the examples, and the media."""
     for name in FOLDERS:
         shutil.copytree(os.path.join(TOP, name), os.path.join(folder, name), ignore=shutil.ignore_patterns("__pycache__"))
-    os.symlink(program, os.path.join(folder, "c2"))
+    os.mkdir(os.path.join(folder, "build"))
+    for name in "c2", "build/c2":
+        os.symlink(program, os.path.join(folder, name))
     os.mkdir(os.path.join(folder, "bin"))
     os.symlink("/usr/bin/python3", os.path.join(folder, "bin", "python3"))
     os.symlink("/bin/true", os.path.join(folder, "bin", "apt-get"))

@@ -15,7 +15,7 @@ import sys
 
 TOP = os.path.join(os.path.dirname(os.path.abspath(__file__)), "..")
 COLUMNS = {"edit": ("edit",), "test": ("test",), "clause": ("clause", "function", "by")}
-# Functions, types, traits, modules, and the names of clauses and of ghost members.
+# Functions, types, traits, modules, and the names of clauses and of ghost members; and fields of the records that clauses are.
 DECLARED = r"\b(?:fn|struct|enum|trait|mod|const|ensures|requires|ghost|law) (\w+)"
 DOCUMENTS = [f"{TOP}/README.md", f"{TOP}/tests/README.md", *sorted(glob.glob(f"{TOP}/examples/**/README.md", recursive=True)), *sorted(glob.glob(f"{TOP}/docs/*.md"))]
 
@@ -82,6 +82,7 @@ def main():
     sources = {path: text_of(path) for path in glob.glob(f"{TOP}/crates/*/src/**/*.rt", recursive=True)}
     edits = {os.path.basename(path)[: -len(".edit")] for path in glob.glob(f"{TOP}/crates/*/must-fail/*.edit")}
     words = {name for text in sources.values() for name in re.findall(DECLARED, text)}
+    words |= {name for path in glob.glob(f"{TOP}/crates/*/specs/**/*.antt", recursive=True) for name in re.findall(r"(?m)^  pub (\w+) :", text_of(path))}
     tables = glob.glob(f"{TOP}/crates/*/data/*.rows")
     words |= {part for path in [*sources, *tables] for part in re.findall(r"\w+", os.path.relpath(path, f"{TOP}/crates"))}
     lines = {line.strip() for text in sources.values() for line in text.splitlines()}

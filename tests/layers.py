@@ -4,7 +4,8 @@
     layers.py      prints a table of the lemma files that crates cite of others; the status is 1 where a crate cites the `proofs/` of a
                    crate of code
 
-Lemmas of a crate that holds only definitions and laws may be cited; those of any other are its own.
+Lemmas of a crate that holds only definitions and laws may be cited, and of a crate of code one file of laws that it owes to the crates
+above it; all others are its own.
 """
 
 import os
@@ -14,8 +15,10 @@ from collections import Counter
 
 TOP = os.path.join(os.path.dirname(os.path.abspath(__file__)), "..")
 OPEN = {
-    "c2_spec", "c2_rules", "c2_older", "c2_boxed", "c2_box_rows", "c2_binding", "c2_built", "c2_carried", "c2_succeeding", "c2_films", "c2_media", "c2_places",
+    "c2_spec", "c2_rules", "c2_calls", "c2_older", "c2_boxed", "c2_box_rows", "c2_chunks", "c2_binding", "c2_built", "c2_carried", "c2_succeeding", "c2_films", "c2_places",
 }
+# the one file of laws of a crate of code: what calls leave of a sink, and what the errors of two calls come from
+LAWS = {"c2_base": "Growing", "c2_evidence": "Leaving"}
 CITES = re.compile(r"\bRattle\.(c2_\w+)\.proofs\.(\w+)")
 
 
@@ -39,7 +42,7 @@ def main():
     found = cited()
     wrong = 0
     for (other, crate, lemmas), files in sorted(found.items()):
-        code = other not in OPEN
+        code = other not in OPEN and LAWS.get(other) != lemmas
         wrong += code
         print(f"{other:16} {lemmas:20} {crate:16} {files:3}{'  of a crate of code' if code else ''}")
     print(f"{len(found)} cited, {wrong} of crates of code")

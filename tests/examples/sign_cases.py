@@ -150,9 +150,22 @@ class Signing(unittest.TestCase):
 
     def test_the_action_refers_to_the_parent(self):
         self.signed("photo.jpg", "1.jpg")
-        self.signed("1.jpg", "2.jpg", "--action", "c2pa.edited")
+        self.assert_refers("1.jpg", 32)
+
+    def test_digests_by_another_algorithm(self):
+        self.signed("photo.jpg", "1.jpg", "--alg", "sha384")
+        self.assertEqual(self.shown("1.jpg")["manifests"][-1]["claim"]["alg"], "sha384")
+        self.assert_refers("1.jpg", 64, "--alg", "sha512")
+        algs = [manifest["claim"]["alg"] for manifest in self.shown("2.jpg")["manifests"]]
+        self.assertEqual(algs, ["sha384", "sha512"])
+        self.refused("build BadDefinition alg", "photo.jpg", "no.jpg", "--alg", "md5")
+
+    def assert_refers(self, media, length, *options):
+        """Asserts that the first action over a signed media refers to the parent's assertion, by a digest of so many bytes."""
+        self.signed(media, "2.jpg", "--action", "c2pa.edited", *options)
         claim = self.shown("2.jpg")["manifests"][-1]["claim"]
         hashed = next(entry["hash"] for entry in claim["assertions"] if entry["url"] == PARENT)
+        self.assertEqual(len(bytes.fromhex(hashed)), length)
         with open(os.path.join(self.folder, "2.jpg.steps", "definition.json"), encoding="utf-8") as file:
             actions = cbor.read_whole(bytes.fromhex(json.load(file)["assertions"][0]["hex"]))
         opened, edited = cbor.field(actions, "actions")[1]

@@ -35,6 +35,8 @@ from worked_builds import ASSERTIONS, DEFINITION, FILM, LABEL, LATER, LATER_DEFI
 X = json.loads(DEFINITION)
 BARE = 74
 FTYP, MDAT = built_films.FTYP, built_films.MDAT
+# By how many bytes a digest by an algorithm is longer than one by SHA-256.
+LONGER = {"sha256": 0, "sha384": 16, "sha512": 32}
 # Media that are too long for a table, each by its name.
 MADE = {}
 
@@ -471,6 +473,25 @@ def film_rows():
     yield row("a wide old box in the middle", None, wide_old, LATER_DEFINITION)
 
 
+def algorithm_rows():
+    """Each algorithm, in a JPEG and in a film, alone and over a store by another one. Without a parent three digests are as long as the
+    algorithm's: two references and the binding; with one there are six, two of them in the ingredient and one for it."""
+    for alg, more in LONGER.items():
+        yield row(f"a JPEG by {alg}", f"embedded 20 {1_141 + 3 * more}", given=definition(alg=alg))
+        yield row(f"a film by {alg}", f"embedded 25 {1_220 + 3 * more}", FILM, definition(alg=alg))
+    yield row("an algorithm in front of the other fields", "embedded 20 1237", given=b'{"alg":"sha512",' + DEFINITION[1:])
+    yield row("the last of equal algorithms holds", "embedded 20 1189", given=b'{"alg":"md5","alg":"sha384",' + DEFINITION[1:])
+    for below, above in ("sha512", "sha256"), ("sha256", "sha512"), ("sha384", "sha512"), ("sha512", "sha384"):
+        more = 3 * LONGER[below] + 6 * LONGER[above]
+        yield row(f"a JPEG by {above} over {below}", f"embedded 20 {2_667 + more}", signed(alg=below), later(alg=above))
+        yield row(f"a film by {above} over {below}", f"embedded 25 {2_792 + more}", signed(FILM, alg=below), later(alg=above))
+    third = definition(label=LABEL[:-1] + "2", alg="sha384")
+    yield row("a third store by a third algorithm", None, signed(signed(alg="sha512"), label=LATER), third)
+    yield row("a film by sha512 whose old store becomes free space", None, built_films.film_in_front(), later(alg="sha512"))
+    yield row("redactions by sha512 in a store by sha256", None, redactable(), redacting(target("m", "test.note"), target("d", "test.other"), alg="sha512"))
+    yield row("redactions by sha384 in a store by longer digests", None, by_sha512(), redacting(target("m", "test.note"), alg="sha384"))
+
+
 def wide_exclusion():
     """Excludes a C2PA box whose length has 8 bytes."""
     return mapping(("xpath", text("/uuid")), ("data", array(mapping(("offset", uint(16)), ("value", data(PROVENANCE))))))
@@ -506,6 +527,7 @@ BAD_FIELDS = {
     "protected": ("a1012", "0x", " a1", "zz", None, 1, ..., "00" * 65_537),
     "reserve": (63, 1_048_577, 256.0, "256", -256, True, None, 2**64 + 256, ...),
     "redact": (None, "self#jumbf=/c2pa/m/c2pa.assertions/a", [1], [None], {}),
+    "alg": ("md5", "", "SHA256", "sha-512", "sha2560", "sha224", None, 512, ["sha256"]),
 }
 
 
@@ -665,6 +687,7 @@ def order_rows():
     yield row("media before definition", "build MediaRefused NotMedia 0", b"", b"{}")
     yield row("the box tree before the definition", "build MediaRefused NoManifest 0", Jpeg().around(superbox(b"c2pa", "c2pa")), b"{}")
     yield row("definition before message", "build BadDefinition label", given=b"{}", signature=b"")
+    yield row("redactions of a definition before its algorithm", "build BadDefinition redact", given=definition(redact=[1], alg="md5"))
     yield row("message before parent", "build BadSignature form", bad_parent, DEFINITION, b"")
     yield row("parent before label", failing, bad_parent)
     yield row("label before redactions", f"build LabelTaken {LABEL}", first, definition(redact=[entry]))
@@ -768,6 +791,7 @@ GROUPS = (
     parent_rows,
     redaction_rows,
     film_rows,
+    algorithm_rows,
     media_refusals,
     definition_refusals,
     signature_refusals,

@@ -1,7 +1,6 @@
 """The tables of crates/c2_rows on `plan` and `embed`, with the rows of build_rows.py, for whole runs.
 
-`builds` has what is built, and what `validate` says of it; `build_refusals` what is refused, and that nothing is written then;
-`build_faults` each object failing at each of its calls.
+`builds` has what is built, and what `validate` says of it; `build_refusals` what is refused, and that nothing is written then.
 """
 
 import hashlib
@@ -10,8 +9,8 @@ import tables
 from built_films import film_in_front
 from builder import NUMBERS, plan
 from build_rows import (
-    GROUPS, MADE, RUNS, Computed, definition_text, every_number, fewer_boxes, fewer_manifests, judges_of, largest_store, many_boxes,
-    media_named, most_manifests, most_of_all, no_room, room,
+    GROUPS, LONGER, MADE, RUNS, Computed, definition, definition_text, every_number, fewer_boxes, fewer_manifests, judges_of, largest_store,
+    later, many_boxes, media_named, most_manifests, most_of_all, no_room, room, signed,
 )
 from locate import Refused
 from make_store import jpeg
@@ -29,14 +28,13 @@ IN_PIECES = {name for name, made in MADE.items() if made in (most_manifests, few
 FILMS = {name for name, made in MADE.items() if made in (many_boxes, fewer_boxes)}
 # A media or file that is longer is read in long pieces alone.
 SMALL_ENOUGH = 20_000
-STATUS_OF_FAULTS = {"media": 5, "second": 5, "third": 5, "judge": 7, "out": 6, "report": 6}
 
 
 class Lines:
     """The lines of a table: settings where they change, and a dot for a file that stood at its place before."""
 
-    def __init__(self, what):
-        self.text, self.known, self.files = tables.head(what, "build_tables.py"), {}, {}
+    def __init__(self, what, writer="build_tables.py"):
+        self.text, self.known, self.files = tables.head(what, writer), {}, {}
 
     def set(self, **given):
         more = {key.replace("_", " "): value for key, value in given.items() if self.known.get(key) != value}
@@ -124,7 +122,8 @@ def put(lines, each, embedded, planned):
     media, size, packed = media_text(each.media)
     files = media, definition_text(each.given), folded(each.signature)
     longest = max(len(each.given), len(each.signature), len(media_named(each.media)) if size == "none" else 0)
-    lines.set(pieces="1 7 65536" if longest < SMALL_ENOUGH else "65536", size=size, packets=packed)
+    is_photograph = isinstance(each.media, bytes) and LINES in each.media
+    lines.set(pieces="1 7 65536" if longest < SMALL_ENOUGH or is_photograph else "65536", size=size, packets=packed)
     names = [] if each.judge == "none" or (each.judge == "approved" and not has_store(each.media)) else each.judge.split(" ")
     contents = each.embedded[2] if embedded[1].startswith("embedded") else None
     if contents:
@@ -154,6 +153,7 @@ def builds():
         put(lines, each, *answers)
     accepted(lines, worked)
     succeeded(lines, worked)
+    by_algorithms(lines)
     over_others(lines)
     return lines.text
 
@@ -189,6 +189,22 @@ def succeeded(lines, first):
         status, line = validated(contents, named)
         lines.set(judges=judges, words="validate P" + " V" * len(named))
         lines.row(told((status, line), [judge.asked for judge in named]), contents.hex(), what=what)
+
+
+def by_algorithms(lines):
+    """What `validate` says of files that are built by each algorithm, alone and over one by another algorithm."""
+    for alg in LONGER:
+        for what, media in (("a JPEG", SMALL), ("a film", FILM)):
+            accepted_by(lines, f"{what} by {alg}", Computed("", media, definition(alg=alg), MESSAGE, "approved", None).embedded[2])
+    for below, above in ("sha512", "sha256"), ("sha256", "sha512"):
+        built = Computed("", signed(alg=below), later(alg=above), MESSAGE, "approved", None).embedded[2]
+        accepted_by(lines, f"a JPEG by {above} over {below}", built)
+
+
+def accepted_by(lines, what, contents):
+    status, line = validated(contents, judges := judges_of("approved"))
+    lines.set(judges="approved", words="validate P V")
+    lines.row(told((status, line), [judge.asked for judge in judges]), contents.hex(), what=f"{what} is accepted")
 
 
 def over_others(lines):
@@ -233,56 +249,3 @@ def unread(lines):
         files = media.hex(), definition_text(given), folded(MESSAGE)
         lines.set(words=words, fault=f"{fault} 1")
         lines.row(f"{status} {line}", *files[: len(words.split()) - (2 if words == EMBED else 1)], what=f"{words.split()[0]} of {what}")
-
-
-def faults():
-    lines = Lines("Each source, each judge, the new file and the report of `plan` and `embed` fail at each call in turn.")
-    first = Computed("", SMALL, DEFINITION, MESSAGE, "approved", None)
-    lines.set(words=EMBED, out=2_000, pieces="1", fault="media 3")
-    files = SMALL.hex(), definition_text(DEFINITION), folded(MESSAGE)
-    lines.row("5 nothing, not finished", *files, what="the media fails at its third call")
-    each_fault(lines, first, files, 0)
-    files = first.embedded[2].hex(), definition_text(LATER_DEFINITION), folded(MESSAGE)
-    lines.set(out=4_000, judges="approved")
-    each_fault(lines, Computed("", first.embedded[2], LATER_DEFINITION, MESSAGE, "approved", None), files, 1)
-    film_faults(lines)
-    return lines.text
-
-
-def film_faults(lines):
-    """The same over a film, and over one whose store stands in front of another box, so that its own becomes free space."""
-    lines.set(out=2_000, judges="")
-    files = folded(FILM), definition_text(DEFINITION), folded(MESSAGE)
-    each_fault(lines, Computed("", FILM, DEFINITION, MESSAGE, "approved", None), files, 0, " into a film")
-    middle = film_in_front()
-    lines.set(out=5_000, judges="approved")
-    files = folded(middle), definition_text(LATER_DEFINITION), folded(MESSAGE)
-    each_fault(lines, Computed("", middle, LATER_DEFINITION, MESSAGE, "approved", None), files, 1, " into a film")
-
-
-def each_fault(lines, built, files, judges, into=""):
-    """A row for each object of `embed` and of `plan` that fails at each of its calls, under so many judges."""
-    line, contents = built.embedded[1], built.embedded[2]
-    # How many bytes go over each object at least, and how often a judge is asked.
-    lengths = {"media": len(built.media), "second": len(built.given), "third": len(MESSAGE), "out": len(contents), "report": len(line) + 1}
-    asked, over = (", asked 1", ", over a store") if judges else ("", "")
-    lines.set(view="each call", asked="0 1" if judges else "")
-    for words, wanted, objects in (
-        (EMBED, f"0 {line}{asked}{new_file(contents)}", ("media", "second", "third", "out", "report")),
-        (PLAN, f"0 {built.planned[1]}{asked}", ("media", "second", "report")),
-    ):
-        lines.set(words=words + " V" * judges)
-        if words == PLAN:
-            lengths["report"] = len(built.planned[1]) + 1
-            lines.set(out="none", room=1_500)
-        for most in (100, 1_000) if judges else (7, 100):
-            lines.set(pieces=most)
-            for name in (*objects, *["judge"] * judges):
-                least = 1 if name == "judge" else -(-lengths[name] // most)
-                lines.set(fault=name, status=STATUS_OF_FAULTS[name], least=least, part="yes" if name == "report" else "no")
-                shown = files if words == EMBED else files[:2]
-                lines.row(wanted, *shown, what=f"{words.split()[0]}{into}{over}: each call of {named(name)} fails")
-
-
-def named(name):
-    return {"second": "the definition", "third": "the message", "out": "the new file", "judge": "the judge"}.get(name, f"the {name}")

@@ -72,7 +72,7 @@ class Build:
         payload = bytes(self.definition.reserve)
         if self.message is not None:
             payload = padded(self.message, self.definition.reserve)
-        listed = self.listed(self.base.binding(self.length))
+        listed = self.listed(self.base.binding(self.length, self.definition.alg))
         claim = claim_of(self.definition, listed)
         self.tbs = cbor.encode(array(text("Signature1"), data(self.definition.protected), data(b""), data(claim)))
         self.store = self.store_of(listed, claim, payload)
@@ -91,7 +91,8 @@ class Build:
         """The length of what is put in, which no digest is needed for."""
         if self.carried.manifests == MOST_MANIFESTS:
             raise BuildRefused("TooManyManifests", MOST_MANIFESTS + 1)
-        listed = self.listed(self.base.binding_of(0, 0, bytes(32)))
+        alg = self.definition.alg
+        listed = self.listed(self.base.binding_of(0, 0, alg, bytes(hashing.LENGTHS[alg])))
         size = len(self.store_of(listed, claim_of(self.definition, listed), bytes(self.definition.reserve)))
         if size > LARGEST_STORE:
             raise BuildRefused("StoreTooLarge", size)
@@ -129,8 +130,9 @@ def mapping(**fields):
     return "map", tuple((text(key), value) for key, value in fields.items() if value is not None)
 
 
-def hashed_uri(url, contents):
-    return mapping(url=text(URI + url), hash=data(hashing.digest(contents)))
+def hashed_uri(url, contents, alg):
+    """A reference by the claim's algorithm, which it doesn't name again."""
+    return mapping(url=text(URI + url), hash=data(hashing.digest(contents, alg)))
 
 
 # The definition file, and the signed message
@@ -219,12 +221,13 @@ def padded(sign, reserve):
 
 def claim_of(definition, listed):
     """The claim's bytes, over labels and boxes of assertions."""
+    entries = (hashed_uri(f"c2pa.assertions/{label}", contents[8:], definition.alg) for label, contents in listed)
     return cbor.encode(mapping(**{
-        "alg": text("sha256"),
+        "alg": text(definition.alg),
         "dc:title": None if definition.title is None else text(definition.title),
         "signature": text(f"{URI}/c2pa/{definition.label}/c2pa.signature"),
         "instanceID": text(definition.instance),
-        "created_assertions": array(*(hashed_uri(f"c2pa.assertions/{label}", contents[8:]) for label, contents in listed)),
+        "created_assertions": array(*entries),
         "redacted_assertions": array(*map(text, definition.redactions)) if definition.redactions else None,
         "claim_generator_info": mapping(name=text(definition.generator)),
     }))
@@ -268,14 +271,14 @@ class OldStore:
             return length.to_bytes(4, "big") + header[4:] + inner
         return header[:8] + length.to_bytes(8, "big") + inner
 
-    def parent(self, gone):
-        """The ingredient that the old active manifest is, by what is left of it."""
+    def parent(self, gone, alg):
+        """The ingredient that the old active manifest is, by what is left of it: its digests are by the algorithm of the new claim."""
         active = self.manifests[-1]
         url, signature = f"/c2pa/{active.label}", active.signature
         return "c2pa.ingredient.v3", mapping(
             relationship=text("parentOf"),
-            activeManifest=hashed_uri(url, self.spelled(active.box, gone)[active.box.inside - active.box.start :]),
-            claimSignature=hashed_uri(url + "/c2pa.signature", self.store[signature.inside : signature.end]),
+            activeManifest=hashed_uri(url, self.spelled(active.box, gone)[active.box.inside - active.box.start :], alg),
+            claimSignature=hashed_uri(url + "/c2pa.signature", self.store[signature.inside : signature.end], alg),
         )
 
 
@@ -295,7 +298,7 @@ def carry(old, definition):
     if old is None:
         return Carried()
     boxes = [old.spelled(box, gone) for box in old.root.children[1:]]
-    return Carried(boxes, len(old.manifests), [old.parent(gone)])
+    return Carried(boxes, len(old.manifests), [old.parent(gone, definition.alg)])
 
 
 def redacted_place(old, entry, label, gone):
@@ -376,13 +379,13 @@ class JpegBase:
     def put(self, contents):
         return jpeg(contents, b"", b"", self.number)
 
-    def binding(self, length):
-        return self.binding_of(self.place, length, hashing.digest(self.kept()))
+    def binding(self, length, alg):
+        return self.binding_of(self.place, length, alg, hashing.digest(self.kept(), alg))
 
-    def binding_of(self, start, length, digest):
+    def binding_of(self, start, length, alg, digest):
         """A hash of all but one range; it is as long with all numbers."""
         return "c2pa.hash.data", mapping(
-            alg=text("sha256"),
+            alg=text(alg),
             pad=data(bytes(18 - number_bytes(start) - number_bytes(length))),
             hash=data(digest),
             exclusions=array(mapping(start=("uint", start), length=("uint", length))),
@@ -427,21 +430,21 @@ class FilmBase:
     def put(self, contents):
         return provenance_box(b"manifest\0" + bytes(8) + contents)
 
-    def binding(self, _):
+    def binding(self, _, alg):
         """The new box is covered by no digest, and stands behind all that is."""
         kept = self.kept()
-        covered = hashing.begin()
+        covered = hashing.begin(name=alg)
         for box in bmff.root_boxes(kept):
             contents = kept[box.start : box.end]
             is_provenance = box.kind == b"uuid" and contents[8:24] == PROVENANCE
             if box.kind not in (b"ftyp", b"mfra") and not is_provenance:
                 covered.update(box.start.to_bytes(8, "big") + contents)
-        return self.binding_of(None, None, covered.digest())
+        return self.binding_of(None, None, alg, covered.digest())
 
-    def binding_of(self, _start, _length, digest):
+    def binding_of(self, _start, _length, alg, digest):
         own = mapping(value=data(PROVENANCE), offset=("uint", 8))
         exclusions = mapping(data=array(own), xpath=text("/uuid")), mapping(xpath=text("/ftyp")), mapping(xpath=text("/mfra"))
-        return "c2pa.hash.bmff.v2", mapping(alg=text("sha256"), hash=data(digest), exclusions=array(*exclusions))
+        return "c2pa.hash.bmff.v2", mapping(alg=text(alg), hash=data(digest), exclusions=array(*exclusions))
 
 
 # Reports

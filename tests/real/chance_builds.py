@@ -4,7 +4,7 @@
     chance_builds.py C2 COUNT [SEED [KIND]]      draws COUNT inputs, the same ones for the same seed
 
 KIND is `fresh` for JPEGs without a store, `signed` for JPEGs with one, `film` for BMFF files, `all` (the default) for each of these by
-turns. Of each file that is built rules.py must say that it is valid, its new range taken out it must be the media without its old
+turns; definitions and older claims name any of the three algorithms. Of each file that is built rules.py must say that it is valid, its new range taken out it must be the media without its old
 store, and the questions behind the first must be those of the media. Prints how often each answer of `embed` came, and each
 difference, whose files are kept in the current directory as differs-N.*; the status is 1 where there is one. Without C2 (a word `-`
 in its place) builder.py stands beside rules.py alone.
@@ -20,6 +20,7 @@ import tempfile
 from collections import Counter
 
 import bmff
+import hashing
 import jumbf
 from builder import embed, line_of, plan
 from chance_stores import ORDINARY, Drawn, assertion_url, bmff_around, drawn_file, jpeg_around, questions_in, verdict_files
@@ -123,8 +124,9 @@ def drawn_definition(chance, manifests, message):
         "reserve": max(64, reserve),
         "assertions": [drawn_assertion(chance, label) for label in chance.sample(NAMES, chance.choice((0, 0, 1, 2, 4)))],
         "redact": drawn_redactions(chance, manifests),
+        "alg": chance.choice(list(hashing.LENGTHS)),
     }
-    for field in "title", "assertions", "redact":
+    for field in "title", "assertions", "redact", "alg":
         if chance.random() < 0.3:
             del fields[field]
     if chance.random() < 0.1:
@@ -138,7 +140,7 @@ def drawn_definition(chance, manifests, message):
 def put_fault(chance, fields):
     """Another value of a field, or a field less or more."""
     field = chance.choice((*fields, "more"))
-    values = None, "", 7, 256.0, [], {}, [1], "zz", "A10126", LABEL.upper(), ["x"], [drawn_assertion(chance, chance.choice(BARRED_NAMES))]
+    values = None, "", 7, 256.0, [], {}, [1], "zz", "A10126", "SHA-512", LABEL.upper(), ["x"], [drawn_assertion(chance, chance.choice(BARRED_NAMES))]
     if chance.random() < 0.2 and field in fields:
         del fields[field]
     else:
@@ -284,7 +286,8 @@ def told(call, *given):
 
 def kind_of(built):
     if isinstance(built[0], bytes):
-        return "embedded"
+        *older, new = (manifest.algorithm(None) for manifest in manifests_in(built[0]))
+        return f"embedded by {new}" + (f" over {older[-1]}" if older else "")
     name, *kept = built[1:] or built
     return " ".join(map(str, [name, *(kept[:1] if name in ("BadDefinition", "BadSignature", "MediaRefused", "ParentFails") else kept[1:])]))
 

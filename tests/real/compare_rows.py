@@ -11,6 +11,7 @@ those of pairs.py; nothing of them was taken from what c2 prints.
 """
 
 import hashlib
+from contextlib import contextmanager
 
 import drafts
 import hashing
@@ -21,10 +22,6 @@ from drafts import APP0, Assertion, DataHash, Ingredient, Jpeg, Manifest, Writte
 from make_store import text
 from rule_rows import with_
 from tables import Approving
-
-# The pairs in whose course objects fail, and the status of a run after a failure of each object.
-FAILING = "other notes under one sum", "swapped bytes of the picture", "a file and itself", "other claims", "no store"
-FAULTS = {"media": 5, "second": 5, "judge": 7, "report": 6}
 
 LABEL = "urn:c2pa:00000000-0000-4000-8000-000000000000"
 FRONT = b"\xff\xd8" + APP0
@@ -40,12 +37,20 @@ def weak(contents, name="sha256"):
     return bytes({"sha256": 31, "sha384": 47, "sha512": 63}[name]) + bytes([sum(contents) % 256])
 
 
+@contextmanager
+def digests_by(digest):
+    """Drafts are written with digests by this function."""
+    before, drafts.digest = drafts.digest, digest
+    yield
+    drafts.digest = before
+
+
 def file_of(digest, *manifests, front=FRONT, rest=REST):
     """A JPEG with a store of these manifests."""
-    drafts.digest = digest
-    around = Jpeg(front, rest)
-    length = len(around.around(write(manifests, Written()))) - len(front) - len(rest)
-    return around.around(write(manifests, Written(len(front), length, digest(front + rest))))
+    with digests_by(digest):
+        around = Jpeg(front, rest)
+        length = len(around.around(write(manifests, Written()))) - len(front) - len(rest)
+        return around.around(write(manifests, Written(len(front), length, digest(front + rest))))
 
 
 def note(payload, **given):
@@ -85,7 +90,6 @@ def rows():
     yield "other claims", "sha", first, file_of(sha, Manifest("m", DataHash())), ["different"]
     yield "no store", "sha", first, FRONT + REST, ["second"]
     written = Written()
-    drafts.digest = sha
     claims = []
     for title in "ab":
         below, _ = titled(title)
@@ -160,7 +164,7 @@ def asked_of(first, second):
 
 
 def table():
-    """The table of pairs, and of the faults in the course of some of them."""
+    """The table of pairs, and of some whose second file isn't read, since its first call would fail."""
     text = tables.head("Pairs of files under `compare`.", "compare_rows.py", words="compare P Q V", judges="approved", room="10000")
     text += tables.settings(pieces="1 7 65536 1/65536 65536/1")
     rows = list(run_rows())
@@ -170,19 +174,11 @@ def table():
     for what in "a first file with another note", "an empty file first":
         (row,) = (row for name, *row in rows if name == what)
         text += pair_row(f"{what}: the second isn't read", *row)
-    text += tables.settings(view="each call", pieces="1000", part="yes")
-    for what in FAILING:
-        (row,) = (row for name, *row in rows if name == what)
-        for place, (kind, status) in enumerate(FAULTS.items()):
-            text += tables.settings(fault=kind, status=status, least=5 if kind == "media" else 0)
-            text += pair_row(f"{what}: each call of the {kind} fails", *row, place=place)
     return text
 
 
-def pair_row(what, name, first, second, status, lines, asked, place=0):
-    files = f"{first.hex()} | {second.hex()}" if place == 0 else ". | ."
-    hashed = tables.settings(hash=name) if place == 0 else ""
-    return hashed + tables.row(what, files, status, "\n".join(lines), asked)
+def pair_row(what, name, first, second, status, lines, asked):
+    return tables.settings(hash=name) + tables.row(what, f"{first.hex()} | {second.hex()}", status, "\n".join(lines), asked)
 
 
 def main():

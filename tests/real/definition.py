@@ -9,6 +9,7 @@ import re
 from collections import namedtuple
 
 import cbor
+import hashing
 from manifests import ACTIONS, ORDINARY, kind_of
 
 LARGEST_FILE = 1_048_576
@@ -16,13 +17,13 @@ MOST_PROTECTED = 65_536
 RESERVES = range(64, 1_048_576 + 1)
 # serde_json refuses a list or object inside 127 others.
 DEEPEST_JSON = 127
-FIELDS = "label", "instance_id", "generator", "title", "protected", "reserve", "assertions", "redact"
+FIELDS = "label", "instance_id", "generator", "title", "protected", "reserve", "assertions", "redact", "alg"
 LABEL = re.compile("urn:c2pa:[0-9a-f]{8}(-[0-9a-f]{4}){3}-[0-9a-f]{12}")
 HEX = re.compile("([0-9a-fA-F]{2})*")
 BARRED = re.compile("[\0-\x1f\x7f/]")
 SURROGATE = re.compile("[\ud800-\udfff]")
 
-Definition = namedtuple("Definition", "label instance generator title protected reserve assertions redactions")
+Definition = namedtuple("Definition", "label instance generator title protected reserve assertions redactions alg")
 NewAssertion = namedtuple("NewAssertion", "label kind contents")
 
 
@@ -125,6 +126,10 @@ def reserve_of(value):
     return value if type(value) is int and value in RESERVES else None
 
 
+def algorithm_of(value):
+    return value if isinstance(value, str) and hashing.is_known(value) else None
+
+
 def texts_of(value):
     return value if type(value) is list and all(isinstance(member, str) for member in value) else None
 
@@ -156,7 +161,7 @@ def is_item(contents):
         return False
 
 
-DEFAULTS = {"title": None, "assertions": [], "redact": []}
+DEFAULTS = {"title": None, "assertions": [], "redact": [], "alg": hashing.DEFAULT}
 READERS = {
     "label": label_of,
     "instance_id": filled,
@@ -166,4 +171,5 @@ READERS = {
     "reserve": reserve_of,
     "assertions": assertions_of,
     "redact": texts_of,
+    "alg": algorithm_of,
 }

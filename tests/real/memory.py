@@ -1,10 +1,17 @@
 #!/usr/bin/env python3
-"""Refuses memory to c2 at each of its requests in turn: memory.py C2 FILE [VERDICTS].
+"""Refuses memory to c2 at each of its requests in turn.
 
-Each command is run over the file (`compare` over the file and itself, `plan` and `embed` also over a small JPEG without a store, with a label that the file hasn't), first with all
-the memory that it asks for, then with its first request refused, its second, and so on until a run ends as the first did. A run to which memory was refused says so by its status, 8, and has
-printed nothing or the begin of its report; or it prints the whole report, where it could go on. The new file of `embed` isn't there then or is empty, since memory is
-taken before it is begun; or it is whole, where the line of the report alone had no memory. The requests are those to malloc, calloc and realloc of the C library.
+    memory.py C2 FILE [VERDICTS]    each command over the file (`compare` over the file and itself, `plan` and `embed` also over a
+                                    small JPEG without a store, with a label that the file hasn't)
+    memory.py C2                    `validate`, `compare`, `plan` and `embed` over small files that are made here: built once and
+                                    twice, and pairs of different files, of which one is evidence
+    memory.py --rows C2_ROWS        `compare` over pairs that differ under the sum of their bytes, by the program of crates/c2_rows
+
+Each is run first with all the memory that it asks for, then with its first request refused, its second, and so on until a run ends as
+the first did. A run to which memory was refused says so by its status, 8, and has printed nothing or the begin of its report; or it
+prints the whole report, where it could go on. The new file of `embed` isn't there then or is empty, since memory is taken before it is
+begun; or it is whole, where the line of the report alone had no memory. The requests are those to malloc, calloc and realloc of the C
+library. What the whole runs over the files that are made here come to is that of store.py, pairs.py and builder.py.
 """
 import os
 import re
@@ -12,7 +19,14 @@ import subprocess
 import sys
 import tempfile
 
-from worked_builds import DEFINITION, MESSAGE, SMALL
+import builder
+import compare_rows
+import pairs
+import store
+import tables
+from rule_rows import verdicts_on
+from told import write
+from worked_builds import DEFINITION, LATER_DEFINITION, MESSAGE, SMALL
 
 OTHER = re.sub(rb"urn:c2pa:[-0-9a-f]+", b"urn:c2pa:99999999-2222-4333-8444-555555555555", DEFINITION)
 
@@ -91,10 +105,13 @@ def is_short(whole, got):
     return not errors and whole[1].startswith(report) and file in (b"", whole[3])
 
 
-def refused_in_turn(library, words, out):
-    """How many requests were refused, from which on the run is whole, what was wrong, and how often the new file was whole though."""
+def refused_in_turn(library, words, out, known):
+    """How many requests were refused, from which on the run is whole, what was wrong, and how often the new file was whole though. Where it is
+    known what the whole run comes to, that is looked at too."""
     whole = run(library, words, 0, out)
     wrong, short, files = [], 0, 0
+    if known is not None and (whole[1].decode(), whole[0], whole[3]) != known:
+        wrong.append((0, whole[0], whole[1][:60], len(whole[3])))
     for number in range(1, MOST_REQUESTS):
         got = run(library, words, number, out)
         if got[0] == OUT_OF_MEMORY:
@@ -112,33 +129,135 @@ def refused_in_turn(library, words, out):
 
 
 def commands(file, verdicts, directory):
-    """The words of each command, and the name of its new file."""
+    """What is run over a file: what it shows, the words of each command, the name of its new file, and that it isn't known what it comes to."""
     for command in "digest", "list", "show":
-        yield [command, file], None
+        yield command, [command, file], None, None
     for command in "questions", "validate":
-        yield [command, file, *verdicts], None
-    yield ["compare", file, file, *verdicts], None
-    yield ["sample", "1"], None
-    names = [os.path.join(directory, name) for name in ("media", "definition", "message")]
-    for name, contents in zip(names, (SMALL, OTHER, MESSAGE)):
-        with open(name, "wb") as given:
-            given.write(contents)
+        yield command, [command, file, *verdicts], None, None
+    yield "compare", ["compare", file, file, *verdicts], None, None
+    yield "sample", ["sample", "1"], None, None
+    names = [written(directory, *each) for each in (("media", SMALL), ("definition", OTHER), ("message", MESSAGE))]
     out = os.path.join(directory, "out")
-    yield ["plan", *names[:2], *verdicts], None
-    yield ["embed", *names, out, *verdicts], out
-    yield ["plan", file, names[1], *verdicts], None
-    yield ["embed", file, *names[1:], out, *verdicts], out
+    yield "plan", ["plan", *names[:2], *verdicts], None, None
+    yield "embed", ["embed", *names, out, *verdicts], out, None
+    yield "plan over the file", ["plan", file, names[1], *verdicts], None, None
+    yield "embed over the file", ["embed", file, *names[1:], out, *verdicts], out, None
+
+
+def written(directory, name, contents):
+    """The name of a new file with these contents."""
+    path = os.path.join(directory, name)
+    write(path, contents)
+    return path
+
+
+class Small:
+    """Small files, each with a verdict file that approves all questions of them."""
+
+    def __init__(self, directory):
+        self.directory, self.out = directory, os.path.join(directory, "out")
+        self.first = builder.embed(SMALL, DEFINITION, MESSAGE)[0]
+        self.twice = builder.embed(self.first, LATER_DEFINITION, MESSAGE, [verdicts_on(self.first)])[0]
+
+    def judge(self, *files):
+        """The verdicts on the questions of some files, and the name of their file."""
+        known = {identity: "approved" for contents in files for identity in verdicts_on(contents)}
+        rows = "".join(f"{identity} {word}\n" for identity, word in known.items())
+        return known, written(self.directory, "verdicts", rows.encode())
+
+    def commands(self):
+        """What is run: what it shows, its words, the name of its new file, and what it comes to: the report, the status and the new file."""
+        for what, contents in ("a built file", self.first), ("a file built twice", self.twice):
+            yield self.validated(what, contents)
+        given = {what: files for what, _, *files, _ in compare_rows.rows() if what in ("other notes under SHA-256", "other titles under one signature")}
+        for what, files in {"a file and itself": [self.twice] * 2, "built once and twice": [self.first, self.twice], **given}.items():
+            yield self.compared(what, *files)
+        for what, media, definition in ("a small JPEG", SMALL, DEFINITION), ("a built file", self.first, LATER_DEFINITION):
+            yield from self.builds(what, media, definition)
+
+    def validated(self, what, contents):
+        known, verdicts = self.judge(contents)
+        line, status = store.report("validate", contents, [known])
+        words = ["validate", written(self.directory, "media", contents), verdicts]
+        return f"validate, {what}", words, None, (line + "\n", status, b"")
+
+    def compared(self, what, first, second):
+        known, verdicts = self.judge(first, second)
+        text, status = pairs.compared(first, second, [known])
+        words = ["compare", written(self.directory, "media", first), written(self.directory, "other", second), verdicts]
+        return f"compare, {what}", words, None, (text + "\n", status, b"")
+
+    def builds(self, what, media, definition):
+        known, verdicts = self.judge(media) if media != SMALL else self.judge()
+        files = media, definition, MESSAGE
+        names = [written(self.directory, *each) for each in zip(("media", "definition", "message"), files)]
+        line, status = builder.line_of(builder.plan(*files[:2], [known]))
+        yield f"plan, {what}", ["plan", *names[:2], verdicts], None, (line + "\n", status, b"")
+        made = builder.embed(*files, [known])
+        line, status = builder.line_of(made)
+        yield f"embed, {what}", ["embed", *names, self.out, verdicts], self.out, (line + "\n", status, made[0])
+
+
+# Pairs of compare_rows.py whose difference is evidence under the sum.
+WEAK = "other notes under one sum", "swapped bytes of the picture"
+# What the program of the rows says where it can't read its table, or a file of it.
+AROUND = re.compile(rb": (?:can't be read$|(?:NoMemory|BadLine) at )", re.MULTILINE)
+GOT = re.compile(r".*, got 8 (?:nothing|(?P<report>.*), cut|(?P<lines>.*)), not finished, asked \d+ in pieces of .*")
+
+
+def weak_rows(library, program, directory):
+    """What memory is refused to while a row of a pair is run: how often the run says so, and how often the program of the rows has too little for
+    itself."""
+    for what, *row in compare_rows.run_rows():
+        if what not in WEAK:
+            continue
+        given = tables.settings(words="compare P Q V", judges="approved", room="10000", pieces="65536")
+        table = written(directory, "rows", (given + compare_rows.pair_row(what, *row)).encode())
+        yield what, *told_by_row(library, [program, table], " / ".join(row[4]))
+
+
+def told_by_row(library, words, wanted):
+    """The same of one row, and what was wrong."""
+    held = run(library, words, 0)
+    short, outside, wrong = 0, 0, [] if held[0] == 0 else [(0, held[1][-200:])]
+    for number in range(1, MOST_REQUESTS):
+        status, printed, errors, _ = run(library, words, number)
+        found = GOT.fullmatch(printed.decode().split("\n")[0])
+        if found:
+            short += 1
+            part = found["report"] or found["lines"] or ""
+            wrong += [] if wanted.startswith(part) else [(number, printed[-200:])]
+        elif status and not errors and (not printed or AROUND.search(printed)):
+            outside += 1
+        elif (status, printed) != held[:2]:
+            wrong.append((number, status, printed[-200:]))
+        elif all(run(library, words, number + more)[:2] == held[:2] for more in (1, 2, 3, 50)):
+            return short, outside, wrong
+    return short, outside, [*wrong, "no run with all memory"]
+
+
+def tell_rows(program):
+    with tempfile.TemporaryDirectory() as directory:
+        failed = False
+        for what, short, outside, wrong in weak_rows(built(directory), os.path.abspath(program), directory):
+            print(f"compare, {what}: {short} requests refused are told by status 8, {outside} were those of the program around it, {len(wrong)} wrong")
+            for one in wrong[:5]:
+                print("   ", one)
+            failed = failed or bool(wrong) or short == 0
+    sys.exit(failed)
 
 
 def main():
-    program, file, verdicts = os.path.abspath(sys.argv[1]), sys.argv[2], sys.argv[3:]
+    program, *given = sys.argv[1:]
+    if program == "--rows":
+        tell_rows(*given)
     failed = False
     with tempfile.TemporaryDirectory() as directory:
         library = built(directory)
-        for words, out in commands(file, verdicts, directory):
-            short, last, wrong, files = refused_in_turn(library, [program, *words], out)
+        for what, words, out, known in commands(given[0], given[1:], directory) if given else Small(directory).commands():
+            short, last, wrong, files = refused_in_turn(library, [os.path.abspath(program), *words], out, known)
             whole = f", {files} of them behind a whole new file" if out else ""
-            print(f"{words[0]}: {short} requests refused are told by status 8{whole}, the run is whole from {last} on, {len(wrong)} wrong")
+            print(f"{what}: {short} requests refused are told by status 8{whole}, the run is whole from {last} on, {len(wrong)} wrong", flush=True)
             for one in wrong[:5]:
                 print("   ", one)
             failed = failed or bool(wrong) or short == 0

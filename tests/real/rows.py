@@ -3,8 +3,8 @@
 
     rows.py write [TABLE..]    writes the tables of crates/c2_rows that are computed, or those that are named: `show`, `questions`
                                without verdict files, `validate` with a judge who approves every question, `films` under
-                               `validate`, `manifests`, `pairs` under `compare`, and `builds`, `build_refusals` and `build_faults`
-                               under `plan` and `embed`
+                               `validate`, `manifests`, `pairs` under `compare`, `builds` and `build_refusals` under `plan` and
+                               `embed`, and those of fault_tables.py and large_tables.py
     rows.py check              fails where one of them isn't the one that would be written
     rows.py files DIRECTORY    writes a JPEG around each of these stores and of those of rule_rows.py, and the verdicts on the latter
 """
@@ -15,7 +15,9 @@ import sys
 
 import build_tables
 import compare_rows
+import fault_tables
 import film_rows
+import large_tables
 import question_rows
 import rule_rows
 import show_rows
@@ -58,7 +60,7 @@ def films():
 
 def manifests():
     """The table of stores with as many manifests as a store may have, and with one more."""
-    text = tables.head("Stores of many manifests.", "rows.py", words="show P", packets="10000", pieces="65536", room="100000")
+    text = tables.head("Stores of many manifests.", "rows.py", words="show P", packets="10000", pieces="1 7 65536", room="100000")
     empty = [manifest(str(number)) for number in range(1_025)]
     line, status = report("show", jpeg(store(*empty[:1_024])))
     shown = (f'{{"boxes":[],"claim":null,"label":"{number}","update":false}}' for number in range(1_024))
@@ -67,7 +69,7 @@ def manifests():
     for command in "show", "questions":
         line, status = report(command, jpeg(store(*empty)))
         assert (line, status) == ("refused TooMany 1025", 2), line
-        text += tables.settings(words=f"{command} P", pieces="1 7 65536")
+        text += tables.settings(words=f"{command} P")
         text += tables.row(f"1,025 are refused by {command}", store(*empty).hex() if command == "show" else ".", status, line)
     return text
 
@@ -81,7 +83,12 @@ TABLES = {
     "pairs": compare_rows.table,
     "builds": build_tables.builds,
     "build_refusals": build_tables.refusals,
-    "build_faults": build_tables.faults,
+    "faults": fault_tables.faults,
+    "judge_faults": fault_tables.judge_faults,
+    "jpeg_prefixes": fault_tables.jpeg_prefixes,
+    "film_prefixes": fault_tables.film_prefixes,
+    "changed_bytes": fault_tables.changed_bytes,
+    "large": large_tables.large,
 }
 
 

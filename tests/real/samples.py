@@ -12,8 +12,8 @@ from collections import Counter
 
 from builder import embed
 from media import media_of
-from rows import Approving
 from store import report
+from tables import Approving
 from told import tell
 from worked_builds import DEFINITION, MESSAGE
 
@@ -49,4 +49,5 @@ def main():
     tell(answers, f"{differences} differences", differences)
 
 
-main()
+if __name__ == "__main__":
+    main()

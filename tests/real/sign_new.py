@@ -3,10 +3,11 @@
 
     sign_new.py C2 FILE..        of each JPEG or BMFF file without a store: plans, signs (ES256, by the package `cryptography`), embeds,
                                  asks for the questions, judges them with the public keys, and validates. Then the same over the signed
-                                 file with another key, and over that one with a third key and both older notes redacted. Compares what
-                                 a decoder makes of each file with what it makes of the first (djpeg, heif-dec, avifdec, else ffmpeg's
-                                 framemd5), and what it has outside its range; exiftool must find the boxes of a JPEG,
-                                 builder.py build the same file, and store.py validate it
+                                 file with another key and by another algorithm of digests, and over that one with a third key, by a
+                                 third algorithm and with both older notes redacted. Compares what a decoder makes of each file with
+                                 what it makes of the first (djpeg, heif-dec, avifdec, else ffmpeg's framemd5), and what it has outside
+                                 its range; exiftool must find the boxes of a JPEG, builder.py build the same file, and store.py
+                                 validate it
 
 Prints a line for each file; the first difference ends the run with status 1.
 """
@@ -28,6 +29,8 @@ HERE = os.path.dirname(os.path.abspath(__file__))
 NULL = b"\xf6"
 PROTECTED = mapping((b"\x01", b"\x26"))  # ES256
 NOTE = "org.example.place"
+# By turns, so that each parent's digests are by another algorithm than its child's.
+ALGORITHMS = "sha256", "sha512", "sha384"
 URL = "self#jumbf=/c2pa/"
 
 
@@ -38,11 +41,11 @@ def run(*words, wanted=0):
     return done.stdout
 
 
-def definition(label, redacted):
+def definition(label, redacted, alg):
     action = mapping((b"\x67actions", array(mapping((b"\x66action", b"\x6cc2pa.created")))))
     return json.dumps({
         "label": label, "instance_id": f"xmp:iid:{uuid.uuid4()}", "generator": "sign_new.py", "title": "A photograph",
-        "protected": PROTECTED.hex(), "reserve": 1024, "redact": [f"{URL}{each}/c2pa.assertions/{NOTE}" for each in redacted],
+        "protected": PROTECTED.hex(), "reserve": 1024, "redact": [f"{URL}{each}/c2pa.assertions/{NOTE}" for each in redacted], "alg": alg,
         "assertions": [
             {"label": "c2pa.actions.v2", "kind": "cbor", "hex": action.hex()},
             {"label": NOTE, "kind": "json", "hex": b'{"place":"a street"}'.hex()},
@@ -97,7 +100,7 @@ class Way:
     def sign(self, redacted=()):
         """Signs the picture, or what was made of it last, with a key of its own."""
         label, key = f"urn:c2pa:{uuid.uuid4()}", ec.generate_private_key(ec.SECP256R1())
-        given = self.write("definition", definition(label, redacted).encode())
+        given = self.write("definition", definition(label, redacted, ALGORITHMS[len(self.notes) % len(ALGORITHMS)]).encode())
         tbs = bytes.fromhex(run(self.c2, "plan", self.media, given, *self.verdicts).decode().split()[1])
         message = self.write("message", signed(key, tbs))
         new, files = self.path("new") + self.kind, (self.media, given, message)

@@ -1,5 +1,5 @@
-"""Small stores for `validate`, a choice from rule_rows.py, with a judge who approves; a photograph; and what prefixes and changed
-bytes of a valid file come to.
+"""Small stores for `validate`, a choice from rule_rows.py, with a judge who approves; a photograph; and what changed bytes of a valid
+file come to.
 """
 
 import rule_rows
@@ -96,8 +96,8 @@ LINES = bytes(range(251)) * 12_532
 PICTURE = APP0 + SCAN + bytes(at % 251 for at in range(3_145_696)) + b"\xff\xd9"
 
 
-def photographed(ranges, version=2):
-    """A photograph with a store as a camera's program may write it, its claim of a version, and what `validate` says."""
+def camera(ranges, version=2):
+    """A manifest as a camera's program may write it, whose binding excludes these ranges, its claim of a version."""
     stamped = mapping(("sigTst", mapping(("tstTokens", array(mapping(("val", data(b"\0"))))))), ("pad", data(bytes(8))))
     draft = Manifest(
         "m",
@@ -116,7 +116,12 @@ def photographed(ranges, version=2):
     }
     draft.claim_fields = later if version == 2 else {}
     draft.change_message = lambda _: tag(18, sign1(unprotected=stamped))
-    contents = Jpeg(rest=PICTURE).file([draft])
+    return draft
+
+
+def photographed(ranges, version=2):
+    """A photograph with such a manifest, and what `validate` says."""
+    contents = Jpeg(rest=PICTURE).file([camera(ranges, version)])
     return contents, report("validate", contents, [rule_rows.verdicts_on(contents)])
 
 
@@ -129,7 +134,7 @@ def photographs():
     """Rows of a photograph that is valid, of one with a changed byte, and of one with a range that ends far behind the file."""
     contents, told = photographed([None])
     assert told == ("valid manifests=1 assertions=4 covered=3145728 outside=0", 0), told
-    text = tables.settings(packets="", pieces="65536")
+    text = tables.settings(packets="", pieces="1 7 65536")
     text += photograph_row("a photograph", contents)
     at = len(contents) - 3_145_709
     other = contents[:at] + bytes([contents[at] + 1]) + contents[at + 1 :]
@@ -155,16 +160,14 @@ def photograph_row(what, contents):
 
 
 def changed():
-    """Rows of the first row's file: the statuses of each prefix, and those where a byte of its store is one more, for each byte in order;
-    its question alone is approved."""
+    """Rows of the first row's file: what is said of it, and the statuses where a byte of its store is one more, for each byte in order; its
+    question alone is approved."""
     _, _, drafts = next(rule_rows.rows())
     contents = Jpeg().file(drafts)
     verdicts = rule_rows.verdicts_on(contents)
     (identity,) = verdicts
     text = tables.settings(judges="list:" + f"{identity} approved".encode().hex())
     text += tables.row("the first row's file, whose one question a verdict file approves", contents.hex(), *reversed(report("validate", contents, [verdicts])), 1)
-    prefixes = (report("validate", contents[:length], [verdicts])[1] for length in range(len(contents)))
-    text += tables.settings(view="prefixes") + f"# its prefixes\n. => {''.join(map(str, prefixes))}\n"
     media = media_of(contents)
     at = contents.index(media.store)
     statuses = []

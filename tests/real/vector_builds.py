@@ -19,7 +19,7 @@ REASONS = set(
 )
 REFUSALS = """MediaRefused NotMedia|MediaRefused FileTooLarge|BadDefinition size|BadDefinition json|BadDefinition other
 BadDefinition label|BadDefinition instance_id|BadDefinition generator|BadDefinition title|BadDefinition protected|BadDefinition reserve
-BadDefinition assertions|BadDefinition redact|BadSignature size|BadSignature form|BadSignature plain|BadSignature protected|BadSignature entries
+BadDefinition assertions|BadDefinition redact|BadDefinition alg|BadSignature size|BadSignature form|BadSignature plain|BadSignature protected|BadSignature entries
 BadSignature pad|ParentFails|LabelTaken|RedactionRefused|OpenBox|NoInstance|TooManyManifests|StoreTooLarge|ReserveTooSmall""".replace("\n", "|").split("|")
 JUDGES = {
     "approved": "verdicts/approving",
@@ -35,6 +35,7 @@ WHOLE = (
     build_rows.parent_rows,
     build_rows.redaction_rows,
     build_rows.film_rows,
+    build_rows.algorithm_rows,
     build_rows.media_refusals,
     build_rows.signature_refusals,
     build_rows.parent_refusals,

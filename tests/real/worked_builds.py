@@ -177,6 +177,46 @@ def check_refusals(check):
     check.line("an empty file", embed(b"", DEFINITION, MESSAGE), "build MediaRefused NotMedia 0")
 
 
+def with_algorithm(name, definition=DEFINITION):
+    return definition[:-1] + f',"alg":"{name}"}}'.encode()
+
+
+def check_algorithms(check):
+    """The longer digests: 16 or 32 bytes more in each of two references and the binding, and in the ingredient's two and its own reference."""
+    for name, front, line, numbers in (
+        ("sha384", "80", "embedded 20 1189", {"store": 1_177, "claim": 384, "assertion store": 309, "c2pa.hash.data item": 116}),
+        ("sha512", "a0", "embedded 20 1237", {"store": 1_225, "claim": 416, "assertion store": 325, "c2pa.hash.data item": 132}),
+    ):
+        _, tbs = plan(SMALL, with_algorithm(name))
+        check.same(f"to be signed by {name}, digits", len(tbs.hex()), {"sha384": 808, "sha512": 872}[name])
+        check.same(f"to be signed by {name}, front", tbs.hex()[:40], "846a5369676e61747572653143a10126405901" + front)
+        told = embed(SMALL, with_algorithm(name), MESSAGE)
+        check.line(f"a small JPEG by {name}", told, line)
+        check.same(f"its length by {name}", len(told[0]), {"sha384": 1_211, "sha512": 1_259}[name])
+        found = sizes(told[0])
+        check.same(f"its store by {name}", {key: found[key] for key in numbers}, numbers)
+        check.valid(f"a small JPEG by {name}", told[0], "valid manifests=1 assertions=2 covered=22 outside=0")
+        item = {"sha384": 156, "sha512": 172}[name]
+        check.same(f"the binding of a film by {name}", sizes(embed(FILM, with_algorithm(name), MESSAGE)[0])["c2pa.hash.bmff.v2 item"], item)
+    check.same("an algorithm that is named in vain", embed(SMALL, with_algorithm("sha256"), MESSAGE), embed(SMALL, DEFINITION, MESSAGE))
+    check.line("an algorithm that isn't known", embed(SMALL, with_algorithm("md5"), MESSAGE), "build BadDefinition alg")
+
+
+def check_parents_algorithms(check):
+    """A child and a parent by different algorithms. The digests of the ingredient are worked out here from the parent's bytes."""
+    for below, above, line in ("sha512", "sha256", "embedded 20 2763"), ("sha256", "sha512", "embedded 20 2859"):
+        first = embed(SMALL, with_algorithm(below), MESSAGE)[0]
+        told = embed(first, with_algorithm(above, LATER_DEFINITION), MESSAGE, approving())
+        check.line(f"a child by {above} of a parent by {below}", told, line)
+        check.valid(f"a child by {above} of a parent by {below}", told[0], "valid manifests=2 assertions=5 covered=22 outside=0")
+        store = media_of(told[0]).store
+        parent, child = manifests_of(jumbf.read(store))
+        signature = Manifest(store, parent).signature
+        for what, box in ("manifest", parent), ("signature", signature):
+            digest = hashlib.new(above, store[box.inside : box.end]).digest()
+            check.same(f"the digest of the parent's {what} by {above}", store.count(digest, child.start), 1)
+
+
 def check_films(check):
     told = embed(FILM, DEFINITION, MESSAGE)
     check.line("a film", told, "embedded 25 1220")
@@ -219,6 +259,8 @@ def main():
     check_twice(check, out)
     check_photograph(check)
     check_refusals(check)
+    check_algorithms(check)
+    check_parents_algorithms(check)
     check_films(check)
     check_samples(check)
     print(f"{check.compared} compared, {check.differences} differences")

@@ -5,8 +5,12 @@ use std::alloc::{AllocError, Global};
 // The most bytes of a store in a packet.
 const MAX_PACKET: usize = 63_984;
 
+// The bytes of a comment in the media that `sample` makes.
+const COMMENT_LEN: usize = 1000;
+
 /// The bytes of a file: a text that begins with `{` is itself, everything else is hex. In this `COUNT*PIECE` between spaces stands for
-/// a piece that comes so many times, and `FIRST..LAST*PIECE` for one that comes with each of these numbers, in two bytes at its `#`.
+/// a piece that comes so many times, and `FIRST..LAST*PIECE` for one that comes with each of these numbers, in two bytes at its `#`;
+/// the piece `sample` is the comment with such a number in the media that the command `sample` makes.
 pub fn bytes_of(alloc: Global, text: &str) -> Result<Vec<u8>, Trouble> {
     if text.starts_with('{') {
         return Ok(Vec::from_slice(alloc, text.as_bytes())?);
@@ -24,6 +28,9 @@ fn push_word(alloc: Global, bytes: &mut Vec<u8>, word: &str) -> Result<(), Troub
     match count.split_once("..") {
         Some((first, last)) => {
             let numbers = (first.parse::<u16>()?, last.parse::<u16>()?);
+            if piece == "sample" {
+                return push_comments(bytes, numbers);
+            }
             push_numbered(alloc, bytes, numbers, piece)
         }
         None => push_often(alloc, bytes, piece, count.parse::<u32>()?),
@@ -42,6 +49,26 @@ fn push_numbered(
     let back = hex::decode(alloc, back)?;
     for number in numbers.0..=numbers.1 {
         push_between(bytes, front.as_slice(), number, back.as_slice())?;
+    }
+    Ok(())
+}
+
+// Appends the comments with these numbers of the media that `sample` makes.
+fn push_comments(bytes: &mut Vec<u8>, numbers: (u16, u16)) -> Result<(), Trouble> {
+    for number in numbers.0..=numbers.1 {
+        push_comment(bytes, number)?;
+    }
+    Ok(())
+}
+
+// Appends such a comment: each of its bytes is 7 more than the one before it, and its first is 31 more than that of the comment before.
+fn push_comment(bytes: &mut Vec<u8>, number: u16) -> Result<(), Trouble> {
+    bytes.extend_from_slice(&[0xFF, 0xFE, 0x03, 0xEA])?;
+    let [_high, low] = number.to_be_bytes();
+    let mut byte = low.wrapping_mul(31);
+    for _ in 0..COMMENT_LEN {
+        bytes.push(byte)?;
+        byte = byte.wrapping_add(7);
     }
     Ok(())
 }

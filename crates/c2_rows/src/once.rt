@@ -47,24 +47,37 @@ impl Outcome {
     }
 }
 
+// The most bytes of a report that is told as it stands.
+const MOST_TOLD: usize = 100_000;
+
 // Appends what a new file is, unless nothing was done to it.
 fn tell_file(out: &mut Line, file: &[u8], is_whole: bool) {
     if file.is_empty() && !is_whole {
         return;
     }
     out.text(", out ");
-    out.number(file.len() as u64);
-    out.text(" ");
-    out.hex(digest_of(&Sha, Alg::Sha256, file).as_slice());
+    tell_digest(out, file);
     if !is_whole {
         out.text(", not finished");
     }
 }
 
-// Appends a report.
+// Appends the length of bytes and their SHA-256 digest.
+fn tell_digest(out: &mut Line, bytes: &[u8]) {
+    out.number(bytes.len() as u64);
+    out.text(" ");
+    out.hex(digest_of(&Sha, Alg::Sha256, bytes).as_slice());
+}
+
+// Appends a report; a long one by its length and its digest.
 fn tell_report(out: &mut Line, report: &str) {
     if report.is_empty() {
         out.text("nothing");
+        return;
+    }
+    if report.len() > MOST_TOLD {
+        out.text("report ");
+        tell_digest(out, report.as_bytes());
         return;
     }
     match report.strip_suffix('\n') {

@@ -21,7 +21,7 @@ pub enum View {
     /// The run, and a run for each call at which an object fails.
     EachCall,
 
-    /// The statuses of runs over each prefix of the media.
+    /// What runs over each prefix of the media come to.
     Prefixes,
 
     /// The statuses of runs over the media with one byte changed, for each byte.
@@ -139,7 +139,7 @@ impl Settings {
             fault,
             view: View::Run,
             status: 0,
-            least: 0,
+            least: 1,
             part: false,
             asked: String::new(alloc),
             around: (0, 0),

@@ -120,15 +120,58 @@ fn has_file(settings: &Settings, whole: &Outcome, got: &Outcome) -> bool {
     !got.is_whole && whole_file.starts_with(file)
 }
 
-// The statuses of the runs over each prefix of the first file but itself.
+// What the runs over each prefix of the first file but itself come to, and from which length on.
 fn prefixes(alloc: Global, settings: &Settings, read: Read) -> Result<String, Trouble> {
-    let mut statuses = Line::new(alloc);
+    let mut lengths = Line::new(alloc);
+    let mut last = String::new(alloc);
     for length in 0..read.first.len() {
         let first = read.first.get(..length).unwrap_or(&[]);
-        let status = status_of(alloc, settings, Read { first, ..read })?;
-        statuses.number(u64::from(status));
+        let told = prefix(alloc, settings, Read { first, ..read })?;
+        if told.as_str() != last.as_str() {
+            tell_from(&mut lengths, length, told.as_str());
+        }
+        last = told;
     }
-    statuses.whole()
+    lengths.whole()
+}
+
+// Appends what runs come to from a length on.
+fn tell_from(lengths: &mut Line, length: usize, told: &str) {
+    if length > 0 {
+        lengths.text("; ");
+    }
+    lengths.text("from ");
+    lengths.number(length as u64);
+    lengths.text(" on ");
+    lengths.text(told);
+}
+
+// What the run over a prefix comes to.
+fn prefix(alloc: Global, settings: &Settings, read: Read) -> Result<String, Trouble> {
+    let mut outcome = whole(alloc, settings, read)?;
+    if let Some(report) = by_length(alloc, outcome.report.as_str(), read.first.len())? {
+        outcome.report = report;
+    }
+    outcome.told(alloc)
+}
+
+// A report whose last word is the length of the file, with `N` in its place; none where it is no such report, or the file is empty.
+fn by_length(alloc: Global, report: &str, length: usize) -> Result<Option<String>, Trouble> {
+    let mut end = Line::new(alloc);
+    end.text(" ");
+    end.number(length as u64);
+    end.text("\n");
+    let end = end.whole()?;
+    let Some(front) = report.strip_suffix(end.as_str()) else {
+        return Ok(None);
+    };
+    if length == 0 {
+        return Ok(None);
+    }
+    let mut out = Line::new(alloc);
+    out.text(front);
+    out.text(" N\n");
+    Ok(Some(out.whole()?))
 }
 
 // The statuses of the runs over the first file, where one byte is one more.

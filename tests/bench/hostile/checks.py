@@ -1,5 +1,5 @@
 #!/usr/bin/env python3
-"""Writes JPEGs with stores of some 33 MB that are made to be dear for the check list: checks.py DIRECTORY [SCALE [NAME..]].
+"""Writes JPEGs with stores of some 33 MB that are made to take much of the check list: checks.py DIRECTORY [SCALE [NAME..]].
 
 A scale of 100 gives the full size, a smaller one a hundredth of boxes, entries and bytes for each point. Beside each FILE
 stand FILE.verdicts, a verdict file that approves its questions, and FILE.answer, what `validate` must say with it.

@@ -1,5 +1,5 @@
 #!/usr/bin/env python3
-"""Writes JPEGs with stores of some 33 MB that are made to be dear: make.py DIRECTORY [SCALE]. A scale of 100 gives the full
+"""Writes JPEGs with stores of some 33 MB that are made to take much time or memory: make.py DIRECTORY [SCALE]. A scale of 100 gives the full
 size, a smaller one a hundredth for each point. Boxes, claims and messages are those of tests/real/make_store.py."""
 import os
 import random

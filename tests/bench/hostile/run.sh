@@ -1,5 +1,5 @@
 #!/bin/bash
-# Measures c2 on stores that are made to be dear: run.sh [SCALE [PROGRAM]]. Without a program, ./c2 of the checkout is built.
+# Measures c2 on stores that are made to take much time or memory: run.sh [SCALE [PROGRAM]]. Without a program, ./c2 of the checkout is built.
 # Fails where a command takes more than 4 s of processor time or 700 MB, on the stores for the check list 5 s or 800 MB.
 set -e
 here=$(cd "$(dirname "$0")" && pwd)

@@ -1,5 +1,5 @@
 #!/usr/bin/env python3
-"""Writes BMFF files that are made to be dear for the binding: dear_films.py DIRECTORY [SCALE [NAME..]].
+"""Writes BMFF files whose binding is made to take much time: costly_films.py DIRECTORY [SCALE [NAME..]].
 
 A scale of 100 gives the full size, a smaller one a hundredth of boxes for each point. Beside each FILE stand FILE.verdicts, which
 approves its question, and FILE.answer, what `validate` must say with it. The covered bytes are joined here box by box, from what
