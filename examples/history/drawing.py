@@ -208,9 +208,9 @@ def bar(parent, history):
     svg = picture(parent, "bar", words, 0, BAR_WIDTH, BAR_HEIGHT)
     draw_patterns(element(svg, "defs"))
     left, whole = 0, max(1, sum(number for _, number, _ in parts))
-    free = BAR_WIDTH - LEAST_PART * len(parts)
+    free = BAR_WIDTH - LEAST_PART * sum(number > 0 for _, number, _ in parts)
     for kind, number, _ in parts:
-        width = round(LEAST_PART + free * number / whole, 1)
+        width = round(LEAST_PART * (number > 0) + free * number / whole, 1)
         element(svg, "rect", klass=f"part {kind}", x=left, y=1, width=width, height=BAR_HEIGHT - 2)
         left += width
     return parts

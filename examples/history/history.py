@@ -106,7 +106,8 @@ def write_graph(body, history):
         body,
         "p",
         "The newest stands at the top. A solid arrow leads to the parent, which is the media that this one was made from; a broken one leads to "
-        "a component or an input. A struck-out assertion was redacted: taken out later. A broken border is that of a manifest that none leads to.",
+        "a component or an input. A struck-out assertion was redacted: taken out later. A broken border is that of a manifest that c2 reaches from no "
+        "newer one, and doesn't check.",
     )
     left_out = drawing.graph(element(body, "div", klass="scroll"), history.manifests, history.failing)
     if left_out:

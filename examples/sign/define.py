@@ -23,7 +23,7 @@ SOURCE_TYPES = "http://cv.iptc.org/newscodes/digitalsourcetype/"
 KINDS = {".json": "json", ".cbor": "cbor"}
 LEAST_RESERVE = 64
 # The options that say what a manifest holds; sign.py hands them on.
-CONTENT_OPTIONS = "title", "generator", "source", "action", "assertion", "redact", "label", "room"
+CONTENT_OPTIONS = "title", "generator", "source", "action", "assertion", "redact", "label", "room", "alg"
 
 
 def text(value):
@@ -88,6 +88,8 @@ def definition_of(given):
         definition["title"] = given.title
     if given.redact:
         definition["redact"] = given.redact
+    if given.alg is not None:
+        definition["alg"] = given.alg
     return definition
 
 
@@ -107,6 +109,7 @@ def content_options():
     )
     parser.add_argument("--label", help="the manifest's own name (without it one is drawn): urn:c2pa: and a UUID")
     parser.add_argument("--room", type=int, default=0, metavar="BYTES", help="bytes kept free for what a signer adds, 5 or more")
+    parser.add_argument("--alg", help="the algorithm of the manifest's digests: sha256 (as without it), sha384 or sha512")
     return parser
 
 
