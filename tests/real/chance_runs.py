@@ -139,7 +139,8 @@ def drawn_files(chance, is_bmff):
     first = drawn.file()
     if chance.random() < 0.15:
         return changed_file(chance, first), None
-    second = other_below if is_left else chance.choices(list(SECONDS), list(SECONDS.values()))[0]
+    # a fault may have taken the redaction away again
+    second = other_below if is_left and touched(drawn) else chance.choices(list(SECONDS), list(SECONDS.values()))[0]
     return first, second(chance, drawn, first)
 
 
