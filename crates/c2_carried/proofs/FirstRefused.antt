@@ -7,7 +7,7 @@ use Rattle.std.specs.Option.{option_or}
 use Rattle.c2_rules.specs.Readings.{Reading}
 use Rattle.c2_rules.specs.Tests.{first_failing}
 use Rattle.c2_rules.specs.declared.answer.Failing.{Failing}
-use Rattle.c2_carried.specs.Refusing.{FirstRedactionIsLeast, IsFirstRefused, IsRefusedAt, entry_tests, refusal_after, refused_by}
+use Rattle.c2_carried.specs.Refusing.{FirstRedactionIsLeast, IsFirstRefused, entry_tests, refusal_after, refused_by}
 use Rattle.c2_carried.specs.declared.refused.RefusedRedaction.{RefusedRedaction}
 
 -- what is answered of a redaction behind these

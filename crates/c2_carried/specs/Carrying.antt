@@ -16,14 +16,14 @@ use Rattle.c2_spec.specs.declared.digest.Alg.{Alg}
 use Rattle.c2_spec.specs.declared.panel.Verdict.{Verdict}
 use Rattle.c2_rules.specs.Chains.{LabelsDiffer, place_of}
 use Rattle.c2_rules.specs.CheckList.{IsValid, StoreReading, chain_tests}
-use Rattle.c2_rules.specs.Ingredients.{is_ingredient}
-use Rattle.c2_rules.specs.Readings.{AreReadings, ReadBox, Reading, value_in}
+use Rattle.c2_rules.specs.Readings.{AreReadings, Reading}
 use Rattle.c2_rules.specs.Rules.{redaction_tests, unjudged_tests}
 use Rattle.c2_rules.specs.Seen.{signature_contents}
 use Rattle.c2_rules.specs.Tests.{AllHold, Test, each, first_failing}
 use Rattle.c2_rules.specs.declared.answer.Failing.{Failing}
 use Rattle.c2_rules.specs.declared.code.Code.{Code}
 use Rattle.c2_rules.specs.declared.code.Code.TheVariants.{ProfileRedactionTarget}
+use Rattle.c2_joined.specs.Rooted.{ReadsKinds}
 use Rattle.c2_definition.specs.declared.types.Definition.{Definition}
 use Rattle.c2_built.specs.Manifests.{manifest_of, supers_in}
 use Rattle.c2_built.specs.Store.{Content, Parent}
@@ -69,10 +69,6 @@ abbrev pub ContentIsOne : Type 0
 ContentIsOne = (d : Definition) (old : Tree) (b c : Content) → IsContentOver d old b → IsContentOver d old c → b ≡ c
 
 -- ---- what is taken over
-
--- a box of no ingredient is read as none
-abbrev pub ReadsKinds : Reading → Type 0
-ReadsKinds r = AllByRecursion (λ (b : ReadBox). is_ingredient b.boxed ≡ false → value_in b.ingredient ≡ None) r.boxes
 
 -- An older store, whose manifests were read as `rs`, is taken over: the carried boxes can be, and are read as `ss`, the same less
 -- what is redacted; all rules but the verdicts hold of the older manifests; and the redactions may be made.

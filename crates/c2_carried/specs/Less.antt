@@ -1,6 +1,6 @@
 -- What the manifests of an older store are read as once redactions took boxes out of them: the same, less those boxes. And what is
 -- asked of redactions that may be made.
-use Rattle.std.specs.Prelude.{◌≡◌, ℕ, true, false, List, [], map, find, slice_get, unwrap_or}
+use Rattle.std.specs.Prelude.{◌≡◌, ℕ, Bool, true, false, List, [], map, find, slice_get, unwrap_or}
 use Rattle.std.specs.declared.option.Option.TheVariants.{Some}
 use Rattle.std.specs.List.{AllByRecursion, AllZip}
 use Rattle.c2_spec.specs.C2pa.Manifest.{Superbox}
@@ -75,13 +75,17 @@ SignsTaken redacts rs i b =
     (m : ℕ) (child : Reading) (label : List ℕ) → child_of rs i b ≡ Some m → slice_get rs m ≡ Some child
     → takes_out redacts (label_in child) label ≡ true → has_signature b ≡ true
 
--- Redactions that may be made in a store that was read so: they take out no ingredient; what they take out is listed by the claim of
--- a reached manifest; and each ingredient of a reached manifest that names that one names its signature.
-pub record CanRedact (redacts : List (List ℕ)) (rs : List Reading) : Type 0 where
+-- Redactions that may be made in a chain of which these manifests are reached: they take out no ingredient; what they take out is
+-- listed by the claim of a reached manifest; and each ingredient of a reached manifest that names that one names its signature.
+pub record CanRedactBy (is_in : ℕ → Bool) (redacts : List (List ℕ)) (rs : List Reading) : Type 0 where
   pub kinds : (i : ℕ) (r : Reading) → slice_get rs i ≡ Some r → TakesNoIngredient redacts r
   pub reached : (i : ℕ) (r : Reading) (label : List ℕ) → slice_get rs i ≡ Some r
-      → takes_out redacts (label_in r) label ≡ true → is_reached rs i ≡ true
+      → takes_out redacts (label_in r) label ≡ true → is_in i ≡ true
   pub listed : (i : ℕ) (r : Reading) (label : List ℕ) → slice_get rs i ≡ Some r
       → takes_out redacts (label_in r) label ≡ true → lists_label r.manifest (entries_in r) label ≡ true
-  pub signed : (i : ℕ) (r : Reading) → is_reached rs i ≡ true → slice_get rs i ≡ Some r
+  pub signed : (i : ℕ) (r : Reading) → is_in i ≡ true → slice_get rs i ≡ Some r
       → AllByRecursion (SignsTaken redacts rs i) r.boxes
+
+-- redactions that may be made in a store that was read so, where its last manifest is the active one
+abbrev pub CanRedact : List (List ℕ) → List Reading → Type 0
+CanRedact redacts rs = CanRedactBy (is_reached rs) redacts rs

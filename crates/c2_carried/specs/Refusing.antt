@@ -1,7 +1,8 @@
--- Which label a new manifest can't have, and which redactions of an older store are refused (C2PA Technical Specification 2.x,
--- "Redaction of assertions"), over what the manifests of that store are read as; without an older store there are none. The order
--- of the tests, and that an ingredient must name the signature of what loses a box, are this project's own choice.
-use Rattle.std.specs.Prelude.{◌≡◌, ℕ, ◌<◌, Bool, false, not, ◌&&◌, List, [], ◌∷◌, ◌++◌, length, take, filter, find, slice_get, is_some, codes, bytes_eq, option_map}
+-- Which label a new manifest can't have, that of an older one (`has_manifest`), and which redactions of an older store are refused
+-- (C2PA Technical Specification 2.x, "Redaction of assertions"), over what the manifests of that store are read as; without an older
+-- store there are none. The order of the tests, and that an ingredient must name the signature of what loses a box, are this
+-- project's own choice.
+use Rattle.std.specs.Prelude.{◌≡◌, ℕ, ◌<◌, Bool, false, not, ◌&&◌, List, [], ◌∷◌, ◌++◌, length, take, filter, find, slice_get, is_some, codes, option_map}
 use Rattle.std.specs.declared.option.Option.{Option}
 use Rattle.std.specs.declared.option.Option.TheVariants.{Some, None}
 use Rattle.std.specs.List.{list_any}
@@ -15,14 +16,11 @@ use Rattle.c2_rules.specs.Tests.{Test, first_failing, test}
 use Rattle.c2_rules.specs.declared.answer.Failing.{Failing}
 use Rattle.c2_rules.specs.declared.code.Code.TheVariants.{ProfileRedactionTarget, ProfileIngredientSignature}
 use Rattle.c2_older.specs.Older.{has_signature, is_kept}
+pub use Rattle.c2_joined.specs.Joined.{has_manifest}
 use Rattle.c2_carried.specs.Redacting.{takes_out}
 use Rattle.c2_carried.specs.declared.refused.RefusedRedaction.{RefusedRedaction}
 
 -- ---- labels
-
--- one of these manifests has this label
-abbrev pub has_manifest : List Reading → List ℕ → Bool
-has_manifest rs label = list_any (λ (r : Reading). bytes_eq (label_in r) label) rs
 
 -- the URI of the claim of a new manifest with this label
 abbrev pub new_claim_uri : List ℕ → List ℕ

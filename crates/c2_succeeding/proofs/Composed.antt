@@ -26,13 +26,11 @@ use Rattle.c2_rules.specs.Tests.{downward}
 use Rattle.c2_rules.proofs.JpegMedia.{of_jpeg}
 use Rattle.c2_built.specs.Written.{CanBeWritten}
 use Rattle.c2_built.proofs.BuiltLemmas.{OneList}
-use Rattle.c2_built.proofs.FreshFile.{Laws}
 use Rattle.c2_built.proofs.Lists.{each-append, each-back, each-front}
 use Rattle.c2_built.proofs.NewRules.{Holds}
 use Rattle.c2_carried.specs.Carrying.{BaseHasNoStore, CanStandOver, IsCarried, IsFreeBase, ValidStoreIsCarried}
 use Rattle.c2_carried.proofs.Valid.{all_each}
-use Rattle.c2_succeeding.specs.Over.{FileOverStoreMeets, ValidIsApproved}
-use Rattle.c2_succeeding.proofs.Whole.{AllLaws, succeeding_meets}
+use Rattle.c2_succeeding.specs.Over.{FileOverStoreMeets, SucceedingFileMeets, ValidIsApproved}
 
 -- ---- the older store
 
@@ -76,15 +74,15 @@ old_is media start len old jpeg h = by_place h.0 h.1 h.2
     by_place (located.here at n store) g e = by_tree at n store e.0 (of_jpeg media (located.here at n store) jpeg g) e.1 e.2
 
 -- the file that is built over it meets the rules
-pub file_over : AllLaws → Laws → ValidStoreIsCarried → BaseHasNoStore → OneList → FileOverStoreMeets
-file_over all_laws laws carries frees lists hash said media start len old s d c message segments en p digests can w is build fits spells =
+pub file_over : SucceedingFileMeets → ValidStoreIsCarried → BaseHasNoStore → OneList → FileOverStoreMeets
+file_over files carries frees lists hash said media start len old s d c message segments en p digests can w is build fits spells =
     let base : List ℕ = taken_out start len media in
     let o : IsOld media start len old = old_is media start len old can.jpeg can.opened in
     let over : CanStandOver hash said d old s = record { legal = o.spells.legal; store = o.accepted; reads = can.reads.reads.each; valid = can.valid; label = can.label; redactions = can.redactions } in
     let carried : IsCarried hash c s.readings = carries hash said d old s c over can.few is in
     let free : IsFreeBase base = frees media start len o.store o.has in
     let none : NoneBegins segments = subst NoneBegins (lists base free.segments segments free.is_of build.is_of) free.none in
-    succeeding_meets all_laws laws hash c is.parent message base segments en p s.readings carried.readings digests is.has_parent (subst CanBeWritten (sym is.definition) w) build (record { none = none; fits = fits }) spells carried.over
+    files hash c is.parent message base segments en p s.readings carried.readings digests is.has_parent (subst CanBeWritten (sym is.definition) w) build (record { none = none; fits = fits }) spells carried.over
     (carried.last is.parent is.is_parent)
 
 -- ---- approval

@@ -3,17 +3,7 @@ use Rattle.c2_succeeding.proofs.laws.a_succeeding_file_meets_the_rules.Goals as 
 
 -- the file meets the rules
 pub returns : goal.returns
-returns c = succeeding_meets (record {
-  store = record {
-    keeps = c.sorting_keeps_the_length.ensures;
-    trip = c.round_trip.ensures;
-    claims = c.a_written_claim_is_read.ensures;
-    uris = c.written_uris_are_read.ensures;
-  };
-  ingredients = c.a_written_ingredient_is_read.ensures;
-  sorted = c.written_items_are_in_order.ensures.ingredient;
-  older = c.rules_hold_without_redacted_boxes.ensures;
-}) (record {
+returns c = succeeding_meets c.a_succeeding_store_meets_the_rules.ensures (record {
   store = record {
     keeps = c.sorting_keeps_the_length.ensures;
     trip = c.round_trip.ensures;

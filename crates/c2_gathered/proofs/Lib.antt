@@ -1,0 +1,9 @@
+pub mod More
+pub mod Less
+pub mod Roots
+pub mod Older
+pub mod Plain
+pub mod Items
+pub mod Stored
+pub mod Boxes
+pub mod Whole

@@ -1,0 +1,5 @@
+pub mod Places
+pub mod Seeing
+pub mod Standing
+pub mod Joining
+pub mod Rooting
