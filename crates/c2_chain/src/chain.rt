@@ -221,7 +221,7 @@ pub fn child_facts<H: Hashing>(
     Ok(facts)
 }
 
-/// The same as `check_manifest`, where it was found out before what is asked of children.
+/// The first rule of manifest `i` that fails, as `check_manifest` answers it, where it was found out before what is asked of children.
 pub fn check_known<H: Hashing>(
     alloc: Global,
     hashing: &H,

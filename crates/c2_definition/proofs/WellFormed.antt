@@ -6,14 +6,13 @@ use Rattle.serde_json.specs.Data.{Data, Items, no_items, item}
 use Rattle.serde_json.specs.Find.{get, as_array}
 use Rattle.c2_base.specs.declared.limits.TheConstants.{MAX_INPUT_LEN}
 use Rattle.c2_spec.specs.Cbor.Fields.{require, joined}
-use Rattle.c2_definition.specs.declared.types.TheConstants.{MAX_PROTECTED, MIN_RESERVE, MAX_RESERVE}
 use Rattle.c2_definition.specs.declared.types.Definition.{Definition}
 use Rattle.c2_definition.specs.declared.types.DefinitionField.{DefinitionField}
 use Rattle.c2_definition.specs.declared.types.DefinitionField.TheVariants as field
 use Rattle.c2_definition.specs.declared.types.NewAssertion.{NewAssertion}
 use Rattle.c2_definition.specs.declared.types.Payload.{Payload}
 use Rattle.c2_definition.specs.Json.{kept, object_of, has_keys, text_at, number_at, optional_text_at, optional_list_at, list_or_missing, each_of}
-use Rattle.c2_definition.specs.DefinitionFile.{is_field, is_filled, is_manifest_label, is_new_label, is_assertion_field, payload_of, label_in, filled_at, hex_at, protected_in, reserve_in, redactions_in, alg_in, assertion_from, assertion_of, labels_differ, assertions_in, HavePayloads, fields_of, definition_of, IsDefinition, IsWellFormed}
+use Rattle.c2_definition.specs.DefinitionFile.{least_reserve, most_protected, most_reserve, is_field, is_filled, is_manifest_label, is_new_label, is_assertion_field, payload_of, label_in, filled_at, hex_at, protected_in, reserve_in, redactions_in, alg_in, assertion_from, assertion_of, labels_differ, assertions_in, HavePayloads, fields_of, definition_of, IsDefinition, IsWellFormed}
 
 -- ---- what is there
 
@@ -99,14 +98,14 @@ of_object v payloads d told h =
     let alg = required field.Alg (alg_in v) _ d redact.2 in
     let listed = told_list v payloads assertions.0 assertions.1 in
     let differing = passes labels_differ (optional_list_at assertion_of (codes "assertions") v) assertions.0 listed.1 in
-    let in_range = and_parts (nat_le MIN_RESERVE reserve.0) (nat_le reserve.0 MAX_RESERVE) (passes (λ n. nat_le MIN_RESERVE n && nat_le n MAX_RESERVE) (number_at (codes "reserve") v) reserve.0 reserve.1).1 in
+    let in_range = and_parts (nat_le least_reserve reserve.0) (nat_le reserve.0 most_reserve) (passes (λ n. nat_le least_reserve n && nat_le n most_reserve) (number_at (codes "reserve") v) reserve.0 reserve.1).1 in
     subst IsWellFormed (same_ok alg.2) (record {
       label = (passes is_manifest_label (text_at (codes "label") v) label.0 label.1).1;
       instance = (passes is_filled (text_at (codes "instance_id") v) instance.0 instance.1).1;
       generator = (passes is_filled (text_at (codes "generator") v) generator.0 generator.1).1;
-      protected = leb-true (length protected.0) MAX_PROTECTED (passes (λ bytes. nat_le (length bytes) MAX_PROTECTED) (hex_at (codes "protected") v) protected.0 protected.1).1;
-      least = leb-true MIN_RESERVE reserve.0 in_range.0;
-      most = leb-true reserve.0 MAX_RESERVE in_range.1;
+      protected = leb-true (length protected.0) most_protected (passes (λ bytes. nat_le (length bytes) most_protected) (hex_at (codes "protected") v) protected.0 protected.1).1;
+      least = leb-true least_reserve reserve.0 in_range.0;
+      most = leb-true reserve.0 most_reserve in_range.1;
       labels = listed_labels (get (codes "assertions") v) assertions.0 differing.0;
       differ = differing.1;
       payloads = told listed.0 assertions.0 listed.1;

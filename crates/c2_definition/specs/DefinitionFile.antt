@@ -20,7 +20,6 @@ use Rattle.c2_spec.specs.declared.assertion.Kind.TheVariants as kinds
 use Rattle.c2_spec.specs.declared.digest.Alg.{Alg}
 use Rattle.c2_spec.specs.declared.digest.Alg.TheVariants.{Sha256}
 use Rattle.c2_definition.specs.Json.{kept, object_of, has_keys, text_at, number_at, optional_text_at, optional_list_at}
-use Rattle.c2_definition.specs.declared.types.TheConstants.{MAX_PROTECTED, MIN_RESERVE, MAX_RESERVE}
 use Rattle.c2_definition.specs.declared.types.Definition.{Definition}
 use Rattle.c2_definition.specs.declared.types.DefinitionField.{DefinitionField}
 use Rattle.c2_definition.specs.declared.types.DefinitionField.TheVariants as field
@@ -63,13 +62,24 @@ filled_at key v = kept is_filled (text_at key v)
 abbrev pub hex_at : List ℕ → Data → Option (List ℕ)
 hex_at key v = option_and_then (λ t. result_ok (decode_of t)) (text_at key v)
 
+-- the most bytes of a protected header
+abbrev pub most_protected : ℕ
+most_protected = 65536
+
+-- the fewest and the most bytes that are reserved for a signed message
+abbrev pub least_reserve : ℕ
+least_reserve = 64
+
+abbrev pub most_reserve : ℕ
+most_reserve = 1048576
+
 -- the protected header of the signed message, which may be empty
 abbrev pub protected_in : Data → Option (List ℕ)
-protected_in v = kept (λ bytes. nat_le (length bytes) MAX_PROTECTED) (hex_at (codes "protected") v)
+protected_in v = kept (λ bytes. nat_le (length bytes) most_protected) (hex_at (codes "protected") v)
 
 -- how many bytes are reserved for the signed message
 abbrev pub reserve_in : Data → Option ℕ
-reserve_in v = kept (λ n. nat_le MIN_RESERVE n && nat_le n MAX_RESERVE) (number_at (codes "reserve") v)
+reserve_in v = kept (λ n. nat_le least_reserve n && nat_le n most_reserve) (number_at (codes "reserve") v)
 
 -- the URIs that are redacted, each a text
 abbrev pub redactions_in : Data → Option (List (List ℕ))
@@ -215,9 +225,9 @@ pub record IsWellFormed (d : Definition) : Type 0 where
   pub label : is_manifest_label d.label ≡ true
   pub instance : is_filled d.instance_id ≡ true
   pub generator : is_filled d.generator ≡ true
-  pub protected : length d.protected ≤ MAX_PROTECTED
-  pub least : MIN_RESERVE ≤ d.reserve
-  pub most : d.reserve ≤ MAX_RESERVE
+  pub protected : length d.protected ≤ most_protected
+  pub least : least_reserve ≤ d.reserve
+  pub most : d.reserve ≤ most_reserve
   pub labels : AllByRecursion (λ a. is_new_label a.label ≡ true) d.assertions
   pub differ : labels_differ d.assertions ≡ true
   pub payloads : AllByRecursion HasPayload d.assertions

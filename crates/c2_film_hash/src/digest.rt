@@ -9,7 +9,7 @@ ghost use Rattle.c2_spec.specs.Bmff.Boxes.{Box, HasRoots};
 ghost use Rattle.c2_spec.specs.Bmff.Writing.{built_exclusions, built_text};
 ghost use Rattle.c2_spec.specs.Digest.{digest_len};
 
-use crate::error::FilmError;
+use crate::error::{FilmError, film_error};
 use c2_base::Source;
 use c2_bmff::types::Roots;
 use c2_boxed::a_put_store_is_not_covered;
@@ -19,6 +19,7 @@ use c2_hash::{Alg, Digest, Hashing};
 use std::alloc::Global;
 
 // What the exclusions of a new hash leave of the file with these root boxes.
+#[tactic(auto, using(crate::proofs::ErrorLemmas::of_boxes, crate::proofs::ErrorLemmas::same_cause))]
 fn film_cover<S: Source>(alloc: Global, source: &mut S, roots: &Roots) -> Result<Cover, FilmError>
     requires inside { All (IsBoxWithin (S.len source.old)) roots.now }
     ensures cover { IfOk result (λ c. ForSome (S.known source.old) (λ file.
@@ -29,8 +30,10 @@ fn film_cover<S: Source>(alloc: Global, source: &mut S, roots: &Roots) -> Result
     ensures cause { IfErr result (IsFilmCause (S.faults source.old) (S.faults source.new)) }
 {
     let exclusions = new_exclusions(alloc)?;
-    let cover = bmff_cover(alloc, source, roots, exclusions.as_slice())?;
-    Ok(cover)
+    match bmff_cover(alloc, source, roots, exclusions.as_slice()) {
+        Ok(cover) => Ok(cover),
+        Err(error) => Err(film_error(error)),
+    }
 }
 
 /// The digest by this algorithm of what the exclusions of a new hash leave of a BMFF file with these root boxes, read through a buffer that isn't

@@ -1,4 +1,6 @@
 // Why a BMFF file has no digest.
+ghost use Rattle.c2_film_hash.specs.Causes.{IsOfBoxes, IsSameError};
+
 use c2_base::{Failed, NoMemory};
 use c2_cover::CoverError;
 use thiserror::Error;
@@ -15,20 +17,15 @@ pub enum FilmError {
     NoMemory,
 }
 
-impl From<CoverError> for FilmError {
-    ghost use Rattle.std.specs.Prelude.{ℕ};
-    ghost use Rattle.c2_cover.specs.Refused.{IsBmffCause};
-    ghost use Rattle.c2_film_hash.specs.Causes.{IsFilmCause};
-
-    // the cause stays the same
-    ghost from_gives = { λ error e. (before now : ℕ)
-        → IsBmffCause before now error → IsFilmCause before now e };
-
-    fn from(error: CoverError) -> FilmError {
-        match error {
-            CoverError::ReadFault => FilmError::ReadFault,
-            _ => FilmError::NoMemory,
-        }
+// The same error as one of the cover, which is none of its ranges: those of boxes lie in their file.
+pub(crate) fn film_error(error: CoverError) -> FilmError
+    requires { IsOfBoxes error }
+    ensures { IsSameError error result }
+{
+    match error {
+        CoverError::ReadFault => FilmError::ReadFault,
+        CoverError::NoMemory => FilmError::NoMemory,
+        CoverError::BadRange(_) => unreachable!(),
     }
 }
 

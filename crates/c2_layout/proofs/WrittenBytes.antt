@@ -1,13 +1,10 @@
 -- The bytes of the boxes of a manifest and of a store are those of their parts, and how many they are.
-use Rattle.std.proofs.Common.{◌≡◌, ◌⊎◌, inl, inr, ℕ, ◌+◌, ◌<◌, List, [], ◌++◌, length, refl, sym, ap, ◌∙◌, append-nil, append_assoc, length-append, arith, codes}
+use Rattle.std.proofs.Common.{◌≡◌, ℕ, ◌+◌, List, [], ◌++◌, length, refl, sym, ap, ◌∙◌, append-nil, append_assoc, length-append, arith, codes}
 use Rattle.std.specs.Int.{w32, to_be_bytes}
-use Rattle.c2_base.specs.declared.limits.TheConstants.{MAX_STORE_LEN}
 use Rattle.c2_spec.specs.C2pa.Manifest.{type_uuid}
 use Rattle.c2_spec.specs.Jumbf.Tree.{Tree, Trees, none, more, tree_bytes, trees_bytes, description_bytes}
-use Rattle.c2_spec.specs.Jumbf.Writing.{IsWrittenLabel, fresh_description, fresh_super, super_size, SuperRefused, bad_label, too_large}
-use Rattle.c2_spec.specs.declared.jumbf.WriteError.{WriteError}
+use Rattle.c2_spec.specs.Jumbf.Writing.{fresh_description, fresh_super, super_size}
 use Rattle.c2_spec.specs.declared.kinds.TheConstants.{JUMB}
-use Rattle.c2_spec.specs.declared.jumbf.WriteError.TheVariants.{NoMemory}
 use Rattle.c2_definition.specs.declared.types.NewAssertion.{NewAssertion}
 use Rattle.c2_built.specs.FreshBoxes.{fresh_box, item_box, store_box, trees_then}
 use Rattle.c2_built.specs.Store.{assertion_boxes, manifest_box}
@@ -40,12 +37,6 @@ contents_len boxes claim message all a b s u n ea eb es e =
     let ls : length s ≡ 42 + 14 + length message = ap length es ∙ one_box_len (codes "c2cs") (codes "c2pa.signature") (codes "cbor") message refl in
     let whole : length all ≡ length (a ++ (b ++ s)) = ap length e in
     omega (arith, la, lb, ls, whole, length-append a (b ++ s), length-append b s)
-
--- why a superbox isn't written, by its size
-pub refused_size : (label contents : List ℕ) (e : WriteError) (n : ℕ) → super_size label contents ≡ n → (e ≡ NoMemory) ⊎ SuperRefused label contents e → (e ≡ NoMemory) ⊎ (IsWrittenLabel label → MAX_STORE_LEN < n)
-refused_size label contents e n is (inl m) = inl m
-refused_size label contents e n is (inr (bad_label never)) = inr (λ w. absurd (never w))
-refused_size label contents e n is (inr (too_large w big)) = inr (λ w. omega (arith, is, big))
 
 -- boxes, and one more behind them
 then_bytes : (boxes : Trees) (t : Tree) → trees_bytes boxes ++ tree_bytes t ≡ trees_bytes (trees_then boxes t)

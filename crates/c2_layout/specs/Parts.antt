@@ -56,7 +56,7 @@ told digest = digest
 abbrev pub told_parent : ParentRefs → Parent
 told_parent refs = record { label = refs.label; contents = refs.contents; signed = refs.signed }
 
--- the same with digests of zero bytes, as many as one by this algorithm has
+-- the parent of references, with digests of zero bytes, as many as one by this algorithm has
 abbrev pub blank_parent : Alg → ParentRefs → Parent
 blank_parent alg refs = record { label = refs.label; contents = zero_digest alg; signed = zero_digest alg }
 

@@ -1,11 +1,10 @@
 // Boxes of a new manifest.
-ghost use Rattle.std.specs.Prelude.{◌≡◌, ◌+◌, ◌<◌, ◌⊎◌, IfOk, IfErr, Ok, length};
-ghost use Rattle.c2_base.specs.declared.limits.TheConstants.{MAX_STORE_LEN};
+ghost use Rattle.std.specs.Prelude.{◌≡◌, ◌⊎◌, IfOk, IfErr, Ok, length};
 ghost use Rattle.c2_spec.specs.C2pa.Manifest as manifest;
 ghost use Rattle.c2_spec.specs.Jumbf.Tree.{tree_bytes, more, none};
-ghost use Rattle.c2_spec.specs.Jumbf.Writing.{IsWrittenLabel};
 ghost use Rattle.c2_built.specs.FreshBoxes.{fresh_box, fresh_leaf};
 ghost use Rattle.c2_built.specs.Store as store;
+ghost use Rattle.c2_layout.specs.Unwritten.{IsAssertionRefused, IsBoxRefused};
 
 use c2_base::{Blob, NoMemory};
 use c2_definition::{NewAssertion, Payload};
@@ -32,8 +31,8 @@ pub(crate) fn write_one(
 ) -> Result<Blob, WriteError>
     ensures ok { IfOk result (λ b. b
         ≡ tree_bytes (fresh_box name label.now (more (fresh_leaf kind bytes.now) none))) }
-    ensures err { IfErr result (λ e. (e ≡ WriteError.NoMemory)
-        ⊎ (IsWrittenLabel label.now → MAX_STORE_LEN < 42 + length label.now + length bytes.now)) }
+    ensures err { IfErr result
+        (λ e. (e ≡ WriteError.NoMemory) ⊎ IsBoxRefused label.now (length bytes.now) e) }
 {
     let content = write_leaf(alloc, kind, bytes)?;
     write_super(alloc, type_uuid(name), label, content.as_slice())
@@ -61,13 +60,14 @@ fn payload_name(kind: Payload) -> [u8; 4]
     }
 }
 
-/// The box of a new assertion. Another error than `NoMemory` comes only where its label may not be written, or the box has more than
-/// 33,554,432 bytes.
+/// The box of a new assertion.
+///
+/// `TooLarge` where its content box would have more than 33,554,432 bytes, with the length of that; else `BadLabel` where its label may
+/// not be written; else `TooLarge` where the box itself would have more, with its length.
 pub fn write_assertion(alloc: Global, assertion: &NewAssertion) -> Result<Blob, WriteError>
     ensures ok { IfOk result (λ b. b ≡ tree_bytes (store.assertion_box assertion.now)) }
-    ensures err { IfErr result (λ e. (e ≡ WriteError.NoMemory)
-        ⊎ (IsWrittenLabel assertion.now.label
-        → MAX_STORE_LEN < length (tree_bytes (store.assertion_box assertion.now)))) }
+    ensures err { IfErr result
+        (λ e. (e ≡ WriteError.NoMemory) ⊎ IsAssertionRefused assertion.now e) }
 {
     let name = payload_name(assertion.kind);
     write_one(

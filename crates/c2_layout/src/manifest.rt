@@ -1,10 +1,9 @@
 // The box of a new manifest.
-ghost use Rattle.std.specs.Prelude.{◌≡◌, ◌<◌, ◌⊎◌, ◌++◌, List, IfOk, IfErr, length};
-ghost use Rattle.c2_base.specs.declared.limits.TheConstants.{MAX_STORE_LEN};
+ghost use Rattle.std.specs.Prelude.{◌≡◌, ◌⊎◌, ◌++◌, List, IfOk, IfErr, length};
 ghost use Rattle.c2_spec.specs.Jumbf.Tree.{tree_bytes, trees_bytes};
-ghost use Rattle.c2_spec.specs.Jumbf.Writing.{IsWrittenLabel};
 ghost use Rattle.c2_definition.specs.declared.types.NewAssertion.{NewAssertion};
 ghost use Rattle.c2_layout.specs.Parts.{manifest_size};
+ghost use Rattle.c2_layout.specs.Unwritten.{IsManifestRefused};
 ghost use Rattle.c2_built.specs.Store as store;
 
 use crate::boxes::{type_uuid, write_one};
@@ -25,7 +24,8 @@ fn joined(alloc: Global, a: &[u8], b: &[u8], c: &[u8]) -> Result<Vec<u8>, NoMemo
 /// The box of a manifest with this label: the boxes of its assertions, which are handed in one after the other, its claim, and its signed
 /// message.
 ///
-/// Another error than `NoMemory` comes only where the label may not be written, or the box has more than 33,554,432 bytes.
+/// `TooLarge` where one of its boxes, or it itself, would have more than 33,554,432 bytes, with the length of that one; `BadLabel` where
+/// its label may not be written.
 #[tactic(auto, using(crate::proofs::WrittenBytes::manifest_bytes))]
 pub fn write_manifest(
     alloc: Global,
@@ -40,8 +40,8 @@ pub fn write_manifest(
         ≡ tree_bytes (store.manifest_box label.now assertions claim.now message.now)) }
     ensures size { IfOk result (λ b.
         length b ≡ manifest_size label.now boxes.now claim.now message.now) }
-    ensures err { IfErr result (λ e. (e ≡ WriteError.NoMemory) ⊎ (IsWrittenLabel label.now
-        → MAX_STORE_LEN < manifest_size label.now boxes.now claim.now message.now)) }
+    ensures err { IfErr result (λ e. (e ≡ WriteError.NoMemory)
+        ⊎ IsManifestRefused label.now boxes.now claim.now message.now e) }
 {
     let assertions = write_super(alloc, type_uuid(*b"c2as"), "c2pa.assertions", boxes)?;
     let claim = write_one(alloc, *b"c2cl", "c2pa.claim.v2", *b"cbor", claim)?;
