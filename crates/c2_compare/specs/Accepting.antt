@@ -40,7 +40,7 @@ abbrev pub IsUnopened : List ℕ → Unaccepted → Type 0
 IsUnopened file (Refused a) = (what : Opening Tree) × IsOpened file what × IsStoreless what a
 IsUnopened file (Failed e) = ⊤
 
--- nor is one whose check says so
+-- a file isn't compared whose check answers that it isn't accepted
 abbrev pub IsUnaccepted : (Alg → List ℕ → List ℕ) → (Question → Verdict) → List ℕ → Unaccepted
     → Type 0
 IsUnaccepted hash said file (Refused a) = IsRefusedFirst hash said file a

@@ -3,22 +3,21 @@ use Rattle.std.proofs.Common.{◌≡◌, ◌≢◌, ℕ, Bool, true, false, cond
 use Rattle.std.specs.declared.alloc.Global.{Global}
 use Rattle.std.specs.declared.vec.Vec.{Vec}
 use Rattle.c2_base.specs.declared.values.Question.{Question}
-use Rattle.c2_spec.specs.Judges.Panel.{Judges, judges_of, panel_says}
+use Rattle.c2_spec.specs.Judges.Panel.{panel_says}
 use Rattle.c2_spec.specs.Cover.{covered_count, outside_count}
 use Rattle.c2_spec.specs.declared.assertion.FieldError.{FieldError}
 use Rattle.c2_spec.specs.declared.digest.Alg.{Alg}
 use Rattle.c2_spec.specs.declared.panel.Verdict.{Verdict}
 use Rattle.c2_cover.specs.Covers.{excluded_of}
-use Rattle.c2_rules.specs.Asking.{HasHeardSoFar, HearsPanel, IsJudgeCause, broken, part}
+use Rattle.c2_rules.specs.Asking.{HearsPanel, broken, part}
 use Rattle.c2_rules.specs.Binding.{Binding, HasBinding, Media, binding_value, media_tests}
-use Rattle.c2_rules.specs.CheckList.{HasBindingOf, StoreReading, active_in, active_tests, answer_of, asked_below, chain_tests, check_asks, check_list, judged_tests, last_tests, summary_of}
+use Rattle.c2_rules.specs.CheckList.{HasBindingOf, active_in, active_tests, answer_of, asked_below, chain_tests, check_asks, check_list, judged_tests, last_tests, summary_of}
 use Rattle.c2_rules.specs.CheckList as list
 use Rattle.c2_rules.specs.Readings.{Reading}
 use Rattle.c2_rules.specs.Tests.{first_failing}
 use Rattle.c2_rules.specs.declared.answer.Answer.TheVariants as answer
 use Rattle.c2_rules.specs.declared.answer.Failing.{Failing}
 use Rattle.c2_rules.specs.declared.answer.Summary.{Summary}
-use Rattle.c2_rules.proofs.AskingLemmas.{front_none}
 use Rattle.c2_rules.proofs.TestLemmas.{part_fails, part_passes}
 use Rattle.c2_chain.specs.Checked.{chain_heard}
 use Rattle.c2_chain.specs.declared.asking.ChainError.{ChainError}
@@ -31,11 +30,10 @@ use Rattle.c2_hard_binding.specs.Found.{HasSize, IsBoundAs}
 use Rattle.c2_hard_binding.specs.declared.bound.Bound.{Bound}
 use Rattle.c2_hard_binding.specs.declared.bound.Bound.TheVariants.{Fails, Holds}
 use Rattle.c2_hard_binding.specs.declared.bound.BoundText.{BoundText}
-use Rattle.c2_calls.proofs.PanelLemmas.{asked_none, hears_error, hears_later}
+use Rattle.c2_calls.proofs.PanelLemmas.{hears_error, hears_later}
 use Rattle.c2_validate.specs.Checked.{IsCheckedOver, IsReadCause, StoreAsks, readings_of, validate_heard}
 use Rattle.c2_validate.specs.Checks.{ChainAsks, fault_of}
 use Rattle.c2_validate.specs.Counts.{summary_by}
-use Rattle.c2_validate.specs.Validation.{HasAsked, IsFaultCause}
 use Rattle.c2_validate.specs.declared.checking.Checked.TheVariants.{Valid, Failing as FailingOf}
 use Rattle.c2_validate.specs.declared.checking.OpenedStore.{OpenedStore}
 
@@ -94,23 +92,6 @@ pub read_cause : (before now : ℕ) (e : ValidateError) → IsCause before now e
 read_cause before now ReadFault h = h
 read_cause before now JudgeFault h = tt
 read_cause before now NoMemory h = tt
-
--- where nobody was asked, there was nothing to ask
-pub unasked : {J T : Type 0} (says : J → Question → Verdict) (times faults : J → ℕ) (js : List J) (qs : List Question) (x : T) → qs ≡ [] → HasAsked {T = T} qs (judges_of says times faults js) (judges_of says times faults js) (Ok x)
-unasked says times faults js qs x none = asked_none (map says js) qs (map times js) none
-
--- where nobody was asked, an error that is none of a judge leaves all questions open
-pub unheard : {J : Type 0} (says : J → Question → Verdict) (times faults : J → ℕ) (js : List J) (before now : ℕ) (e : ValidateError) (qs : List Question) → IsCause before now e → HasHeardSoFar (validate_heard e) qs (judges_of says times faults js) (judges_of says times faults js)
-unheard says times faults js before now ReadFault qs h = front_none (map says js) qs (map times js)
-unheard says times faults js before now JudgeFault qs h = absurd h
-unheard says times faults js before now NoMemory qs h = front_none (map says js) qs (map times js)
-
--- the cause of an error, by what is left of the source and of the judges
-pub cause_both : {T : Type 0} (old new : Judges) (before now : ℕ) (r : Result T ValidateError) → IfErr r (IsReadCause before now) → IfErr r (λ e. IsJudgeCause old.faults new.faults (validate_heard e)) → IfErr r (IsFaultCause before now old new)
-cause_both old new before now (Ok x) h k = tt
-cause_both old new before now (Err ReadFault) h k = h
-cause_both old new before now (Err JudgeFault) h k = k
-cause_both old new before now (Err NoMemory) h k = tt
 
 -- ---- the answer
 

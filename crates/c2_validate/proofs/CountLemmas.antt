@@ -1,8 +1,9 @@
 -- What is counted of a store, one after the other.
-use Rattle.std.proofs.Common.{◌≡◌, ℕ, zero, suc, ◌+◌, Bool, true, false, cond, not, List, [], ◌∷◌, ◌++◌, length, filter, filter_map, Option, Some, None, IfNone, ◌<◌, ◌≤◌, ◌-◌, refl, sym, ap, ap₂, ◌∙◌, subst, arith}
+use Rattle.std.proofs.Common.{◌≡◌, ℕ, zero, suc, ◌+◌, Bool, true, false, cond, not, List, [], ◌∷◌, ◌++◌, length, filter, filter_map, Option, Some, None, ◌<◌, ◌≤◌, get_or, take, refl, sym, ap, ap₂, ◌∙◌, arith}
 use Rattle.std.specs.List.{cons_option, range_with_len}
 use Rattle.std.proofs.lemmas.List.{length-append}
 use Rattle.std.proofs.lemmas.List.Elements.{filter-append, filter_map-append}
+use Rattle.std.proofs.lemmas.List.Filters.{length-filter_more}
 use Rattle.c2_spec.specs.C2pa.Manifest.{Manifest}
 use Rattle.c2_spec.specs.declared.cbor.Ref.{Ref}
 use Rattle.c2_spec.specs.declared.claim.Claim.{Claim}
@@ -58,16 +59,33 @@ kept_same redacted m (e ∷ es) = by (entry_label m e) (kept_same redacted m es)
     by None rest = rest
     by (Some l) rest = one l (not (redacted l)) rest
 
+-- one entry more is looked at, and counted where it is kept
+pub kept_next : (p : Ref → Bool) (es : List Ref) (k : ℕ) (e : Ref) (before old new : ℕ) (b : Bool) → k < length es → e ≡ get_or es k e → old ≡ before + length (filter p (take k es))
+    → new ≡ old + cond b 1 0 → b ≡ p e → new ≡ before + length (filter p (take (k + 1) es))
+kept_next p es k e before old new b within at so_far is same =
+    let more = length-filter_more p es k e within in
+    let one : ◌≡◌ {A = ℕ} (cond b 1 0) (cond (p (get_or es k e)) 1 0) = ap (λ (t : Bool). cond t 1 0) (same ∙ ap p at) in
+    omega (arith, more, so_far, is, one)
+
 -- the labels of what was created and of what was gathered
-pub kept_both : (redacted : List ℕ → Bool) (r : Reading) (c : Claim) (a b : ℕ) → r.claim ≡ Value c → a ≡ length (filter (keeps redacted r.manifest) c.created) → b ≡ length (filter (keeps redacted r.manifest) c.gathered) → a + b ≡ length (kept_in redacted r)
-kept_both redacted r c a b is created gathered =
+pub kept_both : (redacted : List ℕ → Bool) (r : Reading) (c : Claim) → r.claim ≡ Value c → length (filter (keeps redacted r.manifest) c.created) + length (filter (keeps redacted r.manifest) c.gathered) ≡ length (kept_in redacted r)
+kept_both redacted r c is =
     let labels = filter_map (entry_label r.manifest) in
     let all : kept_in redacted r ≡ filter (λ (l : List ℕ). not (redacted l)) (labels c.created) ++ filter (λ (l : List ℕ). not (redacted l)) (labels c.gathered) =
     ap (λ (p : Parsed Claim). filter (λ (l : List ℕ). not (redacted l)) (labels (entries_of (value_in p)))) is
     ∙ ap (filter (λ (l : List ℕ). not (redacted l))) (filter_map-append (entry_label r.manifest) c.created c.gathered)
     ∙ filter-append (λ (l : List ℕ). not (redacted l)) (labels c.created) (labels c.gathered) in
-    ap₂ (λ x y. x + y) (created ∙ kept_same redacted r.manifest c.created) (gathered ∙ kept_same redacted r.manifest c.gathered)
+    ap₂ (λ x y. x + y) (kept_same redacted r.manifest c.created) (kept_same redacted r.manifest c.gathered)
     ∙ sym (ap length all ∙ length-append (filter (λ (l : List ℕ). not (redacted l)) (labels c.created)) (filter (λ (l : List ℕ). not (redacted l)) (labels c.gathered)))
+
+-- the entries of what was created are added, and then those of what was gathered
+pub kept_added : (redacted : List ℕ → Bool) (r : Reading) (c : Claim) (first second : List Ref) (before between after : ℕ) → r.claim ≡ Value c → first ≡ c.created → second ≡ c.gathered → between ≡ before + length (filter (keeps redacted r.manifest) first)
+    → after ≡ between + length (filter (keeps redacted r.manifest) second) → after ≡ before + length (kept_in redacted r)
+kept_added redacted r c first second before between after is created gathered one two =
+    let both = kept_both redacted r c is in
+    let a : length (filter (keeps redacted r.manifest) first) ≡ length (filter (keeps redacted r.manifest) c.created) = ap (λ (es : List Ref). length (filter (keeps redacted r.manifest) es)) created in
+    let b : length (filter (keeps redacted r.manifest) second) ≡ length (filter (keeps redacted r.manifest) c.gathered) = ap (λ (es : List Ref). length (filter (keeps redacted r.manifest) es)) gathered in
+    omega (arith, both, a, b, one, two)
 
 -- ---- all places
 
@@ -78,28 +96,3 @@ below_next f i =
     let both = length-append (f i) (downward f i) in
     let turned : length (f i) + length (downward f i) ≡ length (downward f i) + length (f i) = omega arith in
     ap (λ (n : ℕ). length (downward f n)) next ∙ both ∙ turned
-
--- no fewer labels stand below so many places more
-below_add : {A : Type 0} (f : ℕ → List A) (i k : ℕ) → length (downward f i) ≤ length (downward f (i + k))
-below_add f i zero = let same : i + zero ≡ i = omega arith in subst (λ (n : ℕ). length (downward f i) ≤ length (downward f n)) (sym same) (omega arith)
-below_add f i (suc k) =
-    let same : i + suc k ≡ (i + k) + 1 = omega arith in
-    let before = below_add f i k in
-    let more = below_next f (i + k) in
-    subst (λ (n : ℕ). length (downward f i) ≤ length (downward f n)) (sym same) (omega (arith, before, more))
-
--- no fewer labels stand below a later place
-pub below_later : {A : Type 0} (f : ℕ → List A) (i n : ℕ) → i ≤ n → length (downward f i) ≤ length (downward f n)
-below_later f i n within = let same : i + (n - i) ≡ n = omega (arith, within) in subst (λ (k : ℕ). length (downward f i) ≤ length (downward f k)) same (below_add f i (n - i))
-
--- where too many labels stand at a place and below it, too many stand below a later place
-pub too_many : {A : Type 0} (f : ℕ → List A) (i n most count : ℕ) → i < n → count ≡ length (downward f i) → most ≤ count + length (f i) → most ≤ length (downward f n)
-too_many f i n most count lt is many =
-    let next = below_next f i in
-    let more = below_later f (i + 1) n (omega (arith, lt)) in
-    omega (arith, next, more, is, many)
-
--- what holds anyhow holds of no value
-pub if_none : {A : Type 0} (o : Option A) (P : Type 0) → P → IfNone o P
-if_none None P p = p
-if_none (Some x) P p = tt

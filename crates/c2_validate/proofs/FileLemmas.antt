@@ -1,5 +1,5 @@
 -- The answer of a file, by what it is opened as, and by the store that was opened from it.
-use Rattle.std.proofs.Common.{◌≡◌, ℕ, ◌<◌, ◌^◌, List, All, length, Option, refl, sym, ap, ◌∙◌, subst}
+use Rattle.std.proofs.Common.{◌≡◌, ℕ, ◌<◌, ◌^◌, List, [], All, length, Option, Some, refl, sym, ap, ◌∙◌, subst}
 use Rattle.c2_base.specs.declared.values.Question.{Question}
 use Rattle.c2_spec.specs.C2pa.Manifest.{Manifest, manifests_of}
 use Rattle.c2_spec.specs.Jumbf.Tree.{Tree}
@@ -15,6 +15,7 @@ use Rattle.c2_rules.specs.Opened.{IsOpened}
 use Rattle.c2_rules.specs.Readings.{AreReadings, Reading}
 use Rattle.c2_rules.specs.Validated.{CheckAsks, IsAnswer, IsOpenedAnswer, IsTreeAnswer, OpenedAsks}
 use Rattle.c2_rules.specs.declared.answer.Answer.{Answer}
+use Rattle.c2_calls.specs.Asks.{AsksKnown}
 use Rattle.c2_container.specs.Contained.{IsContainerOf}
 use Rattle.c2_container.specs.declared.types.Container.{Container}
 use Rattle.c2_opening.specs.Media.{IsMediaOf}
@@ -22,8 +23,10 @@ use Rattle.c2_opening.specs.Opened.{IsFound, IsRead, tree_of}
 use Rattle.c2_opening.specs.declared.types.Media.{Media as MediaFile}
 use Rattle.c2_opening.specs.declared.types.Opened.TheVariants as opened
 use Rattle.c2_opening.specs.declared.types.StoreRead.{StoreRead}
+use Rattle.c2_opening.specs.declared.types.StoreRead.TheVariants as read
+use Rattle.c2_spec.specs.declared.store.ManifestBoxes.{ManifestBoxes}
 use Rattle.c2_validate.specs.Checked.{IsCheckedOver, IsOpenedFrom, StoreAsks, answer_as, readings_of}
-use Rattle.c2_validate.specs.Validation.{IsAnswered}
+use Rattle.c2_validate.specs.Validation.{FileAsks, IsAnswered}
 use Rattle.c2_validate.specs.declared.checking.Checked.{Checked}
 use Rattle.c2_validate.specs.declared.checking.OpenedStore.{OpenedStore}
 
@@ -129,3 +132,19 @@ opened_absent file c h = (absent, h.located, refl)
 -- a file with a store, by what that was read as
 pub opened_read : (file : List ℕ) (m : MediaFile) (r : StoreRead) → IsFound file (opened.Here m) → IsRead m.found r → IsOpened file (tree_of m.found r)
 opened_read file m r h k = (here m.found.start m.found.length m.found.store, h.located, k.store)
+
+-- ---- what is asked of a file whose bytes may be known
+
+-- nothing, where it has no store
+pub known_absent : OneOpening → (known : Option (List ℕ)) (hash : Alg → List ℕ → List ℕ) (said : Question → Verdict) (qs : List Question) → ((file : List ℕ) → known ≡ Some file → IsOpened file absent) → AsksKnown known (FileAsks hash) said qs → qs ≡ []
+known_absent opening known hash said qs is asks = opened_asks opening hash said asks.0 absent qs (is asks.0 asks.1) asks.2
+
+-- nothing, where it is refused
+pub known_refused : OneOpening → (known : Option (List ℕ)) (hash : Alg → List ℕ → List ℕ) (said : Question → Verdict) (reason : Reason) (number : ℕ) (qs : List Question) → ((file : List ℕ) → known ≡ Some file → IsOpened file (refused reason number)) → AsksKnown known (FileAsks hash) said qs → qs ≡ []
+known_refused opening known hash said reason number qs is asks = opened_asks opening hash said asks.0 (refused reason number) qs (is asks.0 asks.1) asks.2
+
+-- what is asked over the manifests that were read of its store
+pub known_asks : OneReading → OneOpening → (known : Option (List ℕ)) (hash : Alg → List ℕ → List ℕ) (said : Question → Verdict) (m : MediaFile) (t : Tree) (store : List ManifestBoxes) (rs : List Reading) (qs : List Question) → ((file : List ℕ) → known ≡ Some file → IsFound file (opened.Here m))
+    → IsRead m.found (read.Here t store) → AreReadings (manifests_of t) rs → AsksKnown known (FileAsks hash) said qs → qs ≡ check_asks hash said rs
+known_asks one opening known hash said m t store rs qs found is reads asks =
+    read_asks one opening hash said asks.0 m.found.start m.found.length t rs qs (opened_read asks.0 m (read.Here t store) (found asks.0 asks.1) is) reads asks.2

@@ -1,8 +1,8 @@
-mod BesideLemmas
 mod ChainLemmas
 mod CheckLemmas
 mod CountLemmas
 mod EachCheck
+mod ExternalLemmas
 mod FileLemmas
-mod OneBeside
+mod OneExternal
 mod OneCheck

@@ -1,4 +1,4 @@
-pub mod Beside
+pub mod External
 pub mod Checked
 pub mod Checks
 pub mod Counts

@@ -1,14 +1,14 @@
 // The check of opened manifests, and of a media file.
-ghost use Rattle.std.specs.Prelude.{◌≡◌, [], IfOk, IfErr, OnOk, map, vec_len};
+ghost use Rattle.std.specs.Prelude.{◌≡◌, IfOk, map};
 ghost use Rattle.std.specs.Option.{ForSome};
-ghost use Rattle.c2_base.specs.Source.{ReadsSource, StaysSource};
-ghost use Rattle.c2_spec.specs.Judges.Panel.{LeavesJudges, judges_of, panel_says};
+ghost use Rattle.c2_base.specs.Source.{ReadsSource};
+ghost use Rattle.c2_spec.specs.Judges.Panel.{panel_says};
 ghost use Rattle.c2_rules.specs.Asking.{HearsPanel};
-ghost use Rattle.c2_rules.specs.Validated.{CheckAsks};
+ghost use Rattle.c2_calls.specs.Asks.{AsksKnown};
 ghost use Rattle.c2_container.specs.Contained.{HasRootsInside};
 ghost use Rattle.c2_validate.specs.Checked.{HasTextSize, IsCheckedOver, IsReadCause, StoreAsks, answer_as, validate_heard};
 ghost use Rattle.c2_validate.specs.Checks.{fault_of};
-ghost use Rattle.c2_validate.specs.Validation.{HasAskedThose, IsAnswered, IsFaultCause};
+ghost use Rattle.c2_validate.specs.Validation.{FileAsks, IsAnswered};
 
 use crate::chain::check_chain;
 use crate::counting::summary;
@@ -29,7 +29,7 @@ pub struct OpenedStore<'c, 't> {
     /// The container of the media file.
     pub container: &'c Container,
 
-    /// The embedded range of the store in the file; that of a store beside the file has the length 0.
+    /// The embedded range of the store in the file; that of an external store has the length 0.
     pub range: Range,
 
     /// The store's manifests.
@@ -46,7 +46,7 @@ pub enum Checked {
     Failing(Failing),
 }
 
-/// The same fault of a check that reads no source.
+/// A fault of a check that reads no source, as one of a check that reads one.
 fn fault(error: ChainError) -> ValidateError
     ensures { result ≡ fault_of error }
 {
@@ -107,10 +107,9 @@ pub fn check<S: Source, H: Hashing>(
         Ok(Bound::Fails(failing)) => return Ok(Checked::Failing(failing)),
         Err(error) => return Err(error),
     };
-    match summary(store.chain, &text.cover, store.range) {
-        Some(summary) => Ok(Checked::Valid(summary, text)),
-        // More entries than a count holds don't fit into memory.
-        None => Err(ValidateError::NoMemory),
+    match summary(alloc, store.chain, &text.cover, store.range) {
+        Ok(summary) => Ok(Checked::Valid(summary, text)),
+        Err(NoMemory) => Err(ValidateError::NoMemory),
     }
 }
 
@@ -129,28 +128,12 @@ pub fn validate<S: Source, H: Hashing>(
     judges: &mut Vec<Box<dyn Judge>>,
 ) -> Result<Answer, ValidateError>
     requires { Unit {0} }
-    // Where the bytes are known: this is the answer of the check and nothing else is, and just its questions were asked.
+    // Where the bytes are known: this is the answer of the check and nothing else is, and just its questions are asked.
     ensures answer { let said = panel_says (map says judges.old.items) in
         ForSome (S.known source.old) (λ file. IfOk result (IsAnswered H.digest_of said file)) }
-    ensures asked { let said = panel_says (map says judges.old.items) in
-        let old = judges_of says asked_times judge_faults judges.old.items in
-        let new = judges_of says asked_times judge_faults judges.new.items in
-        ForSome (S.known source.old)
-        (λ file. HasAskedThose (CheckAsks H.digest_of said file) old new result) }
-    ensures unasked { let said = panel_says (map says judges.old.items) in
-        ForSome (S.known source.old)
-        (λ file. CheckAsks H.digest_of said file [] → judges.new ≡ judges.old) }
-
-    // These hold of every source.
-    ensures cause { let old = judges_of says asked_times judge_faults judges.old.items in
-        let new = judges_of says asked_times judge_faults judges.new.items in
-        IfErr result (IsFaultCause (S.faults source.old) (S.faults source.new) old new) }
-    ensures count { OnOk result (S.faults source.new ≡ S.faults source.old) }
-    ensures stays { StaysSource S.len S.known S.faults source.old source.new }
-    ensures leaves { let old = judges_of says asked_times judge_faults judges.old.items in
-        let new = judges_of says asked_times judge_faults judges.new.items in
-        LeavesJudges old new result }
-    ensures judges_len { vec_len judges.new ≡ vec_len judges.old }
+    ensures reads { ReadsSource S.len S.known S.faults IsReadCause source.old source.new result }
+    ensures panel { HearsPanel says asked_times judge_faults validate_heard
+        (AsksKnown (S.known source.old) (FileAsks H.digest_of)) judges.old judges.new result }
 {
     // Only the prover needs these laws.
     a_file_answers_by_what_it_is_opened_as();

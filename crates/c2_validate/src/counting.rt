@@ -1,10 +1,10 @@
 // What is counted of a valid store.
-ghost use Rattle.std.specs.Prelude.{◌≡◌, ◌<◌, ◌+◌, ◌≤◌, ◌^◌, IfNone, IfSome, filter, length, if◌then◌else◌};
+ghost use Rattle.std.specs.Prelude.{◌≡◌, ◌<◌, ◌+◌, IfOk, OnOk, filter, length, if◌then◌else◌};
 ghost use Rattle.c2_rules.specs.CheckList as form;
 ghost use Rattle.c2_rules.specs.Chains.{is_redacted};
 ghost use Rattle.c2_validate.specs.Counts.{keeps, kept_in, label_count, summary_by};
 
-use c2_base::Range;
+use c2_base::{NoMemory, Range};
 use c2_chain::{Chain, manifest_count, reached, readings, redacted};
 use c2_cover::{Cover, covered_count, outside_count};
 use c2_hard_binding::{claim_read, created, gathered};
@@ -43,78 +43,95 @@ fn is_kept(chain: &Chain<'_>, i: usize, own: &Kept<'_>, entry: &Ref) -> bool
     }
 }
 
-/// How many of these entries do.
-fn kept_count(chain: &Chain<'_>, i: usize, own: &Kept<'_>, entries: &[Ref]) -> usize
-    requires { i < length chain.now.readings }
-    ensures { result ≡ length
-        (filter (keeps (is_redacted chain.now.readings i) own.now.manifest) entries.now) }
+/// Adds an entry, where it is wanted.
+fn push_if<'c>(found: &mut Vec<&'c Ref>, entry: &'c Ref, wanted: bool) -> Result<(), NoMemory>
+    ensures { OnOk result
+        (length found.new.items ≡ length found.old.items + (if wanted then 1 else 0)) }
 {
-    entries
-        .iter()
-        .filter(|e| is_kept(chain, i, own, *e))
-        .count()
-}
-
-/// A sum; none where it is 2^64 or more.
-fn sum(first: u64, second: u64) -> Option<u64>
-    ensures value { IfSome result (λ n. n ≡ first + second) }
-    ensures none { IfNone result (2 ^ 64 ≤ first + second) }
-{
-    first.checked_add(second)
-}
-
-/// How many entries of manifest `i` list a label that isn't redacted; none where they are 2^64 or more.
-fn unredacted_count(chain: &Chain<'_>, i: usize, own: &Kept<'_>) -> Option<u64>
-    requires { i < length chain.now.readings }
-    ensures value { IfSome result
-        (λ n. n ≡ length (kept_in (is_redacted chain.now.readings i) own.now)) }
-    ensures none { IfNone result
-        (2 ^ 64 ≤ length (kept_in (is_redacted chain.now.readings i) own.now)) }
-{
-    match claim_read(own) {
-        Parsed::Value(claim) => {
-            let first = kept_count(chain, i, own, created(claim));
-            let second = kept_count(chain, i, own, gathered(claim));
-            sum(first as u64, second as u64)
-        }
-        _ => Some(0),
+    if wanted {
+        found.push(entry)?;
     }
+    Ok(())
 }
 
-/// The same, where the manifest is reached; else 0.
-fn place_count(chain: &Chain<'_>, i: usize) -> Option<u64>
+/// Adds those of these entries of manifest `i` that list a label that isn't redacted.
+fn push_kept<'c>(
+    found: &mut Vec<&'c Ref>,
+    chain: &Chain<'_>,
+    i: usize,
+    own: &Kept<'_>,
+    entries: &'c [Ref],
+) -> Result<(), NoMemory>
     requires { i < length chain.now.readings }
-    ensures value { IfSome result (λ n. n ≡ length (form.kept_labels chain.now.readings i)) }
-    ensures none { IfNone result (2 ^ 64 ≤ length (form.kept_labels chain.now.readings i)) }
+    ensures { OnOk result (length found.new.items ≡ length found.old.items
+        + length (filter (keeps (is_redacted chain.now.readings i) own.now.manifest) entries.now)) }
+{
+    for k in 0..entries.len() {
+        let wanted = is_kept(chain, i, own, &entries[k]);
+        push_if(found, &entries[k], wanted)?;
+    }
+    Ok(())
+}
+
+/// Adds the entries of manifest `i` that list a label that isn't redacted.
+fn push_unredacted<'c>(
+    found: &mut Vec<&'c Ref>,
+    chain: &Chain<'_>,
+    i: usize,
+    own: &'c Kept<'_>,
+) -> Result<(), NoMemory>
+    requires { i < length chain.now.readings }
+    ensures { OnOk result (length found.new.items ≡ length found.old.items
+        + length (kept_in (is_redacted chain.now.readings i) own.now)) }
+{
+    if let Parsed::Value(claim) = claim_read(own) {
+        push_kept(found, chain, i, own, created(claim))?;
+        push_kept(found, chain, i, own, gathered(claim))?;
+    }
+    Ok(())
+}
+
+/// Adds the entries of manifest `i` that list a label that isn't redacted, where the manifest is reached.
+fn push_reached<'c>(
+    found: &mut Vec<&'c Ref>,
+    chain: &'c Chain<'_>,
+    i: usize,
+) -> Result<(), NoMemory>
+    requires { i < length chain.now.readings }
+    ensures { OnOk result (length found.new.items ≡ length found.old.items
+        + length (form.kept_labels chain.now.readings i)) }
 {
     if reached(chain, i) {
-        return unredacted_count(chain, i, &manifests(readings(chain))[i]);
+        push_unredacted(found, chain, i, &manifests(readings(chain))[i])?;
     }
-    Some(0)
+    Ok(())
 }
 
-/// How many entries of reached manifests list a label that isn't redacted; none where they are 2^64 or more.
-fn assertion_count(chain: &Chain<'_>) -> Option<u64>
-    ensures value { IfSome result (λ n. n ≡ label_count chain.now.readings) }
-    ensures none { IfNone result (2 ^ 64 ≤ label_count chain.now.readings) }
+/// How many entries of reached manifests list a label that isn't redacted.
+///
+/// They are listed and then counted: a list that is in memory has a length that fits into 64 bits.
+fn assertion_count(alloc: Global, chain: &Chain<'_>) -> Result<u64, NoMemory>
+    ensures { IfOk result (λ n. n ≡ label_count chain.now.readings) }
 {
-    let mut found = 0;
+    let mut found = Vec::new(alloc);
     for i in 0..manifest_count(chain) {
-        let more = place_count(chain, i)?;
-        found = sum(found, more)?;
+        push_reached(&mut found, chain, i)?;
     }
-    Some(found)
+    Ok(found.len() as u64)
 }
 
-/// What is counted of a valid store in this range of its file, whose binding covers this. None where 2^64 entries or more list a label
-/// that isn't redacted.
-pub fn summary(chain: &Chain<'_>, cover: &Cover, range: Range) -> Option<Summary>
-    ensures value { IfSome result
+/// What is counted of a valid store in this range of its file, whose binding covers this.
+pub fn summary(
+    alloc: Global,
+    chain: &Chain<'_>,
+    cover: &Cover,
+    range: Range,
+) -> Result<Summary, NoMemory>
+    ensures { IfOk result
         (λ s. s ≡ summary_by chain.now.readings cover.now range.start range.length) }
-    ensures none { IfNone result (2 ^ 64 ≤ label_count chain.now.readings) }
 {
-    let assertions = assertion_count(chain)?;
-    Some(Summary {
+    let assertions = assertion_count(alloc, chain)?;
+    Ok(Summary {
         manifests: reached_count(chain),
         assertions,
         covered: covered_count(cover),

@@ -1,4 +1,4 @@
-// The check of a media file with a store that stands beside it.
+// The check of a media file with an external manifest store, one that isn't embedded in it.
 ghost use Rattle.std.specs.Prelude.{◌≡◌, IfOk, map};
 ghost use Rattle.std.specs.Option.{ForSome};
 ghost use Rattle.c2_base.specs.Source.{ReadsSource};
@@ -6,11 +6,11 @@ ghost use Rattle.c2_spec.specs.Judges.Panel.{panel_says};
 ghost use Rattle.c2_rules.specs.Asking.{HearsPanel};
 ghost use Rattle.c2_calls.specs.Asks.{AsksKnown};
 ghost use Rattle.c2_container.specs.Contained.{HasRootsInside};
-ghost use Rattle.c2_validate.specs.Beside.{AsksBeside, IsAnsweredBeside, IsListAnswered, ListAsks};
+ghost use Rattle.c2_validate.specs.External.{ExternalAsks, IsAnsweredExternal, IsListAnswered, ListAsks};
 ghost use Rattle.c2_validate.specs.Checked.{IsReadCause, validate_heard};
 
 use crate::checking::{OpenedStore, answer, check};
-use crate::laws::{each_file_has_a_check_beside, one_check_beside};
+use crate::laws::{each_file_has_an_external_check, one_external_check};
 use c2_base::limits::MAX_STORE_LEN;
 use c2_base::{NoMemory, Range, Source};
 use c2_chain::{Chain, of_store, one_reading};
@@ -23,7 +23,7 @@ use c2_rules::Answer;
 use c2_spec::Reason;
 use std::alloc::Global;
 
-/// What the check of a file with a store beside it answers.
+/// What the check of a file with an external manifest store answers.
 #[derive(Debug, Drop)]
 pub enum External {
     /// This: the file's container is refused, a rule fails, or every rule holds.
@@ -33,14 +33,14 @@ pub enum External {
     StoreRefused(Reason, u64),
 }
 
-// The store beside a file has no range in it.
+// An external store has no range in the file.
 const NO_RANGE: Range = Range {
     start: 0,
     length: 0,
 };
 
-/// A store beside a media file of this container, as it is checked against the file.
-fn opened_beside<'c, 't>(container: &'c Container, chain: &'c Chain<'t>) -> OpenedStore<'c, 't>
+/// An external store of a media file of this container, as it is checked against the file.
+fn opened_external<'c, 't>(container: &'c Container, chain: &'c Chain<'t>) -> OpenedStore<'c, 't>
     ensures container { result.container.now ≡ container.now }
     ensures start { result.range.start ≡ 0 }
     ensures count { result.range.length ≡ 0 }
@@ -53,12 +53,12 @@ fn opened_beside<'c, 't>(container: &'c Container, chain: &'c Chain<'t>) -> Open
     }
 }
 
-/// Checks a media file of this container with a store that stands beside it: the length of the store, its boxes and its manifests,
+/// Checks a media file of this container with an external manifest store: the length of the store, its boxes and its manifests,
 /// and then as [`check`] does (C2PA Technical Specification 2.x, "External manifests").
 ///
 /// The panel is asked as by `check`, and of nothing where the store is refused. `ReadFault` comes only where the source failed in
 /// this call, `JudgeFault` only where a judge did that was due.
-pub fn check_beside<S: Source, H: Hashing>(
+pub fn check_external<S: Source, H: Hashing>(
     alloc: Global,
     hashing: &H,
     source: &mut S,
@@ -93,15 +93,15 @@ pub fn check_beside<S: Source, H: Hashing>(
         Ok(chain) => chain,
         Err(NoMemory) => return Err(ValidateError::NoMemory),
     };
-    let opened = opened_beside(container, &chain);
+    let opened = opened_external(container, &chain);
     match check(alloc, hashing, source, &opened, judges) {
         Ok(checked) => Ok(External::Of(answer(checked))),
         Err(error) => Err(error),
     }
 }
 
-/// Checks a media file with a store that stands beside it, and not the store that it may have: the file's container, and then as
-/// [`check_beside`] does (C2PA Technical Specification 2.x, "External manifests").
+/// Checks a media file with an external manifest store, and not with one that may be embedded in it: the file's container, and then as
+/// [`check_external`] does (C2PA Technical Specification 2.x, "External manifests").
 ///
 /// The panel is asked as by `validate`, and of nothing where the container or the store is refused. `ReadFault` comes only where the
 /// source failed in this call, `JudgeFault` only where a judge did that was due. The file is read in pieces.
@@ -118,25 +118,25 @@ pub fn check_with<S: Source, H: Hashing>(
     // Where the bytes are known: this is the answer of the check and nothing else is, and just its questions are asked.
     ensures answer { let said = panel_says (map says judges.old.items) in
         ForSome (S.known source.old)
-        (λ file. IfOk result (IsAnsweredBeside H.digest_of said file store.now)) }
+        (λ file. IfOk result (IsAnsweredExternal H.digest_of said file store.now)) }
     ensures reads { ReadsSource S.len S.known S.faults IsReadCause source.old source.new result }
     ensures panel { HearsPanel says asked_times judge_faults validate_heard
-        (AsksKnown (S.known source.old) (AsksBeside H.digest_of store.now))
+        (AsksKnown (S.known source.old) (ExternalAsks H.digest_of store.now))
         judges.old judges.new result }
 {
     // Only the prover needs these laws.
-    one_check_beside();
-    each_file_has_a_check_beside();
+    one_external_check();
+    each_file_has_an_external_check();
     let opened = match find_store(alloc, source) {
         Ok(opened) => opened,
         Err(error) => return Err(error),
     };
     match opened {
         Opened::Here(media) => {
-            check_beside(alloc, hashing, source, &media.container, store, judges)
+            check_external(alloc, hashing, source, &media.container, store, judges)
         }
         Opened::NoStore(container) => {
-            check_beside(alloc, hashing, source, &container, store, judges)
+            check_external(alloc, hashing, source, &container, store, judges)
         }
         Opened::Refused(reason, number) => Ok(External::Of(Answer::Refused(reason, number))),
     }

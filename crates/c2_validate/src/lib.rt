@@ -19,9 +19,9 @@ pub use c2_opening::{
 };
 pub use c2_rules::{Answer, Summary};
 pub use checking::{Checked, OpenedStore, check, validate};
-pub use external::{External, check_beside, check_with};
+pub use external::{External, check_external, check_with};
 pub use laws::{
     a_file_and_its_own_store_have_the_answer_of_the_file, a_file_answers_by_what_it_is_opened_as,
     a_file_is_opened_as_it_was_read, a_store_answers_for_its_file, each_file_has_a_check,
-    each_file_has_a_check_beside, one_check, one_check_beside,
+    each_file_has_an_external_check, one_check, one_external_check,
 };

@@ -67,22 +67,22 @@ returns-in-Err-check_binding-clause-reads g c =
 -- ---- the counts
 
 -- all rules hold
-pub returns-in-Some-clause-answer : goal.returns-in-Some-clause-answer
-returns-in-Some-clause-answer g c = λ file known.
-    binding_holds g.H.Hashing.digest_of _ c.args.store.now file c.active_manifest-active.result.now c.in-Ok-Holds.field-0 c.in-Ok-Holds.text c.in-Some.summary (g.S.Source.len c.args.source.now) c.active_manifest-active.ensures (sym c.in-Ok-None.field-0-is ∙ c.in-Ok-None.ensures)
-    (sym c.in-Ok-None-check_chain.field-0-is ∙ c.in-Ok-None-check_chain.ensures.answer) c.in-Ok-Holds.field-0-is c.in-Ok-Holds.ensures.size (g.met.S.Source.known_len c.args.source.now file known) c.in-Some.ensures.value (λ m i b has. c.in-Ok-Holds.ensures.found file known m i b has)
+pub returns-in-Ok-clause-answer : goal.returns-in-Ok-clause-answer
+returns-in-Ok-clause-answer g c = λ file known.
+    binding_holds g.H.Hashing.digest_of _ c.args.store.now file c.active_manifest-active.result.now c.in-Ok-Holds.field-0 c.in-Ok-Holds.text c.in-Ok.summary (g.S.Source.len c.args.source.now) c.active_manifest-active.ensures (sym c.in-Ok-None.field-0-is ∙ c.in-Ok-None.ensures)
+    (sym c.in-Ok-None-check_chain.field-0-is ∙ c.in-Ok-None-check_chain.ensures.answer) c.in-Ok-Holds.field-0-is c.in-Ok-Holds.ensures.size (g.met.S.Source.known_len c.args.source.now file known) c.in-Ok.ensures (λ m i b has. c.in-Ok-Holds.ensures.found file known m i b has)
 
-pub returns-in-Some-clause-panel : goal.returns-in-Some-clause-panel
-returns-in-Some-clause-panel g c =
+pub returns-in-Ok-clause-panel : goal.returns-in-Ok-clause-panel
+returns-in-Ok-clause-panel g c =
     store_heard _ _ _ g.H.Hashing.digest_of c.args.store.now c.args.judges.now c.check_chain.new.judges c.in-Ok-None-check_chain.field-0 _ (sym c.in-Ok-None.field-0-is ∙ c.in-Ok-None.ensures) tt c.in-Ok-None-check_chain.ensures.panel
 
-pub returns-in-Some-clause-reads : goal.returns-in-Some-clause-reads
-returns-in-Some-clause-reads g c = reads_then g.S.Source.len g.S.Source.known g.S.Source.faults IsCause IsReadCause c.args.source.now c.check_binding.new.source c.in-Ok-Holds.field-0 _ tt c.in-Ok-Holds.ensures.reads
+pub returns-in-Ok-clause-reads : goal.returns-in-Ok-clause-reads
+returns-in-Ok-clause-reads g c = reads_then g.S.Source.len g.S.Source.known g.S.Source.faults IsCause IsReadCause c.args.source.now c.check_binding.new.source c.in-Ok-Holds.field-0 _ tt c.in-Ok-Holds.ensures.reads
 
 -- memory ran out
-pub returns-in-None-clause-panel : goal.returns-in-None-clause-panel
-returns-in-None-clause-panel g c =
+pub returns-in-Err-summary-clause-panel : goal.returns-in-Err-summary-clause-panel
+returns-in-Err-summary-clause-panel g c =
     store_heard _ _ _ g.H.Hashing.digest_of c.args.store.now c.args.judges.now c.check_chain.new.judges c.in-Ok-None-check_chain.field-0 _ (sym c.in-Ok-None.field-0-is ∙ c.in-Ok-None.ensures) (λ is. let no = is in cc (no)) c.in-Ok-None-check_chain.ensures.panel
 
-pub returns-in-None-clause-reads : goal.returns-in-None-clause-reads
-returns-in-None-clause-reads g c = reads_then g.S.Source.len g.S.Source.known g.S.Source.faults IsCause IsReadCause c.args.source.now c.check_binding.new.source c.in-Ok-Holds.field-0 _ tt c.in-Ok-Holds.ensures.reads
+pub returns-in-Err-summary-clause-reads : goal.returns-in-Err-summary-clause-reads
+returns-in-Err-summary-clause-reads g c = reads_then g.S.Source.len g.S.Source.known g.S.Source.faults IsCause IsReadCause c.args.source.now c.check_binding.new.source c.in-Ok-Holds.field-0 _ tt c.in-Ok-Holds.ensures.reads

@@ -1,14 +1,16 @@
-use Rattle.std.proofs.Common.{[], map, refl, sym, subst, ◌∙◌}
+use Rattle.std.proofs.Common.{map, refl, sym, subst, ◌∙◌}
 use Rattle.c2_spec.specs.Located.{absent, refused}
 use Rattle.c2_spec.specs.Judges.Panel.{panel_says}
-use Rattle.c2_rules.specs.declared.answer.Answer.{Answer}
 use Rattle.c2_rules.specs.declared.answer.Answer.TheVariants as answer
+use Rattle.c2_calls.specs.Asks.{AsksKnown}
+use Rattle.c2_calls.proofs.PanelLemmas.{hears_early, hears_error, hears_later, hears_nobody}
 use Rattle.c2_opening.specs.Opened.{IsFound, IsRead}
+use Rattle.c2_opening.specs.declared.error.ValidateError.TheVariants.{NoMemory}
 use Rattle.c2_opening.specs.declared.types.StoreRead.TheVariants as read
-use Rattle.c2_validate.specs.Checked.{answer_as}
-use Rattle.c2_validate.specs.Validation.{IsAnswered}
-use Rattle.c2_validate.proofs.CheckLemmas.{unasked, unheard}
-use Rattle.c2_validate.proofs.FileLemmas.{opened_absent, opened_read, opened_refused, read_answers, read_asks}
+use Rattle.c2_validate.specs.Checked.{answer_as, validate_heard}
+use Rattle.c2_validate.specs.Validation.{FileAsks, IsAnswered}
+use Rattle.c2_validate.proofs.CheckLemmas.{part_heard}
+use Rattle.c2_validate.proofs.FileLemmas.{known_absent, known_asks, known_refused, opened_absent, opened_read, opened_refused, read_answers}
 use Rattle.c2_validate.proofs.checking.validate.Goals as goal
 
 -- ---- the file has no store
@@ -17,9 +19,10 @@ pub returns-in-Ok-NoStore-clause-answer : goal.returns-in-Ok-NoStore-clause-answ
 returns-in-Ok-NoStore-clause-answer g c = λ file known.
     c.a_file_answers_by_what_it_is_opened_as.ensures.answer g.H.Hashing.digest_of _ file absent answer.NoStore (opened_absent file _ (subst (IsFound file) c.in-Ok-NoStore.field-0-is (c.in-Ok-NoStore.ensures.found file known))) refl
 
-pub returns-in-Ok-NoStore-clause-asked : goal.returns-in-Ok-NoStore-clause-asked
-returns-in-Ok-NoStore-clause-asked g c = λ file known qs asks.
-    unasked {T = Answer} _ _ (λ j. 0) c.args.judges.now.items qs answer.NoStore (c.a_file_answers_by_what_it_is_opened_as.ensures.asks g.H.Hashing.digest_of _ file absent qs (opened_absent file _ (subst (IsFound file) c.in-Ok-NoStore.field-0-is (c.in-Ok-NoStore.ensures.found file known))) asks)
+pub returns-in-Ok-NoStore-clause-panel : goal.returns-in-Ok-NoStore-clause-panel
+returns-in-Ok-NoStore-clause-panel g c =
+    hears_nobody _ _ _ validate_heard (AsksKnown (g.S.Source.known c.args.source.now) (FileAsks g.H.Hashing.digest_of)) c.args.judges.now _
+    (λ qs asks. known_absent c.one_opening.ensures.file (g.S.Source.known c.args.source.now) g.H.Hashing.digest_of _ qs (λ file known. opened_absent file _ (subst (IsFound file) c.in-Ok-NoStore.field-0-is (c.in-Ok-NoStore.ensures.found file known))) asks)
 
 -- ---- its container is refused
 
@@ -28,15 +31,22 @@ returns-in-Ok-Refused-clause-answer g c = λ file known.
     c.a_file_answers_by_what_it_is_opened_as.ensures.answer g.H.Hashing.digest_of _ file (refused c.in-Ok-Refused.reason c.in-Ok-Refused.number) (answer.Refused c.in-Ok-Refused.reason c.in-Ok-Refused.number)
     (opened_refused file c.in-Ok-Refused.reason c.in-Ok-Refused.number (subst (IsFound file) c.in-Ok-Refused.field-0-is (c.in-Ok-Refused.ensures.found file known))) refl
 
-pub returns-in-Ok-Refused-clause-asked : goal.returns-in-Ok-Refused-clause-asked
-returns-in-Ok-Refused-clause-asked g c = λ file known qs asks.
-    unasked {T = Answer} _ _ (λ j. 0) c.args.judges.now.items qs answer.NoStore (c.a_file_answers_by_what_it_is_opened_as.ensures.asks g.H.Hashing.digest_of _ file (refused c.in-Ok-Refused.reason c.in-Ok-Refused.number) qs
-    (opened_refused file c.in-Ok-Refused.reason c.in-Ok-Refused.number (subst (IsFound file) c.in-Ok-Refused.field-0-is (c.in-Ok-Refused.ensures.found file known))) asks)
+pub returns-in-Ok-Refused-clause-panel : goal.returns-in-Ok-Refused-clause-panel
+returns-in-Ok-Refused-clause-panel g c =
+    hears_nobody _ _ _ validate_heard (AsksKnown (g.S.Source.known c.args.source.now) (FileAsks g.H.Hashing.digest_of)) c.args.judges.now _
+    (λ qs asks. known_refused c.one_opening.ensures.file (g.S.Source.known c.args.source.now) g.H.Hashing.digest_of _ c.in-Ok-Refused.reason c.in-Ok-Refused.number qs
+    (λ file known. opened_refused file c.in-Ok-Refused.reason c.in-Ok-Refused.number (subst (IsFound file) c.in-Ok-Refused.field-0-is (c.in-Ok-Refused.ensures.found file known))) asks)
 
 -- ---- the source failed, or memory ran out
 
-pub returns-in-Err-clause-asked : goal.returns-in-Err-clause-asked
-returns-in-Err-clause-asked g c = λ file known qs asks. unheard _ _ _ c.args.judges.now.items _ _ c.in-Err.error qs c.in-Err.ensures.cause
+pub returns-in-Err-clause-panel : goal.returns-in-Err-clause-panel
+returns-in-Err-clause-panel g c = hears_early _ _ _ validate_heard (AsksKnown (g.S.Source.known c.args.source.now) (FileAsks g.H.Hashing.digest_of)) c.args.judges.now c.in-Err.error (part_heard _ _ c.in-Err.error c.in-Err.ensures.cause)
+
+pub returns-in-Err-read_store-clause-panel : goal.returns-in-Err-read_store-clause-panel
+returns-in-Err-read_store-clause-panel g c = hears_early _ _ _ validate_heard (AsksKnown (g.S.Source.known c.args.source.now) (FileAsks g.H.Hashing.digest_of)) c.args.judges.now NoMemory refl
+
+pub returns-in-Err-of_store-clause-panel : goal.returns-in-Err-of_store-clause-panel
+returns-in-Err-of_store-clause-panel g c = hears_early _ _ _ validate_heard (AsksKnown (g.S.Source.known c.args.source.now) (FileAsks g.H.Hashing.digest_of)) c.args.judges.now NoMemory refl
 
 -- ---- its store is refused
 
@@ -45,10 +55,11 @@ returns-in-Ok-Refused-read_store-clause-answer g c = λ file known.
     c.a_file_answers_by_what_it_is_opened_as.ensures.answer g.H.Hashing.digest_of _ file (refused c.in-Ok-Refused-read_store.reason c.in-Ok-Refused-read_store.number) (answer.Refused c.in-Ok-Refused-read_store.reason c.in-Ok-Refused-read_store.number)
     (opened_read file c.in-Ok-Here.media (read.Refused c.in-Ok-Refused-read_store.reason c.in-Ok-Refused-read_store.number) (subst (IsFound file) c.in-Ok-Here.field-0-is (c.in-Ok-Here.ensures.found file known)) (subst (IsRead c.in-Ok-Here.media.found) c.in-Ok-Refused-read_store.field-0-is c.in-Ok-Refused-read_store.ensures)) refl
 
-pub returns-in-Ok-Refused-read_store-clause-asked : goal.returns-in-Ok-Refused-read_store-clause-asked
-returns-in-Ok-Refused-read_store-clause-asked g c = λ file known qs asks.
-    unasked {T = Answer} _ _ (λ j. 0) c.args.judges.now.items qs answer.NoStore (c.a_file_answers_by_what_it_is_opened_as.ensures.asks g.H.Hashing.digest_of _ file (refused c.in-Ok-Refused-read_store.reason c.in-Ok-Refused-read_store.number) qs
-    (opened_read file c.in-Ok-Here.media (read.Refused c.in-Ok-Refused-read_store.reason c.in-Ok-Refused-read_store.number) (subst (IsFound file) c.in-Ok-Here.field-0-is (c.in-Ok-Here.ensures.found file known)) (subst (IsRead c.in-Ok-Here.media.found) c.in-Ok-Refused-read_store.field-0-is c.in-Ok-Refused-read_store.ensures)) asks)
+pub returns-in-Ok-Refused-read_store-clause-panel : goal.returns-in-Ok-Refused-read_store-clause-panel
+returns-in-Ok-Refused-read_store-clause-panel g c =
+    hears_nobody _ _ _ validate_heard (AsksKnown (g.S.Source.known c.args.source.now) (FileAsks g.H.Hashing.digest_of)) c.args.judges.now _
+    (λ qs asks. known_refused c.one_opening.ensures.file (g.S.Source.known c.args.source.now) g.H.Hashing.digest_of _ c.in-Ok-Refused-read_store.reason c.in-Ok-Refused-read_store.number qs
+    (λ file known. opened_read file c.in-Ok-Here.media (read.Refused c.in-Ok-Refused-read_store.reason c.in-Ok-Refused-read_store.number) (subst (IsFound file) c.in-Ok-Here.field-0-is (c.in-Ok-Here.ensures.found file known)) (subst (IsRead c.in-Ok-Here.media.found) c.in-Ok-Refused-read_store.field-0-is c.in-Ok-Refused-read_store.ensures)) asks)
 
 -- ---- the store was checked
 
@@ -61,28 +72,16 @@ returns-in-Ok-check-clause-answer g c = λ file known.
     c.in-Ok-Here-read_store.tree c.in-Ok.chain.readings (answer_as c.in-Ok-check.checked) (g.met.S.Source.known_bytes c.args.source.now file known) found.container (opened_read file c.in-Ok-Here.media (read.Here c.in-Ok-Here-read_store.tree c.in-Ok-Here-read_store.store) (subst (IsFound file) c.in-Ok-Here.field-0-is (c.in-Ok-Here.ensures.found file known)) (subst (IsRead c.in-Ok-Here.media.found) c.in-Ok-Here-read_store.field-0-is c.in-Ok-Here-read_store.ensures))
     c.in-Ok.ensures.reads (λ m i b has. (c.in-Ok-check.ensures.answer file (c.in-Ok-Here.ensures.stays.same_bytes ∙ known) m i b has).answer))
 
-pub returns-in-Ok-check-clause-asked : goal.returns-in-Ok-check-clause-asked
-returns-in-Ok-check-clause-asked g c = λ file known qs asks.
-    c.in-Ok-check.ensures.panel.asked qs
-    (read_asks c.one_reading.ensures.manifests c.one_opening.ensures.file g.H.Hashing.digest_of (panel_says (map (λ j. (goal.Judge-dyn g (j.vtable, j.value)).says j.value) c.args.judges.now.items)) file c.in-Ok-Here.media.found.start c.in-Ok-Here.media.found.length c.in-Ok-Here-read_store.tree c.in-Ok.chain.readings qs
-    (opened_read file c.in-Ok-Here.media (read.Here c.in-Ok-Here-read_store.tree c.in-Ok-Here-read_store.store) (subst (IsFound file) c.in-Ok-Here.field-0-is (c.in-Ok-Here.ensures.found file known)) (subst (IsRead c.in-Ok-Here.media.found) c.in-Ok-Here-read_store.field-0-is c.in-Ok-Here-read_store.ensures)) c.in-Ok.ensures.reads asks)
-
-pub returns-in-Ok-check-clause-unasked : goal.returns-in-Ok-check-clause-unasked
-returns-in-Ok-check-clause-unasked g c = λ file known asks.
-    c.in-Ok-check.ensures.panel.unasked
-    (read_asks c.one_reading.ensures.manifests c.one_opening.ensures.file g.H.Hashing.digest_of (panel_says (map (λ j. (goal.Judge-dyn g (j.vtable, j.value)).says j.value) c.args.judges.now.items)) file c.in-Ok-Here.media.found.start c.in-Ok-Here.media.found.length c.in-Ok-Here-read_store.tree c.in-Ok.chain.readings []
-    (opened_read file c.in-Ok-Here.media (read.Here c.in-Ok-Here-read_store.tree c.in-Ok-Here-read_store.store) (subst (IsFound file) c.in-Ok-Here.field-0-is (c.in-Ok-Here.ensures.found file known)) (subst (IsRead c.in-Ok-Here.media.found) c.in-Ok-Here-read_store.field-0-is c.in-Ok-Here-read_store.ensures)) c.in-Ok.ensures.reads asks)
+pub returns-in-Ok-check-clause-panel : goal.returns-in-Ok-check-clause-panel
+returns-in-Ok-check-clause-panel g c =
+    hears_later _ _ _ validate_heard validate_heard (AsksKnown (g.S.Source.known c.args.source.now) (FileAsks g.H.Hashing.digest_of)) _ c.args.judges.now c.check.new.judges c.in-Ok-check.checked _ tt
+    (λ qs asks. known_asks c.one_reading.ensures.manifests c.one_opening.ensures.file (g.S.Source.known c.args.source.now) g.H.Hashing.digest_of (panel_says (map (λ j. (goal.Judge-dyn g (j.vtable, j.value)).says j.value) c.args.judges.now.items)) c.in-Ok-Here.media c.in-Ok-Here-read_store.tree c.in-Ok-Here-read_store.store c.in-Ok.chain.readings qs
+    (λ file known. subst (IsFound file) c.in-Ok-Here.field-0-is (c.in-Ok-Here.ensures.found file known)) (subst (IsRead c.in-Ok-Here.media.found) c.in-Ok-Here-read_store.field-0-is c.in-Ok-Here-read_store.ensures) c.in-Ok.ensures.reads asks) c.in-Ok-check.ensures.panel
 
 -- ---- the check failed
 
-pub returns-clause-asked : goal.returns-clause-asked
-returns-clause-asked g c = λ file known qs asks.
-    c.in-Err-check.ensures.panel.asked qs
-    (read_asks c.one_reading.ensures.manifests c.one_opening.ensures.file g.H.Hashing.digest_of (panel_says (map (λ j. (goal.Judge-dyn g (j.vtable, j.value)).says j.value) c.args.judges.now.items)) file c.in-Ok-Here.media.found.start c.in-Ok-Here.media.found.length c.in-Ok-Here-read_store.tree c.in-Ok.chain.readings qs
-    (opened_read file c.in-Ok-Here.media (read.Here c.in-Ok-Here-read_store.tree c.in-Ok-Here-read_store.store) (subst (IsFound file) c.in-Ok-Here.field-0-is (c.in-Ok-Here.ensures.found file known)) (subst (IsRead c.in-Ok-Here.media.found) c.in-Ok-Here-read_store.field-0-is c.in-Ok-Here-read_store.ensures)) c.in-Ok.ensures.reads asks)
-
-pub returns-clause-unasked : goal.returns-clause-unasked
-returns-clause-unasked g c = λ file known asks.
-    c.in-Err-check.ensures.panel.unasked
-    (read_asks c.one_reading.ensures.manifests c.one_opening.ensures.file g.H.Hashing.digest_of (panel_says (map (λ j. (goal.Judge-dyn g (j.vtable, j.value)).says j.value) c.args.judges.now.items)) file c.in-Ok-Here.media.found.start c.in-Ok-Here.media.found.length c.in-Ok-Here-read_store.tree c.in-Ok.chain.readings []
-    (opened_read file c.in-Ok-Here.media (read.Here c.in-Ok-Here-read_store.tree c.in-Ok-Here-read_store.store) (subst (IsFound file) c.in-Ok-Here.field-0-is (c.in-Ok-Here.ensures.found file known)) (subst (IsRead c.in-Ok-Here.media.found) c.in-Ok-Here-read_store.field-0-is c.in-Ok-Here-read_store.ensures)) c.in-Ok.ensures.reads asks)
+pub returns-clause-panel : goal.returns-clause-panel
+returns-clause-panel g c =
+    hears_error _ _ _ validate_heard validate_heard (AsksKnown (g.S.Source.known c.args.source.now) (FileAsks g.H.Hashing.digest_of)) _ c.args.judges.now c.check.new.judges c.in-Err-check.error c.in-Err-check.error refl
+    (λ qs asks. known_asks c.one_reading.ensures.manifests c.one_opening.ensures.file (g.S.Source.known c.args.source.now) g.H.Hashing.digest_of (panel_says (map (λ j. (goal.Judge-dyn g (j.vtable, j.value)).says j.value) c.args.judges.now.items)) c.in-Ok-Here.media c.in-Ok-Here-read_store.tree c.in-Ok-Here-read_store.store c.in-Ok.chain.readings qs
+    (λ file known. subst (IsFound file) c.in-Ok-Here.field-0-is (c.in-Ok-Here.ensures.found file known)) (subst (IsRead c.in-Ok-Here.media.found) c.in-Ok-Here-read_store.field-0-is c.in-Ok-Here-read_store.ensures) c.in-Ok.ensures.reads asks) c.in-Err-check.ensures.panel

@@ -1,8 +1,8 @@
-use Rattle.c2_validate.proofs.EachCheck.{each_answer_beside, each_asks_beside}
-use Rattle.c2_validate.proofs.laws.each_file_has_a_check_beside.Goals as goal
+use Rattle.c2_validate.proofs.EachCheck.{each_external_answer, each_external_asks}
+use Rattle.c2_validate.proofs.laws.each_file_has_an_external_check.Goals as goal
 
 pub returns-clause-answer : goal.returns-clause-answer
-returns-clause-answer c = each_answer_beside (record {
+returns-clause-answer c = each_external_answer (record {
   located = c.each_media_file_is_located.ensures.located;
   stored = c.each_media_file_is_located.ensures.are_bytes;
   small = c.each_media_file_is_located.ensures.small;
@@ -18,7 +18,7 @@ returns-clause-answer c = each_answer_beside (record {
 })
 
 pub returns-clause-asks : goal.returns-clause-asks
-returns-clause-asks c = each_asks_beside (record {
+returns-clause-asks c = each_external_asks (record {
   located = c.each_media_file_is_located.ensures.located;
   stored = c.each_media_file_is_located.ensures.are_bytes;
   small = c.each_media_file_is_located.ensures.small;

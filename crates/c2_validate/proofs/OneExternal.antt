@@ -1,4 +1,4 @@
--- A file with a store beside it has one answer and one list of questions at most; with its own store, the file's answer.
+-- A file with an external store has one answer and one list of questions at most; with its own store as that one, the file's answer.
 use Rattle.std.proofs.Common.{◌≡◌, refl, sym, ◌∙◌, ap, subst, ℕ, ◌≤◌, Bool, true, false, List, length, nat_lt, Option, Some, None}
 use Rattle.std.proofs.lemmas.Bool.{le-ltb}
 use Rattle.std.specs.Bool.{MatchBool}
@@ -16,7 +16,7 @@ use Rattle.c2_rules.specs.Tests.{first_failing}
 use Rattle.c2_rules.specs.Validated.{IsTreeAnswer, OpenedAsks}
 use Rattle.c2_rules.specs.declared.answer.Answer.{Answer}
 use Rattle.c2_rules.specs.declared.answer.Failing.{Failing}
-use Rattle.c2_validate.specs.Beside.{AsksBeside, IsAnswerBeside, IsListAnswer, IsLocatedAnswer, IsSameAnswer, IsStoreAnswer, IsStoreBeside, ListAsks, LocatedAsks}
+use Rattle.c2_validate.specs.External.{ExternalAsks, IsExternalAnswer, IsListAnswer, IsLocatedAnswer, IsSameAnswer, IsStoreAnswer, IsExternalStore, ListAsks, LocatedAsks}
 use Rattle.c2_validate.specs.declared.external.External.{External}
 use Rattle.c2_validate.specs.declared.external.External.TheVariants.{Of}
 use Rattle.c2_validate.proofs.OneCheck.{ReadingLaws, one_after, one_file_reading, one_opened_asks, one_tree_answer}
@@ -32,8 +32,8 @@ OneLocated = (file : List ℕ) (v w : Located) → IsLocated file v → IsLocate
 -- ---- one answer
 
 -- a list is opened as one thing at most
-pub one_beside : OneStore → (store : List ℕ) (a b : Opening Tree) → IsStoreBeside store a → IsStoreBeside store b → a ≡ b
-one_beside one store a b = by (nat_lt MAX_STORE_LEN (length store))
+pub one_external_store : OneStore → (store : List ℕ) (a b : Opening Tree) → IsExternalStore store a → IsExternalStore store b → a ≡ b
+one_external_store one store a b = by (nat_lt MAX_STORE_LEN (length store))
   where
     by : (t : Bool) → MatchBool t (a ≡ refused StoreTooLarge (length store)) (IsManifestStore 0 0 store a) → MatchBool t (b ≡ refused StoreTooLarge (length store)) (IsManifestStore 0 0 store b) → a ≡ b
     by true h k = h ∙ sym k
@@ -47,7 +47,7 @@ one_store_answer laws hash said file (here start len t) a b h k = h.2 ∙ ap Of 
 
 -- over the list
 one_list_answer : OneStore → ReadingLaws → (hash : Alg → List ℕ → List ℕ) (said : Question → Verdict) (file store : List ℕ) (a b : External) → IsListAnswer hash said file store a → IsListAnswer hash said file store b → a ≡ b
-one_list_answer one laws hash said file store a b h k = one_after (IsStoreBeside store) (IsStoreAnswer hash said file) (one_beside one store) (one_store_answer laws hash said file) a b h k
+one_list_answer one laws hash said file store a b h k = one_after (IsExternalStore store) (IsStoreAnswer hash said file) (one_external_store one store) (one_store_answer laws hash said file) a b h k
 
 -- over what the file is as a container
 one_located_answer : OneStore → ReadingLaws → (hash : Alg → List ℕ → List ℕ) (said : Question → Verdict) (file store : List ℕ) (l : Located) (a b : External) → IsLocatedAnswer hash said file store l a → IsLocatedAnswer hash said file store l b → a ≡ b
@@ -56,14 +56,14 @@ one_located_answer one laws hash said file store absent a b h k = one_list_answe
 one_located_answer one laws hash said file store (here start len own) a b h k = one_list_answer one laws hash said file store a b h k
 
 -- and over both
-pub one_answer_beside : OneLocated → OneStore → ReadingLaws → (hash : Alg → List ℕ → List ℕ) (said : Question → Verdict) (file store : List ℕ) (a b : External) → IsAnswerBeside hash said file store a → IsAnswerBeside hash said file store b → a ≡ b
-one_answer_beside located one laws hash said file store a b h k = one_after (IsLocated file) (IsLocatedAnswer hash said file store) (located file) (one_located_answer one laws hash said file store) a b h k
+pub one_external_answer : OneLocated → OneStore → ReadingLaws → (hash : Alg → List ℕ → List ℕ) (said : Question → Verdict) (file store : List ℕ) (a b : External) → IsExternalAnswer hash said file store a → IsExternalAnswer hash said file store b → a ≡ b
+one_external_answer located one laws hash said file store a b h k = one_after (IsLocated file) (IsLocatedAnswer hash said file store) (located file) (one_located_answer one laws hash said file store) a b h k
 
 -- ---- questions
 
 -- one list of questions at most over a list
 one_list_asks : OneStore → ReadingLaws → (hash : Alg → List ℕ → List ℕ) (store : List ℕ) (said : Question → Verdict) (ps qs : List Question) → ListAsks hash store said ps → ListAsks hash store said qs → ps ≡ qs
-one_list_asks one laws hash store said ps qs h k = one_after (IsStoreBeside store) (OpenedAsks (check_asks hash said)) (one_beside one store) (one_opened_asks laws (check_asks hash said)) ps qs h k
+one_list_asks one laws hash store said ps qs h k = one_after (IsExternalStore store) (OpenedAsks (check_asks hash said)) (one_external_store one store) (one_opened_asks laws (check_asks hash said)) ps qs h k
 
 -- over what the file is as a container
 one_located_asks : OneStore → ReadingLaws → (hash : Alg → List ℕ → List ℕ) (store : List ℕ) (said : Question → Verdict) (l : Located) (ps qs : List Question) → LocatedAsks hash store said l ps → LocatedAsks hash store said l qs → ps ≡ qs
@@ -72,8 +72,8 @@ one_located_asks one laws hash store said absent ps qs h k = one_list_asks one l
 one_located_asks one laws hash store said (here start len own) ps qs h k = one_list_asks one laws hash store said ps qs h k
 
 -- and over both
-pub one_asks_beside : OneLocated → OneStore → ReadingLaws → (hash : Alg → List ℕ → List ℕ) (store file : List ℕ) (said : Question → Verdict) (ps qs : List Question) → AsksBeside hash store file said ps → AsksBeside hash store file said qs → ps ≡ qs
-one_asks_beside located one laws hash store file said ps qs h k = one_after (IsLocated file) (LocatedAsks hash store said) (located file) (one_located_asks one laws hash store said) ps qs h k
+pub one_external_asks : OneLocated → OneStore → ReadingLaws → (hash : Alg → List ℕ → List ℕ) (store file : List ℕ) (said : Question → Verdict) (ps qs : List Question) → ExternalAsks hash store file said ps → ExternalAsks hash store file said qs → ps ≡ qs
+one_external_asks located one laws hash store file said ps qs h k = one_after (IsLocated file) (LocatedAsks hash store said) (located file) (one_located_asks one laws hash store said) ps qs h k
 
 -- ---- a file and its own store
 
@@ -105,7 +105,7 @@ same_by size start len s (Some failing) = refl
 
 -- the answer of a file, over its own store
 pub own_store : OneLocated → OneStore → ReadingLaws → (hash : Alg → List ℕ → List ℕ) (said : Question → Verdict) (file store : List ℕ) (start len : ℕ) (t : Tree) (a : Answer) (e : External) → length store ≤ MAX_STORE_LEN
-    → IsLocated file (here start len store) → IsManifestStore start len store (here start len t) → IsTreeAnswer hash said file start len t a → IsAnswerBeside hash said file store e → (b : Answer) × (e ≡ Of b) × IsSameAnswer a b
+    → IsLocated file (here start len store) → IsManifestStore start len store (here start len t) → IsTreeAnswer hash said file start len t a → IsExternalAnswer hash said file store e → (b : Answer) × (e ≡ Of b) × IsSameAnswer a b
 own_store located one laws hash said file store start len t a e small h opened over k =
     let list : IsListAnswer hash said file store e = subst (λ (l : Located). IsLocatedAnswer hash said file store l e) (located file k.0 (here start len store) k.1 h) k.2 in
     let fits : nat_lt MAX_STORE_LEN (length store) ≡ false = le-ltb MAX_STORE_LEN (length store) small in

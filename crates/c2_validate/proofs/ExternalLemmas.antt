@@ -1,4 +1,4 @@
--- The answer of the check with a store beside the file.
+-- The answer of the check with an external store.
 use Rattle.std.proofs.Common.{◌≡◌, ℕ, ◌<◌, ◌^◌, Bool, true, false, List, [], length, nat_lt, All, Result, Ok, Err, IfOk, sym, ap, ◌∙◌, subst}
 use Rattle.std.specs.Bool.{MatchBool}
 use Rattle.c2_base.specs.declared.limits.TheConstants.{MAX_STORE_LEN}
@@ -24,16 +24,16 @@ use Rattle.c2_opening.specs.declared.types.Opened.{Opened}
 use Rattle.c2_opening.specs.declared.types.Opened.TheVariants as opened
 use Rattle.c2_opening.specs.declared.types.StoreRead.{StoreRead}
 use Rattle.c2_opening.specs.declared.types.StoreRead.TheVariants as read
-use Rattle.c2_validate.specs.Beside.{AsksBeside, IsAnswerBeside, IsAnsweredBeside, IsListAnswered, IsLocatedAnswer, IsStoreAnswer, IsStoreBeside, ListAsks, LocatedAsks}
+use Rattle.c2_validate.specs.External.{ExternalAsks, IsExternalAnswer, IsAnsweredExternal, IsListAnswered, IsLocatedAnswer, IsStoreAnswer, IsExternalStore, ListAsks, LocatedAsks}
 use Rattle.c2_validate.specs.declared.external.External.{External}
 use Rattle.c2_validate.specs.declared.external.External.TheVariants.{Of, StoreRefused}
 use Rattle.c2_validate.proofs.FileLemmas.{AnswersOver, ContainsMedia, OneReading, tree_answered, tree_asks}
-use Rattle.c2_validate.proofs.OneBeside.{OneStore}
+use Rattle.c2_validate.proofs.OneExternal.{OneStore}
 
 -- ---- a list that was read
 
 -- what it is opened as is what was read
-seen : OneStore → (store : List ℕ) (r : StoreRead) (what : Opening Tree) → nat_lt MAX_STORE_LEN (length store) ≡ false → IsReadFrom store r → IsStoreBeside store what → what ≡ tree_of (record { start = 0; length = 0; store = store }) r
+seen : OneStore → (store : List ℕ) (r : StoreRead) (what : Opening Tree) → nat_lt MAX_STORE_LEN (length store) ≡ false → IsReadFrom store r → IsExternalStore store what → what ≡ tree_of (record { start = 0; length = 0; store = store }) r
 seen one store r what small h k =
     let whole : IsManifestStore 0 0 store what = subst (λ (b : Bool). MatchBool b (what ≡ refused StoreTooLarge (length store)) (IsManifestStore 0 0 store what)) small k in
     one 0 0 store what (tree_of (record { start = 0; length = 0; store = store }) r) whole (h 0 0).store
@@ -80,36 +80,36 @@ list_asks reading one hash store said t b rs qs small h reads k =
 -- ---- a file
 
 -- each file and each list have an answer
-abbrev pub EachBeside : Type 0
-EachBeside = (hash : Alg → List ℕ → List ℕ) (said : Question → Verdict) (file store : List ℕ) → All (λ b. b < 2 ^ 8) file → All (λ b. b < 2 ^ 8) store → (e : External) × IsAnswerBeside hash said file store e
+abbrev pub EachExternal : Type 0
+EachExternal = (hash : Alg → List ℕ → List ℕ) (said : Question → Verdict) (file store : List ℕ) → All (λ b. b < 2 ^ 8) file → All (λ b. b < 2 ^ 8) store → (e : External) × IsExternalAnswer hash said file store e
 
 -- what a file is as a container follows from what was found
-at_found : (hash : Alg → List ℕ → List ℕ) (said : Question → Verdict) (file store : List ℕ) (o : Opened) (e : External) → IsFound file o → IsAnswerBeside hash said file store e → IsLocatedAnswer hash said file store (located_of o) e
+at_found : (hash : Alg → List ℕ → List ℕ) (said : Question → Verdict) (file store : List ℕ) (o : Opened) (e : External) → IsFound file o → IsExternalAnswer hash said file store e → IsLocatedAnswer hash said file store (located_of o) e
 at_found hash said file store o e h k = subst (λ (l : Located). IsLocatedAnswer hash said file store l e) (h.only k.0 k.1) k.2
 
 -- so does what is asked
-pub asks_found : (hash : Alg → List ℕ → List ℕ) (store file : List ℕ) (said : Question → Verdict) (o : Opened) (qs : List Question) → IsFound file o → AsksBeside hash store file said qs → LocatedAsks hash store said (located_of o) qs
+pub asks_found : (hash : Alg → List ℕ → List ℕ) (store file : List ℕ) (said : Question → Verdict) (o : Opened) (qs : List Question) → IsFound file o → ExternalAsks hash store file said qs → LocatedAsks hash store said (located_of o) qs
 asks_found hash store file said o qs h k = subst (λ (l : Located). LocatedAsks hash store said l qs) (h.only k.0 k.1) k.2
 
 -- the answer that any is, is the one
-answered : EachBeside → (hash : Alg → List ℕ → List ℕ) (said : Question → Verdict) (file store : List ℕ) (e : External) → All (λ b. b < 2 ^ 8) file → All (λ b. b < 2 ^ 8) store → ((expected : External) → IsAnswerBeside hash said file store expected → expected ≡ e)
-    → IsAnsweredBeside hash said file store e
-answered each hash said file store e bytes held only = let a = each hash said file store bytes held in record { is = subst (IsAnswerBeside hash said file store) (only a.0 a.1) a.1; only = only }
+answered : EachExternal → (hash : Alg → List ℕ → List ℕ) (said : Question → Verdict) (file store : List ℕ) (e : External) → All (λ b. b < 2 ^ 8) file → All (λ b. b < 2 ^ 8) store → ((expected : External) → IsExternalAnswer hash said file store expected → expected ≡ e)
+    → IsAnsweredExternal hash said file store e
+answered each hash said file store e bytes held only = let a = each hash said file store bytes held in record { is = subst (IsExternalAnswer hash said file store) (only a.0 a.1) a.1; only = only }
 
 -- what is answered over the list is answered of a file with a store
-pub beside_here : {E : Type 0} → EachBeside → (hash : Alg → List ℕ → List ℕ) (said : Question → Verdict) (file store : List ℕ) (m : MediaFile) (r : Result External E) → All (λ b. b < 2 ^ 8) file → All (λ b. b < 2 ^ 8) store → IsFound file (opened.Here m) → IfOk r (IsListAnswered hash said m.container store file)
-    → IfOk r (IsAnsweredBeside hash said file store)
-beside_here each hash said file store m (Ok e) bytes held h k = answered each hash said file store e bytes held (λ expected answers. k h.container expected (at_found hash said file store (opened.Here m) expected h answers))
-beside_here each hash said file store m (Err e) bytes held h k = tt
+pub external_here : {E : Type 0} → EachExternal → (hash : Alg → List ℕ → List ℕ) (said : Question → Verdict) (file store : List ℕ) (m : MediaFile) (r : Result External E) → All (λ b. b < 2 ^ 8) file → All (λ b. b < 2 ^ 8) store → IsFound file (opened.Here m) → IfOk r (IsListAnswered hash said m.container store file)
+    → IfOk r (IsAnsweredExternal hash said file store)
+external_here each hash said file store m (Ok e) bytes held h k = answered each hash said file store e bytes held (λ expected answers. k h.container expected (at_found hash said file store (opened.Here m) expected h answers))
+external_here each hash said file store m (Err e) bytes held h k = tt
 
 -- and of one without
-pub beside_none : {E : Type 0} → EachBeside → (hash : Alg → List ℕ → List ℕ) (said : Question → Verdict) (file store : List ℕ) (c : Container) (r : Result External E) → All (λ b. b < 2 ^ 8) file → All (λ b. b < 2 ^ 8) store → IsFound file (opened.NoStore c) → IfOk r (IsListAnswered hash said c store file)
-    → IfOk r (IsAnsweredBeside hash said file store)
-beside_none each hash said file store c (Ok e) bytes held h k = answered each hash said file store e bytes held (λ expected answers. k h.container expected (at_found hash said file store (opened.NoStore c) expected h answers))
-beside_none each hash said file store c (Err e) bytes held h k = tt
+pub external_none : {E : Type 0} → EachExternal → (hash : Alg → List ℕ → List ℕ) (said : Question → Verdict) (file store : List ℕ) (c : Container) (r : Result External E) → All (λ b. b < 2 ^ 8) file → All (λ b. b < 2 ^ 8) store → IsFound file (opened.NoStore c) → IfOk r (IsListAnswered hash said c store file)
+    → IfOk r (IsAnsweredExternal hash said file store)
+external_none each hash said file store c (Ok e) bytes held h k = answered each hash said file store e bytes held (λ expected answers. k h.container expected (at_found hash said file store (opened.NoStore c) expected h answers))
+external_none each hash said file store c (Err e) bytes held h k = tt
 
 -- a file that is refused has that answer
-pub beside_refused : EachBeside → (hash : Alg → List ℕ → List ℕ) (said : Question → Verdict) (file store : List ℕ) (reason : Reason) (number : ℕ) → All (λ b. b < 2 ^ 8) file → All (λ b. b < 2 ^ 8) store → IsFound file (opened.Refused reason number)
-    → IsAnsweredBeside hash said file store (Of (answer.Refused reason number))
-beside_refused each hash said file store reason number bytes held h =
+pub external_refused : EachExternal → (hash : Alg → List ℕ → List ℕ) (said : Question → Verdict) (file store : List ℕ) (reason : Reason) (number : ℕ) → All (λ b. b < 2 ^ 8) file → All (λ b. b < 2 ^ 8) store → IsFound file (opened.Refused reason number)
+    → IsAnsweredExternal hash said file store (Of (answer.Refused reason number))
+external_refused each hash said file store reason number bytes held h =
     answered each hash said file store (Of (answer.Refused reason number)) bytes held (λ expected answers. at_found hash said file store (opened.Refused reason number) expected h answers)

@@ -1,0 +1,4 @@
+pub mod Checking
+pub mod Extracting
+pub mod Extracts
+pub mod Stages
