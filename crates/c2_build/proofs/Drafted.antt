@@ -1,5 +1,5 @@
 -- Which test of a build fails first.
-use Rattle.std.proofs.Common.{◌≡◌, ℕ, ◌+◌, ◌<◌, ◌≤◌, Bool, true, false, cond, List, [], ◌∷◌, ◌++◌, length, Option, Some, None, refl, sym, ap, ◌∙◌, arith}
+use Rattle.std.proofs.Common.{◌≡◌, ℕ, ◌+◌, ◌<◌, ◌≤◌, Bool, true, false, cond, List, [], ◌∷◌, ◌++◌, Option, Some, None, refl, ap, ◌∙◌}
 use Rattle.std.specs.Prelude.{nat_lt, nat_le}
 use Rattle.std.proofs.lemmas.Bool.{lt-ltb, le-ltb, le-leb, lt-leb}
 use Rattle.std.specs.Option.{option_or}
@@ -12,7 +12,6 @@ use Rattle.c2_build.specs.Steps.{IsSeat, seat_range_len, seat_store_len}
 use Rattle.c2_build.specs.declared.error.BuildError.{BuildError}
 use Rattle.c2_build.specs.declared.error.BuildError.TheVariants.{MediaRefused, TooManyManifests, StoreTooLarge}
 use Rattle.c2_build.specs.declared.place.Seat.{Seat}
-use Rattle.c2_build.specs.declared.place.Seat.TheVariants as Seat
 
 -- of two lists of tests the first refusal is that of the first list, else that of the second
 pub first_of_both : (xs ys : List BuildTest) → first_refusal (xs ++ ys) ≡ option_or (first_refusal xs) (first_refusal ys)

@@ -3,13 +3,12 @@ use Rattle.std.proofs.Common.{◌≡◌, ℕ, ◌+◌, Bool, true, false, List, 
 use Rattle.std.specs.Prelude.{Result, Ok, Err, IfErr, IfOk}
 use Rattle.c2_base.specs.declared.values.Question.{Question}
 use Rattle.c2_spec.specs.C2pa.Manifest.{manifests_of}
-use Rattle.c2_spec.specs.Jumbf.Tree.{Tree, Trees, none, trees_bytes}
-use Rattle.c2_spec.specs.Located.{Opening, here, refused}
+use Rattle.c2_spec.specs.Jumbf.Tree.{Tree, Trees, trees_bytes}
+use Rattle.c2_spec.specs.Located.{Opening, here}
 use Rattle.c2_spec.specs.declared.digest.Alg.{Alg}
 use Rattle.c2_spec.specs.declared.panel.Verdict.{Verdict}
-use Rattle.c2_spec.specs.declared.reason.Reason.{Reason}
 use Rattle.c2_rules.specs.CheckList.{StoreReading, answer_of, check_list, summary_of}
-use Rattle.c2_rules.specs.Opened.{IsManifestStore, IsOpened}
+use Rattle.c2_rules.specs.Opened.{IsOpened}
 use Rattle.c2_rules.specs.Readings.{AreReadings, Reading}
 use Rattle.c2_rules.specs.Tests.{first_failing}
 use Rattle.c2_rules.specs.Validated.{IsAnswer, IsFileReading, IsOpenedAnswer}
@@ -25,7 +24,7 @@ use Rattle.c2_built.specs.Store.{Content, Parent, new_alg}
 use Rattle.c2_layout.specs.declared.carried.Carried.{Carried}
 use Rattle.c2_layout.specs.declared.carried.ParentRefs.{ParentRefs}
 use Rattle.c2_carried.specs.Carrying.{SomeContentOver}
-use Rattle.c2_carried.specs.Parents.{IsContentOver, IsParentOf}
+use Rattle.c2_carried.specs.Parents.{IsParentOf}
 use Rattle.c2_carried.specs.Redacting.{boxes_in, redacted_boxes}
 use Rattle.c2_carried.specs.Refusing.{has_manifest, redaction_refusal}
 use Rattle.c2_carried.specs.declared.refused.RefusedRedaction.{RefusedRedaction}
@@ -33,16 +32,16 @@ use Rattle.c2_cleared.specs.Clears.{cleared}
 use Rattle.c2_cleared.specs.declared.clearing.Clearing.{Clearing}
 use Rattle.c2_places.specs.Bases.{IsLeft}
 use Rattle.c2_build.specs.Answers.{WithoutFault}
-use Rattle.c2_build.specs.Building.{IsGroundOver, IsGroundStage, IsMediaStage, Unless, fresh, fresh_ground, stored}
-use Rattle.c2_build.specs.Refusals.{BuildTest, Ground, first_refusal, label_tests, older_tests, parent_tests, redaction_tests, refuse_if}
+use Rattle.c2_build.specs.Building.{IsGroundOver, IsGroundStage, IsMediaStage, fresh, fresh_ground, stored}
+use Rattle.c2_build.specs.Refusals.{Ground, first_refusal, label_tests, older_tests, parent_tests, redaction_tests, refuse_if}
 use Rattle.c2_build.specs.Steps.{ComesAs, IsCarriedOver, IsChecked, IsCheckRefusal, IsGround, IsOver, IsOverRefusal}
 use Rattle.c2_build.specs.declared.error.BuildError.{BuildError}
 use Rattle.c2_build.specs.declared.error.BuildError.TheVariants as build
 use Rattle.c2_build.specs.declared.ground.KeptGround.{KeptGround}
-use Rattle.c2_build.proofs.Drafted.{first_of_both, first_fails, first_passes}
+use Rattle.c2_build.proofs.Drafted.{first_fails, first_passes}
 use Rattle.c2_build.proofs.Drawn.{unless_fails, unless_passes}
 use Rattle.c2_build.proofs.OneBuild.{OneOpened}
-use Rattle.c2_build.proofs.Outside.{outside_map, said_of}
+use Rattle.c2_build.proofs.Outside.{outside_map}
 use Rattle.c2_build.proofs.SomeBuild.{is_passable, opened_here, stands_over}
 use Rattle.std.specs.Prelude.{option_map}
 use Rattle.std.specs.Option.{option_to_list}
@@ -129,27 +128,21 @@ failed_stage one hash said media d start len t f opened is =
     let s : StoreReading = a.0 in
     let fails : first_failing (check_list hash said s) ≡ Some f = by (summary_of (length media) start len s) (first_failing (check_list hash said s)) a.2 in
     let first : first_refusal (parent_tests (first_failing (check_list hash said s))) ≡ Some (build.ParentFails f.code f.uri) =
-    ap (λ (o : Option Failing). first_refusal (parent_tests o)) fails in
-    (s, a.1, unless_fails (first_refusal (older_tests d s.readings (first_failing (check_list hash said s)))) (IsGroundOver media d start len t s.readings) (build.ParentFails f.code f.uri) (first_fails (parent_tests (first_failing (check_list hash said s))) (label_tests d s.readings ++ redaction_tests d s.readings) (build.ParentFails f.code f.uri) first))
+    ap (λ (o : Option Failing). first_refusal (parent_tests o)) fails in (
+      s,
+      a.1,
+      unless_fails (first_refusal (older_tests d s.readings (first_failing (check_list hash said s)))) (IsGroundOver media d start len t s.readings) (build.ParentFails f.code f.uri)
+          (first_fails (parent_tests (first_failing (check_list hash said s))) (label_tests d s.readings ++ redaction_tests d s.readings) (build.ParentFails f.code f.uri) first),
+    )
   where
     by : (s : Summary) (o : Option Failing) → answer.Failing f ≡ answer_of s o → o ≡ Some f
     by s None e = absurd (cc (e))
     by s (Some g) e = let same : g ≡ f = cc (e) in ap Some same
 
--- no check of it refuses the container, the boxes or the store
-never_refused : {P : Type 0} → OneOpened → (hash : Alg → List ℕ → List ℕ) (said : Question → Verdict) (media : List ℕ) (start len : ℕ) (t : Tree) (reason : Reason) (number : ℕ) → IsOpened media (here start len t) → IsAnswer hash said media (answer.Refused reason number) → P
-never_refused one hash said media start len t reason number opened is =
-    let a = checked_by one hash said media start len t (answer.Refused reason number) opened is in
-    absurd (by (summary_of (length media) start len a.0) (first_failing (check_list hash said a.0)) a.2)
-  where
-    by : (s : Summary) (o : Option Failing) → answer.Refused reason number ≡ answer_of s o → ⊥
-    by s None e = cc (e)
-    by s (Some g) e = cc (e)
-
 -- what the check refuses is refused
 pub check_stage : OneOpened → (hash : Alg → List ℕ → List ℕ) (said : Question → Verdict) (media : List ℕ) (d : Definition) (start len : ℕ) (t : Tree) (e : BuildError) → IsOpened media (here start len t) → WithoutFault e (IsCheckRefusal hash said media e)
     → WithoutFault e (IsGroundStage hash said media d (stored start len t) (Err e))
-check_stage one hash said media d start len t (build.MediaRefused reason number) opened h = never_refused one hash said media start len t reason number opened h
+check_stage one hash said media d start len t (build.MediaRefused reason number) opened h = absurd h
 check_stage one hash said media d start len t (build.BadDefinition field) opened h = absurd h
 check_stage one hash said media d start len t (build.BadSignature part) opened h = absurd h
 check_stage one hash said media d start len t (build.ParentFails code uri) opened h = failed_stage one hash said media d start len t (record { code = code; uri = uri }) opened h
@@ -179,7 +172,8 @@ over_stage hash said media d start len t e p h =
     )) h
 
 -- where none does, it is built over what is left of the media
-pub over_ground : SomeContentOver → (hash : Alg → List ℕ → List ℕ) (said : Question → Verdict) (media : List ℕ) (d : Definition) (start len : ℕ) (t : Tree) (clearing : Clearing) (k : KeptGround) (p : IsPast hash said media t) → IsMediaStage media (Ok (stored start len t)) → IsLeft media start len (cleared clearing media)
+pub over_ground : SomeContentOver → (hash : Alg → List ℕ → List ℕ) (said : Question → Verdict) (media : List ℕ) (d : Definition) (start len : ℕ) (t : Tree) (clearing : Clearing) (k : KeptGround) (p : IsPast hash said media t) →
+    IsMediaStage media (Ok (stored start len t)) → IsLeft media start len (cleared clearing media)
     → IsOver (hash (new_alg d)) d t clearing p.reading.readings k → (g : Ground) × IsGroundStage hash said media d (stored start len t) (Ok g) × IsGround (hash (new_alg d)) media d k g
 over_ground law hash said media d start len t clearing k p m left h =
     let s : StoreReading = p.reading in
@@ -213,14 +207,8 @@ stored_over law one hash said media d start len t clearing m left checked (Err e
     let p = is_past one hash said media start len t (opened_here media start len t m) checked in
     over_stage hash said media d start len t e p (bad p.reading.readings p.reads.reads.each)
 
--- the bytes of a store are one store of manifests
-abbrev pub OneStore : Type 0
-OneStore = (start len : ℕ) (store : List ℕ) (a b : Opening Tree) → IsManifestStore start len store a → IsManifestStore start len store b → a ≡ b
-
--- so they are one tree
-pub same_tree : OneStore → (start len : ℕ) (store : List ℕ) (t u : Tree) → IsManifestStore start len store (here start len t) → IsManifestStore start len store (here start len u) → t ≡ u
-same_tree one start len store t u h k = cc (one start len store (here start len t) (here start len u) h k)
-
--- and aren't refused
-pub not_refused : {P : Type 0} → OneStore → (start len : ℕ) (store : List ℕ) (t : Tree) (reason : Reason) (number : ℕ) → IsManifestStore start len store (here start len t) → IsManifestStore start len store (refused reason number) → P
-not_refused one start len store t reason number h k = absurd (let bad = one start len store (here start len t) (refused reason number) h k in cc (bad))
+-- what a store's tests refuse, however its manifests are read
+pub over_refused : (d : Definition) (old : Tree) (r : Result KeptGround BuildError) (rs : List Reading) → AreReadings (manifests_of old) rs → IfErr r (λ e. (rs : List Reading) → AreReadings (manifests_of old) rs → IsOverRefusal d rs e)
+    → IfErr r (IsOverRefusal d rs)
+over_refused d old (Ok k) rs reads h = tt
+over_refused d old (Err e) rs reads h = h rs reads

@@ -1,5 +1,5 @@
 -- What the inputs of a build come to, by what calls of other crates answered.
-use Rattle.std.proofs.Common.{◌≡◌, ℕ, ◌<◌, Bool, true, false, not, ◌&&◌, cond, List, length, Option, Some, None, inl, refl, sym, ap, subst, arith}
+use Rattle.std.proofs.Common.{◌≡◌, ℕ, ◌<◌, Bool, true, false, not, ◌&&◌, cond, List, [], length, Option, Some, None, inl, refl, sym, ap, ◌∙◌, subst, arith}
 use Rattle.std.specs.Prelude.{Result, Ok, Err, MatchBool}
 use Rattle.std.proofs.lemmas.Bool.{lt-ltb}
 use Rattle.c2_base.specs.declared.limits.TheConstants.{MAX_INPUT_LEN}
@@ -12,16 +12,26 @@ use Rattle.c2_boxes.specs.Search.{IsStoreOr}
 use Rattle.c2_cleared.specs.Clears.{ClearsTo, cleared}
 use Rattle.c2_cleared.specs.declared.clearing.Clearing.{Clearing}
 use Rattle.c2_places.specs.Bases.{IsLeft, IsLeftOfBoxes}
-use Rattle.c2_spec.specs.C2pa.Manifest.{IsStoreOf}
+use Rattle.c2_base.specs.declared.values.Question.{Question}
+use Rattle.c2_base.specs.declared.values.Range.{Range}
+use Rattle.c2_spec.specs.C2pa.Manifest.{IsStoreOf, manifests_of}
+use Rattle.c2_spec.specs.declared.digest.Alg.{Alg}
+use Rattle.c2_spec.specs.declared.panel.Verdict.{Verdict}
+use Rattle.c2_rules.specs.Readings.{AreReadings}
+use Rattle.c2_rules.specs.Validated.{CheckAsks}
+use Rattle.c2_validate.specs.Checked.{IsOpenedFrom, StoreAsks, readings_of}
+use Rattle.c2_validate.specs.declared.checking.OpenedStore.{OpenedStore}
 use Rattle.c2_spec.specs.C2pa.Sign1.{SignParts, SpellsMessage}
 use Rattle.c2_spec.specs.Container.{IsLocated, begins_jpeg, is_bmff}
 use Rattle.c2_spec.specs.Jumbf.Tree.{Tree}
-use Rattle.c2_rules.specs.Opened.{IsManifestStore}
+use Rattle.c2_rules.specs.Opened.{IsManifestStore, IsOpened}
 use Rattle.c2_spec.specs.Located.{absent, here, refused}
 use Rattle.c2_spec.specs.declared.reason.Reason.{Reason}
 use Rattle.c2_spec.specs.declared.store.ManifestBoxes.{ManifestBoxes}
 use Rattle.c2_container.specs.Contained.{IsContainerOf}
-use Rattle.c2_opening.specs.Opened.{IsFound, IsRead}
+use Rattle.c2_opening.specs.Opened.{IsCause, IsFound, IsRead}
+use Rattle.c2_opening.specs.declared.error.ValidateError.{ValidateError}
+use Rattle.c2_opening.specs.declared.error.ValidateError.TheVariants as fault
 use Rattle.c2_container.specs.declared.types.Container.{Container}
 use Rattle.c2_opening.specs.declared.types.Media.{Media}
 use Rattle.c2_opening.specs.declared.types.Opened.{Opened}
@@ -40,12 +50,13 @@ use Rattle.c2_message.specs.declared.error.MessageError.{MessageError}
 use Rattle.c2_message.specs.declared.error.MessageError.TheVariants as refusal
 use Rattle.c2_message.specs.declared.error.SignaturePart.{SignaturePart}
 use Rattle.c2_message.specs.declared.error.SignaturePart.TheVariants as part
-use Rattle.c2_build.specs.Building.{IsDefinitionStage, IsMediaStage, IsMessageStage, MediaKind, fresh, stored}
-use Rattle.c2_build.specs.Steps.{IsFoundOf, IsKind}
-use Rattle.c2_build.specs.declared.error.BuildError.{BuildError}
+use Rattle.c2_build.specs.Building.{IsDefinitionStage, IsMediaStage, IsMessageStage, KindAsks, MediaKind, fresh, stored}
+use Rattle.c2_build.specs.Steps.{IsFoundIn, IsKind, IsOlder, IsReadCause, KindHears, fault_of, located_as}
 use Rattle.c2_build.specs.declared.error.BuildError.TheVariants.{MediaRefused, BadDefinition, BadSignature}
 use Rattle.c2_build.specs.declared.media.MediaFile.{MediaFile}
-use Rattle.c2_build.proofs.SomeBuild.{EachDefinition}
+use Rattle.c2_build.specs.declared.media.MediaRead.{MediaRead}
+use Rattle.c2_build.specs.declared.media.OlderStore.{OlderStore}
+use Rattle.c2_build.proofs.SomeBuild.{EachDefinition, opened_here}
 use Rattle.c2_definition.specs.Json.{object_of}
 use Rattle.c2_spec.specs.Cbor.Fields.{require}
 
@@ -91,27 +102,27 @@ here_tree f r t s is h = (subst (IsRead f) is h).store
 pub boxes_of : (f : Found) (r : StoreRead) (t : Tree) (s : List ManifestBoxes) → r ≡ read.Here t s → IsRead f r → IsStoreOf t s
 boxes_of f r t s is h = (subst (IsRead f) is h).boxes
 
--- what one was read as that is refused
-pub refused_tree : (f : Found) (r : StoreRead) (reason : Reason) (number : ℕ) → r ≡ read.Refused reason number → IsRead f r → IsManifestStore f.start f.length f.store (refused reason number)
-refused_tree f r reason number is h = (subst (IsRead f) is h).store
+-- a file that was found to have a store
+pub found_here : (file : List ℕ) (o : Opened) (m : Media) → o ≡ opened.Here m → IsFound file o → IsFoundIn file (record { container = m.container; found = Some m.found })
+found_here file o m is h = let f = subst (IsFound file) is h in record { container = f.container; located = f.located }
 
--- What is known of a file that was found to have a store.
-pub record IsFoundHere (file : List ℕ) (m : Media) : Type 0 where
-  pub located : IsLocated file (here m.found.start m.found.length m.found.store)
-  pub container : IsContainerOf file m.container
+-- a file that was found to have none
+pub found_absent : (file : List ℕ) (o : Opened) (c : Container) → o ≡ opened.NoStore c → IsFound file o → IsFoundIn file (record { container = c; found = None })
+found_absent file o c is h = let f = subst (IsFound file) is h in record { container = f.container; located = f.located }
 
--- it was found so
-pub found_here : (file : List ℕ) (o : Opened) (m : Media) → o ≡ opened.Here m → IsFound file o → IsFoundHere file m
-found_here file o m is h = let f = subst (IsFound file) is h in record { located = f.located; container = f.container }
+-- where this store was found
+pub found_at : (file : List ℕ) (m : MediaFile) (f : Found) → m.found ≡ Some f → IsFoundIn file m → IsLocated file (here f.start f.length f.store)
+found_at file m f is h = subst (λ (o : Option Found). IsLocated file (located_as o)) is h.located
 
--- What is known of a file that was found to have none.
-pub record IsFoundAbsent (file : List ℕ) (c : Container) : Type 0 where
-  pub located : IsLocated file absent
-  pub container : IsContainerOf file c
+-- where none was
+pub found_none : (file : List ℕ) (m : MediaFile) → m.found ≡ None → IsFoundIn file m → IsLocated file absent
+found_none file m is h = subst (λ (o : Option Found). IsLocated file (located_as o)) is h.located
 
--- it was found so
-pub found_absent : (file : List ℕ) (o : Opened) (c : Container) → o ≡ opened.NoStore c → IsFound file o → IsFoundAbsent file c
-found_absent file o c is h = let f = subst (IsFound file) is h in record { located = f.located; container = f.container }
+-- the cause of a fault while a container is found
+pub opening_cause : (m n : ℕ) (e : ValidateError) → IsCause m n e → IsReadCause m n (fault_of e)
+opening_cause m n fault.ReadFault h = h
+opening_cause m n fault.JudgeFault h = h
+opening_cause m n fault.NoMemory h = tt
 
 -- a file without a store
 pub absent_stage : (file : List ℕ) → IsLocated file absent → IsMediaStage file (Ok fresh)
@@ -119,14 +130,47 @@ absent_stage file located = (absent, (absent, located, refl), refl)
 
 -- ---- what kind a file is
 
--- one in which no store was found
-pub fresh_kind : (file : List ℕ) (m : MediaFile) (kind : MediaKind) → m.found ≡ None → IsKind file m kind → kind ≡ fresh
-fresh_kind file m kind is h = subst (λ (o : Option Found). IsFoundOf o kind) is h.found
+-- the check of a store that was opened from a file asks what that of the file does
+abbrev pub StoreAsksLaw : Type 0
+StoreAsksLaw = (hash : Alg → List ℕ → List ℕ) (said : Question → Verdict) (file : List ℕ) (o : OpenedStore) (qs : List Question) → IsOpenedFrom file o → CheckAsks hash said file qs → StoreAsks hash o said qs
 
--- one in which this store was found
-pub stored_kind : (file : List ℕ) (m : MediaFile) (f : Found) (kind : MediaKind) → m.found ≡ Some f → IsKind file m kind
-    → (t : Tree) × IsManifestStore f.start f.length f.store (here f.start f.length t) × (kind ≡ stored f.start f.length t)
-stored_kind file m f kind is h = subst (λ (o : Option Found). IsFoundOf o kind) is h.found
+-- one without a store
+pub fresh_kind : (file : List ℕ) (m : MediaRead) (kind : MediaKind) → m.older ≡ None → IsKind file m kind → kind ≡ fresh
+fresh_kind file m kind is h = subst (λ (o : Option OlderStore). IsOlder o kind) is h.older
+
+-- one with this store
+pub stored_kind : (file : List ℕ) (m : MediaRead) (o : OlderStore) (kind : MediaKind) → m.older ≡ Some o → IsKind file m kind → kind ≡ stored o.range.start o.range.length o.tree
+stored_kind file m o kind is h = subst (λ (x : Option OlderStore). IsOlder x kind) is h.older
+
+-- so it was opened
+pub opened_older : (file : List ℕ) (m : MediaRead) (o : OlderStore) (kind : MediaKind) → m.older ≡ Some o → IsKind file m kind → IsOpened file (here o.range.start o.range.length o.tree)
+opened_older file m o kind is h =
+    opened_here file o.range.start o.range.length o.tree (subst (λ (k : MediaKind). IsMediaStage file (Ok k)) (stored_kind file m o kind is h) h.stage)
+
+-- as it is checked against the file
+pub opened_from : (file : List ℕ) (m : MediaRead) (o : OlderStore) (kind : MediaKind) (s : OpenedStore) → m.older ≡ Some o → IsKind file m kind → s.container.now ≡ m.container.now → s.range ≡ o.range
+    → AreReadings (manifests_of o.tree) (readings_of s) → IsOpenedFrom file s
+opened_from file m o kind s is h container range reads = record {
+  container = subst (IsContainerOf file) (sym container) h.container;
+  tree = o.tree;
+  opened = subst (λ (r : Range). IsOpened file (here r.start r.length o.tree)) (sym range) (opened_older file m o kind is h);
+  reads = reads;
+}
+
+-- what its check asks is what is asked over the file
+pub older_asks : StoreAsksLaw → (hash : Alg → List ℕ → List ℕ) (said : Question → Verdict) (known : Option (List ℕ)) (m : MediaRead) (o : OlderStore) (s : OpenedStore) → m.older ≡ Some o → s.container.now ≡ m.container.now → s.range ≡ o.range
+    → AreReadings (manifests_of o.tree) (readings_of s) → (qs : List Question) → KindHears hash known m said qs → StoreAsks hash s said qs
+older_asks law hash said known m o s is container range reads qs k =
+    law hash said k.bytes s qs (opened_from k.bytes m o k.kind s is k.is container range reads)
+    (subst (λ (x : MediaKind). KindAsks hash said k.bytes x qs) (stored_kind k.bytes m o k.kind is k.is) k.asks)
+
+-- nothing is asked over a file without a store
+pub fresh_asks : (hash : Alg → List ℕ → List ℕ) (said : Question → Verdict) (known : Option (List ℕ)) (m : MediaRead) → m.older ≡ None → (qs : List Question) → KindHears hash known m said qs → qs ≡ []
+fresh_asks hash said known m is qs k = subst (λ (x : MediaKind). KindAsks hash said k.bytes x qs) (fresh_kind k.bytes m k.kind is k.is) k.asks
+
+-- a source that stayed tells the same
+pub hears_same_known : (hash : Alg → List ℕ → List ℕ) (said : Question → Verdict) (known now : Option (List ℕ)) (m : MediaRead) (qs : List Question) → now ≡ known → KindHears hash known m said qs → KindHears hash now m said qs
+hears_same_known hash said known now m qs same k = record { bytes = k.bytes; is_known = same ∙ k.is_known; kind = k.kind; is = k.is; asks = k.asks }
 
 -- ---- the definition
 

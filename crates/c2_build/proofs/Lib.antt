@@ -3,7 +3,9 @@ mod Stages
 mod OneBuild
 mod Rooms
 mod SomeBuild
+mod Unrefused
 mod Approved
+mod Kept
 mod NewFile
 mod Worked
 mod WorkedFilm

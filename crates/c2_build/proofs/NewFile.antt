@@ -27,6 +27,7 @@ use Rattle.c2_message.specs.Signed.{IsSigned}
 use Rattle.c2_built.specs.Fresh.{GivesDigests, IsFresh, Meets, fresh_content}
 use Rattle.c2_built.specs.Store.{Content, new_claim, new_alg}
 use Rattle.c2_built.specs.Written.{CanBeWritten}
+use Rattle.c2_boxed.specs.Laws.{EndIsCutOut}
 use Rattle.c2_carried.specs.Carrying.{FirstIsRefused}
 use Rattle.c2_carried.specs.Parents.{IsContentOver}
 use Rattle.c2_carried.specs.Refusing.{redaction_refusal}
@@ -37,11 +38,12 @@ use Rattle.c2_places.specs.Laws.{OnePlace}
 use Rattle.c2_places.specs.Meeting.{BaseStays, CanSucceedAt, FreshPlaceMeets, OverPlaceMeets}
 use Rattle.c2_places.specs.Places.{CanPut, IsFreePlace, IsPlace, Place, place_binding, place_file, place_question, place_start, place_store, put_bytes, range_len, store_len}
 use Rattle.c2_build.specs.Building.{Built, IsBuilt, IsDefinitionStage, IsEmbedded, IsEmbeddedOn, IsGroundOver, IsGroundStage, IsMediaStage, IsMessageStage, IsPlaceStage, IsPlanned, IsPlannedOn, MediaKind, built_of, definition_stage, fresh, fresh_ground, signed_bytes, stored}
-use Rattle.c2_build.specs.Meeting.{ApprovedIsValid, AreApproved, BuiltFileMeets, BuiltMeets, HasTextsIn}
+use Rattle.c2_build.specs.Meeting.{ApprovedIsValid, AreApproved, BuiltFileMeets, BuiltMeets, HasTextsIn, KeepsBytes}
 use Rattle.c2_build.specs.Refusals.{Ground, first_refusal, ground_tests, late_tests, new_range_len, older_tests, redaction_tests, refuse_if, reserve_tests}
 use Rattle.c2_build.specs.declared.error.BuildError.{BuildError}
 use Rattle.c2_build.specs.declared.error.BuildError.TheVariants.{RedactionRefused}
 use Rattle.c2_build.proofs.Drawn.{then_next, unless_passes}
+use Rattle.c2_build.proofs.Kept.{ground_keeps}
 use Rattle.c2_build.proofs.OneBuild.{ground_of}
 use Rattle.c2_build.proofs.Rooms.{pass_numbers}
 use Rattle.c2_build.proofs.SomeBuild.{AreWellFormed, PlaceLaws, free_place, ground_definition, is_passable, opened_absent, opened_here, read_formed, read_taken}
@@ -113,6 +115,7 @@ pub record MetLaws : Type 0 where
   pub approved : ValidIsApproved
   pub first : FirstIsRefused
   pub base : BaseStays
+  pub cut : EndIsCutOut
   pub valid : ApprovedIsValid
 
 -- a file that meets all but the verdicts is valid where its questions are approved
@@ -161,7 +164,8 @@ no_redactions law d h = by d.redact refl
     by [] e = e
     by (t ∷ ts) e =
         let refused = ap (λ (xs : List (List ℕ)). redaction_refusal d.label [] xs) e ∙ law d.label t ts in
-        let bad : first_refusal (option_to_list (option_map (λ (r : RefusedRedaction). refuse_if true (RedactionRefused r.text r.code)) (Some _))) ≡ None = subst (λ (o : Option RefusedRedaction). first_refusal (option_to_list (option_map (λ (r : RefusedRedaction). refuse_if true (RedactionRefused r.text r.code)) o)) ≡ None) refused h in
+        let bad : first_refusal (option_to_list (option_map (λ (r : RefusedRedaction). refuse_if true (RedactionRefused r.text r.code)) (Some _))) ≡ None = subst
+        (λ (o : Option RefusedRedaction). first_refusal (option_to_list (option_map (λ (r : RefusedRedaction). refuse_if true (RedactionRefused r.text r.code)) o)) ≡ None) refused h in
         absurd (cc (bad))
 
 -- over each ground
@@ -237,6 +241,9 @@ meets_of l hash said media definition message b digests texts k =
     let store : Tree = place_store (hash (new_alg c.definition)) c k.signed g.base p in
     let meets : Meets hash (place_file g.base p k.bytes) (place_start p) (new_range_len p c) store (q ∷ met.older) =
     subst (λ (n : ℕ). Meets hash (place_file g.base p k.bytes) (place_start p) (range_len p c n) store (q ∷ met.older)) filled met.meets in
+    let stays = l.base (hash (new_alg c.definition)) c k.signed g.base k.bytes p (λ text. (digests (new_alg c.definition) text).sized) can k.put in
+    let less : taken_out (place_start p) (new_range_len p c) (place_file g.base p k.bytes) ≡ g.base =
+    subst (λ (n : ℕ). taken_out (place_start p) (range_len p c n) (place_file g.base p k.bytes) ≡ g.base) filled stays in
     record {
       store = store;
       question = q;
@@ -260,7 +267,9 @@ meets_of l hash said media definition message b digests texts k =
       signed = subst (λ (x : List ℕ). IsPlanned hash said media definition (Ok x)) (same_signed hash g p k.signed read header filled) (planned_of hash said media definition message b k);
       asked = met.asked;
       approved = met.approved;
-      base = subst (λ (n : ℕ). taken_out (place_start p) (range_len p c n) (place_file g.base p k.bytes) ≡ g.base) filled (l.base (hash (new_alg c.definition)) c k.signed g.base k.bytes p (λ text. (digests (new_alg c.definition) text).sized) can k.put);
+      begins = refl;
+      base = less;
+      kept = subst (KeepsBytes media k.kind) (sym less) (ground_keeps l.cut hash said media d k.kind g k.is_media k.is_ground);
       accepted = accepted_if l.valid hash (place_file g.base p k.bytes) (place_start p) (new_range_len p c) store (q ∷ met.older) meets;
     }
 

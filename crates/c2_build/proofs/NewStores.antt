@@ -39,9 +39,7 @@ use Rattle.c2_build.specs.Steps.{AreNewParts, ComesAs, IsDrafted, IsGround, IsNu
 use Rattle.c2_build.specs.declared.draft.Draft.{Draft}
 use Rattle.c2_build.specs.declared.draft.Drafted.{Drafted}
 use Rattle.c2_build.specs.declared.draft.Put.{Put}
-use Rattle.c2_build.specs.declared.draft.Put.TheVariants as Put
 use Rattle.c2_build.specs.declared.place.Seat.{Seat}
-use Rattle.c2_build.specs.declared.place.Seat.TheVariants as Seat
 use Rattle.c2_build.specs.declared.ready.Ready.{Ready}
 use Rattle.c2_build.specs.declared.error.BuildError.{BuildError}
 use Rattle.c2_build.specs.declared.error.BuildError.TheVariants as build
@@ -212,7 +210,8 @@ seat_known alg (Seat.Segments at number) start len digest = record { label = inl
 seat_known alg (Seat.Boxes rows) start len digest = record { label = inr refl; item = refl }
 
 -- and so can that of a draft
-pub store_packs : StoreSizeIsFixed → FilmSizeIsFixed → (hash : List ℕ → List ℕ) (known : Option (List ℕ)) (len : ℕ) (d : Definition) (w : Drafted) (parts : NewParts) (message store : List ℕ) → HasDigestLen (new_alg d) hash → AreNewParts hash known d w parts → length message ≡ d.reserve → IsSmall hash len d w
+pub store_packs : StoreSizeIsFixed → FilmSizeIsFixed → (hash : List ℕ → List ℕ) (known : Option (List ℕ)) (len : ℕ) (d : Definition) (w : Drafted) (parts : NewParts) (message store : List ℕ) → HasDigestLen (new_alg d) hash → AreNewParts
+    hash known d w parts → length message ≡ d.reserve → IsSmall hash len d w
     → IsMade d w.ground.carried parts message store → IsPacketStore store
 store_packs law film hash known len d w parts message store digests new filled small is =
     let c : Content = small.content in
@@ -228,7 +227,8 @@ store_packs law film hash known len d w parts message store digests new filled s
 -- ---- what comes of it
 
 -- what is ready is the new file
-pub ready_built : FillsOrNeedsMore → (hash : Alg → List ℕ → List ℕ) (said : Question → Verdict) (media : List ℕ) (kind : MediaKind) (d : Definition) (parts : SignParts) (w : Drafted) (at : IsDrafted hash said media d kind w) (message : List ℕ) (r : Result Ready BuildError) → IsSigned parts d.reserve message
+pub ready_built : FillsOrNeedsMore → (hash : Alg → List ℕ → List ℕ) (said : Question → Verdict) (media : List ℕ) (kind : MediaKind) (d : Definition) (parts : SignParts) (w : Drafted) (at : IsDrafted hash said media d kind w)
+    (message : List ℕ) (r : Result Ready BuildError) → IsSigned parts d.reserve message
     → IfOk r (λ x. IsPutReady (hash (new_alg d)) media x at.ground at.place message) → IfErr r SaysNothing → ComesAs (IsReady media) (IsEmbeddedOver hash said media kind d parts) r
 ready_built law hash said media kind d parts w at message (Ok x) signed h k =
     (built_of at.ground at.place h.bytes, built_over law hash said media kind d parts at.ground at.place message h.bytes at.passed at.is.content.definition h.are signed, h.is)

@@ -29,7 +29,8 @@ use Rattle.c2_built.specs.Store.{Content, new_alg}
 use Rattle.c2_carried.specs.Carrying.{ContentIsOne}
 use Rattle.c2_places.specs.Laws.{OneLeft, OnePlace}
 use Rattle.c2_places.specs.Places.{Place, place_store, put_bytes}
-use Rattle.c2_build.specs.Building.{IsBuilt, IsDefinitionRefused, IsDefinitionStage, IsEmbeddedOn, IsGroundOver, IsGroundStage, IsMediaRefused, IsMediaStage, IsMessageRead, IsMessageStage, IsPlaceStage, IsPlannedOn, MediaKind, Unless, built_of, definition_stage, fresh, fresh_ground, media_stage, message_stage, signed_bytes, stored}
+use Rattle.c2_build.specs.Building.{IsBuilt, IsDefinitionRefused, IsDefinitionStage, IsEmbeddedOn, IsGroundOver, IsGroundStage, IsMediaRefused, IsMediaStage, IsMessageRead, IsMessageStage, IsPlaceStage}
+use Rattle.c2_build.specs.Building.{IsPlannedOn, MediaKind, Unless, built_of, definition_stage, fresh, fresh_ground, media_stage, message_stage, signed_bytes, stored}
 use Rattle.c2_build.specs.Meeting.{OneEmbedding, OnePlan}
 use Rattle.c2_build.specs.Refusals.{Ground, first_refusal, ground_tests, late_tests, older_tests, redaction_tests}
 use Rattle.c2_build.proofs.Stages.{IsOne, one_then, one_unless}

@@ -1,13 +1,17 @@
 -- Answers that say nothing of the inputs, and the causes of errors.
-use Rattle.std.proofs.Common.{◌≡◌, ℕ, ◌<◌, List, [], ◌++◌, Option, Some, refl, sym, ap, ◌∙◌, subst, append-nil}
-use Rattle.std.specs.Prelude.{Result, Ok, Err}
+use Rattle.std.proofs.Common.{◌≡◌, ◌⊎◌, inl, inr, ℕ, ◌<◌, Bool, true, false, List, [], Option, Some, refl, sym, ap, ◌∙◌, subst}
+use Rattle.std.specs.Prelude.{IfErr, OnOk, Result, Ok, Err}
+use Rattle.c2_base.specs.Causes.{Rose}
+use Rattle.c2_base.specs.Source.{ReadsSource, StaysSource}
+use Rattle.c2_calls.proofs.SourceLemmas.{reads_next}
 use Rattle.c2_base.specs.declared.limits.TheConstants.{MAX_STORE_LEN}
 use Rattle.c2_base.specs.declared.values.Question.{Question}
-use Rattle.c2_spec.specs.Judges.Panel.{Judges}
-use Rattle.c2_rules.specs.Asking.{HaveAsked, HaveAskedPrefix}
-use Rattle.c2_build.specs.Answers.{HasAskedThose, WithoutFault}
+use Rattle.c2_opening.specs.declared.error.ValidateError.{ValidateError}
+use Rattle.c2_opening.specs.declared.error.ValidateError.TheVariants as error
+use Rattle.c2_validate.specs.Checked.{IsReadCause as CheckCause}
+use Rattle.c2_build.specs.Answers.{ErrorKind, IsSourceCause, WithoutFault, judge_fault, kind_of, message_refusal, no_memory, read_fault, refusal, write_fault}
 use Rattle.c2_build.specs.Building.{AskedBehind, AsksThen}
-use Rattle.c2_build.specs.Steps.{IsAskCause, IsEmbedCause, IsMessageCause, IsQuiet, IsReadCause, IsStoreRefusal, SaysNothing}
+use Rattle.c2_build.specs.Steps.{IsAskCause, IsQuiet, IsQuietKind, IsReadKind, IsStoreRefusal, SaysNothing, fault_of}
 use Rattle.c2_build.specs.declared.error.BuildError.{BuildError}
 use Rattle.c2_build.specs.declared.error.BuildError.TheVariants as build
 use Rattle.c2_build.proofs.Stages.{IsOne}
@@ -52,24 +56,6 @@ outside_all build.JudgeFault h = tt
 outside_all build.WriteFault h = tt
 outside_all build.NoMemory h = tt
 
--- what is said of any answer
-pub said_of : (e : BuildError) {P : Type 0} → P → WithoutFault e P
-said_of (build.MediaRefused reason number) h = h
-said_of (build.BadDefinition field) h = h
-said_of (build.BadSignature part) h = h
-said_of (build.ParentFails code uri) h = h
-said_of (build.LabelTaken label) h = h
-said_of (build.RedactionRefused text code) h = h
-said_of (build.OpenBox at) h = h
-said_of build.NoInstance h = h
-said_of (build.TooManyManifests n) h = h
-said_of (build.StoreTooLarge n) h = h
-said_of (build.ReserveTooSmall n) h = h
-said_of build.ReadFault h = tt
-said_of build.JudgeFault h = tt
-said_of build.WriteFault h = tt
-said_of build.NoMemory h = tt
-
 -- a store is refused by its length
 pub store_outside : (len : ℕ) (e : BuildError) (o : Option BuildError) → IsStoreRefusal len e → (MAX_STORE_LEN < len → o ≡ Some (build.StoreTooLarge len)) → WithoutFault e (o ≡ Some e)
 store_outside len (build.MediaRefused reason number) o h f = absurd h
@@ -90,97 +76,149 @@ store_outside len build.NoMemory o h f = tt
 
 -- ---- causes
 
--- a step that reads, behind judges who were asked and didn't fail
-pub read_ask : (m n : ℕ) (js ks : List ℕ) (e : BuildError) → ks ≡ js → IsReadCause m n e → IsAskCause m n js ks e
-read_ask m n js ks (build.MediaRefused reason number) same h = (h, same)
-read_ask m n js ks (build.BadDefinition field) same h = (h, same)
-read_ask m n js ks (build.BadSignature part) same h = absurd h
-read_ask m n js ks (build.ParentFails code uri) same h = (h, same)
-read_ask m n js ks (build.LabelTaken label) same h = (h, same)
-read_ask m n js ks (build.RedactionRefused text code) same h = (h, same)
-read_ask m n js ks (build.OpenBox at) same h = (h, same)
-read_ask m n js ks build.NoInstance same h = (h, same)
-read_ask m n js ks (build.TooManyManifests k) same h = (h, same)
-read_ask m n js ks (build.StoreTooLarge k) same h = (h, same)
-read_ask m n js ks (build.ReserveTooSmall k) same h = absurd h
-read_ask m n js ks build.ReadFault same h = h
-read_ask m n js ks build.JudgeFault same h = absurd h
-read_ask m n js ks build.WriteFault same h = absurd h
-read_ask m n js ks build.NoMemory same h = tt
+-- a step that reads is one that may ask judges
+pub read_cause : (Other : Type 0) (signs asks writes : Bool) (m n : ℕ) (k : ErrorKind) → IsReadKind signs m n k → IsSourceCause signs asks writes Other m n k
+read_cause Other signs asks writes m n refusal h = h
+read_cause Other signs asks writes m n message_refusal h = h
+read_cause Other signs asks writes m n read_fault h = inl h
+read_cause Other signs asks writes m n judge_fault h = absurd h
+read_cause Other signs asks writes m n write_fault h = absurd h
+read_cause Other signs asks writes m n no_memory h = tt
 
--- one that neither reads nor asks
-pub quiet_ask : (m n : ℕ) (js ks : List ℕ) (e : BuildError) → n ≡ m → ks ≡ js → IsQuiet e → IsAskCause m n js ks e
-quiet_ask m n js ks (build.MediaRefused reason number) count same h = (count, same)
-quiet_ask m n js ks (build.BadDefinition field) count same h = (count, same)
-quiet_ask m n js ks (build.BadSignature part) count same h = absurd h
-quiet_ask m n js ks (build.ParentFails code uri) count same h = (count, same)
-quiet_ask m n js ks (build.LabelTaken label) count same h = (count, same)
-quiet_ask m n js ks (build.RedactionRefused text code) count same h = (count, same)
-quiet_ask m n js ks (build.OpenBox at) count same h = (count, same)
-quiet_ask m n js ks build.NoInstance count same h = (count, same)
-quiet_ask m n js ks (build.TooManyManifests k) count same h = (count, same)
-quiet_ask m n js ks (build.StoreTooLarge k) count same h = (count, same)
-quiet_ask m n js ks (build.ReserveTooSmall k) count same h = absurd h
-quiet_ask m n js ks build.ReadFault count same h = absurd h
-quiet_ask m n js ks build.JudgeFault count same h = absurd h
-quiet_ask m n js ks build.WriteFault count same h = absurd h
-quiet_ask m n js ks build.NoMemory count same h = tt
+-- so is one that neither reads nor asks
+pub quiet_cause : (Other : Type 0) (signs asks writes : Bool) (m n : ℕ) (k : ErrorKind) → n ≡ m → IsQuietKind k → IsSourceCause signs asks writes Other m n k
+quiet_cause Other signs asks writes m n refusal same h = same
+quiet_cause Other signs asks writes m n message_refusal same h = absurd h
+quiet_cause Other signs asks writes m n read_fault same h = absurd h
+quiet_cause Other signs asks writes m n judge_fault same h = absurd h
+quiet_cause Other signs asks writes m n write_fault same h = absurd h
+quiet_cause Other signs asks writes m n no_memory same h = tt
+
+-- the same of its result
+pub quiet_results : {T : Type 0} (Other : Type 0) (signs asks writes : Bool) (m n : ℕ) (r : Result T BuildError) → n ≡ m → IfErr r IsQuiet → IfErr r (λ e. IsSourceCause signs asks writes Other m n (kind_of e))
+quiet_results Other signs asks writes m n (Ok x) same h = tt
+quiet_results Other signs asks writes m n (Err e) same h = quiet_cause Other signs asks writes m n (kind_of e) same h
+
+-- and of that of a step that reads
+pub read_results : {T : Type 0} (Other : Type 0) (reads signs asks writes : Bool) (m n : ℕ) (r : Result T BuildError) → ((k : ErrorKind) → IsReadKind reads m n k → IsReadKind signs m n k) → IfErr r (λ e. IsReadKind reads m n (kind_of e))
+    → IfErr r (λ e. IsSourceCause signs asks writes Other m n (kind_of e))
+read_results Other reads signs asks writes m n (Ok x) f h = tt
+read_results Other reads signs asks writes m n (Err e) f h = read_cause Other signs asks writes m n (kind_of e) (f (kind_of e) h)
 
 -- a step of both calls is one of `embed`
-pub ask_embed : (m n : ℕ) (js ks : List ℕ) (e : BuildError) → IsAskCause m n js ks e → IsEmbedCause m n js ks e
-ask_embed m n js ks (build.MediaRefused reason number) h = h
-ask_embed m n js ks (build.BadDefinition field) h = h
-ask_embed m n js ks (build.BadSignature part) h = absurd h
-ask_embed m n js ks (build.ParentFails code uri) h = h
-ask_embed m n js ks (build.LabelTaken label) h = h
-ask_embed m n js ks (build.RedactionRefused text code) h = h
-ask_embed m n js ks (build.OpenBox at) h = h
-ask_embed m n js ks build.NoInstance h = h
-ask_embed m n js ks (build.TooManyManifests k) h = h
-ask_embed m n js ks (build.StoreTooLarge k) h = h
-ask_embed m n js ks (build.ReserveTooSmall k) h = absurd h
-ask_embed m n js ks build.ReadFault h = h
-ask_embed m n js ks build.JudgeFault h = h
-ask_embed m n js ks build.WriteFault h = absurd h
-ask_embed m n js ks build.NoMemory h = h
+pub signed_read : (m n : ℕ) (k : ErrorKind) → IsReadKind false m n k → IsReadKind true m n k
+signed_read m n refusal h = h
+signed_read m n message_refusal h = absurd h
+signed_read m n read_fault h = h
+signed_read m n judge_fault h = h
+signed_read m n write_fault h = h
+signed_read m n no_memory h = h
 
--- ---- judges
+-- and so it is where judges are asked
+pub signed_cause : (Other : Type 0) (m n : ℕ) (k : ErrorKind) → IsSourceCause false true false Other m n k → IsSourceCause true true false Other m n k
+signed_cause Other m n refusal h = h
+signed_cause Other m n message_refusal h = absurd h
+signed_cause Other m n read_fault h = h
+signed_cause Other m n judge_fault h = h
+signed_cause Other m n write_fault h = h
+signed_cause Other m n no_memory h = h
 
--- nothing was asked, as is due where the inputs are refused
-pub none_asked : (T : Type 0) (Asks : List Question → Type 0) (j : Judges) (e : BuildError) → (e ≡ build.JudgeFault → ⊥) → (e ≡ build.WriteFault → ⊥) → WithoutFault e ((qs : List Question) → Asks qs → qs ≡ []) → HasAskedThose {T = T} Asks j j (Err e)
-none_asked T Asks j (build.MediaRefused reason number) judge write h = λ qs a. subst (λ (x : List Question). HaveAsked j.said x j.asked j.asked) (sym (h qs a)) refl
-none_asked T Asks j (build.BadDefinition field) judge write h = λ qs a. subst (λ (x : List Question). HaveAsked j.said x j.asked j.asked) (sym (h qs a)) refl
-none_asked T Asks j (build.BadSignature part) judge write h = λ qs a. subst (λ (x : List Question). HaveAsked j.said x j.asked j.asked) (sym (h qs a)) refl
-none_asked T Asks j (build.ParentFails code uri) judge write h = λ qs a. subst (λ (x : List Question). HaveAsked j.said x j.asked j.asked) (sym (h qs a)) refl
-none_asked T Asks j (build.LabelTaken label) judge write h = λ qs a. subst (λ (x : List Question). HaveAsked j.said x j.asked j.asked) (sym (h qs a)) refl
-none_asked T Asks j (build.RedactionRefused text code) judge write h = λ qs a. subst (λ (x : List Question). HaveAsked j.said x j.asked j.asked) (sym (h qs a)) refl
-none_asked T Asks j (build.OpenBox at) judge write h = λ qs a. subst (λ (x : List Question). HaveAsked j.said x j.asked j.asked) (sym (h qs a)) refl
-none_asked T Asks j build.NoInstance judge write h = λ qs a. subst (λ (x : List Question). HaveAsked j.said x j.asked j.asked) (sym (h qs a)) refl
-none_asked T Asks j (build.TooManyManifests n) judge write h = λ qs a. subst (λ (x : List Question). HaveAsked j.said x j.asked j.asked) (sym (h qs a)) refl
-none_asked T Asks j (build.StoreTooLarge n) judge write h = λ qs a. subst (λ (x : List Question). HaveAsked j.said x j.asked j.asked) (sym (h qs a)) refl
-none_asked T Asks j (build.ReserveTooSmall n) judge write h = λ qs a. subst (λ (x : List Question). HaveAsked j.said x j.asked j.asked) (sym (h qs a)) refl
-none_asked T Asks j build.ReadFault judge write h = λ qs a. record { prefix = []; rest = qs; split = refl; asked = refl }
-none_asked T Asks j build.JudgeFault judge write h = absurd (judge refl)
-none_asked T Asks j build.WriteFault judge write h = absurd (write refl)
-none_asked T Asks j build.NoMemory judge write h = λ qs a. record { prefix = []; rest = qs; split = refl; asked = refl }
+-- so is one before anything is written
+pub written_cause : (Other : Type 0) (m n : ℕ) (k : ErrorKind) → IsSourceCause true true false Other m n k → IsSourceCause true true true Other m n k
+written_cause Other m n refusal h = h
+written_cause Other m n message_refusal h = h
+written_cause Other m n read_fault h = h
+written_cause Other m n judge_fault h = h
+written_cause Other m n write_fault h = absurd h
+written_cause Other m n no_memory h = h
 
--- all was asked before, and then a step fails that asks nothing
-pub asked_before : (T : Type 0) (Asks : List Question → Type 0) (old new : Judges) (e : BuildError) → (e ≡ build.JudgeFault → ⊥) → ((qs : List Question) → Asks qs → HaveAsked old.said qs old.asked new.asked) → HasAskedThose {T = T} Asks old new (Err e)
-asked_before T Asks old new (build.MediaRefused reason number) judge h = h
-asked_before T Asks old new (build.BadDefinition field) judge h = h
-asked_before T Asks old new (build.BadSignature part) judge h = h
-asked_before T Asks old new (build.ParentFails code uri) judge h = h
-asked_before T Asks old new (build.LabelTaken label) judge h = h
-asked_before T Asks old new (build.RedactionRefused text code) judge h = h
-asked_before T Asks old new (build.OpenBox at) judge h = h
-asked_before T Asks old new build.NoInstance judge h = h
-asked_before T Asks old new (build.TooManyManifests n) judge h = h
-asked_before T Asks old new (build.StoreTooLarge n) judge h = h
-asked_before T Asks old new (build.ReserveTooSmall n) judge h = h
-asked_before T Asks old new build.ReadFault judge h = λ qs a. record { prefix = qs; rest = []; split = sym (append-nil qs); asked = h qs a }
-asked_before T Asks old new build.JudgeFault judge h = absurd (judge refl)
-asked_before T Asks old new build.WriteFault judge h = h
-asked_before T Asks old new build.NoMemory judge h = λ qs a. record { prefix = qs; rest = []; split = sym (append-nil qs); asked = h qs a }
+-- where a source failed beside others
+pub among_sources : (signs asks writes : Bool) {Other Others : Type 0} (m n : ℕ) (k : ErrorKind) → (Other → Others) → IsSourceCause signs asks writes Other m n k → IsSourceCause signs asks writes Others m n k
+among_sources signs asks writes m n refusal f h = h
+among_sources signs asks writes m n message_refusal f h = h
+among_sources signs asks writes m n read_fault f (inl h) = inl h
+among_sources signs asks writes m n read_fault f (inr h) = inr (f h)
+among_sources signs asks writes m n judge_fault f h = h
+among_sources signs asks writes m n write_fault f h = h
+among_sources signs asks writes m n no_memory f h = h
+
+-- what that says of a source beside it that wasn't read
+pub beside_source : (signs asks writes : Bool) {Other Others : Type 0} (l m n : ℕ) (k : ErrorKind) → (Rose m n ⊎ Other → Others) → IsSourceCause signs asks writes Other m n k → IsSourceCause signs asks writes Others l l k
+beside_source signs asks writes l m n refusal f h = refl
+beside_source true asks writes l m n message_refusal f h = refl
+beside_source false asks writes l m n message_refusal f h = absurd h
+beside_source signs asks writes l m n read_fault f h = inr (f h)
+beside_source signs asks writes l m n judge_fault f h = h
+beside_source signs asks writes l m n write_fault f h = h
+beside_source signs asks writes l m n no_memory f h = h
+
+-- a fault of the check
+pub fault_cause : (m n : ℕ) (e : ValidateError) → CheckCause m n e → IsAskCause m n (fault_of e)
+fault_cause m n error.ReadFault h = inl h
+fault_cause m n error.JudgeFault h = tt
+fault_cause m n error.NoMemory h = tt
+
+-- it says nothing of the inputs
+pub fault_said : (P : Type 0) (e : ValidateError) → WithoutFault (fault_of e) P
+fault_said P error.ReadFault = tt
+fault_said P error.JudgeFault = tt
+fault_said P error.NoMemory = tt
+
+-- ---- sources
+
+-- what holds of any answer holds of success
+on_any : {A E P : Type 0} (r : Result A E) → P → OnOk r P
+on_any (Ok a) h = h
+on_any (Err e) h = tt
+
+-- a step that reads, behind one that succeeded
+pub reads_behind : {S T U : Type 0} (signs asks writes : Bool) {Other : Type 0} {len : S → ℕ} {known : S → Option (List ℕ)} {faults : S → ℕ} {Below : ℕ → ℕ → BuildError → Type 0} (old between new : S) (x : T) (r : Result U BuildError)
+    → ReadsSource len known faults Below old between (Ok x) → StaysSource len known faults between new → OnOk r (faults new ≡ faults between) → IfErr r (λ e. IsReadKind signs (faults between) (faults new) (kind_of e))
+    → ReadsSource len known faults (λ m n e. IsSourceCause signs asks writes Other m n (kind_of e)) old new r
+reads_behind signs asks writes {Other} {len} {known} {faults} {Below} old between new x r h stays quiet cause =
+    reads_next len known faults Below (λ m n e. IsSourceCause signs asks writes Other m n (kind_of e)) old between new x r h
+    (record { stays = stays; quiet = quiet; cause = read_results Other signs signs asks writes (faults between) (faults new) r (λ k q. q) cause })
+
+-- the same of a step of both calls, in `embed`
+pub reads_then_reads : {S T U : Type 0} (signs asks writes : Bool) {Other : Type 0} {len : S → ℕ} {known : S → Option (List ℕ)} {faults : S → ℕ} {Below : ℕ → ℕ → BuildError → Type 0} (old between new : S) (x : T) (r : Result U BuildError)
+    → ReadsSource len known faults Below old between (Ok x) → StaysSource len known faults between new → OnOk r (faults new ≡ faults between)
+    → ((m n : ℕ) (k : ErrorKind) → IsReadKind false m n k → IsReadKind signs m n k) → IfErr r (λ e. IsReadKind false (faults between) (faults new) (kind_of e))
+    → ReadsSource len known faults (λ m n e. IsSourceCause signs asks writes Other m n (kind_of e)) old new r
+reads_then_reads signs asks writes {Other} {len} {known} {faults} {Below} old between new x r h stays quiet f cause =
+    reads_next len known faults Below (λ m n e. IsSourceCause signs asks writes Other m n (kind_of e)) old between new x r h
+    (record { stays = stays; quiet = quiet; cause = read_results Other false signs asks writes (faults between) (faults new) r (f (faults between) (faults new)) cause })
+
+-- an answer of a step that neither reads nor asks, behind two that succeeded
+pub reads_quietly : {S T U : Type 0} (signs asks writes : Bool) {Other : Type 0} {len : S → ℕ} {known : S → Option (List ℕ)} {faults : S → ℕ} {Below : ℕ → ℕ → BuildError → Type 0} (old between new : S) (x : T) (r : Result U BuildError)
+    → ReadsSource len known faults Below old between (Ok x) → StaysSource len known faults between new → faults new ≡ faults between → IfErr r IsQuiet
+    → ReadsSource len known faults (λ m n e. IsSourceCause signs asks writes Other m n (kind_of e)) old new r
+reads_quietly signs asks writes {Other} {len} {known} {faults} {Below} old between new x r h stays quiet cause =
+    reads_next len known faults Below (λ m n e. IsSourceCause signs asks writes Other m n (kind_of e)) old between new x r h
+    (record { stays = stays; quiet = on_any r quiet; cause = quiet_results Other signs asks writes (faults between) (faults new) r quiet cause })
+
+-- a source that was read before, or not at all, where another one is read
+pub reads_earlier : {S T : Type 0} (signs asks writes : Bool) {Other Others : Type 0} {len : S → ℕ} {known : S → Option (List ℕ)} {faults : S → ℕ} (old new : S) (m n : ℕ) (r : Result T BuildError)
+    → StaysSource len known faults old new → faults new ≡ faults old → (Rose m n ⊎ Other → Others) → IfErr r (λ e. IsSourceCause signs asks writes Other m n (kind_of e))
+    → ReadsSource len known faults (λ i j e. IsSourceCause signs asks writes Others i j (kind_of e)) old new r
+reads_earlier signs asks writes old new m n (Ok x) stays quiet f cause = record { stays = stays; quiet = quiet; cause = tt }
+reads_earlier signs asks writes {Other} {Others} {len} {known} {faults} old new m n (Err e) stays quiet f cause = record {
+  stays = stays;
+  quiet = tt;
+  cause = subst (λ (j : ℕ). IsSourceCause signs asks writes Others (faults old) j (kind_of e)) (sym quiet) (beside_source signs asks writes (faults old) m n (kind_of e) f cause);
+}
+
+-- one that is read, where others are
+pub reads_among : {S T : Type 0} (signs asks writes : Bool) {Other Others : Type 0} {len : S → ℕ} {known : S → Option (List ℕ)} {faults : S → ℕ} (old new : S) (r : Result T BuildError) → (Other → Others)
+    → ReadsSource len known faults (λ i j e. IsSourceCause signs asks writes Other i j (kind_of e)) old new r → ReadsSource len known faults (λ i j e. IsSourceCause signs asks writes Others i j (kind_of e)) old new r
+reads_among signs asks writes old new (Ok x) f h = record { stays = h.stays; quiet = h.quiet; cause = tt }
+reads_among signs asks writes {Other} {Others} {len} {known} {faults} old new (Err e) f h = record { stays = h.stays; quiet = tt; cause = among_sources signs asks writes (faults old) (faults new) (kind_of e) f h.cause }
+
+-- no other source failed
+pub alone : {A B : Type 0} → (A → B) → A ⊎ ⊥ → B
+alone f (inl a) = f a
+alone f (inr b) = absurd b
+
+-- ---- questions
 
 -- what is asked behind a stage is what its value asks
 pub asks_behind : {A : Type 0} (First : Result A BuildError → Type 0) (Asks : A → List Question → Type 0) (a : A) (qs : List Question) → IsOne First → First (Ok a) → AsksThen First Asks qs → Asks a qs

@@ -21,7 +21,6 @@ use Rattle.c2_build.specs.declared.draft.Draft.{Draft}
 use Rattle.c2_build.specs.declared.error.BuildError.{BuildError}
 use Rattle.c2_build.specs.declared.ground.KeptGround.{KeptGround}
 use Rattle.c2_build.specs.declared.media.FileForm.{FileForm}
-use Rattle.c2_build.specs.declared.media.FileForm.TheVariants as FileForm
 use Rattle.c2_build.specs.declared.place.Seat.{Seat}
 use Rattle.c2_build.proofs.Drafted.{seat_range}
 use Rattle.c2_build.proofs.OneBuild.{ground_of}

@@ -1,13 +1,11 @@
 -- What is known of a place where no test on it fails.
-use Rattle.std.proofs.Common.{◌≡◌, ℕ, ◌+◌, ◌<◌, ◌≤◌, true, List, length, Option, Some, None, refl, arith}
+use Rattle.std.proofs.Common.{◌≡◌, ℕ, ◌+◌, ◌<◌, ◌≤◌, true, List, length, Option, Some, None, refl}
 use Rattle.std.specs.Prelude.{nat_lt, nat_le, option_map}
 use Rattle.std.specs.Option.{option_to_list}
 use Rattle.std.proofs.lemmas.Bool.{ltb-false, leb-false}
 use Rattle.c2_base.specs.declared.limits.TheConstants.{FILE_LEN_LIMIT, MAX_MANIFESTS, MAX_ROOT_BOXES, MAX_STORE_LEN}
-use Rattle.c2_spec.specs.Bmff.Boxes.{Box, most_roots}
 use Rattle.c2_spec.specs.Bmff.Paths.{placed_from}
 use Rattle.c2_spec.specs.Bmff.Writing.{open_end}
-use Rattle.c2_spec.specs.Jpeg.Segments.{Segment}
 use Rattle.c2_places.specs.Places.{HasRoom, Place, in_boxes, in_segments, put_bytes}
 use Rattle.c2_build.specs.Refusals.{Ground, box_tests, first_refusal, ground_tests, new_range_len, new_store_len, place_tests, refuse_if}
 use Rattle.c2_build.specs.declared.error.BuildError.TheVariants.{OpenBox}

@@ -1,30 +1,28 @@
 -- What can be put in at a place that was found.
-use Rattle.std.proofs.Common.{◌≡◌, ℕ, ◌<◌, ◌≤◌, Bool, true, arith, List, [], ◌∷◌, length, Option, Some, None, option_map, refl, sym, ap, ◌∙◌}
-use Rattle.std.specs.Prelude.{Ok, Err, is_none}
+use Rattle.std.proofs.Common.{◌≡◌, ℕ, ◌<◌, ◌≤◌, Bool, true, false, cond, arith, List, [], ◌∷◌, length, Option, Some, None, option_map, refl, sym, ap, ◌∙◌}
+use Rattle.std.specs.Prelude.{Ok, Err, take, ◌+◌, ◌-◌}
 use Rattle.std.specs.Option.{option_to_list}
 use Rattle.std.proofs.lemmas.Bool.{le-leb, lt-leb}
 use Rattle.c2_base.specs.declared.limits.TheConstants.{MAX_ROOT_BOXES}
 use Rattle.c2_base.specs.declared.media.MediaError.{MediaError}
 use Rattle.c2_base.specs.declared.media.MediaError.TheVariants as media
-use Rattle.c2_spec.specs.Bmff.Boxes.{Box, HasRoots}
 use Rattle.c2_spec.specs.Bmff.Paths.{placed_from}
-use Rattle.c2_spec.specs.Bmff.Writing.{open_end, place_or}
+use Rattle.c2_spec.specs.Bmff.Writing.{less, mfra_kind, open_end, place_or}
 use Rattle.c2_spec.specs.Bmff.Writing as bmff
 use Rattle.c2_spec.specs.declared.reason.Reason.TheVariants.{TooManyBoxes}
-use Rattle.c2_boxes.specs.Roots.{AreRootsOf}
-use Rattle.c2_box_rows.specs.Rows.{rows_of}
+use Rattle.std.specs.Str.{bytes_eq}
+use Rattle.c2_boxes.specs.Places.{place_behind, place_less}
+use Rattle.c2_boxes.specs.Roots.{AreRootsOf, skipped_len}
 use Rattle.c2_box_rows.proofs.Lists.{length-rows}
 use Rattle.c2_built.specs.Built.{bound_len}
 use Rattle.c2_built.specs.Store.{Content, new_alg}
 use Rattle.c2_box_rows.specs.declared.row.RootBox.{RootBox}
-use Rattle.c2_places.specs.Places.{IsPlace, Place, bound_text, in_boxes, in_segments}
+use Rattle.c2_places.specs.Places.{IsPlace, Place, in_boxes, in_segments}
 use Rattle.c2_build.specs.Refusals.{box_tests, first_refusal, place_tests, refuse_if}
 use Rattle.c2_build.specs.Steps.{IsFitted, IsSeat, seat_binding, seat_store_len}
 use Rattle.c2_build.specs.declared.draft.Put.TheVariants as Put
-use Rattle.c2_build.specs.declared.error.BuildError.{BuildError}
-use Rattle.c2_build.specs.declared.error.BuildError.TheVariants.{MediaRefused, NoInstance, OpenBox}
+use Rattle.c2_build.specs.declared.error.BuildError.TheVariants.{MediaRefused, OpenBox}
 use Rattle.c2_build.specs.declared.place.Seat.{Seat}
-use Rattle.c2_build.specs.declared.place.Seat.TheVariants as Seat
 use Rattle.c2_spec.specs.Digest.{zero_digest}
 
 -- where a box goes, by whether the last root box is open
@@ -55,15 +53,19 @@ box_refused rows broken base (in_boxes roots) at h place =
     ap (λ (o : Option ℕ). first_refusal (option_to_list (option_map (λ (n : ℕ). refuse_if true (OpenBox n)) o))) (open_place (open_end (placed_from 0 roots)) broken (bmff.insert_place roots) (place base (record { boxes = roots; has_roots = at.1; are = h })))
 
 -- no other error comes of it
-only_open : {P : Type 0} (o : Option ℕ) (e : MediaError) (place : ℕ) → ((at : ℕ) → e ≡ media.BadBox at → ⊥) → Err e ≡ place_or o place → P
-only_open None e place other h = absurd (cc (h))
-only_open (Some n) e place other h = let same : e ≡ media.BadBox n = cc (h) in absurd (other n same)
+refused_open : (out : ℕ) (rows : List RootBox) (e : MediaError) → Err e ≡ place_behind out rows → ((at : ℕ) → e ≡ media.BadBox at → ⊥) → ⊥
+refused_open out [] e h other = cc (h)
+refused_open out (r ∷ []) e h other = by (bytes_eq r.kind mfra_kind) r.to_end h
+  where
+    by : (last whole : Bool) → Err e ≡ cond last (Ok (r.start - out)) (cond whole (Err (media.BadBox r.start)) (Ok (r.start + r.length - out))) → ⊥
+    by true whole k = cc (k)
+    by false true k = let same : e ≡ media.BadBox r.start = cc (k) in other r.start same
+    by false false k = cc (k)
+refused_open out (r ∷ s ∷ rs) e h other = refused_open out (s ∷ rs) e h other
 
--- so none does of a file that has such root boxes
-pub never_refused : (rows : List RootBox) (e : MediaError) (f : BuildError) (base : List ℕ) (p : Place) → IsPlace base p → IsSeat (Seat.Boxes rows) p → ((at : ℕ) → e ≡ media.BadBox at → ⊥) → ((file : List ℕ) (r : AreRootsOf file rows) → Err e ≡ bmff.place_without None r.boxes) → first_refusal (place_tests p) ≡ Some f
-never_refused rows e f base (in_segments segments number) at h other place = absurd h
-never_refused rows e f base (in_boxes roots) at h other place =
-    only_open (open_end (placed_from 0 roots)) e (bmff.insert_place roots) other (place base (record { boxes = roots; has_roots = at.1; are = h }))
+-- nor where the row of an index is left out, if one is
+pub refused_less : (skip : Option ℕ) (rows : List RootBox) (e : MediaError) → Err e ≡ place_less skip rows → ((at : ℕ) → e ≡ media.BadBox at → ⊥) → ⊥
+refused_less skip rows e h other = refused_open (skipped_len skip (take (length rows - 1) rows)) (less skip rows) e h other
 
 -- ---- how many root boxes
 

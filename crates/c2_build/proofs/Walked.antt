@@ -1,5 +1,5 @@
 -- What the errors of a walk over the segments of a JPEG file say.
-use Rattle.std.proofs.Common.{◌≡◌, ℕ, true, false, List, Option, Some, option_map, refl, sym, ap, ◌∙◌, subst}
+use Rattle.std.proofs.Common.{◌≡◌, ℕ, true, false, List, Option, Some, None, option_map, refl, sym, ap, ◌∙◌, subst}
 use Rattle.std.proofs.lemmas.Bool.{false≢true}
 use Rattle.c2_base.specs.declared.media.MediaError.{MediaError}
 use Rattle.c2_base.specs.declared.media.MediaError.TheVariants as media
@@ -53,6 +53,22 @@ told file (media.StoreTooLarge n) read memory h = h
 told file media.TooManyBoxes read memory h = h
 told file media.ReadFault read memory h = absurd (read refl)
 told file media.NoMemory read memory h = absurd (memory refl)
+
+-- and is a refusal
+pub refuses : (e : MediaError) → (e ≡ media.ReadFault → ⊥) → (e ≡ media.NoMemory → ⊥) → media_refusal e ≡ None → ⊥
+refuses media.NotMedia read memory is = cc (is)
+refuses (media.FileTooLarge n) read memory is = cc (is)
+refuses (media.Truncated n) read memory is = cc (is)
+refuses (media.BadMarker n) read memory is = cc (is)
+refuses (media.BadSegment n) read memory is = cc (is)
+refuses (media.BadPacket n) read memory is = cc (is)
+refuses (media.TwoStores n) read memory is = cc (is)
+refuses (media.BadBox n) read memory is = cc (is)
+refuses (media.BadProvenanceBox n) read memory is = cc (is)
+refuses (media.StoreTooLarge n) read memory is = cc (is)
+refuses media.TooManyBoxes read memory is = cc (is)
+refuses media.ReadFault read memory is = absurd (read refl)
+refuses media.NoMemory read memory is = absurd (memory refl)
 
 -- a list of segments of a file is one
 abbrev pub OneList : Type 0

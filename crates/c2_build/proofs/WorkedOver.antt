@@ -81,7 +81,9 @@ second = record { label = codes "urn:c2pa:00000000-0000-4000-8000-00000000000b";
 
 -- {"label":"urn:c2pa:00000000-0000-4000-8000-00000000000b","instance_id":"i","generator":"g","protected":"0A","reserve":64}
 abbrev second_file : List ℕ
-second_file = 123 ∷ 34 ∷ 108 ∷ 97 ∷ 98 ∷ 101 ∷ 108 ∷ 34 ∷ 58 ∷ 34 ∷ 117 ∷ 114 ∷ 110 ∷ 58 ∷ 99 ∷ 50 ∷ 112 ∷ 97 ∷ 58 ∷ 48 ∷ 48 ∷ 48 ∷ 48 ∷ 48 ∷ 48 ∷ 48 ∷ 48 ∷ 45 ∷ 48 ∷ 48 ∷ 48 ∷ 48 ∷ 45 ∷ 52 ∷ 48 ∷ 48 ∷ 48 ∷ 45 ∷ 56 ∷ 48 ∷ 48 ∷ 48 ∷ 45 ∷ 48 ∷ 48 ∷ 48 ∷ 48 ∷ 48 ∷ 48 ∷ 48 ∷ 48 ∷ 48 ∷ 48 ∷ 48 ∷ 98 ∷ 34 ∷ 44 ∷ 34 ∷ 105 ∷ 110 ∷ 115 ∷ 116 ∷ 97 ∷ 110 ∷ 99 ∷ 101 ∷ 95 ∷ 105 ∷ 100 ∷ 34 ∷ 58 ∷ 34 ∷ 105 ∷ 34 ∷ 44 ∷ 34 ∷ 103 ∷ 101 ∷ 110 ∷ 101 ∷ 114 ∷ 97 ∷ 116 ∷ 111 ∷ 114 ∷ 34 ∷ 58 ∷ 34 ∷ 103 ∷ 34 ∷ 44 ∷ 34 ∷ 112 ∷ 114 ∷ 111 ∷ 116 ∷ 101 ∷ 99 ∷ 116 ∷ 101 ∷ 100 ∷ 34 ∷ 58 ∷ 34 ∷ 48 ∷ 65 ∷ 34 ∷ 44 ∷ 34 ∷ 114 ∷ 101 ∷ 115 ∷ 101 ∷ 114 ∷ 118 ∷ 101 ∷ 34 ∷ 58 ∷ 54 ∷ 52 ∷ 125 ∷ []
+second_file = 123 ∷ 34 ∷ 108 ∷ 97 ∷ 98 ∷ 101 ∷ 108 ∷ 34 ∷ 58 ∷ 34 ∷ 117 ∷ 114 ∷ 110 ∷ 58 ∷ 99 ∷ 50 ∷ 112 ∷ 97 ∷ 58 ∷ 48 ∷ 48 ∷ 48 ∷ 48 ∷ 48 ∷ 48 ∷ 48 ∷ 48 ∷ 45 ∷ 48 ∷ 48 ∷ 48 ∷ 48 ∷ 45 ∷ 52 ∷ 48 ∷ 48 ∷ 48 ∷ 45 ∷ 56 ∷ 48 ∷ 48 ∷ 48 ∷ 45 ∷ 48
+    ∷ 48 ∷ 48 ∷ 48 ∷ 48 ∷ 48 ∷ 48 ∷ 48 ∷ 48 ∷ 48 ∷ 48 ∷ 98 ∷ 34 ∷ 44 ∷ 34 ∷ 105 ∷ 110 ∷ 115 ∷ 116 ∷ 97 ∷ 110 ∷ 99 ∷ 101 ∷ 95 ∷ 105 ∷ 100 ∷ 34 ∷ 58 ∷ 34 ∷ 105 ∷ 34 ∷ 44 ∷ 34 ∷ 103 ∷ 101 ∷ 110 ∷ 101 ∷ 114 ∷ 97 ∷ 116 ∷ 111 ∷ 114 ∷ 34 ∷ 58 ∷
+    34 ∷ 103 ∷ 34 ∷ 44 ∷ 34 ∷ 112 ∷ 114 ∷ 111 ∷ 116 ∷ 101 ∷ 99 ∷ 116 ∷ 101 ∷ 100 ∷ 34 ∷ 58 ∷ 34 ∷ 48 ∷ 65 ∷ 34 ∷ 44 ∷ 34 ∷ 114 ∷ 101 ∷ 115 ∷ 101 ∷ 114 ∷ 118 ∷ 101 ∷ 34 ∷ 58 ∷ 54 ∷ 52 ∷ 125 ∷ []
 
 -- that is what it is read as
 second_row : (payloads : Bool) → payloads ≡ true → definition_in payloads second_file ≡ Ok second
@@ -180,7 +182,8 @@ total b = 38 + length (tree_bytes (first_manifest b)) + length (tree_bytes (seco
 -- the refusal where so many manifests are in a store of so many bytes, beside a base of so many
 abbrev pub refusal_with : Place → ℕ → Definition → ℕ → ℕ → ℕ → Option BuildError
 refusal_with p base d manifests size range =
-    first_refusal ((place_tests p ++ (refuse_if (nat_lt MAX_MANIFESTS manifests) (TooManyManifests manifests) ∷ refuse_if (nat_lt MAX_STORE_LEN size) (StoreTooLarge size) ∷ refuse_if (nat_le FILE_LEN_LIMIT (base + range)) (MediaRefused FileTooLarge (base + range)) ∷ box_tests p)) ++ reserve_tests d parts)
+    first_refusal ((place_tests p ++ (refuse_if (nat_lt MAX_MANIFESTS manifests) (TooManyManifests manifests) ∷ refuse_if (nat_lt MAX_STORE_LEN size) (StoreTooLarge size) ∷ refuse_if (nat_le FILE_LEN_LIMIT (base + range))
+    (MediaRefused FileTooLarge (base + range)) ∷ box_tests p)) ++ reserve_tests d parts)
 
 -- ---- what is known of the media
 

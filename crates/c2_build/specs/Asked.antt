@@ -10,7 +10,7 @@ abbrev pub OnePlanAsks : Type 0
 OnePlanAsks = (hash : Alg → List ℕ → List ℕ) (said : Question → Verdict) (media definition : List ℕ) (ps qs : List Question)
     → PlanAsks hash said media definition ps → PlanAsks hash said media definition qs → ps ≡ qs
 
--- and so does `embed`
+-- `embed` asks one list of questions over the same inputs
 abbrev pub OneEmbedAsks : Type 0
 OneEmbedAsks = (hash : Alg → List ℕ → List ℕ) (said : Question → Verdict) (media definition message : List ℕ) (ps qs : List Question)
     → EmbedAsks hash said media definition message ps → EmbedAsks hash said media definition message qs → ps ≡ qs
@@ -20,7 +20,7 @@ abbrev pub SomePlanAsks : Type 0
 SomePlanAsks = (hash : Alg → List ℕ → List ℕ) (said : Question → Verdict) (media definition : List ℕ) → All (λ b. b < 2 ^ 8) media
     → (qs : List Question) × PlanAsks hash said media definition qs
 
--- and `embed` over each message besides
+-- `embed` asks some list of questions over each media file, each definition file and each message
 abbrev pub SomeEmbedAsks : Type 0
 SomeEmbedAsks = (hash : Alg → List ℕ → List ℕ) (said : Question → Verdict) (media definition message : List ℕ) → All (λ b. b < 2 ^ 8) media
     → All (λ b. b < 2 ^ 8) message → (qs : List Question) × EmbedAsks hash said media definition message qs

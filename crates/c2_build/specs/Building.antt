@@ -187,12 +187,12 @@ IsPlannedOn hash g =
     Then (IsPlaceStage g.base) (λ p.
     Unless (first_refusal (ground_tests g p)) (λ r. r ≡ Ok (signed_bytes hash g p)))
 
--- over a media file of this kind, and a definition
+-- what `plan` comes to over a media file of this kind, with this definition
 abbrev pub IsPlannedOver : (Alg → List ℕ → List ℕ) → (Question → Verdict) → List ℕ → MediaKind → Definition
     → Result (List ℕ) BuildError → Type 0
 IsPlannedOver hash said media kind d = Then (IsGroundStage hash said media d kind) (IsPlannedOn hash)
 
--- over this media file and this definition file
+-- what `plan` comes to over this media file and this definition file
 abbrev pub IsPlanned : (Alg → List ℕ → List ℕ) → (Question → Verdict) → List ℕ → List ℕ
     → Result (List ℕ) BuildError → Type 0
 IsPlanned hash said media definition =
@@ -205,13 +205,13 @@ IsEmbeddedOn hash parts g =
     Then (IsPlaceStage g.base) (λ p.
     Unless (first_refusal (late_tests g parts p)) (IsBuilt hash g p parts))
 
--- over a media file of this kind, a definition, and a message with these parts
+-- what `embed` comes to over a media file of this kind, with this definition and a message with these parts
 abbrev pub IsEmbeddedOver : (Alg → List ℕ → List ℕ) → (Question → Verdict) → List ℕ → MediaKind → Definition
     → SignParts → Result Built BuildError → Type 0
 IsEmbeddedOver hash said media kind d parts =
     Then (IsGroundStage hash said media d kind) (IsEmbeddedOn hash parts)
 
--- over this media file, this definition file and this file of a signed message
+-- what `embed` comes to over this media file, this definition file and this file of a signed message
 abbrev pub IsEmbedded : (Alg → List ℕ → List ℕ) → (Question → Verdict) → List ℕ → List ℕ → List ℕ
     → Result Built BuildError → Type 0
 IsEmbedded hash said media definition message =

@@ -1,25 +1,26 @@
 // What is to be built, by numbers that are known before anything is digested.
-ghost use Rattle.std.specs.Prelude.{◌≡◌, ℕ, ◌-◌, ◌<◌, ◌≤◌, ◌^◌, min, List, IfErr, IfOk, None, Some, Ok, OnOk, map, vec_len, []};
+ghost use Rattle.std.specs.Prelude.{◌≡◌, ℕ, ◌-◌, ◌<◌, ◌≤◌, ◌^◌, min, List, IfErr, IfOk, None, Some, OnOk, map};
 ghost use Rattle.std.specs.Option.{ForSome};
-ghost use Rattle.c2_base.specs.Source.{StaysSource};
+ghost use Rattle.c2_base.specs.Source.{ReadsSource};
 ghost use Rattle.c2_base.specs.declared.limits.TheConstants as limits;
 ghost use Rattle.c2_cleared.specs.Clears.{cleared_len};
 ghost use Rattle.c2_spec.specs.Jpeg.Writing as jpeg;
-ghost use Rattle.c2_spec.specs.Judges.Panel.{LeavesJudges, judges_of, panel_says};
+ghost use Rattle.c2_spec.specs.Judges.Panel.{panel_says};
 ghost use Rattle.c2_spec.specs.Digest.{zero_digest};
 ghost use Rattle.c2_spec.specs.declared.packets.TheConstants.{LEAST_STORE_LEN};
+ghost use Rattle.c2_rules.specs.Asking.{HearsPanel};
 ghost use Rattle.c2_definition.specs.DefinitionFile.{IsWellFormed};
 ghost use Rattle.c2_layout.specs.Parts.{IsContent};
 ghost use Rattle.c2_built.specs.Store.{Content, new_alg};
 ghost use Rattle.c2_places.specs.Places.{IsPlace, Place};
-ghost use Rattle.c2_build.specs.Answers.{HasAskedThose, WithoutFault};
-ghost use Rattle.c2_build.specs.Building.{IsMediaStage, KindAsks, MediaKind};
+ghost use Rattle.c2_build.specs.Answers.{WithoutFault, build_heard};
+ghost use Rattle.c2_build.specs.Building.{MediaKind};
 ghost use Rattle.c2_build.specs.Refusals.{box_tests, first_refusal, number_tests, place_tests};
-ghost use Rattle.c2_build.specs.Steps.{IsAskCause, IsDraft, IsDrafted, IsFitted, IsKind, IsQuiet, IsRefusedPlace, IsSeat, IsSeatIn, IsSmall, IsStoreRefusal, seat_binding, seat_range_len, seat_store_len};
+ghost use Rattle.c2_build.specs.Steps.{IsAskCause, IsDraft, IsDrafted, IsFitted, IsKind, IsQuiet, IsReadIn, IsRefusedPlace, IsSeat, IsSeatIn, IsSmall, IsStoreRefusal, KindHears, seat_binding, seat_range_len, seat_store_len};
 
 use crate::BuildError;
 use crate::ground::{KeptGround, grounded};
-use crate::media::MediaFile;
+use crate::media::{MediaRead, form_of};
 use crate::place::{Seat, find_spot};
 use c2_base::limits::{FILE_LEN_LIMIT, MAX_MANIFESTS, MAX_ROOT_BOXES, MAX_STORE_LEN};
 use c2_base::{MediaError, NoMemory, Range, Source};
@@ -100,7 +101,7 @@ fn put_at(seat: &Seat) -> Result<(u64, Put), BuildError>
             Ok(start) => Ok((start, Put::Box)),
             Err(error) => match error {
                 MediaError::BadBox(at) => Err(BuildError::OpenBox(at)),
-                _ => Err(BuildError::NoMemory),
+                _ => unreachable!(),
             },
         },
     }
@@ -246,54 +247,35 @@ pub fn draft_at(
     }
 }
 
-/// What is to be built over a media file that was opened so. Judges are asked what the check of its store asks, where it has one, and
+/// What is to be built, where this was read of a media file. Judges are asked what the check of its store asks, where it has one, and
 /// the file's place is looked for after that.
 pub fn draft_over<A: Source, H: Hashing>(
     alloc: Global,
     hashing: &H,
     media: &mut A,
-    file: MediaFile,
+    file: &MediaRead<'_>,
     definition: &Definition,
     judges: &mut Vec<Box<dyn Judge>>,
 ) -> Result<Drafted, BuildError>
     requires formed { IsWellFormed definition.now }
-    ensures passed { let said = panel_says (map (λ j. says j) judges.old.items) in
+    requires read { IsReadIn (A.len media.old) file.now }
+    ensures passed { let said = panel_says (map says judges.old.items) in
         IfOk result (λ w. ForSome (A.known media.old) (λ bytes. (kind : MediaKind)
-        → IsMediaStage bytes (Ok kind) → IsKind bytes file kind
+        → IsKind bytes file.now kind
         → IsDrafted H.digest_of said bytes definition.now kind w)) }
-    ensures refused { let said = panel_says (map (λ j. says j) judges.old.items) in
+    ensures refused { let said = panel_says (map says judges.old.items) in
         IfErr result (λ e. ForSome (A.known media.old) (λ bytes. (kind : MediaKind)
-        → IsMediaStage bytes (Ok kind) → IsKind bytes file kind
+        → IsKind bytes file.now kind
         → WithoutFault e (IsRefusedPlace H.digest_of said bytes definition.now kind e))) }
     ensures small { IfOk result (λ w. IsSmall (H.digest_of (new_alg definition.now))
         (cleared_len w.ground.clearing (A.len media.old)) definition.now w) }
-    ensures asked { let said = panel_says (map (λ j. says j) judges.old.items) in
-        let old = judges_of (λ j. says j) (λ j. asked_times j) (λ j. judge_faults j)
-        judges.old.items in
-        let new = judges_of (λ j. says j) (λ j. asked_times j) (λ j. judge_faults j)
-        judges.new.items in
-        ForSome (A.known media.old) (λ bytes. (kind : MediaKind) → IsKind bytes file kind
-        → HasAskedThose (KindAsks H.digest_of said bytes kind) old new result) }
-    ensures unasked { let said = panel_says (map (λ j. says j) judges.old.items) in
-        ForSome (A.known media.old) (λ bytes. (kind : MediaKind) → IsKind bytes file kind
-        → KindAsks H.digest_of said bytes kind [] → judges.new ≡ judges.old) }
-    ensures cause { let old = judges_of (λ j. says j) (λ j. asked_times j) (λ j. judge_faults j)
-        judges.old.items in
-        let new = judges_of (λ j. says j) (λ j. asked_times j) (λ j. judge_faults j)
-        judges.new.items in
-        IfErr result (IsAskCause (A.faults media.old) (A.faults media.new) old.faults new.faults) }
-    ensures count { OnOk result (A.faults media.new ≡ A.faults media.old) }
-    ensures stays { StaysSource A.len A.known A.faults media.old media.new }
-    ensures leaves { let old = judges_of (λ j. says j) (λ j. asked_times j) (λ j. judge_faults j)
-        judges.old.items in
-        let new = judges_of (λ j. says j) (λ j. asked_times j) (λ j. judge_faults j)
-        judges.new.items in
-        LeavesJudges old new result }
-    ensures judges_len { vec_len judges.new ≡ vec_len judges.old }
+    ensures reads { ReadsSource A.len A.known A.faults IsAskCause media.old media.new result }
+    ensures panel { HearsPanel says asked_times judge_faults build_heard
+        (KindHears H.digest_of (A.known media.old) file.now) judges.old judges.new result }
 {
     // Only the prover needs these laws.
     each_media_has_a_place();
-    let form = file.form;
+    let form = form_of(file.container);
     let ground = match grounded(alloc, hashing, media, file, definition, judges) {
         Ok(ground) => ground,
         Err(error) => return Err(error),

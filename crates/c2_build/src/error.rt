@@ -1,10 +1,13 @@
 // Why nothing is built.
+ghost use Rattle.std.specs.Prelude.{◌≡◌};
+ghost use Rattle.c2_build.specs.Steps.{fault_of};
 
 use c2_base::{NoMemory as OutOfMemory, Text};
 use c2_definition::DefinitionField;
 use c2_message::SignaturePart;
 use c2_rules::Code;
 use c2_spec::Reason;
+use c2_validate::ValidateError;
 
 /// Why nothing is built. A variant further up is tested earlier, but for the length and the number of root boxes of the new
 /// file, which are tested after `StoreTooLarge`, in this order. The last four have no place in this order, since they say nothing of the inputs.
@@ -68,5 +71,16 @@ impl From<OutOfMemory> for BuildError {
 
     fn from(_: OutOfMemory) -> BuildError {
         BuildError::NoMemory
+    }
+}
+
+/// The fault of a build that a fault of the check of a media file is.
+pub fn fault(error: ValidateError) -> BuildError
+    ensures { result ≡ fault_of error }
+{
+    match error {
+        ValidateError::ReadFault => BuildError::ReadFault,
+        ValidateError::JudgeFault => BuildError::JudgeFault,
+        ValidateError::NoMemory => BuildError::NoMemory,
     }
 }

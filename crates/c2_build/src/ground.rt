@@ -1,29 +1,29 @@
 // What a new file is built over.
-ghost use Rattle.std.specs.Prelude.{◌≡◌, ℕ, List, [], IfErr, IfOk, None, Some, Ok, OnOk, map, length, vec_len};
+ghost use Rattle.std.specs.Prelude.{◌≡◌, ℕ, List, IfErr, IfOk, None, Some, Ok, OnOk, map};
 ghost use Rattle.std.specs.Option.{ForSome};
-ghost use Rattle.c2_base.specs.Source.{StaysSource};
+ghost use Rattle.c2_base.specs.Source.{ReadsSource};
 ghost use Rattle.c2_base.specs.declared.values.Question.{Question};
-ghost use Rattle.c2_spec.specs.Jumbf.Tree.{Tree as AnyTree};
-ghost use Rattle.c2_spec.specs.Located.{here};
 ghost use Rattle.c2_spec.specs.declared.digest.Alg.{Alg as AnyAlg};
 ghost use Rattle.c2_spec.specs.declared.panel.Verdict.{Verdict};
-ghost use Rattle.c2_rules.specs.Opened.{IsManifestStore};
-ghost use Rattle.c2_rules.specs.Validated.{CheckAsks};
+ghost use Rattle.c2_rules.specs.Asking.{HearsPanel};
+ghost use Rattle.c2_container.specs.Contained.{HasRootsInside};
 ghost use Rattle.c2_cleared.specs.Clears.{cleared};
 ghost use Rattle.c2_build.specs.declared.error.BuildError.TheVariants.{LabelTaken};
 ghost use Rattle.c2_spec.specs.C2pa.Manifest.{IsStoreOf, manifests_of};
-ghost use Rattle.c2_spec.specs.Judges.Panel.{LeavesJudges, judges_of, panel_says};
+ghost use Rattle.c2_spec.specs.Judges.Panel.{panel_says};
 ghost use Rattle.c2_built.specs.Store.{new_alg};
 ghost use Rattle.c2_rules.specs.Readings.{AreReadings, Reading};
-ghost use Rattle.c2_build.specs.Answers.{HasAskedThose, WithoutFault};
-ghost use Rattle.c2_build.specs.Building.{IsGroundStage, IsMediaStage, KindAsks, MediaKind, fresh};
-ghost use Rattle.c2_build.specs.Steps.{ComesAs, IsAskCause, IsCarriedOver, IsCheckRefusal, IsChecked, IsGround, IsKind, IsOver, IsOverRefusal, IsQuiet, IsSomeGround};
+ghost use Rattle.c2_validate.specs.Checked.{IsOpenedFrom, StoreAsks};
+ghost use Rattle.c2_build.specs.Answers.{WithoutFault, build_heard};
+ghost use Rattle.c2_build.specs.Building.{IsGroundStage, MediaKind, fresh};
+ghost use Rattle.c2_build.specs.Steps.{ComesAs, IsAskCause, IsCarriedOver, IsCheckRefusal, IsChecked, IsGround, IsKind, IsOver, IsOverRefusal, IsQuiet, IsReadIn, IsSomeGround, KindHears};
 
 use crate::BuildError;
-use crate::media::MediaFile;
-use c2_base::{Found, NoMemory, Source, Text};
+use crate::error::fault;
+use crate::media::{MediaRead, OlderStore};
+use c2_base::{NoMemory, Range, Source, Text};
 use c2_carried::a_valid_store_is_carried;
-use c2_chain::{labels_of_a_store_differ, of_store, one_reading, readings};
+use c2_chain::{Chain, labels_of_a_store_differ, of_store, one_reading, readings};
 use c2_cleared::Clearing;
 use c2_definition::Definition;
 use c2_hash::Hashing;
@@ -36,8 +36,9 @@ use c2_parent::{
 };
 use c2_reading::manifests;
 use c2_store::Store;
-use c2_validate::types::StoreRead;
-use c2_validate::{Answer, ValidateError, one_opening, read_store, validate};
+use c2_validate::{
+    Checked, Container, OpenedStore, a_store_answers_for_its_file, check, one_opening,
+};
 use std::alloc::Global;
 
 /// What a new file is built over, as it is kept.
@@ -79,55 +80,51 @@ fn fresh_ground(
     }
 }
 
-// Checks a media file with a store, and refuses it by the first rule that fails.
+// A store in this range of a media file in this container, as it is checked against the file.
+fn opened_in<'c, 't>(
+    container: &'c Container,
+    range: Range,
+    chain: &'c Chain<'t>,
+) -> OpenedStore<'c, 't>
+    ensures container { result.container.now ≡ container.now }
+    ensures range { result.range ≡ range }
+    ensures chain { result.chain.now ≡ chain.now }
+{
+    OpenedStore {
+        container,
+        range,
+        chain,
+    }
+}
+
+// Checks the store of a media file, and refuses it by the first rule that fails.
 fn check_parent<A: Source, H: Hashing>(
     alloc: Global,
     hashing: &H,
     media: &mut A,
+    store: &OpenedStore<'_, '_>,
     judges: &mut Vec<Box<dyn Judge>>,
 ) -> Result<(), BuildError>
-    requires { Unit {0} }
-    ensures checked { let said = panel_says (map (λ j. says j) judges.old.items) in
-        ForSome (A.known media.old) (λ file. OnOk result (IsChecked H.digest_of said file)) }
-    ensures refused { let said = panel_says (map (λ j. says j) judges.old.items) in
-        IfErr result (λ e. ForSome (A.known media.old) (λ file.
-        WithoutFault e (IsCheckRefusal H.digest_of said file e))) }
-    ensures asked { let said = panel_says (map (λ j. says j) judges.old.items) in
-        let old = judges_of (λ j. says j) (λ j. asked_times j) (λ j. judge_faults j)
-        judges.old.items in
-        let new = judges_of (λ j. says j) (λ j. asked_times j) (λ j. judge_faults j)
-        judges.new.items in
-        ForSome (A.known media.old) (λ file.
-        HasAskedThose (CheckAsks H.digest_of said file) old new result) }
-    ensures unasked { let said = panel_says (map (λ j. says j) judges.old.items) in
-        ForSome (A.known media.old)
-        (λ file. CheckAsks H.digest_of said file [] → judges.new ≡ judges.old) }
-    ensures cause { let old = judges_of (λ j. says j) (λ j. asked_times j) (λ j. judge_faults j)
-        judges.old.items in
-        let new = judges_of (λ j. says j) (λ j. asked_times j) (λ j. judge_faults j)
-        judges.new.items in
-        IfErr result (IsAskCause (A.faults media.old) (A.faults media.new) old.faults new.faults) }
-    ensures count { OnOk result (A.faults media.new ≡ A.faults media.old) }
-    ensures stays { StaysSource A.len A.known A.faults media.old media.new }
-    ensures leaves { let old = judges_of (λ j. says j) (λ j. asked_times j) (λ j. judge_faults j)
-        judges.old.items in
-        let new = judges_of (λ j. says j) (λ j. asked_times j) (λ j. judge_faults j)
-        judges.new.items in
-        LeavesJudges old new result }
-    ensures judges_len { vec_len judges.new ≡ vec_len judges.old }
+    requires { HasRootsInside (A.len media.old) store.now.container.now }
+    ensures checked { let said = panel_says (map says judges.old.items) in
+        ForSome (A.known media.old) (λ file. IsOpenedFrom file store.now
+        → OnOk result (IsChecked H.digest_of said file)) }
+    ensures refused { let said = panel_says (map says judges.old.items) in
+        ForSome (A.known media.old) (λ file. IsOpenedFrom file store.now
+        → IfErr result (λ e. WithoutFault e (IsCheckRefusal H.digest_of said file e))) }
+    ensures reads { ReadsSource A.len A.known A.faults IsAskCause media.old media.new result }
+    ensures panel { HearsPanel says asked_times judge_faults build_heard
+        (StoreAsks H.digest_of store.now) judges.old judges.new result }
 {
-    let answer = match validate(alloc, hashing, media, judges) {
-        Ok(answer) => answer,
-        Err(ValidateError::ReadFault) => return Err(BuildError::ReadFault),
-        Err(ValidateError::JudgeFault) => return Err(BuildError::JudgeFault),
-        Err(ValidateError::NoMemory) => return Err(BuildError::NoMemory),
+    // Only the prover needs this law.
+    a_store_answers_for_its_file();
+    let checked = match check(alloc, hashing, media, store, judges) {
+        Ok(checked) => checked,
+        Err(error) => return Err(fault(error)),
     };
-    match answer {
-        Answer::Valid(_) => Ok(()),
-        Answer::Failing(failing) => Err(BuildError::ParentFails(failing.code, failing.uri)),
-        Answer::Refused(reason, number) => Err(BuildError::MediaRefused(reason, number)),
-        // A file that has a store when it is opened has none now: a source that isn't known may tell so.
-        Answer::NoStore => Err(BuildError::NoMemory),
+    match checked {
+        Checked::Valid(_, _) => Ok(()),
+        Checked::Failing(failing) => Err(BuildError::ParentFails(failing.code, failing.uri)),
     }
 }
 
@@ -166,20 +163,21 @@ fn carried_of<'u, H: Hashing>(
 }
 
 // The ground over a store whose manifests all rules hold of, in a media file that is cleared so of it.
-fn over_tree<H: Hashing>(
+fn over_store<H: Hashing>(
     alloc: Global,
     hashing: &H,
     clearing: Clearing,
-    tree: &Tree<'_>,
-    store: &Store,
+    older: &OlderStore<'_>,
+    chain: &Chain<'_>,
     definition: &Definition,
 ) -> Result<KeptGround, BuildError>
-    requires { IsStoreOf tree.now store.now }
-    ensures over { (rs : List Reading) → AreReadings (manifests_of tree.now) rs
-        → IfOk result (IsOver (H.digest_of (new_alg definition.now)) definition.now tree.now
+    requires boxes { IsStoreOf older.now.tree older.now.store }
+    requires reads { AreReadings (manifests_of older.now.tree) chain.now.readings }
+    ensures over { (rs : List Reading) → AreReadings (manifests_of older.now.tree) rs
+        → IfOk result (IsOver (H.digest_of (new_alg definition.now)) definition.now older.now.tree
         clearing rs) }
     ensures refused { IfErr result (λ e. (rs : List Reading)
-        → AreReadings (manifests_of tree.now) rs → IsOverRefusal definition.now rs e) }
+        → AreReadings (manifests_of older.now.tree) rs → IsOverRefusal definition.now rs e) }
     ensures some { IfOk result (IsSomeGround (H.digest_of (new_alg definition.now))
         definition.now) }
     ensures quiet { IfErr result IsQuiet }
@@ -187,24 +185,20 @@ fn over_tree<H: Hashing>(
     // Only the prover needs these laws, and the count: it takes from here that the tree is legal.
     one_reading();
     labels_of_a_store_differ();
-    let _boxes = count(tree);
-    let chain = match of_store(alloc, tree, store) {
-        Ok(chain) => chain,
-        Err(NoMemory) => return Err(BuildError::NoMemory),
-    };
+    let _boxes = count(&older.tree);
     let own = definition.label.as_str();
-    if has_manifest(&chain, own) {
+    if has_manifest(chain, own) {
         return Err(label_taken(alloc, definition));
     }
-    match refused_redaction(alloc, &chain, own, definition.redact.as_slice()) {
+    match refused_redaction(alloc, chain, own, definition.redact.as_slice()) {
         Ok(None) => {}
         Ok(Some(refused)) => {
             return Err(BuildError::RedactionRefused(refused.text, refused.code));
         }
         Err(NoMemory) => return Err(BuildError::NoMemory),
     }
-    let manifests = manifests(readings(&chain)).len() as u64 + 1;
-    match carried_of(alloc, hashing, tree, store, definition) {
+    let manifests = manifests(readings(chain)).len() as u64 + 1;
+    match carried_of(alloc, hashing, &older.tree, &older.store, definition) {
         Ok(carried) => Ok(KeptGround {
             clearing,
             carried,
@@ -225,100 +219,44 @@ fn label_taken(alloc: Global, definition: &Definition) -> BuildError
     }
 }
 
-// The ground over a store that was found, whose manifests all rules hold of, in a media file that is cleared so of it.
-fn over_store<H: Hashing>(
-    alloc: Global,
-    hashing: &H,
-    found: &Found,
-    clearing: Clearing,
-    definition: &Definition,
-) -> Result<KeptGround, BuildError>
-    ensures over { (t : AnyTree) (rs : List Reading)
-        → IsManifestStore found.now.start found.now.length found.now.store
-        (here found.now.start found.now.length t)
-        → AreReadings (manifests_of t) rs
-        → IfOk result (IsOver (H.digest_of (new_alg definition.now)) definition.now t clearing rs) }
-    ensures refused { (t : AnyTree) (rs : List Reading)
-        → IsManifestStore found.now.start found.now.length found.now.store
-        (here found.now.start found.now.length t)
-        → AreReadings (manifests_of t) rs
-        → IfErr result (IsOverRefusal definition.now rs) }
-    ensures some { IfOk result (IsSomeGround (H.digest_of (new_alg definition.now))
-        definition.now) }
-    ensures quiet { IfErr result IsQuiet }
-{
-    // Only the prover needs this law.
-    one_opening();
-    let read = match read_store(alloc, found) {
-        Ok(read) => read,
-        Err(NoMemory) => return Err(BuildError::NoMemory),
-    };
-    match read {
-        StoreRead::Here(tree, store) => {
-            over_tree(alloc, hashing, clearing, &tree, &store, definition)
-        }
-        StoreRead::Refused(reason, number) => Err(BuildError::MediaRefused(reason, number)),
-    }
-}
-
-/// What a new file is built over, where a media file was opened so.
+/// What a new file is built over, where this was read of a media file.
 ///
-/// A file with a store is checked first, under these judges: they are asked what that check asks, and nothing otherwise. What was
-/// found of the file is let go.
+/// A file with a store is checked first, by what was read of it, under these judges: they are asked what that check asks, and nothing
+/// otherwise.
 pub fn grounded<A: Source, H: Hashing>(
     alloc: Global,
     hashing: &H,
     media: &mut A,
-    file: MediaFile,
+    file: &MediaRead<'_>,
     definition: &Definition,
     judges: &mut Vec<Box<dyn Judge>>,
 ) -> Result<KeptGround, BuildError>
-    requires { Unit {0} }
-    ensures ground { let said = panel_says (map (λ j. says j) judges.old.items) in
-        ForSome (A.known media.old) (λ bytes. (kind : MediaKind)
-        → IsMediaStage bytes (Ok kind) → IsKind bytes file kind
+    requires { IsReadIn (A.len media.old) file.now }
+    ensures ground { let said = panel_says (map says judges.old.items) in
+        ForSome (A.known media.old) (λ bytes. (kind : MediaKind) → IsKind bytes file.now kind
         → ComesAs (IsGround (H.digest_of (new_alg definition.now)) bytes definition.now)
         (IsGroundStage H.digest_of said bytes definition.now kind) result) }
     ensures some { IfOk result (IsSomeGround (H.digest_of (new_alg definition.now))
         definition.now) }
-    ensures asked { let said = panel_says (map (λ j. says j) judges.old.items) in
-        let old = judges_of (λ j. says j) (λ j. asked_times j) (λ j. judge_faults j)
-        judges.old.items in
-        let new = judges_of (λ j. says j) (λ j. asked_times j) (λ j. judge_faults j)
-        judges.new.items in
-        ForSome (A.known media.old) (λ bytes. (kind : MediaKind) → IsKind bytes file kind
-        → HasAskedThose (KindAsks H.digest_of said bytes kind) old new result) }
-    ensures unasked { let said = panel_says (map (λ j. says j) judges.old.items) in
-        ForSome (A.known media.old) (λ bytes. (kind : MediaKind) → IsKind bytes file kind
-        → KindAsks H.digest_of said bytes kind [] → judges.new ≡ judges.old) }
-    ensures cause { let old = judges_of (λ j. says j) (λ j. asked_times j) (λ j. judge_faults j)
-        judges.old.items in
-        let new = judges_of (λ j. says j) (λ j. asked_times j) (λ j. judge_faults j)
-        judges.new.items in
-        IfErr result (IsAskCause (A.faults media.old) (A.faults media.new) old.faults new.faults) }
-    ensures count { OnOk result (A.faults media.new ≡ A.faults media.old) }
-    ensures stays { StaysSource A.len A.known A.faults media.old media.new }
-    ensures leaves { let old = judges_of (λ j. says j) (λ j. asked_times j) (λ j. judge_faults j)
-        judges.old.items in
-        let new = judges_of (λ j. says j) (λ j. asked_times j) (λ j. judge_faults j)
-        judges.new.items in
-        LeavesJudges old new result }
-    ensures judges_len { vec_len judges.new ≡ vec_len judges.old }
+    ensures reads { ReadsSource A.len A.known A.faults IsAskCause media.old media.new result }
+    ensures panel { HearsPanel says asked_times judge_faults build_heard
+        (KindHears H.digest_of (A.known media.old) file.now) judges.old judges.new result }
 {
     // Only the prover needs these laws.
     one_opening();
     a_valid_store_is_carried();
-    let MediaFile {
-        found,
-        clearing,
-        ..
-    } = file;
-    let Some(found) = found else {
-        return fresh_ground(alloc, definition, clearing);
+    a_store_answers_for_its_file();
+    let Some(older) = &file.older else {
+        return fresh_ground(alloc, definition, file.clearing);
     };
-    match check_parent(alloc, hashing, media, judges) {
+    let chain = match of_store(alloc, &older.tree, &older.store) {
+        Ok(chain) => chain,
+        Err(NoMemory) => return Err(BuildError::NoMemory),
+    };
+    let store = opened_in(file.container, older.range, &chain);
+    match check_parent(alloc, hashing, media, &store, judges) {
         Ok(()) => {}
         Err(error) => return Err(error),
     }
-    over_store(alloc, hashing, &found, clearing, definition)
+    over_store(alloc, hashing, file.clearing, older, &chain, definition)
 }

@@ -2,8 +2,10 @@
 ghost use Rattle.c2_build.specs.Meeting.{ApprovedIsValid, BuiltFileMeets};
 ghost use Rattle.c2_build.specs.Meeting.{SomeBuildOverStoreSucceeds, SomeBuildSucceeds, SomeFilmSucceeds};
 ghost use Rattle.c2_build.specs.Meeting.{OneEmbedding, OnePlan, SomeEmbedding, SomePlan};
+ghost use Rattle.c2_build.specs.Meeting.{UnrefusedIsEmbedded, UnrefusedIsPlanned};
 ghost use Rattle.c2_build.specs.Refusals.{FirstRefusalIsLeast};
 
+use c2_boxed::a_base_has_no_store;
 use c2_boxes::a_file_has_one_list_of_roots;
 use c2_carried::{
     a_valid_store_is_carried, redactions_that_pass_may_be_made, what_is_taken_over_is_one,
@@ -63,6 +65,16 @@ pub fn each_build_comes_to_something()
     a_message_fills_its_reserve_or_needs_more();
 }
 
+/// Inputs on which no refusal has its condition come to something: to bytes that are to be signed, and to a new file. So a call over them
+/// answers that, or a fault of what it reads, asks or writes, or that memory ran out.
+pub fn unrefused_inputs_are_built()
+    ensures plan { UnrefusedIsPlanned }
+    ensures embedding { UnrefusedIsEmbedded }
+{
+    // Only the prover needs this law.
+    each_build_comes_to_something();
+}
+
 /// A store whose other rules hold lacks nothing but the approval of its questions.
 pub fn approval_of_each_question_is_enough()
     ensures { ApprovedIsValid }
@@ -72,7 +84,8 @@ pub fn approval_of_each_question_is_enough()
 }
 
 /// A new file has its new store in the new range, where every rule holds of it apart from the verdict on the new message. It asks the
-/// new question and then those of the media's store, which the judges of the build approve.
+/// new question and then those of the media's store, which the judges of the build approve. The bytes of the media outside its embedded
+/// range stay in order: less the new range, and less the older box where that was freed, the file is the media less that range.
 pub fn a_new_file_meets_the_rules()
     ensures { BuiltFileMeets }
 {
@@ -84,6 +97,7 @@ pub fn a_new_file_meets_the_rules()
     a_file_over_a_store_meets_the_rules();
     redactions_that_pass_may_be_made();
     a_base_stays();
+    a_base_has_no_store();
     approval_of_each_question_is_enough();
 }
 

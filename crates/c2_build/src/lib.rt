@@ -5,7 +5,6 @@
 #![tactic(auto)]
 
 mod asking;
-mod copying;
 mod digesting;
 mod draft;
 mod embedding;
@@ -27,7 +26,7 @@ pub use error::BuildError;
 pub use laws::{
     a_build_comes_to_one_thing, a_new_file_meets_the_rules, approval_of_each_question_is_enough,
     each_build_comes_to_something, some_build_over_a_store_succeeds, some_build_succeeds,
-    some_film_succeeds, the_first_refusal_is_the_least,
+    some_film_succeeds, the_first_refusal_is_the_least, unrefused_inputs_are_built,
 };
 pub use planning::plan;
 pub use types::Embedded;

@@ -1,22 +1,26 @@
 // Opening the media file.
-ghost use Rattle.std.specs.Prelude.{◌≡◌, ℕ, List, Some, IfErr, OnOk};
+ghost use Rattle.std.specs.Prelude.{◌≡◌, ℕ, List, Err, Some, IfErr, IfOk};
 ghost use Rattle.std.specs.Option.{ForSome};
-ghost use Rattle.c2_base.specs.Source.{StaysSource};
+ghost use Rattle.c2_base.specs.Source.{ReadsSource};
+ghost use Rattle.c2_spec.specs.C2pa.Manifest.{IsStoreOf};
 ghost use Rattle.c2_spec.specs.Container.{IsLocated};
-ghost use Rattle.c2_spec.specs.Jumbf.Tree.{Tree as AnyTree};
-ghost use Rattle.c2_spec.specs.Located.{absent, here};
+ghost use Rattle.c2_spec.specs.Located.{here};
 ghost use Rattle.c2_rules.specs.Opened.{IsManifestStore};
-ghost use Rattle.c2_container.specs.Contained.{IsContainerOf};
+ghost use Rattle.c2_container.specs.Contained.{HasRootsInside, IsContainerOf};
 ghost use Rattle.c2_cleared.specs.Clears.{cleared};
 ghost use Rattle.c2_places.specs.Bases.{IsLeft};
-ghost use Rattle.c2_build.specs.Building.{IsMediaStage, fresh, stored};
-ghost use Rattle.c2_build.specs.Steps.{ComesAs, IsForm, IsKind, IsQuiet, IsReadCause};
+ghost use Rattle.c2_build.specs.Answers.{WithoutFault};
+ghost use Rattle.c2_build.specs.Building.{IsMediaStage, stored};
+ghost use Rattle.c2_build.specs.Steps.{ComesAs, IsForm, IsFoundIn, IsKind, IsQuiet, IsReadCause, IsReadIn};
 
 use crate::BuildError;
+use crate::error::fault;
 use c2_base::{Found, NoMemory, Range, Source};
 use c2_cleared::{Clearing, clearing_of};
+use c2_jumbf::Tree;
+use c2_store::Store;
 use c2_validate::types::StoreRead;
-use c2_validate::{Container, Opened, ValidateError, find_store, read_store};
+use c2_validate::{Container, Opened, find_store, read_store};
 use std::alloc::Global;
 
 /// The container of a media file, without its parts.
@@ -29,14 +33,37 @@ pub enum FileForm {
     Bmff,
 }
 
-/// What was found of a media file that isn't refused.
+/// What was found of a media file whose container isn't refused.
 #[derive(Drop)]
 pub struct MediaFile {
     /// Its container.
-    pub form: FileForm,
+    pub container: Container,
+
+    /// The embedded range and the bytes of its store, where it has one.
+    pub found: Option<Found>,
+}
+
+/// The store of a media file. It borrows the store's bytes.
+#[derive(Drop)]
+pub struct OlderStore<'t> {
+    /// Its embedded range.
+    pub range: Range,
+
+    /// Its box tree.
+    pub tree: Tree<'t>,
+
+    /// The boxes of its manifests.
+    pub store: Store,
+}
+
+/// What was read of a media file that isn't refused. It borrows what was found of the file.
+#[derive(Drop)]
+pub struct MediaRead<'t> {
+    /// Its container.
+    pub container: &'t Container,
 
     /// Its store, where it has one.
-    pub found: Option<Found>,
+    pub older: Option<OlderStore<'t>>,
 
     /// How it is cleared of that.
     pub clearing: Clearing,
@@ -48,8 +75,8 @@ const NO_RANGE: Range = Range {
     length: 0,
 };
 
-// The form of a container.
-fn form_of(container: &Container) -> FileForm
+/// The form of a container.
+pub fn form_of(container: &Container) -> FileForm
     ensures { (file : List ℕ) → IsContainerOf file container.now → IsForm file result }
 {
     match container {
@@ -84,68 +111,78 @@ fn cleared_of(container: &Container, found: &Option<Found>) -> Clearing
     }
 }
 
-// What a file in this container is that has this store. The container's parts are let go. Takes no memory.
-fn with_store(container: Container, found: Found) -> MediaFile
-    ensures { (file : List ℕ) (t : AnyTree)
-        → IsLocated file (here found.start found.length found.store)
-        → IsContainerOf file container
-        → IsManifestStore found.start found.length found.store (here found.start found.length t)
-        → IsKind file result (stored found.start found.length t) }
+// What is read of a media file with this store.
+fn with_store<'t>(
+    file: &'t MediaFile,
+    found: &'t Found,
+    tree: Tree<'t>,
+    store: Store,
+) -> MediaRead<'t>
+    requires { file.now.found ≡ Some found.now }
+    ensures kind { (bytes : List ℕ) → IsFoundIn bytes file.now
+        → IsManifestStore found.now.start found.now.length found.now.store
+        (here found.now.start found.now.length tree.entry)
+        → IsKind bytes result (stored found.now.start found.now.length tree.entry) }
+    ensures inside { (len : ℕ) → HasRootsInside len file.now.container → IsStoreOf tree.entry store
+        → IsReadIn len result }
 {
-    let found = Some(found);
-    MediaFile {
-        form: form_of(&container),
-        clearing: cleared_of(&container, &found),
-        found,
+    let range = Range {
+        start: found.start,
+        length: found.length,
+    };
+    MediaRead {
+        container: &file.container,
+        clearing: cleared_of(&file.container, &file.found),
+        older: Some(OlderStore { range, tree, store }),
     }
 }
 
-// What a file in this container is that has no store.
-fn without_store(container: &Container) -> MediaFile
-    ensures { (file : List ℕ) → IsLocated file absent → IsContainerOf file container.now
-        → IsKind file result fresh }
-{
-    MediaFile {
-        form: form_of(container),
-        clearing: Clearing::Cut(NO_RANGE),
-        found: None,
-    }
-}
-
-// What a file in this container is that has this store, unless the store is refused.
-fn stored(alloc: Global, container: Container, found: Found) -> Result<MediaFile, BuildError>
-    ensures stage { (file : List ℕ)
-        → IsLocated file (here found.start found.length found.store)
-        → IsContainerOf file container
-        → ComesAs (IsKind file) (IsMediaStage file) result }
-    ensures quiet { IfErr result IsQuiet }
-{
-    match read_store(alloc, &found) {
-        Ok(StoreRead::Here(_, _)) => {}
-        Ok(StoreRead::Refused(reason, number)) => {
-            return Err(BuildError::MediaRefused(reason, number));
-        }
-        Err(NoMemory) => return Err(BuildError::NoMemory),
-    }
-    Ok(with_store(container, found))
-}
-
-/// Opens a media file.
+/// Finds the container of a media file, and its store.
 pub fn open_media<A: Source>(alloc: Global, media: &mut A) -> Result<MediaFile, BuildError>
-    ensures stage { ForSome (A.known media.old) (λ file.
-        ComesAs (IsKind file) (IsMediaStage file) result) }
-    ensures cause { IfErr result (IsReadCause (A.faults media.old) (A.faults media.new)) }
-    ensures count { OnOk result (A.faults media.new ≡ A.faults media.old) }
-    ensures stays { StaysSource A.len A.known A.faults media.old media.new }
+    ensures found { ForSome (A.known media.old) (λ file. IfOk result (IsFoundIn file)) }
+    ensures refused { ForSome (A.known media.old) (λ file.
+        IfErr result (λ e. WithoutFault e (IsMediaStage file (Err e)))) }
+    ensures inside { IfOk result (λ m. HasRootsInside (A.len media.old) m.container) }
+    ensures reads { ReadsSource A.len A.known A.faults IsReadCause media.old media.new result }
 {
     let opened = match find_store(alloc, media) {
         Ok(opened) => opened,
-        Err(ValidateError::ReadFault) => return Err(BuildError::ReadFault),
-        Err(_) => return Err(BuildError::NoMemory),
+        Err(error) => return Err(fault(error)),
     };
     match opened {
-        Opened::Here(media) => stored(alloc, media.container, media.found),
-        Opened::NoStore(container) => Ok(without_store(&container)),
+        Opened::Here(media) => Ok(MediaFile {
+            container: media.container,
+            found: Some(media.found),
+        }),
+        Opened::NoStore(container) => Ok(MediaFile {
+            container,
+            found: None,
+        }),
         Opened::Refused(reason, number) => Err(BuildError::MediaRefused(reason, number)),
+    }
+}
+
+/// Reads the store that was found in a media file, as a store of manifests. Its bytes are in memory; the file isn't read.
+pub fn read_media<'t>(alloc: Global, file: &'t MediaFile) -> Result<MediaRead<'t>, BuildError>
+    ensures stage { (bytes : List ℕ) → IsFoundIn bytes file.now
+        → ComesAs (IsKind bytes) (IsMediaStage bytes) result }
+    ensures inside { (len : ℕ) → HasRootsInside len file.now.container
+        → IfOk result (IsReadIn len) }
+    ensures quiet { IfErr result IsQuiet }
+{
+    let Some(found) = &file.found else {
+        return Ok(MediaRead {
+            container: &file.container,
+            clearing: Clearing::Cut(NO_RANGE),
+            older: None,
+        });
+    };
+    let read = match read_store(alloc, found) {
+        Ok(read) => read,
+        Err(NoMemory) => return Err(BuildError::NoMemory),
+    };
+    match read {
+        StoreRead::Here(tree, store) => Ok(with_store(file, found, tree, store)),
+        StoreRead::Refused(reason, number) => Err(BuildError::MediaRefused(reason, number)),
     }
 }

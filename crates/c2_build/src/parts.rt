@@ -1,14 +1,12 @@
 // The parts of the new manifest over a media file.
-ghost use Rattle.std.specs.Prelude.{◌≡◌, ◌+◌, ◌<◌, IfErr, IfOk, OnOk, length, option_map, ℕ};
-ghost use Rattle.std.specs.Option.{ForSome};
-ghost use Rattle.c2_base.specs.Source.{StaysSource};
+ghost use Rattle.std.specs.Prelude.{◌≡◌, ◌+◌, ◌<◌, IfErr, IfOk, length, option_map, ℕ};
+ghost use Rattle.c2_base.specs.Source.{ReadsSource};
 ghost use Rattle.c2_cleared.specs.Clears.{cleared, cleared_len};
 ghost use Rattle.c2_spec.specs.Digest.{digest_len};
 ghost use Rattle.c2_definition.specs.DefinitionFile.{IsWellFormed};
 ghost use Rattle.c2_layout.specs.Parts.{AreParts, IsContent, parts_size};
 ghost use Rattle.c2_built.specs.Store.{Content, new_alg};
-ghost use Rattle.c2_places.specs.Places.{IsPlace, Place, bound_text};
-ghost use Rattle.c2_build.specs.Steps.{AreNewParts, IsReadCause, IsSeat, IsSeatIn, IsSmall, SaysNothing, seat_binding, seat_store_len};
+ghost use Rattle.c2_build.specs.Steps.{AreNewParts, IsBoundDigest, IsOverBase, IsReadCause, IsSmall, SaysNothing, seat_binding, seat_store_len};
 
 use crate::BuildError;
 use crate::digesting::hash_all;
@@ -26,28 +24,32 @@ use c2_layout::{NewParts, bound_parts, data_binding};
 use std::alloc::Global;
 use std::marker::Brand;
 
-// The digest of what the new binding binds of the base of a draft, by the definition's algorithm, read through a buffer that isn't empty.
+// What a new binding binds.
+#[derive(Drop)]
+struct Bound<'d> {
+    // What was drafted: the base, and the place in it.
+    drafted: &'d Drafted,
+
+    // The algorithm of the digest.
+    alg: Alg,
+}
+
+// The digest of what is bound of a base, which is read through a buffer that isn't empty.
 fn digest_of<B: Source, H: Hashing>(
     alloc: Global,
     hashing: &H,
     base: &mut B,
-    definition: &Definition,
-    drafted: &Drafted,
+    bound: &Bound<'_>,
     buf: &mut [u8],
 ) -> Result<Digest, BuildError>
-    requires size { drafted.now.draft.size ≡ B.len base.old }
-    requires inside { IsSeatIn drafted.now.draft.size drafted.now.seat }
+    requires over { IsOverBase (B.len base.old) bound.now.drafted.now }
     requires room { 0 < length buf.old }
-    ensures digest { IfOk result (λ d. ForSome (B.known base.old) (λ file. (p : Place)
-        → IsPlace file p → IsSeat drafted.now.seat p
-        → d ≡ H.digest_of (new_alg definition.now) (bound_text file p))) }
-    ensures len { IfOk result (λ d. length d ≡ digest_len (new_alg definition.now)) }
-    ensures nothing { IfErr result SaysNothing }
-    ensures cause { IfErr result (IsReadCause (B.faults base.old) (B.faults base.new)) }
-    ensures count { OnOk result (B.faults base.new ≡ B.faults base.old) }
-    ensures stays { StaysSource B.len B.known B.faults base.old base.new }
+    ensures digest { IsBoundDigest H.digest_of bound.now.alg bound.now.drafted.now.seat
+        (B.known base.old) result }
+    ensures reads { ReadsSource B.len B.known B.faults IsReadCause base.old base.new result }
 {
-    let alg = definition.alg;
+    let alg = bound.alg;
+    let drafted = bound.drafted;
     match &drafted.seat {
         Seat::Segments { .. } => match hash_all(hashing, alg, base, drafted.draft.size, buf) {
             Ok(digest) => Ok(digest),
@@ -66,61 +68,45 @@ fn digest_left<'m, A: Source, K: Named, H: Hashing>(
     alloc: Global,
     hashing: &H,
     media: &'m mut A,
-    definition: &Definition,
-    drafted: &Drafted,
+    bound: &Bound<'_>,
     buf: &mut [u8],
     found: &mut Result<Digest, BuildError>,
 ) -> &'m mut A
     requires name { media.ghost_name ≡ K.name }
     requires len { A.len media.old ≡ K.len }
     requires known { A.known media.old ≡ K.known }
-    requires size { drafted.now.draft.size
-        ≡ cleared_len drafted.now.ground.clearing (A.len media.old) }
-    requires inside { IsSeatIn drafted.now.draft.size drafted.now.seat }
+    requires over { let clearing = bound.now.drafted.now.ground.clearing in
+        IsOverBase (cleared_len clearing (A.len media.old)) bound.now.drafted.now }
     requires room { 0 < length buf.old }
     ensures same { result.ghost_name ≡ media.entry.ghost_name }
-    ensures digest { IfOk found.new (λ d. ForSome (A.known media.old) (λ file. (p : Place)
-        → IsPlace (cleared drafted.now.ground.clearing file) p → IsSeat drafted.now.seat p
-        → d ≡ H.digest_of (new_alg definition.now)
-        (bound_text (cleared drafted.now.ground.clearing file) p))) }
-    ensures digest_len { IfOk found.new (λ d. length d ≡ digest_len (new_alg definition.now)) }
-    ensures nothing { IfErr found.new SaysNothing }
-    ensures cause { IfErr found.new (IsReadCause (A.faults media.old) (A.faults result.now)) }
-    ensures count { OnOk found.new (A.faults result.now ≡ A.faults media.old) }
-    ensures stays { StaysSource A.len A.known A.faults media.old result.now }
+    ensures digest { let clearing = bound.now.drafted.now.ground.clearing in
+        IsBoundDigest H.digest_of bound.now.alg bound.now.drafted.now.seat
+        (option_map (cleared clearing) (A.known media.old)) found.new }
+    ensures reads { ReadsSource A.len A.known A.faults IsReadCause media.old result.now found.new }
 {
-    let mut base = Cleared::<A, K>::new(media, drafted.ground.clearing);
-    *found = digest_of(alloc, hashing, &mut base, definition, drafted, buf);
+    let mut base = Cleared::<A, K>::new(media, bound.drafted.ground.clearing);
+    *found = digest_of(alloc, hashing, &mut base, bound, buf);
     base.into_media()
 }
 
-// The digest of what the new binding binds of what is left of a media file, read through a buffer that isn't empty.
+// The digest of what is bound of what is left of a media file, which is read through a buffer that isn't empty.
 fn left_digest<A: Source, H: Hashing>(
     alloc: Global,
     hashing: &H,
     media: &mut A,
-    definition: &Definition,
-    drafted: &Drafted,
+    bound: &Bound<'_>,
     buf: &mut [u8],
 ) -> Result<Digest, BuildError>
-    requires size { drafted.now.draft.size
-        ≡ cleared_len drafted.now.ground.clearing (A.len media.old) }
-    requires inside { IsSeatIn drafted.now.draft.size drafted.now.seat }
+    requires over { let clearing = bound.now.drafted.now.ground.clearing in
+        IsOverBase (cleared_len clearing (A.len media.old)) bound.now.drafted.now }
     requires room { 0 < length buf.old }
-    ensures digest { IfOk result (λ d. ForSome (A.known media.old) (λ file. (p : Place)
-        → IsPlace (cleared drafted.now.ground.clearing file) p → IsSeat drafted.now.seat p
-        → d ≡ H.digest_of (new_alg definition.now)
-        (bound_text (cleared drafted.now.ground.clearing file) p))) }
-    ensures len { IfOk result (λ d. length d ≡ digest_len (new_alg definition.now)) }
-    ensures nothing { IfErr result SaysNothing }
-    ensures cause { IfErr result (IsReadCause (A.faults media.old) (A.faults media.new)) }
-    ensures count { OnOk result (A.faults media.new ≡ A.faults media.old) }
-    ensures stays { StaysSource A.len A.known A.faults media.old media.new }
+    ensures digest { let clearing = bound.now.drafted.now.ground.clearing in
+        IsBoundDigest H.digest_of bound.now.alg bound.now.drafted.now.seat
+        (option_map (cleared clearing) (A.known media.old)) result }
+    ensures reads { ReadsSource A.len A.known A.faults IsReadCause media.old media.new result }
 {
     let mut found = Err(BuildError::NoMemory);
-    let _media = digest_left::<A, Brand, H>(
-        alloc, hashing, media, definition, drafted, buf, &mut found,
-    );
+    let _media = digest_left::<A, Brand, H>(alloc, hashing, media, bound, buf, &mut found);
     found
 }
 
@@ -200,12 +186,14 @@ pub fn parts_for<A: Source, H: Hashing>(
         + parts_size definition.now.label p definition.now.reserve
         ≡ seat_store_len drafted.now.seat c) }
     ensures nothing { IfErr result SaysNothing }
-    ensures cause { IfErr result (IsReadCause (A.faults media.old) (A.faults media.new)) }
-    ensures count { OnOk result (A.faults media.new ≡ A.faults media.old) }
-    ensures stays { StaysSource A.len A.known A.faults media.old media.new }
+    ensures reads { ReadsSource A.len A.known A.faults IsReadCause media.old media.new result }
 {
     // Matched and not handed up by `?`: each way out has clauses of its own.
-    let digest = match left_digest(alloc, hashing, media, definition, drafted, buf) {
+    let bound = Bound {
+        drafted,
+        alg: definition.alg,
+    };
+    let digest = match left_digest(alloc, hashing, media, &bound, buf) {
         Ok(digest) => digest,
         Err(error) => return Err(error),
     };

@@ -1,16 +1,15 @@
 // Where a new store goes in a media file without its older store.
 ghost use Rattle.std.specs.Prelude.{◌≡◌, ℕ, ◌<◌, List, IfErr, IfOk, OnOk};
 ghost use Rattle.std.specs.Option.{ForSome};
-ghost use Rattle.c2_base.specs.Source.{StaysSource};
+ghost use Rattle.c2_base.specs.Source.{ReadsSource, StaysSource};
 ghost use Rattle.c2_base.specs.declared.limits.TheConstants.{FILE_LEN_LIMIT};
 ghost use Rattle.c2_box_rows.specs.Faults.{FirstRootsFault};
 ghost use Rattle.c2_boxes.specs.Causes.{IsRootsCause, OrOutside};
-ghost use Rattle.c2_cleared.specs.Clears.{cleared, cleared_len};
 ghost use Rattle.c2_spec.specs.Jpeg.Places.{IsOfSegments};
 ghost use Rattle.c2_spec.specs.Jpeg.Segments.{Segment};
 ghost use Rattle.c2_spec.specs.Located.{HasReason};
 ghost use Rattle.c2_jpegseg.specs.Refusals.{TellsFault};
-ghost use Rattle.c2_build.specs.Steps.{HasSeat, IsForm, IsReadCause, IsSeatIn, SaysNothing, TellsNoPlace};
+ghost use Rattle.c2_build.specs.Steps.{HasSeat, IsForm, IsReadCause, IsSeatIn, IsSpotLeft, SaysNothing, TellsNoPlace};
 
 use crate::BuildError;
 use crate::media::FileForm;
@@ -74,7 +73,8 @@ fn walk_error(error: MediaError) -> BuildError
         MediaError::NoMemory => BuildError::NoMemory,
         other => match Refusal::of_media(other) {
             Some(refusal) => BuildError::MediaRefused(refusal.reason, refusal.number),
-            None => BuildError::NoMemory,
+            // Every other error is a refusal.
+            None => unreachable!(),
         },
     }
 }
@@ -175,16 +175,8 @@ fn spot_left<'m, A: Source, K: Named>(
     requires len { A.len media.old ≡ K.len }
     requires known { A.known media.old ≡ K.known }
     ensures same { result.ghost_name ≡ media.entry.ghost_name }
-    ensures seat { IfOk found.new (λ s. ForSome (A.known media.old) (λ file.
-        IsForm (cleared clearing file) form → HasSeat (cleared clearing file) s.seat)) }
-    ensures told { IfErr found.new (λ e. ForSome (A.known media.old) (λ file.
-        IsForm (cleared clearing file) form → TellsNoPlace (cleared clearing file) e)) }
-    ensures size { IfOk found.new (λ s. s.size ≡ cleared_len clearing (A.len media.old)) }
-    ensures inside { IfOk found.new (λ s. IsSeatIn s.size s.seat) }
-    ensures short { IfOk found.new (λ s. s.size < FILE_LEN_LIMIT) }
-    ensures cause { IfErr found.new (IsReadCause (A.faults media.old) (A.faults result.now)) }
-    ensures count { OnOk found.new (A.faults result.now ≡ A.faults media.old) }
-    ensures stays { StaysSource A.len A.known A.faults media.old result.now }
+    ensures spot { IsSpotLeft clearing form (A.known media.old) (A.len media.old) found.new }
+    ensures reads { ReadsSource A.len A.known A.faults IsReadCause media.old result.now found.new }
 {
     let mut base = Cleared::<A, K>::new(media, clearing);
     *found = spot_in(alloc, &mut base, form);
@@ -198,16 +190,8 @@ pub fn find_spot<A: Source>(
     clearing: Clearing,
     form: FileForm,
 ) -> Result<Spot, BuildError>
-    ensures seat { IfOk result (λ s. ForSome (A.known media.old) (λ file.
-        IsForm (cleared clearing file) form → HasSeat (cleared clearing file) s.seat)) }
-    ensures told { IfErr result (λ e. ForSome (A.known media.old) (λ file.
-        IsForm (cleared clearing file) form → TellsNoPlace (cleared clearing file) e)) }
-    ensures size { IfOk result (λ s. s.size ≡ cleared_len clearing (A.len media.old)) }
-    ensures inside { IfOk result (λ s. IsSeatIn s.size s.seat) }
-    ensures short { IfOk result (λ s. s.size < FILE_LEN_LIMIT) }
-    ensures cause { IfErr result (IsReadCause (A.faults media.old) (A.faults media.new)) }
-    ensures count { OnOk result (A.faults media.new ≡ A.faults media.old) }
-    ensures stays { StaysSource A.len A.known A.faults media.old media.new }
+    ensures spot { IsSpotLeft clearing form (A.known media.old) (A.len media.old) result }
+    ensures reads { ReadsSource A.len A.known A.faults IsReadCause media.old media.new result }
 {
     let mut found = Err(BuildError::NoMemory);
     let _media = spot_left::<A, Brand>(alloc, media, clearing, form, &mut found);

@@ -81,6 +81,8 @@ pub fn read_message_file<C: Source>(
     match read_message(alloc, protected, bytes.as_slice()) {
         Ok(sign) => Ok(sign),
         Err(MessageError::BadSignature(part)) => Err(BuildError::BadSignature(part)),
-        Err(_) => Err(BuildError::NoMemory),
+        Err(MessageError::NoMemory) => Err(BuildError::NoMemory),
+        // Nothing is reserved for a message that is read.
+        Err(MessageError::ReserveTooSmall(_)) => unreachable!(),
     }
 }

@@ -1,25 +1,27 @@
 // What is ready to be written, before anything is.
-ghost use Rattle.std.specs.Prelude.{◌≡◌, ℕ, IfErr, IfOk, Ok, OnOk, length, map, vec_len, [], List};
+ghost use Rattle.std.specs.Prelude.{◌≡◌, ◌⊎◌, IfErr, IfOk, length, map};
 ghost use Rattle.std.specs.Option.{ForSome};
-ghost use Rattle.c2_base.specs.Source.{StaysSource};
+ghost use Rattle.c2_base.specs.Causes.{Rose};
+ghost use Rattle.c2_base.specs.Source.{ReadsSource};
 ghost use Rattle.c2_cleared.specs.Clears.{cleared_len};
 ghost use Rattle.c2_spec.specs.C2pa.Message.{CanBePadded};
 ghost use Rattle.c2_spec.specs.C2pa.Sign1.{parts_of};
 ghost use Rattle.c2_spec.specs.Cbor.Item.{Pairs};
-ghost use Rattle.c2_spec.specs.Judges.Panel.{LeavesJudges, judges_of, panel_says};
+ghost use Rattle.c2_spec.specs.Judges.Panel.{panel_says};
 ghost use Rattle.c2_built.specs.Store.{new_alg};
+ghost use Rattle.c2_rules.specs.Asking.{HearsPanel};
+ghost use Rattle.c2_container.specs.Contained.{HasRootsInside};
 ghost use Rattle.c2_definition.specs.DefinitionFile.{IsWellFormed};
 ghost use Rattle.c2_message.specs.Signed.{IsSigned};
 ghost use Rattle.c2_places.specs.Places.{IsPlace, Place};
-ghost use Rattle.c2_build.specs.Answers.{Faults, HasAskedThose, IsBuildCause};
-ghost use Rattle.c2_build.specs.Building.{EmbedAsks, HasNothingToAsk, IsDefinitionRefused, IsMessageRefused, IsEmbedded, IsEmbeddedOver, IsMediaRefused, IsMediaStage, KindAsks, MediaKind, IsDefinitionTold, IsMessageTold};
-ghost use Rattle.c2_build.specs.Meeting.{HasTextsIn};
+ghost use Rattle.c2_build.specs.Answers.{AsksEmbedded, LeavesUndue, build_heard};
+ghost use Rattle.c2_build.specs.Building.{IsEmbeddedOver, MediaKind};
 ghost use Rattle.c2_build.specs.Refusals.{Ground};
-ghost use Rattle.c2_build.specs.Steps.{CanWrite, ComesAs, IsEmbedCause, IsGround, IsKind, IsNumbered, IsPutReady, IsReadCause, IsReady, IsReserveRefusal, IsSeat, IsSmall, SaysNothing};
+ghost use Rattle.c2_build.specs.Steps.{CanWrite, ComesAs, IsFoundIn, IsGround, IsKind, IsNumbered, IsPrepareCause, IsPrepared, IsPutReady, IsReadCause, IsReadIn, IsReady, IsReadyCause, IsReserveRefusal, IsSeat, IsSmall, KindHears, SaysNothing};
 
 use crate::BuildError;
 use crate::draft::{Draft, Drafted, draft_over};
-use crate::media::{MediaFile, open_media};
+use crate::media::{MediaFile, MediaRead, open_media, read_media};
 use crate::parts::parts_for;
 use crate::reading::{read_definition_file, read_message_file};
 use c2_base::limits::PIECE_LEN;
@@ -66,7 +68,9 @@ fn padded(alloc: Global, sign: &Sign1, definition: &Definition) -> Result<Blob, 
     match padded_message(alloc, sign, definition.reserve) {
         Ok(message) => Ok(message),
         Err(MessageError::ReserveTooSmall(needed)) => Err(BuildError::ReserveTooSmall(needed)),
-        Err(_) => Err(BuildError::NoMemory),
+        Err(MessageError::NoMemory) => Err(BuildError::NoMemory),
+        // A message that is padded was read before.
+        Err(MessageError::BadSignature(_)) => unreachable!(),
     }
 }
 
@@ -89,9 +93,7 @@ fn ready_with<A: Source, H: Hashing>(
         → IsPutReady (H.digest_of (new_alg definition.now)) file r g p message.now)) }
     ensures nothing { IfErr result SaysNothing }
     ensures can_write { IfOk result (CanWrite (A.len media.old)) }
-    ensures cause { IfErr result (IsReadCause (A.faults media.old) (A.faults media.new)) }
-    ensures count { OnOk result (A.faults media.new ≡ A.faults media.old) }
-    ensures stays { StaysSource A.len A.known A.faults media.old media.new }
+    ensures reads { ReadsSource A.len A.known A.faults IsReadCause media.old media.new result }
 {
     // Only the prover needs these laws.
     a_new_store_has_one_length();
@@ -115,67 +117,106 @@ fn ready_with<A: Source, H: Hashing>(
     }
 }
 
-// What is to be written over a media file that was opened so, with a definition and a message.
-fn ready_over<A: Source, H: Hashing>(
+// What builds are made with.
+#[derive(Drop)]
+struct Builder<'h, H> {
     alloc: Global,
-    hashing: &H,
-    media: &mut A,
-    file: MediaFile,
-    definition: &Definition,
-    sign: &Sign1,
-    judges: &mut Vec<Box<dyn Judge>>,
-) -> Result<Ready, BuildError>
-    requires formed { IsWellFormed definition.now }
-    requires can { (entries : Pairs) × CanBePadded (parts_of sign.now) entries }
-    ensures ready { let said = panel_says (map (λ j. says j) judges.old.items) in
-        ForSome (A.known media.old) (λ bytes. (kind : MediaKind)
-        → IsMediaStage bytes (Ok kind) → IsKind bytes file kind
-        → ComesAs (IsReady bytes)
-        (IsEmbeddedOver H.digest_of said bytes kind definition.now (parts_of sign.now)) result) }
-    ensures can_write { IfOk result (CanWrite (A.len media.old)) }
-    ensures asked { let said = panel_says (map (λ j. says j) judges.old.items) in
-        let old = judges_of (λ j. says j) (λ j. asked_times j) (λ j. judge_faults j)
-        judges.old.items in
-        let new = judges_of (λ j. says j) (λ j. asked_times j) (λ j. judge_faults j)
-        judges.new.items in
-        ForSome (A.known media.old) (λ bytes. (kind : MediaKind) → IsKind bytes file kind
-        → HasAskedThose (KindAsks H.digest_of said bytes kind) old new result) }
-    ensures unasked { let said = panel_says (map (λ j. says j) judges.old.items) in
-        ForSome (A.known media.old) (λ bytes. (kind : MediaKind) → IsKind bytes file kind
-        → KindAsks H.digest_of said bytes kind [] → judges.new ≡ judges.old) }
-    ensures cause { let old = judges_of (λ j. says j) (λ j. asked_times j) (λ j. judge_faults j)
-        judges.old.items in
-        let new = judges_of (λ j. says j) (λ j. asked_times j) (λ j. judge_faults j)
-        judges.new.items in
-        IfErr result
-        (IsEmbedCause (A.faults media.old) (A.faults media.new) old.faults new.faults) }
-    ensures count { OnOk result (A.faults media.new ≡ A.faults media.old) }
-    ensures stays { StaysSource A.len A.known A.faults media.old media.new }
-    ensures leaves { let old = judges_of (λ j. says j) (λ j. asked_times j) (λ j. judge_faults j)
-        judges.old.items in
-        let new = judges_of (λ j. says j) (λ j. asked_times j) (λ j. judge_faults j)
-        judges.new.items in
-        LeavesJudges old new result }
-    ensures judges_len { vec_len judges.new ≡ vec_len judges.old }
-{
-    // Only the prover needs this law.
-    a_message_fills_its_reserve_or_needs_more();
-    let drafted = match draft_over(alloc, hashing, media, file, definition, judges) {
-        Ok(drafted) => drafted,
-        Err(error) => return Err(error),
-    };
-    let message = match padded(alloc, sign, definition) {
-        Ok(message) => message,
-        Err(error) => return Err(error),
-    };
-    ready_with(
-        alloc,
-        hashing,
-        media,
-        drafted,
-        definition,
-        message.as_slice(),
-    )
+    hashing: &'h H,
+}
+
+impl<'h, H: Hashing> Builder<'h, H> {
+    // What is to be written, where this was read of a media file, with a definition and a message.
+    fn ready_over<A: Source>(
+        &self,
+        media: &mut A,
+        file: &MediaRead<'_>,
+        definition: &Definition,
+        sign: &Sign1,
+        judges: &mut Vec<Box<dyn Judge>>,
+    ) -> Result<Ready, BuildError>
+        requires formed { IsWellFormed definition.now }
+        requires can { (entries : Pairs) × CanBePadded (parts_of sign.now) entries }
+        requires read { IsReadIn (A.len media.old) file.now }
+        ensures ready { let said = panel_says (map says judges.old.items) in
+            ForSome (A.known media.old) (λ bytes. (kind : MediaKind) → IsKind bytes file.now kind
+            → ComesAs (IsReady bytes) (IsEmbeddedOver H.digest_of said bytes kind definition.now
+            (parts_of sign.now)) result) }
+        ensures can_write { IfOk result (CanWrite (A.len media.old)) }
+        ensures reads { ReadsSource A.len A.known A.faults IsReadyCause media.old media.new result }
+        ensures panel { HearsPanel says asked_times judge_faults build_heard
+            (KindHears H.digest_of (A.known media.old) file.now) judges.old judges.new result }
+    {
+        // Only the prover needs this law.
+        a_message_fills_its_reserve_or_needs_more();
+        let drafted = match draft_over(self.alloc, self.hashing, media, file, definition, judges) {
+            Ok(drafted) => drafted,
+            Err(error) => return Err(error),
+        };
+        let message = match padded(self.alloc, sign, definition) {
+            Ok(message) => message,
+            Err(error) => return Err(error),
+        };
+        ready_with(
+            self.alloc,
+            self.hashing,
+            media,
+            drafted,
+            definition,
+            message.as_slice(),
+        )
+    }
+
+    // What is to be written, where this was found of a media file, with a definition file and a message file.
+    fn ready_in<A: Source, B: Source, C: Source>(
+        &self,
+        media: &mut A,
+        file: &MediaFile,
+        definition: &mut B,
+        signature: &mut C,
+        judges: &mut Vec<Box<dyn Judge>>,
+    ) -> Result<Ready, BuildError>
+        requires inside { HasRootsInside (A.len media.old) file.now.container }
+        requires found { ForSome (A.known media.old) (λ bytes. IsFoundIn bytes file.now) }
+        ensures prepared { let said = panel_says (map says judges.old.items) in
+            IsPrepared H.digest_of said (A.known media.old) (B.known definition.old)
+            (C.known signature.old) (A.len media.old) result }
+        ensures not_due { LeavesUndue (A.known media.old) (B.known definition.old)
+            definition.old definition.new signature.old signature.new }
+        ensures media { ReadsSource A.len A.known A.faults (IsPrepareCause
+            (Rose (B.faults definition.old) (B.faults definition.new)
+            ⊎ Rose (C.faults signature.old) (C.faults signature.new)))
+            media.old media.new result }
+        ensures definition { ReadsSource B.len B.known B.faults (IsPrepareCause
+            (Rose (A.faults media.old) (A.faults media.new)
+            ⊎ Rose (C.faults signature.old) (C.faults signature.new)))
+            definition.old definition.new result }
+        ensures message { ReadsSource C.len C.known C.faults (IsPrepareCause
+            (Rose (A.faults media.old) (A.faults media.new)
+            ⊎ Rose (B.faults definition.old) (B.faults definition.new)))
+            signature.old signature.new result }
+        ensures panel { HearsPanel says asked_times judge_faults build_heard (AsksEmbedded
+            H.digest_of (A.known media.old) (B.known definition.old) (C.known signature.old))
+            judges.old judges.new result }
+    {
+        // Only the prover needs these laws.
+        one_opening();
+        each_definition_is_read_one_way();
+        one_item();
+        each_message_is_accepted_or_refused_for_one_test();
+        let read = match read_media(self.alloc, file) {
+            Ok(read) => read,
+            Err(error) => return Err(error),
+        };
+        let definition = match read_definition_file(self.alloc, definition) {
+            Ok(definition) => definition,
+            Err(error) => return Err(error),
+        };
+        let sign = match read_message_file(self.alloc, definition.protected.as_slice(), signature) {
+            Ok(sign) => sign,
+            Err(error) => return Err(error),
+        };
+        self.ready_over(media, &read, &definition, &sign, judges)
+    }
 }
 
 /// What is to be written, made from the three sources.
@@ -188,85 +229,33 @@ pub fn prepare<A: Source, B: Source, C: Source, H: Hashing>(
     judges: &mut Vec<Box<dyn Judge>>,
 ) -> Result<Ready, BuildError>
     requires { Unit {0} }
-    ensures ready { let said = panel_says (map (λ j. says j) judges.old.items) in
-        ForSome (A.known media.old) (λ file. (bytes : List ℕ)
-        → IsDefinitionTold file (B.known definition.old) bytes → (message : List ℕ)
-        → IsMessageTold file bytes (C.known signature.old) message
-        → ComesAs (IsReady file) (IsEmbedded H.digest_of said file bytes message) result) }
-    ensures asked { let said = panel_says (map (λ j. says j) judges.old.items) in
-        let old = judges_of (λ j. says j) (λ j. asked_times j) (λ j. judge_faults j)
-        judges.old.items in
-        let new = judges_of (λ j. says j) (λ j. asked_times j) (λ j. judge_faults j)
-        judges.new.items in
-        ForSome (A.known media.old) (λ file. (bytes : List ℕ)
-        → IsDefinitionTold file (B.known definition.old) bytes → (message : List ℕ)
-        → IsMessageTold file bytes (C.known signature.old) message
-        → HasAskedThose (EmbedAsks H.digest_of said file bytes message) old new result) }
-    ensures unasked { let said = panel_says (map (λ j. says j) judges.old.items) in
-        ForSome (A.known media.old) (λ file. (bytes : List ℕ)
-        → IsDefinitionTold file (B.known definition.old) bytes → (message : List ℕ)
-        → IsMessageTold file bytes (C.known signature.old) message
-        → EmbedAsks H.digest_of said file bytes message [] → judges.new ≡ judges.old) }
-    // What is known of one file, or of two, is enough for it.
-    ensures unasked_media { ForSome (A.known media.old) (λ file.
-        HasNothingToAsk file → judges.new ≡ judges.old) }
-    ensures unasked_definition { ForSome (B.known definition.old) (λ bytes.
-        IsDefinitionRefused bytes → judges.new ≡ judges.old) }
-    ensures unasked_message { ForSome (B.known definition.old) (λ bytes.
-        ForSome (C.known signature.old) (λ message.
-        IsMessageRefused bytes message → judges.new ≡ judges.old)) }
-    ensures texts { ForSome (A.known media.old) (λ file. (bytes : List ℕ)
-        → IsDefinitionTold file (B.known definition.old) bytes → OnOk result (HasTextsIn bytes)) }
-    ensures definition_unread { ForSome (A.known media.old) (λ file.
-        IsMediaRefused file → definition.new ≡ definition.old) }
-    ensures message_unread_first { ForSome (A.known media.old) (λ file.
-        IsMediaRefused file → signature.new ≡ signature.old) }
-    ensures message_unread { ForSome (B.known definition.old) (λ bytes.
-        IsDefinitionRefused bytes → signature.new ≡ signature.old) }
-    ensures can_write { IfOk result (CanWrite (A.len media.old)) }
-    ensures cause { (out : ℕ) → let before : Faults = record {
-      media = A.faults media.old;
-      definition = B.faults definition.old;
-      message = C.faults signature.old;
-      out = out;
-    } in let now : Faults = record {
-      media = A.faults media.new;
-      definition = B.faults definition.new;
-      message = C.faults signature.new;
-      out = out;
-    } in let old = judges_of (λ j. says j) (λ j. asked_times j) (λ j. judge_faults j)
-        judges.old.items in
-        let new = judges_of (λ j. says j) (λ j. asked_times j) (λ j. judge_faults j)
-        judges.new.items in IfErr result (IsBuildCause before now old.faults new.faults) }
-    ensures media_count { OnOk result (A.faults media.new ≡ A.faults media.old) }
-    ensures definition_count { OnOk result (B.faults definition.new ≡ B.faults definition.old) }
-    ensures message_count { OnOk result (C.faults signature.new ≡ C.faults signature.old) }
-    ensures media_stays { StaysSource A.len A.known A.faults media.old media.new }
-    ensures definition_stays { StaysSource B.len B.known B.faults definition.old definition.new }
-    ensures message_stays { StaysSource C.len C.known C.faults signature.old signature.new }
-    ensures leaves { let old = judges_of (λ j. says j) (λ j. asked_times j) (λ j. judge_faults j)
-        judges.old.items in
-        let new = judges_of (λ j. says j) (λ j. asked_times j) (λ j. judge_faults j)
-        judges.new.items in
-        LeavesJudges old new result }
-    ensures judges_len { vec_len judges.new ≡ vec_len judges.old }
+    ensures prepared { let said = panel_says (map says judges.old.items) in
+        IsPrepared H.digest_of said (A.known media.old) (B.known definition.old)
+        (C.known signature.old) (A.len media.old) result }
+    ensures not_due { LeavesUndue (A.known media.old) (B.known definition.old)
+        definition.old definition.new signature.old signature.new }
+    ensures media { ReadsSource A.len A.known A.faults (IsPrepareCause
+        (Rose (B.faults definition.old) (B.faults definition.new)
+        ⊎ Rose (C.faults signature.old) (C.faults signature.new)))
+        media.old media.new result }
+    ensures definition { ReadsSource B.len B.known B.faults (IsPrepareCause
+        (Rose (A.faults media.old) (A.faults media.new)
+        ⊎ Rose (C.faults signature.old) (C.faults signature.new)))
+        definition.old definition.new result }
+    ensures message { ReadsSource C.len C.known C.faults (IsPrepareCause
+        (Rose (A.faults media.old) (A.faults media.new)
+        ⊎ Rose (B.faults definition.old) (B.faults definition.new)))
+        signature.old signature.new result }
+    ensures panel { HearsPanel says asked_times judge_faults build_heard (AsksEmbedded
+        H.digest_of (A.known media.old) (B.known definition.old) (C.known signature.old))
+        judges.old judges.new result }
 {
-    // Only the prover needs these laws.
+    // Only the prover needs this law.
     one_opening();
-    each_definition_is_read_one_way();
-    one_item();
-    each_message_is_accepted_or_refused_for_one_test();
+    let builder = Builder { alloc, hashing };
     let file = match open_media(alloc, media) {
         Ok(file) => file,
         Err(error) => return Err(error),
     };
-    let definition = match read_definition_file(alloc, definition) {
-        Ok(definition) => definition,
-        Err(error) => return Err(error),
-    };
-    let sign = match read_message_file(alloc, definition.protected.as_slice(), signature) {
-        Ok(sign) => sign,
-        Err(error) => return Err(error),
-    };
-    ready_over(alloc, hashing, media, file, &definition, &sign, judges)
+    builder.ready_in(media, &file, definition, signature, judges)
 }

@@ -9,4 +9,6 @@ mod faults;
 #[cfg(test)]
 mod inputs;
 #[cfg(test)]
+mod opened;
+#[cfg(test)]
 mod refusals;

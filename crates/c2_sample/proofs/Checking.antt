@@ -1,18 +1,15 @@
 -- What a new file comes to, by what the check of it answers.
 use Rattle.std.proofs.Common.{◌≡◌, ◌∙◌, sym, ap, ap₂, subst, ℕ, List, length}
-use Rattle.std.specs.declared.result.Result.TheVariants.{Ok, Err}
 use Rattle.c2_base.specs.declared.values.Question.{Question}
 use Rattle.c2_spec.specs.Container.{IsLocated}
-use Rattle.c2_spec.specs.Judges.Panel.{Judges}
-use Rattle.c2_spec.specs.Located.{Located}
 use Rattle.c2_spec.specs.declared.digest.Alg.{Alg}
 use Rattle.c2_spec.specs.declared.panel.Verdict.{Verdict}
 use Rattle.c2_rules.specs.Validated.{IsAnswer}
 use Rattle.c2_rules.specs.declared.answer.Answer.{Answer}
-use Rattle.c2_validate.specs.Validation.{HasAsked}
+use Rattle.c2_validate.specs.Checked.{validate_heard}
 use Rattle.c2_opening.specs.declared.error.ValidateError.{ValidateError}
 use Rattle.c2_opening.specs.declared.error.ValidateError.TheVariants.{ReadFault, JudgeFault, NoMemory}
-use Rattle.c2_sample.specs.Sample.{HasSampleAsked, IsFileSampled, IsLength, IsSameError}
+use Rattle.c2_sample.specs.Sample.{IsFileSampled, IsLength, IsSameError, sample_heard}
 use Rattle.c2_sample.specs.declared.types.SampleError.{SampleError}
 use Rattle.c2_sample.specs.declared.types.Sampled.TheVariants.{Checked}
 
@@ -27,8 +24,8 @@ file_sampled hash said media len store file same bytes a copied read counted fou
   is = ap₂ (λ (m n : ℕ). Checked (record { media = media; file = m; store = n }) a) (counted ∙ ap length read) found.2;
 }
 
--- who was asked until the check failed
-pub error_asked : (qs : List Question) (old new : Judges) (e : ValidateError) (f : SampleError) → IsSameError e f → HasAsked {T = Answer} qs old new (Err e) → HasSampleAsked qs old new (Err f)
-error_asked qs old new ReadFault f is h = absurd is
-error_asked qs old new JudgeFault f is h = subst (λ (x : SampleError). HasSampleAsked qs old new (Err x)) (sym is) h
-error_asked qs old new NoMemory f is h = subst (λ (x : SampleError). HasSampleAsked qs old new (Err x)) (sym is) h
+-- an error that is handed up tells the same of the questions
+pub same_heard : (e : ValidateError) (f : SampleError) → IsSameError e f → validate_heard e ≡ sample_heard f
+same_heard ReadFault f is = absurd is
+same_heard JudgeFault f is = ap sample_heard (sym is)
+same_heard NoMemory f is = ap sample_heard (sym is)

@@ -1,5 +1,5 @@
 -- So many pieces come to something, and ask a list of questions.
-use Rattle.std.proofs.Common.{◌≡◌, refl, ℕ, List, [], length}
+use Rattle.std.proofs.Common.{refl, ℕ, List, [], length}
 use Rattle.std.specs.declared.result.Result.{Result}
 use Rattle.std.specs.declared.result.Result.TheVariants.{Ok, Err}
 use Rattle.c2_base.specs.declared.values.Question.{Question}

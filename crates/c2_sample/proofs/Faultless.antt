@@ -8,15 +8,16 @@ use Rattle.c2_base.specs.InMemory.{fresh_sink, sink_state}
 use Rattle.c2_base.specs.declared.sinks.MemSink.{MemSink}
 use Rattle.c2_base.specs.declared.values.Question.{Question}
 use Rattle.c2_spec.specs.Container.{is_bmff}
-use Rattle.c2_spec.specs.Judges.Panel.{Judges, SomeRose, panel_says}
+use Rattle.c2_spec.specs.Judges.Panel.{SomeRose, panel_says}
 use Rattle.c2_spec.specs.declared.digest.Alg.{Alg}
 use Rattle.c2_spec.specs.declared.panel.Verdict.{Verdict}
 use Rattle.c2_opening.specs.Opened.{IsCause}
 use Rattle.c2_opening.specs.declared.error.ValidateError.{ValidateError}
 use Rattle.c2_opening.specs.declared.error.ValidateError.TheVariants as check
-use Rattle.c2_validate.specs.Validation.{IsFaultCause}
+use Rattle.c2_validate.specs.Checked.{IsReadCause}
 use Rattle.c2_built.specs.Fresh.{GivesDigests}
-use Rattle.c2_build.specs.Answers.{Faults, HasSpare, IsBuildCause}
+use Rattle.c2_build.specs.Answers.{HasSpare, IsEmbedCause, build_heard}
+use Rattle.c2_rules.specs.Asking.{IsJudgeCause}
 use Rattle.c2_build.specs.Meeting.{BuiltFileMeets, SomeEmbedding}
 use Rattle.c2_build.specs.declared.error.BuildError.{BuildError}
 use Rattle.c2_build.specs.declared.error.BuildError.TheVariants.{MediaRefused, BadDefinition, BadSignature, ParentFails, LabelTaken, RedactionRefused, OpenBox, NoInstance, TooManyManifests, StoreTooLarge, ReserveTooSmall, ReadFault, JudgeFault, WriteFault, NoMemory}
@@ -79,30 +80,26 @@ no_write_fault hash media sink m spare =
     let most = result_len m.meets hash no_judges media sample_definition sample_message r.0 m.digests texts_in m.jpeg r.1 in
     omega (arith, less, most, m.holds)
 
--- the counts of a build whose sources are in memory, by that of the sink
-abbrev pub sure_faults : ℕ → Faults
-sure_faults out = record { media = 0; definition = 0; message = 0; out = out }
-
 -- an error of it is a refusal, or memory ran out
-pub sure_error : {T : Type 0} (says : T → Question → Verdict) (faults : T → ℕ) (judges : List T) (now : List ℕ) (hash : Alg → List ℕ → List ℕ) (media : List ℕ) (sink : MemSink) (out : ℕ) (e : BuildError) → judges ≡ [] → InMemory hash media sink
-    → IsBuildCause (sure_faults sink.faults) (sure_faults out) (map faults judges) now e
+pub sure_error : {T : Type 0} (says : T → Question → Verdict) (faults : T → ℕ) (judges : List T) (now : List ℕ) (hash : Alg → List ℕ → List ℕ) (media : List ℕ) (sink : MemSink) (e : BuildError) → judges ≡ [] → InMemory hash media sink
+    → IsEmbedCause (Rose 0 0 ⊎ Rose 0 0) 0 0 e → IsJudgeCause (map faults judges) now (build_heard e)
     → HasSpare hash (panel_says (map says judges)) media sample_definition sample_message (if sink.fail_at == 0 then Some (vec_len sink.bytes - sink.used) else None) (Err e) → IsSureError e
-sure_error {T} says faults judges now hash media sink out (MediaRefused reason number) none m c s = inl refl
-sure_error {T} says faults judges now hash media sink out (BadDefinition field) none m c s = inl refl
-sure_error {T} says faults judges now hash media sink out (BadSignature part) none m c s = inl refl
-sure_error {T} says faults judges now hash media sink out (ParentFails code uri) none m c s = inl refl
-sure_error {T} says faults judges now hash media sink out (LabelTaken label) none m c s = inl refl
-sure_error {T} says faults judges now hash media sink out (RedactionRefused text code) none m c s = inl refl
-sure_error {T} says faults judges now hash media sink out (OpenBox n) none m c s = inl refl
-sure_error {T} says faults judges now hash media sink out NoInstance none m c s = inl refl
-sure_error {T} says faults judges now hash media sink out (TooManyManifests count) none m c s = inl refl
-sure_error {T} says faults judges now hash media sink out (StoreTooLarge len) none m c s = inl refl
-sure_error {T} says faults judges now hash media sink out (ReserveTooSmall needed) none m c s = inl refl
-sure_error {T} says faults judges now hash media sink out ReadFault none m c s = absurd (no_read_fault c)
-sure_error {T} says faults judges now hash media sink out JudgeFault none m c s = absurd (nobody_rose faults judges now none c)
-sure_error {T} says faults judges now hash media sink out WriteFault none m c s =
+sure_error {T} says faults judges now hash media sink (MediaRefused reason number) none m c j s = inl refl
+sure_error {T} says faults judges now hash media sink (BadDefinition field) none m c j s = inl refl
+sure_error {T} says faults judges now hash media sink (BadSignature part) none m c j s = inl refl
+sure_error {T} says faults judges now hash media sink (ParentFails code uri) none m c j s = inl refl
+sure_error {T} says faults judges now hash media sink (LabelTaken label) none m c j s = inl refl
+sure_error {T} says faults judges now hash media sink (RedactionRefused text code) none m c j s = inl refl
+sure_error {T} says faults judges now hash media sink (OpenBox n) none m c j s = inl refl
+sure_error {T} says faults judges now hash media sink NoInstance none m c j s = inl refl
+sure_error {T} says faults judges now hash media sink (TooManyManifests count) none m c j s = inl refl
+sure_error {T} says faults judges now hash media sink (StoreTooLarge len) none m c j s = inl refl
+sure_error {T} says faults judges now hash media sink (ReserveTooSmall needed) none m c j s = inl refl
+sure_error {T} says faults judges now hash media sink ReadFault none m c j s = absurd (no_read_fault c)
+sure_error {T} says faults judges now hash media sink JudgeFault none m c j s = absurd (nobody_rose faults judges now none j)
+sure_error {T} says faults judges now hash media sink WriteFault none m c j s =
     absurd (no_write_fault hash media sink m (subst (λ (js : List T). HasSpare hash (panel_says (map says js)) media sample_definition sample_message (if sink.fail_at == 0 then Some (vec_len sink.bytes - sink.used) else None) (Err WriteFault)) none s))
-sure_error {T} says faults judges now hash media sink out NoMemory none m c s = inr refl
+sure_error {T} says faults judges now hash media sink NoMemory none m c j s = inr refl
 
 -- ---- the check
 
@@ -113,7 +110,7 @@ search_error check.JudgeFault c = absurd c
 search_error check.NoMemory c = refl
 
 -- an error of the check isn't a fault of the source
-pub check_error : (old new : Judges) (e : ValidateError) → IsFaultCause 0 0 old new e → IsSureFault e
-check_error old new check.ReadFault c = absurd (none_rose c)
-check_error old new check.JudgeFault c = tt
-check_error old new check.NoMemory c = tt
+pub check_error : (e : ValidateError) → IsReadCause 0 0 e → IsSureFault e
+check_error check.ReadFault c = absurd (none_rose c)
+check_error check.JudgeFault c = tt
+check_error check.NoMemory c = tt

@@ -1,5 +1,5 @@
 -- Bytes that are appended one after the other.
-use Rattle.std.proofs.Common.{◌≡◌, ◌∙◌, refl, sym, ap, ap₂, ℕ, zero, suc, ◌+◌, List, [], ◌∷◌, ◌++◌, append-nil, append_assoc, add-one}
+use Rattle.std.proofs.Common.{◌≡◌, ◌∙◌, sym, ap, ap₂, ℕ, ◌+◌, List, [], ◌∷◌, ◌++◌, append_assoc, add-one}
 use Rattle.c2_sample.specs.Sample.{piece, piece_byte, piece_bytes, pieces}
 
 -- a piece with so many of its bytes

@@ -1,13 +1,13 @@
 -- The definition file, read: its texts are texts.
-use Rattle.std.proofs.Common.{◌≡◌, ◌∙◌, refl, sym, ap, subst, ℕ, Bool, true, false, List, [], ◌∷◌, Option, Some, None, codes, lit<}
-use Rattle.std.specs.Prelude.{Result, Ok, Err, is_ok}
+use Rattle.std.proofs.Common.{◌≡◌, ◌∙◌, refl, sym, ap, subst, ℕ, Bool, true, false, List, [], ◌∷◌, None, codes, lit<}
+use Rattle.std.specs.Prelude.{Result, Ok, is_ok}
 use Rattle.std.specs.Str.{is_utf8, chars}
 use Rattle.std.proofs.lemmas.Bool.{false≢true}
 use Rattle.hex.proofs.OnLiterals.{hex_on_literals}
 use Rattle.uuid.proofs.OnLiterals.{uuid_on_literals}
 use Rattle.serde_json.proofs.OnLiterals.{serde_json_on_literals}
 use Rattle.c2_spec.specs.declared.digest.Alg.TheVariants.{Sha256}
-use Rattle.c2_definition.specs.DefinitionFile.{IsDefinition, definition_in}
+use Rattle.c2_definition.specs.DefinitionFile.{definition_in}
 use Rattle.c2_definition.specs.declared.types.Definition.{Definition}
 use Rattle.c2_definition.specs.declared.types.DefinitionField.{DefinitionField}
 use Rattle.c2_definition.specs.declared.types.Payload.TheVariants as payload

@@ -4,11 +4,11 @@ use Rattle.std.specs.declared.result.Result.{Result}
 use Rattle.std.specs.declared.result.Result.TheVariants.{Ok, Err}
 use Rattle.c2_base.specs.declared.values.Question.{Question}
 use Rattle.c2_spec.specs.Container.{IsLocated}
-use Rattle.c2_spec.specs.Judges.Panel.{Judges, SomeRose, panel_says}
+use Rattle.c2_spec.specs.Judges.Panel.{panel_says}
 use Rattle.c2_spec.specs.Located.{Located, refused, absent, here}
 use Rattle.c2_spec.specs.declared.digest.Alg.{Alg}
 use Rattle.c2_spec.specs.declared.panel.Verdict.{Verdict}
-use Rattle.c2_rules.specs.Asking.{HaveAsked, HaveAskedPrefix, HaveFailed}
+use Rattle.c2_rules.specs.Asking.{Heard, broken, part}
 use Rattle.c2_rules.specs.Validated.{CheckAsks, IsAnswer}
 use Rattle.c2_rules.specs.declared.answer.Answer.{Answer}
 use Rattle.c2_built.specs.Fresh.{GivesDigests}
@@ -107,20 +107,10 @@ BuildAsks hash said (Err e) qs = qs ≡ []
 abbrev pub SampleAsks : (Alg → List ℕ → List ℕ) → (Question → Verdict) → ℕ → List Question → Type 0
 SampleAsks hash said n qs = (r : Result Built BuildError) × IsSampleBuilt hash n r × BuildAsks hash said r qs
 
--- which judges were asked these questions, and who failed
-abbrev pub HasSampleAsked : List Question → Judges → Judges → Result Sampled SampleError → Type 0
-HasSampleAsked qs old new (Ok s) = HaveAsked old.said qs old.asked new.asked
-HasSampleAsked qs old new (Err JudgeFault) = HaveFailed old.said qs old.asked new.asked old.faults new.faults
-HasSampleAsked qs old new (Err NoMemory) = HaveAskedPrefix old.said qs old.asked new.asked
-
--- the panel was asked the questions of which this holds
-abbrev pub HasAskedThose : (List Question → Type 0) → Judges → Judges → Result Sampled SampleError → Type 0
-HasAskedThose AreAsked old new result = (qs : List Question) → AreAsked qs → HasSampleAsked qs old new result
-
--- the cause of an error, by the judges' counts before and after
-abbrev pub IsSampleCause : Judges → Judges → SampleError → Type 0
-IsSampleCause old new JudgeFault = SomeRose old.faults new.faults
-IsSampleCause old new NoMemory = ⊤
+-- how far the call came with its questions that ended with this error
+abbrev pub sample_heard : SampleError → Heard
+sample_heard JudgeFault = broken
+sample_heard NoMemory = part
 
 -- ---- its line
 

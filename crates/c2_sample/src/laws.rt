@@ -1,8 +1,4 @@
 // What holds of each sample; nothing is computed.
-ghost use Rattle.std.specs.Prelude.{◌≡◌, ℕ, List};
-ghost use Rattle.c2_base.specs.declared.values.Question.{Question};
-ghost use Rattle.c2_spec.specs.declared.digest.Alg.{Alg as AnyAlg};
-ghost use Rattle.c2_spec.specs.declared.panel.Verdict.{Verdict as AnyVerdict};
 ghost use Rattle.c2_sample.specs.Sample.{EachSample, EachSampleAsks, OneSample, OneSampleAsks};
 
 use c2_build::{

@@ -1,10 +1,11 @@
 // What a sample comes to.
-ghost use Rattle.std.specs.Prelude.{◌≡◌, [], map, length, IfOk, IfErr, vec_len};
-ghost use Rattle.c2_rules.specs.Validated.{CheckAsks};
-ghost use Rattle.c2_spec.specs.Judges.Panel.{LeavesJudges, judges_of, panel_says};
+ghost use Rattle.std.specs.Prelude.{◌≡◌, map, length, IfOk};
+ghost use Rattle.c2_rules.specs.Asking.{HearsPanel};
+ghost use Rattle.c2_spec.specs.Judges.Panel.{panel_says};
+ghost use Rattle.c2_validate.specs.Validation.{FileAsks};
 ghost use Rattle.c2_base.specs.InMemory.{sure_bytes};
 ghost use Rattle.c2_opening.specs.declared.error.ValidateError.TheVariants as check;
-ghost use Rattle.c2_sample.specs.Sample.{HasAskedThose, IsFileSampled, IsLength, IsSameError, IsSampleCause, IsSampled, IsSureFault, SampleAsks};
+ghost use Rattle.c2_sample.specs.Sample.{IsFileSampled, IsLength, IsSameError, IsSampled, IsSureFault, SampleAsks, sample_heard};
 
 use crate::building::{NewFile, build};
 use crate::media::sample_media;
@@ -19,7 +20,8 @@ use std::alloc::Global;
 
 /// What so many pieces come to: the file that is built of them, checked with these judges, or what is refused.
 ///
-/// No judge is asked while the file is built. `JudgeFault` comes only where a judge failed that was due.
+/// What a build refuses is answered and is no error. `JudgeFault` comes only where a judge failed that was due in the check of the new file;
+/// no judge is asked while the file is built. `NoMemory` comes where memory ran out. Nothing else fails, since all files are in memory.
 // The condition always holds: a function that changes boxed judges is called under a contract only where it has one.
 pub fn sample<H: Hashing>(
     alloc: Global,
@@ -28,27 +30,10 @@ pub fn sample<H: Hashing>(
     judges: &mut Vec<Box<dyn Judge>>,
 ) -> Result<Sampled, SampleError>
     requires { Unit {0} }
-    ensures sampled { let said = panel_says (map (λ j. says j) judges.old.items) in
+    ensures sampled { let said = panel_says (map says judges.old.items) in
         IfOk result (IsSampled H.digest_of said count) }
-    ensures asked { let said = panel_says (map (λ j. says j) judges.old.items) in
-        let old = judges_of (λ j. says j) (λ j. asked_times j) (λ j. judge_faults j)
-        judges.old.items in
-        let new = judges_of (λ j. says j) (λ j. asked_times j) (λ j. judge_faults j)
-        judges.new.items in
-        HasAskedThose (SampleAsks H.digest_of said count) old new result }
-    ensures unasked { let said = panel_says (map (λ j. says j) judges.old.items) in
-        SampleAsks H.digest_of said count [] → judges.new ≡ judges.old }
-    ensures cause { let old = judges_of (λ j. says j) (λ j. asked_times j) (λ j. judge_faults j)
-        judges.old.items in
-        let new = judges_of (λ j. says j) (λ j. asked_times j) (λ j. judge_faults j)
-        judges.new.items in
-        IfErr result (IsSampleCause old new) }
-    ensures leaves { let old = judges_of (λ j. says j) (λ j. asked_times j) (λ j. judge_faults j)
-        judges.old.items in
-        let new = judges_of (λ j. says j) (λ j. asked_times j) (λ j. judge_faults j)
-        judges.new.items in
-        LeavesJudges old new result }
-    ensures judges_len { vec_len judges.new ≡ vec_len judges.old }
+    ensures panel { HearsPanel says asked_times judge_faults sample_heard
+        (λ said. SampleAsks H.digest_of said count) judges.old judges.new result }
 {
     // Only the prover needs this law.
     a_build_comes_to_one_thing();
@@ -72,27 +57,10 @@ fn check<H: Hashing>(
     judges: &mut Vec<Box<dyn Judge>>,
 ) -> Result<Sampled, SampleError>
     requires { Unit {0} }
-    ensures sampled { let said = panel_says (map (λ j. says j) judges.old.items) in
+    ensures sampled { let said = panel_says (map says judges.old.items) in
         IfOk result (IsFileSampled H.digest_of said media file) }
-    ensures asked { let said = panel_says (map (λ j. says j) judges.old.items) in
-        let old = judges_of (λ j. says j) (λ j. asked_times j) (λ j. judge_faults j)
-        judges.old.items in
-        let new = judges_of (λ j. says j) (λ j. asked_times j) (λ j. judge_faults j)
-        judges.new.items in
-        HasAskedThose (CheckAsks H.digest_of said file) old new result }
-    ensures unasked { let said = panel_says (map (λ j. says j) judges.old.items) in
-        CheckAsks H.digest_of said file [] → judges.new ≡ judges.old }
-    ensures cause { let old = judges_of (λ j. says j) (λ j. asked_times j) (λ j. judge_faults j)
-        judges.old.items in
-        let new = judges_of (λ j. says j) (λ j. asked_times j) (λ j. judge_faults j)
-        judges.new.items in
-        IfErr result (IsSampleCause old new) }
-    ensures leaves { let old = judges_of (λ j. says j) (λ j. asked_times j) (λ j. judge_faults j)
-        judges.old.items in
-        let new = judges_of (λ j. says j) (λ j. asked_times j) (λ j. judge_faults j)
-        judges.new.items in
-        LeavesJudges old new result }
-    ensures judges_len { vec_len judges.new ≡ vec_len judges.old }
+    ensures panel { HearsPanel says asked_times judge_faults sample_heard
+        (FileAsks H.digest_of file) judges.old judges.new result }
 {
     let len = file.as_slice().len() as u64;
     let mut source = SureSource::new(file);
@@ -137,6 +105,7 @@ fn sample_error(error: ValidateError) -> SampleError
 {
     match error {
         ValidateError::JudgeFault => SampleError::JudgeFault,
-        ValidateError::ReadFault | ValidateError::NoMemory => SampleError::NoMemory,
+        ValidateError::NoMemory => SampleError::NoMemory,
+        ValidateError::ReadFault => unreachable!(),
     }
 }

@@ -28,21 +28,24 @@ returns-then-file_len-ge-FILE_LEN_LIMIT-clause-refused c = λ hash content base 
     let len : c.in-Ok-small_store_len.len ≡ new_store_len p content = c.in-Ok-small_store_len.ensures.len hash content is ∙ sym (seat_store c.args.seat.now p content seat) in
     let range : c.range_len-length.result ≡ new_range_len p content = c.range_len-length.ensures.len content (sym (c.in-Ok-small_store_len.ensures.len hash content is)) ∙ sym (seat_range c.args.seat.now p content seat) in
     let size : c.args.size + c.range_len-length.result ≡ c.args.size + new_range_len p content = ap (λ (n : ℕ). c.args.size + n) range in
-    long_file c.args.size c.args.ground.now.manifests content p (c.in-Ok.ensures.passed base p at seat).passed (omega (arith, c.if-ground.false)) (omega (arith, len, c.in-Ok-small_store_len.ensures.is_len.most)) (omega (arith, size, c.if-file_len-ge-FILE_LEN_LIMIT.true)) ∙ ap (λ (n : ℕ). Some (MediaRefused FileTooLarge n)) (sym size)
+    long_file c.args.size c.args.ground.now.manifests content p (c.in-Ok.ensures.passed base p at seat).passed (omega (arith, c.if-ground.false)) (omega (arith, len, c.in-Ok-small_store_len.ensures.is_len.most))
+    (omega (arith, size, c.if-file_len-ge-FILE_LEN_LIMIT.true)) ∙ ap (λ (n : ℕ). Some (MediaRefused FileTooLarge n)) (sym size)
 
 -- the file has too many boxes
 pub returns-in-Err-check_boxes-clause-refused : goal.returns-in-Err-check_boxes-clause-refused
 returns-in-Err-check_boxes-clause-refused c = λ hash content base p is at seat.
     let len : c.in-Ok-small_store_len.len ≡ new_store_len p content = c.in-Ok-small_store_len.ensures.len hash content is ∙ sym (seat_store c.args.seat.now p content seat) in
     let range : c.range_len-length.result ≡ new_range_len p content = c.range_len-length.ensures.len content (sym (c.in-Ok-small_store_len.ensures.len hash content is)) ∙ sym (seat_range c.args.seat.now p content seat) in
-    outside_all c.in-Err-check_boxes.error (numbers_pass c.args.size c.args.ground.now.manifests content p (Some c.in-Err-check_boxes.error) (c.in-Ok.ensures.passed base p at seat).passed (omega (arith, c.if-ground.false)) (omega (arith, len, c.in-Ok-small_store_len.ensures.is_len.most)) (omega (arith, range, c.if-file_len-ge-FILE_LEN_LIMIT.false)) (c.in-Err-check_boxes.ensures.refused p seat))
+    outside_all c.in-Err-check_boxes.error (numbers_pass c.args.size c.args.ground.now.manifests content p (Some c.in-Err-check_boxes.error) (c.in-Ok.ensures.passed base p at seat).passed (omega (arith, c.if-ground.false))
+    (omega (arith, len, c.in-Ok-small_store_len.ensures.is_len.most)) (omega (arith, range, c.if-file_len-ge-FILE_LEN_LIMIT.false)) (c.in-Err-check_boxes.ensures.refused p seat))
 
 -- no test fails
 pub returns-in-Ok-check_boxes-clause-passed : goal.returns-in-Ok-check_boxes-clause-passed
 returns-in-Ok-check_boxes-clause-passed c = λ hash content base p is at seat.
     let len : c.in-Ok-small_store_len.len ≡ new_store_len p content = c.in-Ok-small_store_len.ensures.len hash content is ∙ sym (seat_store c.args.seat.now p content seat) in
     let range : c.range_len-length.result ≡ new_range_len p content = c.range_len-length.ensures.len content (sym (c.in-Ok-small_store_len.ensures.len hash content is)) ∙ sym (seat_range c.args.seat.now p content seat) in
-    numbers_pass c.args.size c.args.ground.now.manifests content p None (c.in-Ok.ensures.passed base p at seat).passed (omega (arith, c.if-ground.false)) (omega (arith, len, c.in-Ok-small_store_len.ensures.is_len.most)) (omega (arith, range, c.if-file_len-ge-FILE_LEN_LIMIT.false)) (c.in-Ok-check_boxes.ensures.passed p seat)
+    numbers_pass c.args.size c.args.ground.now.manifests content p None (c.in-Ok.ensures.passed base p at seat).passed (omega (arith, c.if-ground.false)) (omega (arith, len, c.in-Ok-small_store_len.ensures.is_len.most))
+    (omega (arith, range, c.if-file_len-ge-FILE_LEN_LIMIT.false)) (c.in-Ok-check_boxes.ensures.passed p seat)
 
 -- these are its numbers
 pub returns-in-Ok-check_boxes-clause-draft : goal.returns-in-Ok-check_boxes-clause-draft

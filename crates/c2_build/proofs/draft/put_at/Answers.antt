@@ -1,8 +1,8 @@
-use Rattle.std.proofs.Common.{ap, sym, ◌∙◌, subst}
+use Rattle.std.proofs.Common.{None, ap, sym, ◌∙◌, subst}
 use Rattle.std.specs.Prelude.{Err}
 use Rattle.c2_base.specs.declared.media.MediaError.{MediaError}
 use Rattle.c2_build.specs.Steps.{IsSeat}
-use Rattle.c2_build.proofs.Seated.{box_fitted, box_refused, never_refused}
+use Rattle.c2_build.proofs.Seated.{box_fitted, box_refused, refused_less}
 use Rattle.c2_build.proofs.draft.put_at.Goals as goal
 
 -- a box is put in behind root boxes, the last of which isn't open
@@ -15,5 +15,5 @@ returns-in-BadBox-clause-refused c = λ base p at seat. box_refused c.in-Boxes.r
     (λ file r. ap (λ (e : MediaError). Err e) (sym c.in-BadBox.is) ∙ c.in-Err.ensures.place file r)
 
 -- nothing else is refused
-pub returns-in_default-clause-refused : goal.returns-in_default-clause-refused
-returns-in_default-clause-refused c = λ base p at seat. never_refused c.in-Boxes.roots c.in-Err.error _ base p at (subst (λ s. IsSeat s p) c.in-Boxes.is seat) c.in_default.not-BadBox c.in-Err.ensures.place
+pub unreachable-requires : goal.unreachable-requires
+unreachable-requires c = refused_less None c.in-Boxes.roots c.in-Err.error c.in-Err.ensures.rows c.in_default.not-BadBox

@@ -1,5 +1,6 @@
 use Rattle.std.proofs.Common.{subst, sym}
-use Rattle.c2_build.specs.Steps.{IsStep, put_of}
+use Rattle.c2_copying.specs.Writing.{IsStep}
+use Rattle.c2_build.specs.Steps.{put_of}
 use Rattle.c2_build.specs.declared.draft.Put.{Put}
 use Rattle.c2_build.proofs.embedding.put_store.Goals as goal
 

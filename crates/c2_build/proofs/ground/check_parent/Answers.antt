@@ -1,39 +1,58 @@
-use Rattle.std.proofs.Common.{map, subst}
-use Rattle.c2_spec.specs.Judges.Panel.{judges_of, panel_says}
-use Rattle.c2_rules.specs.Validated.{CheckAsks}
-use Rattle.c2_rules.specs.declared.answer.Answer.{Answer}
-use Rattle.c2_validate.specs.Validation.{IsAnswered}
-use Rattle.c2_build.specs.declared.error.BuildError.TheVariants as build
-use Rattle.c2_build.proofs.Judged.{check_failed, quiet_judges}
-use Rattle.c2_build.proofs.Outside.{asked_before}
+use Rattle.std.proofs.Common.{map, sym, subst}
+use Rattle.c2_spec.specs.Judges.Panel.{panel_says}
+use Rattle.c2_validate.specs.Checked.{IsCheckedOver}
+use Rattle.c2_validate.specs.declared.checking.Checked.TheVariants as checked
+use Rattle.c2_build.specs.Answers.{WithoutFault}
+use Rattle.c2_build.specs.Steps.{IsAskCause, IsCheckRefusal}
+use Rattle.c2_build.specs.declared.error.BuildError.{BuildError}
+use Rattle.c2_build.proofs.Judged.{hears_fault, hears_valid}
+use Rattle.c2_build.proofs.Outside.{fault_cause, fault_said}
 use Rattle.c2_build.proofs.ground.check_parent.Goals as goal
+
+-- the check has no answer
+pub returns-in-Err-clause-refused : goal.returns-in-Err-clause-refused
+returns-in-Err-clause-refused g c = λ file known from.
+    let said = panel_says (map (λ j. (goal.Judge-dyn g (j.vtable, j.value)).says j.value) c.args.judges.now.items) in
+    subst (λ (e : BuildError). WithoutFault e (IsCheckRefusal g.H.Hashing.digest_of said file e)) (sym c.fault.ensures) (fault_said _ c.in-Err.error)
+
+pub returns-in-Err-clause-reads : goal.returns-in-Err-clause-reads
+returns-in-Err-clause-reads g c = record {
+  stays = c.in-Err.ensures.reads.stays;
+  quiet = tt;
+  cause = subst (λ (e : BuildError). IsAskCause (g.A.Source.faults c.args.media.now) (g.A.Source.faults c.check.new.source) e) (sym c.fault.ensures) (fault_cause _ _ c.in-Err.error c.in-Err.ensures.reads.cause);
+}
+
+pub returns-in-Err-clause-panel : goal.returns-in-Err-clause-panel
+returns-in-Err-clause-panel g c = hears_fault c.args.judges.now c.check.new.judges c.in-Err.error c.fault.result c.fault.ensures c.in-Err.ensures.panel
 
 -- no rule fails
 pub returns-in-Valid-clause-checked : goal.returns-in-Valid-clause-checked
-returns-in-Valid-clause-checked g c = λ file known. (c.in-Valid.field-0, (subst (IsAnswered g.H.Hashing.digest_of (panel_says (map (λ j. (goal.Judge-dyn g (j.vtable, j.value)).says j.value) c.args.judges.now.items)) file) c.in-Valid.is (c.in-Ok.ensures.answer file known)).is)
+returns-in-Valid-clause-checked g c = λ file known from.
+    let said = panel_says (map (λ j. (goal.Judge-dyn g (j.vtable, j.value)).says j.value) c.args.judges.now.items) in
+    let hash = g.H.Hashing.digest_of in
+    let store = c.args.store.now in
+    let valid = checked.Valid c.in-Valid.field-0 c.in-Valid.field-1 in
+    let over : IsCheckedOver hash said store file valid = subst (IsCheckedOver hash said store file) c.in-Valid.is (c.in-Ok.ensures.answer file known) in
+    (c.in-Valid.field-0, (c.a_store_answers_for_its_file.ensures.answer hash said file store valid (g.met.A.Source.known_bytes c.args.media.now file known) from over).is)
+
+pub returns-in-Valid-clause-reads : goal.returns-in-Valid-clause-reads
+returns-in-Valid-clause-reads g c = record { stays = c.in-Ok.ensures.reads.stays; quiet = c.in-Ok.ensures.reads.quiet; cause = tt }
+
+pub returns-in-Valid-clause-panel : goal.returns-in-Valid-clause-panel
+returns-in-Valid-clause-panel g c = hears_valid c.args.judges.now c.check.new.judges c.in-Ok.checked _ tt c.in-Ok.ensures.panel
 
 -- one does
-pub returns-in-Failing-clause-refused : goal.returns-in-Failing-clause-refused
-returns-in-Failing-clause-refused g c = λ file known. (subst (IsAnswered g.H.Hashing.digest_of (panel_says (map (λ j. (goal.Judge-dyn g (j.vtable, j.value)).says j.value) c.args.judges.now.items)) file) c.in-Failing.is (c.in-Ok.ensures.answer file known)).is
+pub returns-clause-refused : goal.returns-clause-refused
+returns-clause-refused g c = λ file known from.
+    let said = panel_says (map (λ j. (goal.Judge-dyn g (j.vtable, j.value)).says j.value) c.args.judges.now.items) in
+    let hash = g.H.Hashing.digest_of in
+    let store = c.args.store.now in
+    let failing = checked.Failing c.in-Failing.failing in
+    let over : IsCheckedOver hash said store file failing = subst (IsCheckedOver hash said store file) c.in-Failing.is (c.in-Ok.ensures.answer file known) in
+    (c.a_store_answers_for_its_file.ensures.answer hash said file store failing (g.met.A.Source.known_bytes c.args.media.now file known) from over).is
 
--- the file is refused
-pub returns-in-Refused-clause-refused : goal.returns-in-Refused-clause-refused
-returns-in-Refused-clause-refused g c = λ file known. (subst (IsAnswered g.H.Hashing.digest_of (panel_says (map (λ j. (goal.Judge-dyn g (j.vtable, j.value)).says j.value) c.args.judges.now.items)) file) c.in-Refused.is (c.in-Ok.ensures.answer file known)).is
+pub returns-clause-reads : goal.returns-clause-reads
+returns-clause-reads g c = record { stays = c.in-Ok.ensures.reads.stays; quiet = tt; cause = c.in-Ok.ensures.reads.quiet }
 
--- what was asked where the check failed
-pub returns-in-Err-ReadFault-clause-asked : goal.returns-in-Err-ReadFault-clause-asked
-returns-in-Err-ReadFault-clause-asked g c = λ file known qs asks.
-    check_failed Answer qs (judges_of (λ j. (goal.Judge-dyn g (j.vtable, j.value)).says j.value) (λ j. (goal.Judge-dyn g (j.vtable, j.value)).asked_times j.value) (λ j. (goal.Judge-dyn g (j.vtable, j.value)).judge_faults j.value) c.args.judges.now.items) (judges_of (λ j. (goal.Judge-dyn g (j.vtable, j.value)).says j.value) (λ j. (goal.Judge-dyn g (j.vtable, j.value)).asked_times j.value) (λ j. (goal.Judge-dyn g (j.vtable, j.value)).judge_faults j.value) c.validate.new.judges.items) _ _ c.in-Err-ReadFault.field-0-is (c.in-Err-ReadFault.ensures.asked file known qs asks)
-
-pub returns-in-Err-JudgeFault-clause-asked : goal.returns-in-Err-JudgeFault-clause-asked
-returns-in-Err-JudgeFault-clause-asked g c = λ file known qs asks.
-    check_failed Answer qs (judges_of (λ j. (goal.Judge-dyn g (j.vtable, j.value)).says j.value) (λ j. (goal.Judge-dyn g (j.vtable, j.value)).asked_times j.value) (λ j. (goal.Judge-dyn g (j.vtable, j.value)).judge_faults j.value) c.args.judges.now.items) (judges_of (λ j. (goal.Judge-dyn g (j.vtable, j.value)).says j.value) (λ j. (goal.Judge-dyn g (j.vtable, j.value)).asked_times j.value) (λ j. (goal.Judge-dyn g (j.vtable, j.value)).judge_faults j.value) c.validate.new.judges.items) _ _ c.in-Err-JudgeFault.field-0-is (c.in-Err-JudgeFault.ensures.asked file known qs asks)
-
-pub returns-in-Err-NoMemory-clause-asked : goal.returns-in-Err-NoMemory-clause-asked
-returns-in-Err-NoMemory-clause-asked g c = λ file known qs asks.
-    check_failed Answer qs (judges_of (λ j. (goal.Judge-dyn g (j.vtable, j.value)).says j.value) (λ j. (goal.Judge-dyn g (j.vtable, j.value)).asked_times j.value) (λ j. (goal.Judge-dyn g (j.vtable, j.value)).judge_faults j.value) c.args.judges.now.items) (judges_of (λ j. (goal.Judge-dyn g (j.vtable, j.value)).says j.value) (λ j. (goal.Judge-dyn g (j.vtable, j.value)).asked_times j.value) (λ j. (goal.Judge-dyn g (j.vtable, j.value)).judge_faults j.value) c.validate.new.judges.items) _ _ c.in-Err-NoMemory.field-0-is (c.in-Err-NoMemory.ensures.asked file known qs asks)
-
--- a source that isn't known may tell that there is no store now
-pub returns-in-NoStore-clause-asked : goal.returns-in-NoStore-clause-asked
-returns-in-NoStore-clause-asked g c = λ file known.
-    asked_before (Unit {0}) (CheckAsks g.H.Hashing.digest_of (panel_says (map (λ j. (goal.Judge-dyn g (j.vtable, j.value)).says j.value) c.args.judges.now.items)) file) (judges_of (λ j. (goal.Judge-dyn g (j.vtable, j.value)).says j.value) (λ j. (goal.Judge-dyn g (j.vtable, j.value)).asked_times j.value) (λ j. (goal.Judge-dyn g (j.vtable, j.value)).judge_faults j.value) c.args.judges.now.items) (judges_of (λ j. (goal.Judge-dyn g (j.vtable, j.value)).says j.value) (λ j. (goal.Judge-dyn g (j.vtable, j.value)).asked_times j.value) (λ j. (goal.Judge-dyn g (j.vtable, j.value)).judge_faults j.value) c.validate.new.judges.items) build.NoMemory (quiet_judges build.NoMemory tt) (c.in-Ok.ensures.asked file known)
+pub returns-clause-panel : goal.returns-clause-panel
+returns-clause-panel g c = hears_valid c.args.judges.now c.check.new.judges c.in-Ok.checked _ tt c.in-Ok.ensures.panel

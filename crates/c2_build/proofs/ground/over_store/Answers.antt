@@ -1,34 +1,42 @@
-use Rattle.std.proofs.Common.{sym, subst}
-use Rattle.std.specs.Prelude.{IfErr, IfOk}
-use Rattle.std.proofs.lemmas.Result.{IfErr-weaker}
-use Rattle.c2_spec.specs.C2pa.Manifest.{manifests_of}
-use Rattle.c2_rules.specs.Readings.{AreReadings}
-use Rattle.c2_spec.specs.Jumbf.Tree.{Tree}
-use Rattle.c2_build.specs.Steps.{IsOver}
-use Rattle.c2_build.proofs.Grounds.{not_refused, same_tree}
-use Rattle.c2_build.proofs.Inputs.{boxes_of, here_tree, refused_tree}
+use Rattle.std.proofs.Common.{◌+◌, List, length, refl, sym, ap, ◌∙◌}
+use Rattle.c2_rules.specs.Readings.{Reading}
+use Rattle.c2_carried.specs.Refusing.{has_manifest, redaction_refusal}
+use Rattle.c2_build.proofs.Grounds.{redaction_over, taken_over}
 use Rattle.c2_build.proofs.ground.over_store.Goals as goal
-use Rattle.c2_built.specs.Store.{new_alg}
 
--- the boxes are those of the store
-pub over_tree-requires : goal.over_tree-requires
-over_tree-requires g c = boxes_of c.args.found.now c.in-Ok.read _ _ c.in-Here.is c.in-Ok.ensures
+-- the labels of a store differ
+pub refused_redaction-requires : goal.refused_redaction-requires
+refused_redaction-requires g c = c.labels_of_a_store_differ.ensures c.args.older.now.tree c.args.chain.now.readings c.count-boxes.ensures.legal c.requires.boxes.accepted c.requires.reads
 
--- the ground over the tree that was read
-pub returns-in-Here-clause-over : goal.returns-in-Here-clause-over
-returns-in-Here-clause-over g c = λ t rs opened reads.
-    let f = c.args.found.now in
-    let same = same_tree c.one_opening.ensures.store f.start f.length f.store t c.in-Here.tree opened (here_tree f c.in-Ok.read _ _ c.in-Here.is c.in-Ok.ensures) in
-    subst (λ (u : Tree). IfOk c.over_tree.result (IsOver (g.H.Hashing.digest_of (new_alg c.args.definition.now)) c.args.definition.now u c.args.clearing rs)) (sym same) (c.over_tree.ensures.over rs (subst (λ (u : Tree). AreReadings (manifests_of u) rs) same reads))
+-- the label is taken
+pub returns-then-has_manifest-clause-refused : goal.returns-then-has_manifest-clause-refused
+returns-then-has_manifest-clause-refused g c = λ rs reads.
+    let same = c.one_reading.ensures.manifests _ c.args.chain.now.readings rs c.requires.reads reads in
+    taken_over c.args.definition.now rs c.label_taken.result (ap (λ xs. has_manifest xs c.args.definition.now.label) (sym same) ∙ ap (has_manifest c.args.chain.now.readings) (sym c.as_str-own.ensures.value) ∙ sym c.has_manifest.ensures ∙ c.if-has_manifest.true) c.label_taken.ensures.told
 
-pub returns-in-Here-clause-refused : goal.returns-in-Here-clause-refused
-returns-in-Here-clause-refused g c = λ t rs opened reads.
-    let f = c.args.found.now in
-    let same = same_tree c.one_opening.ensures.store f.start f.length f.store t c.in-Here.tree opened (here_tree f c.in-Ok.read _ _ c.in-Here.is c.in-Ok.ensures) in
-    IfErr-weaker c.over_tree.result _ _ (λ e h. h rs (subst (λ (u : Tree). AreReadings (manifests_of u) rs) same reads)) c.over_tree.ensures.refused
+-- a redaction can't be made
+pub returns-in-Ok-Some-clause-refused : goal.returns-in-Ok-Some-clause-refused
+returns-in-Ok-Some-clause-refused g c = λ rs reads.
+    let same = c.one_reading.ensures.manifests _ c.args.chain.now.readings rs c.requires.reads reads in
+    let d = c.args.definition.now in
+    let new = ap (λ xs. has_manifest xs d.label) (sym same) ∙ ap (has_manifest c.args.chain.now.readings) (sym c.as_str-own.ensures.value) ∙ sym c.has_manifest.ensures ∙ c.if-has_manifest.false in
+    let refused = ap (λ xs. redaction_refusal d.label xs d.redact) (sym same) ∙ ap (λ l. redaction_refusal l c.args.chain.now.readings d.redact) (sym c.as_str-own.ensures.value) ∙ ap (redaction_refusal _ c.args.chain.now.readings)
+    (sym c.as_slice.ensures) ∙ sym c.in-Ok-Some.ensures ∙ c.in-Ok-Some.field-0-is in
+    redaction_over d rs c.in-Ok-Some.refused new refused
 
--- a store that is opened isn't refused
-pub returns-in-Refused-clause-refused : goal.returns-in-Refused-clause-refused
-returns-in-Refused-clause-refused g c = λ t rs opened reads.
-    let f = c.args.found.now in
-    not_refused c.one_opening.ensures.store f.start f.length f.store t c.in-Refused.reason c.in-Refused.number opened (refused_tree f c.in-Ok.read _ _ c.in-Refused.is c.in-Ok.ensures)
+-- the ground
+pub returns-in-Ok-clause-over : goal.returns-in-Ok-clause-over
+returns-in-Ok-clause-over g c = λ rs reads.
+    let same = c.one_reading.ensures.manifests _ c.args.chain.now.readings rs c.requires.reads reads in
+    let d = c.args.definition.now in
+    record {
+      label = ap (λ xs. has_manifest xs d.label) (sym same) ∙ ap (has_manifest c.args.chain.now.readings) (sym c.as_str-own.ensures.value) ∙ sym c.has_manifest.ensures ∙ c.if-has_manifest.false;
+      redactions = ap (λ xs. redaction_refusal d.label xs d.redact) (sym same) ∙ ap (λ l. redaction_refusal l c.args.chain.now.readings d.redact) (sym c.as_str-own.ensures.value) ∙ ap (redaction_refusal _ c.args.chain.now.readings)
+          (sym c.as_slice.ensures) ∙ sym c.in-Ok-None.ensures ∙ c.in-Ok-None.field-0-is;
+      carried = c.in-Ok.ensures;
+      clears = refl;
+      manifests = ap (λ (xs : List Reading). length xs + 1) (c.manifests.ensures ∙ c.readings.ensures ∙ same);
+    }
+
+pub returns-in-Ok-clause-some : goal.returns-in-Ok-clause-some
+returns-in-Ok-clause-some g c = record { content = c.in-Ok.ensures.content; is = c.in-Ok.ensures.is }

@@ -13,5 +13,6 @@ returns c =
       approved = c.a_file_over_a_store_meets_the_rules.ensures.approved;
       first = c.redactions_that_pass_may_be_made.ensures.none;
       base = c.a_base_stays.ensures;
+      cut = c.a_base_has_no_store.ensures.cut;
       valid = c.approval_of_each_question_is_enough.ensures;
     } in built_meets laws

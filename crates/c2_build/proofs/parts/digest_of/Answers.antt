@@ -8,4 +8,4 @@ use Rattle.c2_build.proofs.parts.digest_of.Goals as goal
 -- the root boxes lie in the base
 pub film_digest-requires-clause-inside : goal.film_digest-requires-clause-inside
 film_digest-requires-clause-inside g c =
-    subst (λ (n : ℕ). All (IsBoxWithin n) c.in-Boxes.roots) c.requires.size (filled_within c.args.drafted.now.draft.size c.in-Boxes.roots (subst (IsSeatIn c.args.drafted.now.draft.size) c.in-Boxes.is c.requires.inside))
+    subst (λ (n : ℕ). All (IsBoxWithin n) c.in-Boxes.roots) c.requires.over.size (filled_within c.args.bound.now.drafted.now.draft.size c.in-Boxes.roots (subst (IsSeatIn c.args.bound.now.drafted.now.draft.size) c.in-Boxes.is c.requires.over.inside))

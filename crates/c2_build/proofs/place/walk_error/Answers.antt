@@ -1,5 +1,5 @@
 use Rattle.std.proofs.Common.{sym, ◌∙◌}
-use Rattle.c2_build.proofs.Walked.{free_film, left_alone, left_boxes, told, told_boxes}
+use Rattle.c2_build.proofs.Walked.{free_film, left_alone, left_boxes, refuses, told, told_boxes}
 use Rattle.c2_build.proofs.place.walk_error.Goals as goal
 
 -- a file that is one list of segments isn't refused
@@ -18,3 +18,7 @@ returns-in-Some-clause-boxes c = λ file tells form p free.
 
 pub returns-in-Some-clause-boxes_cause : goal.returns-in-Some-clause-boxes_cause
 returns-in-Some-clause-boxes_cause c = λ len before now caused. left_boxes len before now c.args.error c.in_default.not-ReadFault c.in_default.not-NoMemory caused
+
+-- every other error is a refusal
+pub unreachable-requires : goal.unreachable-requires
+unreachable-requires c = refuses c.args.error c.in_default.not-ReadFault c.in_default.not-NoMemory (sym c.of_media.ensures ∙ c.in-None.is)

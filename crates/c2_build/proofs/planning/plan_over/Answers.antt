@@ -1,56 +1,67 @@
-use Rattle.std.proofs.Common.{List, ℕ, ap, map, option_map, subst, sym, ◌∙◌}
+use Rattle.std.proofs.Common.{List, ap, false, map, option_map, subst, sym, true, ℕ, ◌∙◌}
 use Rattle.std.specs.Prelude.{Err, Ok}
-use Rattle.c2_spec.specs.Judges.Panel.{judges_of, panel_says}
-use Rattle.c2_build.specs.Building.{IsPlannedOver, KindAsks}
-use Rattle.c2_build.specs.Steps.{IsReadCause}
-use Rattle.c2_build.specs.declared.draft.Drafted.{Drafted}
-use Rattle.c2_build.specs.declared.error.BuildError.{BuildError}
-use Rattle.c2_build.specs.declared.error.BuildError.TheVariants as build
+use Rattle.c2_spec.specs.Judges.Panel.{panel_says}
+use Rattle.c2_calls.proofs.SourceLemmas.{reads_then}
 use Rattle.c2_cleared.specs.Clears.{cleared}
+use Rattle.c2_build.specs.Building.{IsPlannedOver}
 use Rattle.c2_build.proofs.Drawn.{passed_plan, place_at, refused_plan}
-use Rattle.c2_build.proofs.Judged.{asked_after, asked_those, leaves_next, quiet_judges}
+use Rattle.c2_build.proofs.Judged.{hears_behind, hears_failed, read_result}
 use Rattle.c2_build.proofs.NewStores.{signed_is}
-use Rattle.c2_build.proofs.Outside.{nothing_said, outside_map, read_ask}
+use Rattle.c2_build.proofs.Outside.{nothing_said, outside_map, reads_behind, reads_quietly}
 use Rattle.c2_build.proofs.planning.plan_over.Goals as goal
 
 -- the place is refused
 pub returns-in-Err-clause-planned : goal.returns-in-Err-clause-planned
-returns-in-Err-clause-planned g c = λ bytes known kind media is.
-    outside_map c.in-Err.error (refused_plan g.H.Hashing.digest_of (panel_says (map (λ j. (goal.Judge-dyn g (j.vtable, j.value)).says j.value) c.args.judges.now.items)) bytes kind c.args.definition.now c.in-Err.error) (c.in-Err.ensures.refused bytes known kind media is)
-
-pub returns-in-Err-clause-asked : goal.returns-in-Err-clause-asked
-returns-in-Err-clause-asked g c = λ bytes known kind is. asked_those Drafted (List ℕ) (KindAsks g.H.Hashing.digest_of (panel_says (map (λ j. (goal.Judge-dyn g (j.vtable, j.value)).says j.value) c.args.judges.now.items)) bytes kind) (judges_of (λ j. (goal.Judge-dyn g (j.vtable, j.value)).says j.value) (λ j. (goal.Judge-dyn g (j.vtable, j.value)).asked_times j.value) (λ j. (goal.Judge-dyn g (j.vtable, j.value)).judge_faults j.value) c.args.judges.now.items) (judges_of (λ j. (goal.Judge-dyn g (j.vtable, j.value)).says j.value) (λ j. (goal.Judge-dyn g (j.vtable, j.value)).asked_times j.value) (λ j. (goal.Judge-dyn g (j.vtable, j.value)).judge_faults j.value) c.draft_over.new.judges.items) c.in-Err.error (c.in-Err.ensures.asked bytes known kind is)
+returns-in-Err-clause-planned g c = λ bytes known kind is.
+    let said = panel_says (map (λ j. (goal.Judge-dyn g (j.vtable, j.value)).says j.value) c.args.judges.now.items) in
+    let hash = g.H.Hashing.digest_of in
+    outside_map c.in-Err.error (refused_plan hash said bytes kind c.args.definition.now c.in-Err.error) (c.in-Err.ensures.refused bytes known kind is)
 
 -- the media failed, or memory did
 pub returns-in-Err-parts_for-clause-planned : goal.returns-in-Err-parts_for-clause-planned
-returns-in-Err-parts_for-clause-planned g c = λ bytes known kind media is. nothing_said c.in-Err-parts_for.error _ c.in-Err-parts_for.ensures.nothing
-
-pub returns-in-Err-parts_for-clause-asked : goal.returns-in-Err-parts_for-clause-asked
-returns-in-Err-parts_for-clause-asked g c = λ bytes known kind is.
-    asked_after {T = List ℕ} (KindAsks g.H.Hashing.digest_of (panel_says (map (λ j. (goal.Judge-dyn g (j.vtable, j.value)).says j.value) c.args.judges.now.items)) bytes kind) (judges_of (λ j. (goal.Judge-dyn g (j.vtable, j.value)).says j.value) (λ j. (goal.Judge-dyn g (j.vtable, j.value)).asked_times j.value) (λ j. (goal.Judge-dyn g (j.vtable, j.value)).judge_faults j.value) c.args.judges.now.items) (judges_of (λ j. (goal.Judge-dyn g (j.vtable, j.value)).says j.value) (λ j. (goal.Judge-dyn g (j.vtable, j.value)).asked_times j.value) (λ j. (goal.Judge-dyn g (j.vtable, j.value)).judge_faults j.value) c.draft_over.new.judges.items) (Err c.in-Err-parts_for.error) (c.in-Ok.ensures.asked bytes known kind is) (λ e. subst (IsReadCause _ _) e c.in-Err-parts_for.ensures.cause)
-
-pub returns-in-Err-parts_for-clause-cause : goal.returns-in-Err-parts_for-clause-cause
-returns-in-Err-parts_for-clause-cause g c =
-    read_ask _ _ _ _ c.in-Err-parts_for.error c.in-Ok.ensures.leaves.ok (subst (λ n. IsReadCause n (g.A.Source.faults c.parts_for.new.media) c.in-Err-parts_for.error) c.in-Ok.ensures.count c.in-Err-parts_for.ensures.cause)
+returns-in-Err-parts_for-clause-planned g c = λ bytes known kind is. nothing_said c.in-Err-parts_for.error _ c.in-Err-parts_for.ensures.nothing
 
 -- this is to be signed
 pub returns-in-Ok-signed_over-clause-planned : goal.returns-in-Ok-signed_over-clause-planned
-returns-in-Ok-signed_over-clause-planned g c = λ bytes known kind media is.
-    let at = c.in-Ok.ensures.passed bytes known kind media is in
-    let tbs = signed_is g.H.Hashing.digest_of bytes c.args.definition.now c.in-Ok.drafted at.ground at.place c.in-Ok-parts_for.parts (option_map (cleared c.in-Ok.drafted.ground.clearing) (g.A.Source.known c.draft_over.new.media)) _ c.in-Ok-signed_over.tbs at.is (place_at {base = at.ground.base} {p = at.place} at.passed.stage) at.seat at.numbers c.in-Ok-parts_for.ensures.parts (ap (option_map (cleared c.in-Ok.drafted.ground.clearing)) (c.in-Ok.ensures.stays.same_bytes ∙ known)) c.as_slice.ensures.value c.in-Ok-signed_over.ensures in
-    subst (λ x. IsPlannedOver g.H.Hashing.digest_of (panel_says (map (λ j. (goal.Judge-dyn g (j.vtable, j.value)).says j.value) c.args.judges.now.items)) bytes kind c.args.definition.now (Ok x)) (sym tbs) (passed_plan g.H.Hashing.digest_of (panel_says (map (λ j. (goal.Judge-dyn g (j.vtable, j.value)).says j.value) c.args.judges.now.items)) bytes kind c.args.definition.now at.ground at.place at.passed)
+returns-in-Ok-signed_over-clause-planned g c = λ bytes known kind is.
+    let said = panel_says (map (λ j. (goal.Judge-dyn g (j.vtable, j.value)).says j.value) c.args.judges.now.items) in
+    let hash = g.H.Hashing.digest_of in
+    let at = c.in-Ok.ensures.passed bytes known kind is in
+    let tbs = signed_is hash bytes c.args.definition.now c.in-Ok.drafted at.ground at.place c.in-Ok-parts_for.parts (option_map (cleared c.in-Ok.drafted.ground.clearing) (g.A.Source.known c.draft_over.new.media)) _ c.in-Ok-signed_over.tbs
+    at.is (place_at {base = at.ground.base} {p = at.place} at.passed.stage) at.seat at.numbers c.in-Ok-parts_for.ensures.parts (ap (option_map (cleared c.in-Ok.drafted.ground.clearing)) (c.in-Ok.ensures.reads.stays.same_bytes ∙ known))
+    c.as_slice.ensures.value c.in-Ok-signed_over.ensures in
+    subst (λ x. IsPlannedOver hash said bytes kind c.args.definition.now (Ok x)) (sym tbs) (passed_plan hash said bytes kind c.args.definition.now at.ground at.place at.passed)
 
-pub returns-in-Ok-signed_over-clause-asked : goal.returns-in-Ok-signed_over-clause-asked
-returns-in-Ok-signed_over-clause-asked g c = λ bytes known kind is. c.in-Ok.ensures.asked bytes known kind is
+-- ---- what is left of the media, and what judges hear
 
-pub returns-in-Ok-signed_over-clause-leaves : goal.returns-in-Ok-signed_over-clause-leaves
-returns-in-Ok-signed_over-clause-leaves g c = leaves_next {U = List ℕ} {F = BuildError} (judges_of (λ j. (goal.Judge-dyn g (j.vtable, j.value)).says j.value) (λ j. (goal.Judge-dyn g (j.vtable, j.value)).asked_times j.value) (λ j. (goal.Judge-dyn g (j.vtable, j.value)).judge_faults j.value) c.args.judges.now.items) (judges_of (λ j. (goal.Judge-dyn g (j.vtable, j.value)).says j.value) (λ j. (goal.Judge-dyn g (j.vtable, j.value)).asked_times j.value) (λ j. (goal.Judge-dyn g (j.vtable, j.value)).judge_faults j.value) c.draft_over.new.judges.items) c.in-Ok.drafted (Ok c.in-Ok-signed_over.tbs) c.in-Ok.ensures.leaves
+pub returns-in-Err-clause-reads : goal.returns-in-Err-clause-reads
+returns-in-Err-clause-reads g c = record { stays = c.in-Err.ensures.reads.stays; quiet = tt; cause = c.in-Err.ensures.reads.cause }
 
--- memory ran out, before the parts or behind them
-pub returns-in_default-clause-asked : goal.returns-in_default-clause-asked
-returns-in_default-clause-asked g c = λ bytes known kind is.
-    asked_after {T = List ℕ} (KindAsks g.H.Hashing.digest_of (panel_says (map (λ j. (goal.Judge-dyn g (j.vtable, j.value)).says j.value) c.args.judges.now.items)) bytes kind) (judges_of (λ j. (goal.Judge-dyn g (j.vtable, j.value)).says j.value) (λ j. (goal.Judge-dyn g (j.vtable, j.value)).asked_times j.value) (λ j. (goal.Judge-dyn g (j.vtable, j.value)).judge_faults j.value) c.args.judges.now.items) (judges_of (λ j. (goal.Judge-dyn g (j.vtable, j.value)).says j.value) (λ j. (goal.Judge-dyn g (j.vtable, j.value)).asked_times j.value) (λ j. (goal.Judge-dyn g (j.vtable, j.value)).judge_faults j.value) c.draft_over.new.judges.items) (Err build.NoMemory) (c.in-Ok.ensures.asked bytes known kind is) (quiet_judges build.NoMemory tt)
+pub returns-in-Err-clause-panel : goal.returns-in-Err-clause-panel
+returns-in-Err-clause-panel g c = hears_failed c.args.judges.now c.draft_over.new.judges c.in-Err.error (λ qs asks. asks) c.in-Err.ensures.panel
 
-pub returns-clause-asked : goal.returns-clause-asked
-returns-clause-asked g c = λ bytes known kind is.
-    asked_after {T = List ℕ} (KindAsks g.H.Hashing.digest_of (panel_says (map (λ j. (goal.Judge-dyn g (j.vtable, j.value)).says j.value) c.args.judges.now.items)) bytes kind) (judges_of (λ j. (goal.Judge-dyn g (j.vtable, j.value)).says j.value) (λ j. (goal.Judge-dyn g (j.vtable, j.value)).asked_times j.value) (λ j. (goal.Judge-dyn g (j.vtable, j.value)).judge_faults j.value) c.args.judges.now.items) (judges_of (λ j. (goal.Judge-dyn g (j.vtable, j.value)).says j.value) (λ j. (goal.Judge-dyn g (j.vtable, j.value)).asked_times j.value) (λ j. (goal.Judge-dyn g (j.vtable, j.value)).judge_faults j.value) c.draft_over.new.judges.items) (Err build.NoMemory) (c.in-Ok.ensures.asked bytes known kind is) (quiet_judges build.NoMemory tt)
+pub returns-in_default-clause-reads : goal.returns-in_default-clause-reads
+returns-in_default-clause-reads g c = reads_then _ _ _ _ _ c.args.media.now c.draft_over.new.media c.in-Ok.drafted _ tt c.in-Ok.ensures.reads
+
+pub returns-in_default-clause-panel : goal.returns-in_default-clause-panel
+returns-in_default-clause-panel g c = hears_behind c.args.judges.now c.draft_over.new.judges c.in-Ok.drafted _ tt (λ qs asks. asks) c.in-Ok.ensures.panel
+
+pub returns-in-Err-parts_for-clause-reads : goal.returns-in-Err-parts_for-clause-reads
+returns-in-Err-parts_for-clause-reads g c =
+    reads_behind false true false c.args.media.now c.draft_over.new.media c.parts_for.new.media c.in-Ok.drafted (Err c.in-Err-parts_for.error) c.in-Ok.ensures.reads c.in-Err-parts_for.ensures.reads.stays tt c.in-Err-parts_for.ensures.reads.cause
+
+pub returns-in-Err-parts_for-clause-panel : goal.returns-in-Err-parts_for-clause-panel
+returns-in-Err-parts_for-clause-panel g c = hears_behind c.args.judges.now c.draft_over.new.judges c.in-Ok.drafted _ (read_result {T = List ℕ} false _ _ (Err c.in-Err-parts_for.error) c.in-Err-parts_for.ensures.reads.cause) (λ qs asks. asks) c.in-Ok.ensures.panel
+
+pub returns-in-Ok-signed_over-clause-reads : goal.returns-in-Ok-signed_over-clause-reads
+returns-in-Ok-signed_over-clause-reads g c =
+    reads_quietly false true false c.args.media.now c.draft_over.new.media c.parts_for.new.media c.in-Ok.drafted _ c.in-Ok.ensures.reads c.in-Ok-parts_for.ensures.reads.stays c.in-Ok-parts_for.ensures.reads.quiet tt
+
+pub returns-in-Ok-signed_over-clause-panel : goal.returns-in-Ok-signed_over-clause-panel
+returns-in-Ok-signed_over-clause-panel g c = hears_behind c.args.judges.now c.draft_over.new.judges c.in-Ok.drafted _ tt (λ qs asks. asks) c.in-Ok.ensures.panel
+
+pub returns-clause-reads : goal.returns-clause-reads
+returns-clause-reads g c = reads_quietly false true false c.args.media.now c.draft_over.new.media c.parts_for.new.media c.in-Ok.drafted _ c.in-Ok.ensures.reads c.in-Ok-parts_for.ensures.reads.stays c.in-Ok-parts_for.ensures.reads.quiet tt
+
+pub returns-clause-panel : goal.returns-clause-panel
+returns-clause-panel g c = hears_behind c.args.judges.now c.draft_over.new.judges c.in-Ok.drafted _ tt (λ qs asks. asks) c.in-Ok.ensures.panel

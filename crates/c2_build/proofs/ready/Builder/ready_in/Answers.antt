@@ -1,0 +1,179 @@
+use Rattle.std.proofs.Common.{List, false, inl, inr, map, refl, subst, sym, true, ℕ}
+use Rattle.std.specs.Prelude.{Err, Ok}
+use Rattle.c2_spec.specs.C2pa.Sign1.{SignParts, parts_of}
+use Rattle.c2_spec.specs.Judges.Panel.{panel_says}
+use Rattle.c2_calls.proofs.SourceLemmas.{reads_nothing, stays_as_it_was}
+use Rattle.c2_build.specs.Answers.{WithoutFault}
+use Rattle.c2_build.specs.Building.{IsDefinitionStage, IsEmbeddedOver, IsMediaStage, IsMessageStage}
+use Rattle.c2_build.specs.Steps.{ComesAs, IsReady}
+use Rattle.c2_build.proofs.Drawn.{as_next, comes_first, comes_next, on_any}
+use Rattle.c2_build.proofs.Judged.{hears_as, hears_none, quiet_unheard, read_unheard}
+use Rattle.c2_build.proofs.OneBuild.{not_both_definitions, not_both_media}
+use Rattle.c2_build.proofs.Outside.{alone, quiet_cause, read_cause, reads_among, reads_earlier, signed_read}
+use Rattle.c2_build.proofs.Unasked.{embedded_asks, refused_embed, told_where_both, told_where_due, undefined_embed, unsigned_embed}
+use Rattle.c2_build.proofs.ready.Builder.ready_in.Goals as goal
+
+-- ---- the store is refused
+
+pub returns-in-Err-clause-prepared : goal.returns-in-Err-clause-prepared
+returns-in-Err-clause-prepared g c = record {
+  ready = λ file known bytes due message due'. comes_first (IsMediaStage file) _ c.in-Err.error (c.in-Err.ensures.stage file (c.requires.found file known));
+  texts = λ bytes known. tt;
+  can_write = tt;
+}
+
+pub returns-in-Err-clause-not_due : goal.returns-in-Err-clause-not_due
+returns-in-Err-clause-not_due g c = record { definition_unread = λ file known refused. refl; message_unread_first = λ file known refused. refl; message_unread = λ bytes known refused. refl }
+
+pub returns-in-Err-clause-media : goal.returns-in-Err-clause-media
+returns-in-Err-clause-media g c = reads_nothing _ _ _ _ c.args.media.now _ (quiet_cause _ true true false _ _ _ refl c.in-Err.ensures.quiet)
+
+pub returns-in-Err-clause-definition : goal.returns-in-Err-clause-definition
+returns-in-Err-clause-definition g c = reads_nothing _ _ _ _ c.args.definition.now _ (quiet_cause _ true true false _ _ _ refl c.in-Err.ensures.quiet)
+
+pub returns-in-Err-clause-message : goal.returns-in-Err-clause-message
+returns-in-Err-clause-message g c = reads_nothing _ _ _ _ c.args.signature.now _ (quiet_cause _ true true false _ _ _ refl c.in-Err.ensures.quiet)
+
+pub returns-in-Err-clause-panel : goal.returns-in-Err-clause-panel
+returns-in-Err-clause-panel g c =
+    let said = panel_says (map (λ j. (goal.Judge-dyn g (j.vtable, j.value)).says j.value) c.args.judges.now.items) in
+    hears_none c.args.judges.now c.in-Err.error (quiet_unheard _ c.in-Err.ensures.quiet)
+    (refused_embed c.one_opening.ensures.file g.H.Hashing.digest_of said (g.A.Source.known c.args.media.now) (g.B.Source.known c.args.definition.now) (g.C.Source.known c.args.signature.now) c.in-Err.error (λ file known. c.in-Err.ensures.stage file (c.requires.found file known)))
+
+-- ---- the definition is refused
+
+pub returns-in-Err-read_definition_file-clause-prepared : goal.returns-in-Err-read_definition_file-clause-prepared
+returns-in-Err-read_definition_file-clause-prepared g c = record {
+  ready = λ file known bytes due message due'.
+      let media = c.in-Ok.ensures.stage file (c.requires.found file known) in
+      let told = told_where_due due (λ refused. not_both_media c.one_opening.ensures.file file media.0 media.1 refused) in
+      comes_next (IsMediaStage file) _ media.0 (Err c.in-Err-read_definition_file.error) media.1
+      (comes_first (IsDefinitionStage bytes) _ c.in-Err-read_definition_file.error (c.in-Err-read_definition_file.ensures.stage bytes told));
+  texts = λ bytes known. tt;
+  can_write = tt;
+}
+
+pub returns-in-Err-read_definition_file-clause-not_due : goal.returns-in-Err-read_definition_file-clause-not_due
+returns-in-Err-read_definition_file-clause-not_due g c = record {
+  definition_unread = λ file known refused. let media = c.in-Ok.ensures.stage file (c.requires.found file known) in not_both_media c.one_opening.ensures.file file media.0 media.1 refused;
+  message_unread_first = λ file known refused. refl;
+  message_unread = λ bytes known refused. refl;
+}
+
+pub returns-in-Err-read_definition_file-clause-media : goal.returns-in-Err-read_definition_file-clause-media
+returns-in-Err-read_definition_file-clause-media g c =
+    reads_earlier true true false c.args.media.now c.args.media.now _ _ (Err c.in-Err-read_definition_file.error) (stays_as_it_was _ _ _ c.args.media.now) refl (alone inl) (read_cause _ true true false _ _ _ (signed_read _ _ _ c.in-Err-read_definition_file.ensures.cause))
+
+pub returns-in-Err-read_definition_file-clause-definition : goal.returns-in-Err-read_definition_file-clause-definition
+returns-in-Err-read_definition_file-clause-definition g c = record { stays = c.in-Err-read_definition_file.ensures.stays; quiet = tt; cause = read_cause _ true true false _ _ _ (signed_read _ _ _ c.in-Err-read_definition_file.ensures.cause) }
+
+pub returns-in-Err-read_definition_file-clause-message : goal.returns-in-Err-read_definition_file-clause-message
+returns-in-Err-read_definition_file-clause-message g c =
+    reads_earlier true true false c.args.signature.now c.args.signature.now _ _ (Err c.in-Err-read_definition_file.error) (stays_as_it_was _ _ _ c.args.signature.now) refl (alone inr) (read_cause _ true true false _ _ _ (signed_read _ _ _ c.in-Err-read_definition_file.ensures.cause))
+
+pub returns-in-Err-read_definition_file-clause-panel : goal.returns-in-Err-read_definition_file-clause-panel
+returns-in-Err-read_definition_file-clause-panel g c =
+    let said = panel_says (map (λ j. (goal.Judge-dyn g (j.vtable, j.value)).says j.value) c.args.judges.now.items) in
+    hears_none c.args.judges.now c.in-Err-read_definition_file.error (read_unheard false _ _ _ c.in-Err-read_definition_file.ensures.cause)
+    (undefined_embed c.one_opening.ensures.file g.H.Hashing.digest_of said (g.A.Source.known c.args.media.now) (g.B.Source.known c.args.definition.now) (g.C.Source.known c.args.signature.now) c.each_definition_is_read_one_way.ensures.one c.in-Ok.read
+    (λ file known. let media = c.in-Ok.ensures.stage file (c.requires.found file known) in (media.0, media.2)) c.in-Err-read_definition_file.error (λ bytes known. c.in-Err-read_definition_file.ensures.stage bytes known))
+
+-- ---- the message is refused
+
+pub returns-in-Err-read_message_file-clause-prepared : goal.returns-in-Err-read_message_file-clause-prepared
+returns-in-Err-read_message_file-clause-prepared g c = record {
+  ready = λ file known bytes due message due'.
+      let e = c.in-Err-read_message_file.error in
+      let d = c.in-Ok-read_definition_file.definition in
+      let media = c.in-Ok.ensures.stage file (c.requires.found file known) in
+      let told = told_where_due due (λ refused. not_both_media c.one_opening.ensures.file file media.0 media.1 refused) in
+      let spoken = told_where_both due' (λ refused. not_both_media c.one_opening.ensures.file file media.0 media.1 refused) (λ refused. not_both_definitions c.each_definition_is_read_one_way.ensures.one bytes d (c.in-Ok-read_definition_file.ensures.stage bytes told) refused) in
+      let stage = subst (λ (x : List ℕ). WithoutFault e (IsMessageStage x message (Err e))) c.as_slice.ensures.value (c.in-Err-read_message_file.ensures.stage message spoken) in
+      comes_next (IsMediaStage file) _ media.0 (Err e) media.1
+      (comes_next (IsDefinitionStage bytes) _ d (Err e) (c.in-Ok-read_definition_file.ensures.stage bytes told)
+      (comes_first (IsMessageStage d.protected message) _ e stage));
+  texts = λ bytes known. tt;
+  can_write = tt;
+}
+
+pub returns-in-Err-read_message_file-clause-not_due : goal.returns-in-Err-read_message_file-clause-not_due
+returns-in-Err-read_message_file-clause-not_due g c = record {
+  definition_unread = λ file known refused. let media = c.in-Ok.ensures.stage file (c.requires.found file known) in not_both_media c.one_opening.ensures.file file media.0 media.1 refused;
+  message_unread_first = λ file known refused. let media = c.in-Ok.ensures.stage file (c.requires.found file known) in not_both_media c.one_opening.ensures.file file media.0 media.1 refused;
+  message_unread = λ bytes known refused. not_both_definitions c.each_definition_is_read_one_way.ensures.one bytes c.in-Ok-read_definition_file.definition (c.in-Ok-read_definition_file.ensures.stage bytes known) refused;
+}
+
+pub returns-in-Err-read_message_file-clause-media : goal.returns-in-Err-read_message_file-clause-media
+returns-in-Err-read_message_file-clause-media g c =
+    reads_earlier true true false c.args.media.now c.args.media.now _ _ (Err c.in-Err-read_message_file.error) (stays_as_it_was _ _ _ c.args.media.now) refl (alone inr) (read_cause _ true true false _ _ _ c.in-Err-read_message_file.ensures.cause)
+
+pub returns-in-Err-read_message_file-clause-definition : goal.returns-in-Err-read_message_file-clause-definition
+returns-in-Err-read_message_file-clause-definition g c =
+    reads_earlier true true false c.args.definition.now c.read_definition_file.new.file _ _ (Err c.in-Err-read_message_file.error) c.in-Ok-read_definition_file.ensures.stays c.in-Ok-read_definition_file.ensures.count (alone inr)
+    (read_cause _ true true false _ _ _ c.in-Err-read_message_file.ensures.cause)
+
+pub returns-in-Err-read_message_file-clause-message : goal.returns-in-Err-read_message_file-clause-message
+returns-in-Err-read_message_file-clause-message g c = record { stays = c.in-Err-read_message_file.ensures.stays; quiet = tt; cause = read_cause _ true true false _ _ _ c.in-Err-read_message_file.ensures.cause }
+
+pub returns-in-Err-read_message_file-clause-panel : goal.returns-in-Err-read_message_file-clause-panel
+returns-in-Err-read_message_file-clause-panel g c =
+    let said = panel_says (map (λ j. (goal.Judge-dyn g (j.vtable, j.value)).says j.value) c.args.judges.now.items) in
+    let e = c.in-Err-read_message_file.error in
+    let d = c.in-Ok-read_definition_file.definition in
+    hears_none c.args.judges.now e (read_unheard true _ _ _ c.in-Err-read_message_file.ensures.cause)
+    (unsigned_embed c.one_opening.ensures.file g.H.Hashing.digest_of said (g.A.Source.known c.args.media.now) (g.B.Source.known c.args.definition.now) (g.C.Source.known c.args.signature.now) c.each_definition_is_read_one_way.ensures.one c.in-Ok.read
+    (λ file known. let media = c.in-Ok.ensures.stage file (c.requires.found file known) in (media.0, media.2)) c.one_item.ensures c.each_message_is_accepted_or_refused_for_one_test.ensures d (λ bytes known. c.in-Ok-read_definition_file.ensures.stage bytes known) e
+    (λ signed known. subst (λ (x : List ℕ). WithoutFault e (IsMessageStage x signed (Err e))) c.as_slice.ensures.value (c.in-Err-read_message_file.ensures.stage signed known)))
+
+-- ---- all inputs are read, and then comes what is behind them
+
+pub ready_over-requires-clause-read : goal.ready_over-requires-clause-read
+ready_over-requires-clause-read g c = c.in-Ok.ensures.inside (g.A.Source.len c.args.media.now) c.requires.inside
+
+pub returns-clause-prepared : goal.returns-clause-prepared
+returns-clause-prepared g c = record {
+  ready = λ file known bytes due message due'.
+      let said = panel_says (map (λ j. (goal.Judge-dyn g (j.vtable, j.value)).says j.value) c.args.judges.now.items) in
+      let d = c.in-Ok-read_definition_file.definition in
+      let r = c.ready_over.result in
+      let media = c.in-Ok.ensures.stage file (c.requires.found file known) in
+      let told = told_where_due due (λ refused. not_both_media c.one_opening.ensures.file file media.0 media.1 refused) in
+      let spoken = told_where_both due' (λ refused. not_both_media c.one_opening.ensures.file file media.0 media.1 refused) (λ refused. not_both_definitions c.each_definition_is_read_one_way.ensures.one bytes d (c.in-Ok-read_definition_file.ensures.stage bytes told) refused) in
+      let m = c.in-Ok-read_message_file.ensures.stage message spoken in
+      let stage = subst (λ (x : List ℕ). IsMessageStage x message (Ok m.0)) c.as_slice.ensures.value m.1 in
+      let over = c.ready_over.ensures.ready file known media.0 media.2 in
+      let own = subst (λ (p : SignParts). ComesAs (IsReady file) (IsEmbeddedOver g.H.Hashing.digest_of said file media.0 d p) r) m.2 over in
+      as_next (IsReady file) (IsMediaStage file) _ media.0 r media.1
+      (as_next (IsReady file) (IsDefinitionStage bytes) _ d r (c.in-Ok-read_definition_file.ensures.stage bytes told)
+      (as_next (IsReady file) (IsMessageStage d.protected message) _ m.0 r stage own));
+  texts = λ bytes known. on_any c.ready_over.result (c.in-Ok-read_definition_file.ensures.texts bytes known);
+  can_write = c.ready_over.ensures.can_write;
+}
+
+pub returns-clause-not_due : goal.returns-clause-not_due
+returns-clause-not_due g c = record {
+  definition_unread = λ file known refused. let media = c.in-Ok.ensures.stage file (c.requires.found file known) in not_both_media c.one_opening.ensures.file file media.0 media.1 refused;
+  message_unread_first = λ file known refused. let media = c.in-Ok.ensures.stage file (c.requires.found file known) in not_both_media c.one_opening.ensures.file file media.0 media.1 refused;
+  message_unread = λ bytes known refused. not_both_definitions c.each_definition_is_read_one_way.ensures.one bytes c.in-Ok-read_definition_file.definition (c.in-Ok-read_definition_file.ensures.stage bytes known) refused;
+}
+
+pub returns-clause-media : goal.returns-clause-media
+returns-clause-media g c = reads_among true true false c.args.media.now c.ready_over.new.media c.ready_over.result (λ none. absurd none) c.ready_over.ensures.reads
+
+pub returns-clause-definition : goal.returns-clause-definition
+returns-clause-definition g c =
+    reads_earlier true true false c.args.definition.now c.read_definition_file.new.file _ _ c.ready_over.result c.in-Ok-read_definition_file.ensures.stays c.in-Ok-read_definition_file.ensures.count (alone inl) c.ready_over.ensures.reads.cause
+
+pub returns-clause-message : goal.returns-clause-message
+returns-clause-message g c =
+    reads_earlier true true false c.args.signature.now c.read_message_file.new.file _ _ c.ready_over.result c.in-Ok-read_message_file.ensures.stays c.in-Ok-read_message_file.ensures.count (alone inl) c.ready_over.ensures.reads.cause
+
+pub returns-clause-panel : goal.returns-clause-panel
+returns-clause-panel g c =
+    let said = panel_says (map (λ j. (goal.Judge-dyn g (j.vtable, j.value)).says j.value) c.args.judges.now.items) in
+    let d = c.in-Ok-read_definition_file.definition in
+    hears_as c.args.judges.now c.ready_over.new.judges c.ready_over.result
+    (embedded_asks c.one_opening.ensures.file g.H.Hashing.digest_of said (g.A.Source.known c.args.media.now) (g.B.Source.known c.args.definition.now) (g.C.Source.known c.args.signature.now) c.each_definition_is_read_one_way.ensures.one c.in-Ok.read
+    (λ file known. let media = c.in-Ok.ensures.stage file (c.requires.found file known) in (media.0, media.2)) c.one_item.ensures c.each_message_is_accepted_or_refused_for_one_test.ensures d
+    (λ bytes known. c.in-Ok-read_definition_file.ensures.stage bytes known) (parts_of c.in-Ok-read_message_file.sign)
+    (λ signed known. let m = c.in-Ok-read_message_file.ensures.stage signed known in subst (λ (p : SignParts). IsMessageStage d.protected signed (Ok p)) (sym m.2) (subst (λ (x : List ℕ). IsMessageStage x signed (Ok m.0)) c.as_slice.ensures.value m.1))) c.ready_over.ensures.panel

@@ -1,0 +1,4 @@
+mod Containers
+mod AtTheEnd
+mod Placing
+mod Restoring
