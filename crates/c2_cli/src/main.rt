@@ -34,7 +34,7 @@ fn run_words(rt: &HostRuntime, alloc: Global) -> Result<Status, NoMemory> {
     }
 }
 
-// Runs words with these roles over the files that they name, with a verdict file for each judge; what they build goes into `out`. The
+// Runs words with these roles over the files that they name, with a verdict file for each judge; what they write goes into `out`. The
 // file that `sample` builds is checked with one judge, who approves.
 fn run_into(
     rt: &HostRuntime,

@@ -3,8 +3,9 @@ use c2_base::Text;
 use c2_rules::{Code, Failing, Summary};
 use c2_spec::{Reason, Verdict};
 use c2_texts::{
-    different_line, digest_line, failing_line, no_question_line, none_line, question_line,
-    refused_line, same_line, usage_line, valid_line,
+    different_line, digest_line, extracted_line, failing_line, middle_line, no_question_line,
+    none_line, question_line, refused_line, same_line, store_refused_line, stripped_line,
+    usage_line, valid_line,
 };
 use std::test::Fail;
 
@@ -31,12 +32,16 @@ fn plain_lines_are_these(rt: HostRuntime) -> Result<(), Fail> {
     text.push_str(different_line(alloc)?.as_str())?;
     text.push_str(question_line(alloc, &[0xFF, 0x00], "m\n", Verdict::Silent)?.as_str())?;
     text.push_str(no_question_line(alloc, "m\tn")?.as_str())?;
+    text.push_str(stripped_line(alloc, 20, u64::MAX)?.as_str())?;
+    text.push_str(middle_line(alloc, 16)?.as_str())?;
+    text.push_str(extracted_line(alloc, 1129)?.as_str())?;
+    text.push_str(store_refused_line(alloc, Reason::Trailing, 1129)?.as_str())?;
     assert_eq!(rt; text.as_str(), PLAIN);
     Ok(())
 }
 
 const PLAIN: &str =
-    "usage: c2 digest MEDIA [ALG]; list|show MEDIA; questions|validate MEDIA [JUDGE..]; compare MEDIA OTHER [JUDGE..]; plan MEDIA DEFINITION [JUDGE..]; embed MEDIA DEFINITION SIGNATURE OUT [JUDGE..]; sample N
+    "usage: c2 digest MEDIA [ALG]; list|show MEDIA; questions|validate MEDIA [JUDGE..]; compare MEDIA OTHER [JUDGE..]; plan MEDIA DEFINITION [JUDGE..]; embed MEDIA DEFINITION SIGNATURE OUT [JUDGE..]; sample N; strip|extract MEDIA OUT; validate-external MEDIA STORE [JUDGE..]
 none
 refused BadHead 18446744073709551615
 2 50 0abc
@@ -46,4 +51,8 @@ same manifests=1 assertions=20 covered=18446744073709551615
 different claims
 ff00 m? silent
 - m?n none
+stripped 20 18446744073709551615
+strip Middle 16
+extracted 1129
+refused store Trailing 1129
 ";

@@ -1,4 +1,5 @@
 pub mod Builds
 pub mod Items
 pub mod Show
+pub mod Stores
 pub mod Texts

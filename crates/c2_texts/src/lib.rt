@@ -1,7 +1,7 @@
 //! The lines of reports, as texts in memory.
 //!
-//! What each line is stands in `specs/`: `Texts` for the plain lines, `Builds` for those on what is built, `Show` for the JSON of
-//! `show`. An error means that memory ran out.
+//! What each line is stands in `specs/`: `Texts` for the plain lines, `Builds` for those on what is built, `Stores` for those on stores
+//! that are taken out or stand beside their file, `Show` for the JSON of `show`. An error means that memory ran out.
 #![tactic(auto)]
 
 mod builds;
@@ -12,6 +12,7 @@ mod lines;
 mod manifests;
 mod names;
 mod show;
+mod stores;
 mod tree;
 
 pub use builds::{
@@ -25,4 +26,5 @@ pub use lines::{
 };
 pub use names::code_name;
 pub use show::show_line;
+pub use stores::{extracted_line, middle_line, store_refused_line, stripped_line};
 pub use tree::listing;

@@ -109,6 +109,13 @@ algorithm_taken name (m ∷ []) e = (refl, refl)
 algorithm_taken name (m ∷ (a ∷ [])) e = (refl, refl)
 algorithm_taken name (m ∷ (a ∷ (x ∷ xs))) e = absurd (true≢false (sym (both _ false e).1))
 
+-- a media file and a new one
+new_taken : TakesFit (Media ∷ Out ∷ [])
+new_taken name [] e = no_words e
+new_taken name (m ∷ []) e = no_words e
+new_taken name (m ∷ (o ∷ [])) e = (refl, refl)
+new_taken name (m ∷ (o ∷ (x ∷ xs))) e = no_words e
+
 -- words that fit a command are those that it takes
 taken : (c : Command) → TakesFit (words_of c)
 taken command.Digest = algorithm_taken
@@ -120,6 +127,9 @@ taken command.Compare = second_taken
 taken command.Plan = second_taken
 taken command.Embed = out_taken
 taken command.Sample = count_taken
+taken command.Strip = new_taken
+taken command.Extract = new_taken
+taken command.ValidateExternal = second_taken
 
 -- where there are roles, the words fit
 with_roles : (c : Command) (words : List Text) (roles : Roles) → roles_with c words ≡ Some roles → fit (words_of c) words ≡ true
@@ -183,6 +193,9 @@ met command.Compare = record { stops = refl; turned = refl; found = refl }
 met command.Plan = record { stops = refl; turned = refl; found = refl }
 met command.Embed = record { stops = refl; turned = refl; found = refl }
 met command.Sample = record { stops = refl; turned = refl; found = refl }
+met command.Strip = record { stops = refl; turned = refl; found = refl }
+met command.Extract = record { stops = refl; turned = refl; found = refl }
+met command.ValidateExternal = record { stops = refl; turned = refl; found = refl }
 
 -- what is tested of a walk over the first level
 abbrev stopped_passes : Walk → Bool → Bool

@@ -9,9 +9,9 @@ use Rattle.std.specs.declared.result.Result.{Result}
 use Rattle.c2_base.specs.declared.limits.TheConstants.{MAX_JUDGE_NAMES}
 use Rattle.c2_spec.specs.Digest.{alg_named}
 use Rattle.c2_words.specs.declared.types.Command.{Command}
-use Rattle.c2_words.specs.declared.types.Command.TheVariants.{Digest, List as ListBoxes, Show, Questions, Validate, Compare, Plan, Embed, Sample}
+use Rattle.c2_words.specs.declared.types.Command.TheVariants.{Digest, List as ListBoxes, Show, Questions, Validate, Compare, Plan, Embed, Sample, Strip, Extract, ValidateExternal}
 use Rattle.c2_words.specs.declared.types.Role.{Role}
-use Rattle.c2_words.specs.declared.types.Role.TheVariants.{Media, Other, Definition, Signature, Out, Count, Algorithm, Judges}
+use Rattle.c2_words.specs.declared.types.Role.TheVariants.{Media, Other, Definition, Signature, Store, Out, Count, Algorithm, Judges}
 use Rattle.c2_words.specs.declared.types.Roles.{Roles}
 use Rattle.c2_words.specs.declared.types.RolesError.{RolesError}
 use Rattle.c2_words.specs.declared.types.TheConstants.{MAX_PIECES}
@@ -29,6 +29,8 @@ usage_parts =
     ∷ (Plan ∷ [])
     ∷ (Embed ∷ [])
     ∷ (Sample ∷ [])
+    ∷ (Strip ∷ Extract ∷ [])
+    ∷ (ValidateExternal ∷ [])
     ∷ []
 
 -- the word of a command
@@ -42,6 +44,9 @@ name_of Compare = codes "compare"
 name_of Plan = codes "plan"
 name_of Embed = codes "embed"
 name_of Sample = codes "sample"
+name_of Strip = codes "strip"
+name_of Extract = codes "extract"
+name_of ValidateExternal = codes "validate-external"
 
 -- what each word behind a command's own is, in order
 abbrev pub words_of : Command → List Role
@@ -54,6 +59,9 @@ words_of Compare = Media ∷ Other ∷ Judges ∷ []
 words_of Plan = Media ∷ Definition ∷ Judges ∷ []
 words_of Embed = Media ∷ Definition ∷ Signature ∷ Out ∷ Judges ∷ []
 words_of Sample = Count ∷ []
+words_of Strip = Media ∷ Out ∷ []
+words_of Extract = Media ∷ Out ∷ []
+words_of ValidateExternal = Media ∷ Store ∷ Judges ∷ []
 
 -- all commands
 abbrev pub commands : List Command
@@ -71,6 +79,7 @@ role_text Media = codes "MEDIA"
 role_text Other = codes "OTHER"
 role_text Definition = codes "DEFINITION"
 role_text Signature = codes "SIGNATURE"
+role_text Store = codes "STORE"
 role_text Out = codes "OUT"
 role_text Count = codes "N"
 role_text Algorithm = codes "[ALG]"
@@ -81,10 +90,11 @@ abbrev pub is_media : Role → Bool
 is_media Media = true
 is_media role = false
 
--- the other file of `compare` and the definition file are the second source
+-- the other file of `compare`, the definition file and an external store are the second source
 abbrev pub is_second : Role → Bool
 is_second Other = true
 is_second Definition = true
+is_second Store = true
 is_second role = false
 
 -- the signed message is the third source

@@ -20,6 +20,9 @@ pub fn commands() -> &'static [Command]
         Command::Plan,
         Command::Embed,
         Command::Sample,
+        Command::Strip,
+        Command::Extract,
+        Command::ValidateExternal,
     ]
 }
 
@@ -37,6 +40,9 @@ pub fn name_of<'a>(command: Command) -> &'a str
         Command::Plan => "plan",
         Command::Embed => "embed",
         Command::Sample => "sample",
+        Command::Strip => "strip",
+        Command::Extract => "extract",
+        Command::ValidateExternal => "validate-external",
     }
 }
 
@@ -59,6 +65,8 @@ pub fn words_of(command: Command) -> &'static [Role]
             Role::Judges,
         ],
         Command::Sample => &[Role::Count],
+        Command::Strip | Command::Extract => &[Role::Media, Role::Out],
+        Command::ValidateExternal => &[Role::Media, Role::Store, Role::Judges],
     }
 }
 
@@ -67,7 +75,7 @@ pub fn usage() -> &'static str
     ensures text { result.now ≡ usage_text }
     ensures parts { EachHasSameWords usage_parts }
 {
-    "usage: c2 digest MEDIA [ALG]; list|show MEDIA; questions|validate MEDIA [JUDGE..]; compare MEDIA OTHER [JUDGE..]; plan MEDIA DEFINITION [JUDGE..]; embed MEDIA DEFINITION SIGNATURE OUT [JUDGE..]; sample N"
+    "usage: c2 digest MEDIA [ALG]; list|show MEDIA; questions|validate MEDIA [JUDGE..]; compare MEDIA OTHER [JUDGE..]; plan MEDIA DEFINITION [JUDGE..]; embed MEDIA DEFINITION SIGNATURE OUT [JUDGE..]; sample N; strip|extract MEDIA OUT; validate-external MEDIA STORE [JUDGE..]"
 }
 
 /// The command of a word.
@@ -95,11 +103,11 @@ impl Role {
         matches!(self, Role::Media)
     }
 
-    /// Whether the word is the second source: the other file of `compare`, or a definition file.
+    /// Whether the word is the second source: the other file of `compare`, a definition file, or an external store.
     pub fn is_second(&self) -> bool
         ensures { result ≡ is_second self.now }
     {
-        matches!(self, Role::Other | Role::Definition)
+        matches!(self, Role::Other | Role::Definition | Role::Store)
     }
 
     /// Whether the word is the third source: a signed message.
@@ -148,6 +156,7 @@ impl Role {
             | Role::Other
             | Role::Definition
             | Role::Signature
+            | Role::Store
             | Role::Out
             | Role::Judges => true,
         }

@@ -64,7 +64,7 @@ fn rule_for<'a>(alloc: Global, role: Role) -> Arg<'a>
 {
     match role {
         Role::Media => one_word(alloc, "MEDIA"),
-        Role::Other | Role::Definition => one_word(alloc, "SECOND"),
+        Role::Other | Role::Definition | Role::Store => one_word(alloc, "SECOND"),
         Role::Signature => one_word(alloc, "THIRD"),
         Role::Out => one_word(alloc, "OUT"),
         Role::Count => one_word(alloc, "N"),

@@ -34,6 +34,15 @@ pub enum Command {
 
     /// What a made JPEG comes to that is embedded into and validated, without any file.
     Sample,
+
+    /// The media without its store, as a new file.
+    Strip,
+
+    /// The store of the media, as a new file.
+    Extract,
+
+    /// Whether every rule of the check list holds of the media with an external store.
+    ValidateExternal,
 }
 
 /// What a word behind a command's own is.
@@ -50,6 +59,9 @@ pub enum Role {
 
     /// The signed message.
     Signature,
+
+    /// The external store.
+    Store,
 
     /// The file that is written.
     Out,

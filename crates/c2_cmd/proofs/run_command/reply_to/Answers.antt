@@ -1,87 +1,455 @@
-use Rattle.c2_spec.specs.Judges.Panel.{judges_of}
-use Rattle.c2_cmd.proofs.Ending.{file_ends, input_end, judge_end, output_end, quiet_end, usage_end}
+use Rattle.std.proofs.Common.{map, ℕ, [], refl, sym, ap, subst, inl, inr}
+use Rattle.std.specs.Prelude.{IfOk, unwrap_or}
+use Rattle.std.proofs.lemmas.Bool.{false≢true}
+use Rattle.c2_build.specs.Building.{IsMediaRefused, PlanAsks}
+use Rattle.c2_building_commands.specs.Outcomes.{IsEmbedOutcome, IsPlanOutcome, IsSampleOutcome}
+use Rattle.c2_compare.specs.Comparing.{IsNotAccepted}
+use Rattle.c2_outcome.specs.Reply.{Replies, outcome_of}
+use Rattle.c2_reading_commands.specs.Outcomes.{IsCompareOutcome, IsDigestOutcome, IsExternalOutcome, IsExtractOutcome, IsListOutcome, IsMediaOutcome, IsQuestioned, IsShown, IsStripOutcome, IsValidated}
+use Rattle.c2_rules.specs.Validated.{AreQuestions, CheckAsks}
+use Rattle.c2_sample.specs.Sample.{SampleAsks}
+use Rattle.c2_sidecar.specs.Checking.{IsRefusedFile}
+use Rattle.c2_spec.specs.Judges.Panel.{panel_says}
+use Rattle.c2_validate.specs.External.{ExternalAsks}
+use Rattle.c2_words.specs.CommandLine.{is_out}
+use Rattle.c2_words.specs.declared.types.Command.TheVariants as command
+use Rattle.c2_cmd.specs.Outcome.{digest_alg, names, pieces_in}
+use Rattle.c2_cmd.specs.Sources.{the_second, the_third}
+use Rattle.c2_cmd.proofs.Causing.{caused_compare, caused_copying, caused_embed, caused_media, caused_memory, caused_panel, caused_reading, caused_sample, caused_usage}
+use Rattle.c2_cmd.proofs.Commands.{begins_filed, early_by, held, left_where_known, media_told, message_due, message_left, replies_copied, replies_heard}
+use Rattle.c2_cmd.proofs.Commands.{replies_media, replies_memory, replies_silent, replies_to, replies_usage, source_told, takes_none, told, unnamed_by}
+use Rattle.c2_cmd.proofs.Keeping.{begun_report, idle_memory, idle_out, undue, unused_by, unused_idle, written_out}
+use Rattle.c2_cmd.proofs.Unfiled.{compare_unfiled, digest_unfiled, external_unfiled, list_unfiled, plan_unfiled, questions_unfiled, sample_unfiled, show_unfiled, validate_unfiled}
 use Rattle.c2_cmd.proofs.run_command.reply_to.Goals as goal
 
-pub returns-clause-known : goal.returns-clause-known
-returns-clause-known g c known = record {
-  reply = c.dispatch.ensures.reply known;
-  file = c.dispatch.ensures.file known;
-  met = c.dispatch.ensures.met known;
-  asked = c.dispatch.ensures.asked known;
-  unasked = c.dispatch.ensures.judges_unasked known;
-}
+-- ---- where the sources are known
 
-pub returns-clause-usage : goal.returns-clause-usage
-returns-clause-usage g c = usage_end _ c.dispatch.result c.dispatch.ensures.usage
+-- the reply to `digest` is the call's
+pub returns-in-Digest-clause-known : goal.returns-in-Digest-clause-known
+returns-in-Digest-clause-known g c known =
+    let hash = g.H.Hashing.digest_of (digest_alg c.in-Ok.found) in
+    replies_to c.in-Ok.found command.Digest c.in-Ok.ensures c.in-Digest.is
+    (replies_silent (IsDigestOutcome hash) (g.A.Source.known c.args.media.now) _ _ (media_told c.in-Ok.found command.Digest c.in-Ok.ensures c.in-Digest.is refl known)
+    (c.one_reading_outcome.ensures.outcome.digest hash) (digest_unfiled hash) tt refl
+    c.reply_to_digest.ensures.media.cause
+    (subst (λ alg. IfOk c.reply_to_digest.result (Replies (IsDigestOutcome (g.H.Hashing.digest_of alg))
+    (g.A.Source.known c.args.media.now))) c.digest_alg.ensures c.reply_to_digest.ensures.reply))
 
-pub returns-clause-input : goal.returns-clause-input
-returns-clause-input g c =
-    let old = judges_of (λ j. (goal.Judge-dyn g (j.vtable, j.value)).says j.value) (λ j. (goal.Judge-dyn g (j.vtable, j.value)).asked_times j.value) (λ j. (goal.Judge-dyn g (j.vtable, j.value)).judge_faults j.value) c.args.judges.now.items in
-    let new = judges_of (λ j. (goal.Judge-dyn g (j.vtable, j.value)).says j.value) (λ j. (goal.Judge-dyn g (j.vtable, j.value)).asked_times j.value) (λ j. (goal.Judge-dyn g (j.vtable, j.value)).judge_faults j.value) c.dispatch.new.judges.items in
-    input_end _ _ old new c.dispatch.result c.dispatch.ensures.fault
+-- the reply to `list` is
+pub returns-in-List-clause-known : goal.returns-in-List-clause-known
+returns-in-List-clause-known g c known =
+    replies_to c.in-Ok.found command.List c.in-Ok.ensures c.in-List.is
+    (replies_silent IsListOutcome (g.A.Source.known c.args.media.now) _ _ (media_told c.in-Ok.found command.List c.in-Ok.ensures c.in-List.is refl known)
+    c.one_reading_outcome.ensures.outcome.list list_unfiled tt refl c.reply_to_list.ensures.media.cause
+    c.reply_to_list.ensures.reply)
 
-pub returns-clause-output : goal.returns-clause-output
-returns-clause-output g c =
-    let old = judges_of (λ j. (goal.Judge-dyn g (j.vtable, j.value)).says j.value) (λ j. (goal.Judge-dyn g (j.vtable, j.value)).asked_times j.value) (λ j. (goal.Judge-dyn g (j.vtable, j.value)).judge_faults j.value) c.args.judges.now.items in
-    let new = judges_of (λ j. (goal.Judge-dyn g (j.vtable, j.value)).says j.value) (λ j. (goal.Judge-dyn g (j.vtable, j.value)).asked_times j.value) (λ j. (goal.Judge-dyn g (j.vtable, j.value)).judge_faults j.value) c.dispatch.new.judges.items in
-    output_end _ _ old new c.dispatch.result c.dispatch.ensures.fault
+-- the reply to `show` is
+pub returns-in-Show-clause-known : goal.returns-in-Show-clause-known
+returns-in-Show-clause-known g c known =
+    replies_to c.in-Ok.found command.Show c.in-Ok.ensures c.in-Show.is
+    (replies_silent (IsMediaOutcome IsShown) (g.A.Source.known c.args.media.now) _ _ (media_told c.in-Ok.found command.Show c.in-Ok.ensures c.in-Show.is refl known)
+    c.one_reading_outcome.ensures.outcome.show show_unfiled tt refl c.reply_to_show.ensures.media.cause
+    c.reply_to_show.ensures.reply)
 
-pub returns-clause-judge_fault : goal.returns-clause-judge_fault
-returns-clause-judge_fault g c =
-    let old = judges_of (λ j. (goal.Judge-dyn g (j.vtable, j.value)).says j.value) (λ j. (goal.Judge-dyn g (j.vtable, j.value)).asked_times j.value) (λ j. (goal.Judge-dyn g (j.vtable, j.value)).judge_faults j.value) c.args.judges.now.items in
-    let new = judges_of (λ j. (goal.Judge-dyn g (j.vtable, j.value)).says j.value) (λ j. (goal.Judge-dyn g (j.vtable, j.value)).asked_times j.value) (λ j. (goal.Judge-dyn g (j.vtable, j.value)).judge_faults j.value) c.dispatch.new.judges.items in
-    judge_end _ _ _ old new c.dispatch.result c.dispatch.ensures.fault c.dispatch.ensures.judges_named
+-- the reply to `questions` is, and so are the questions
+pub returns-in-Questions-clause-known : goal.returns-in-Questions-clause-known
+returns-in-Questions-clause-known g c known =
+    let said = panel_says (map (λ j. (goal.Judge-dyn g (j.vtable, j.value)).says j.value) c.args.judges.now.items) in
+    replies_to c.in-Ok.found command.Questions c.in-Ok.ensures c.in-Questions.is
+    (replies_media (IsMediaOutcome (IsQuestioned said)) (λ file said. AreQuestions file) (g.A.Source.known c.args.media.now)
+    (media_told c.in-Ok.found command.Questions c.in-Ok.ensures c.in-Questions.is refl known) (c.one_reading_outcome.ensures.outcome.questions said)
+    (questions_unfiled said) tt c.reply_to_questions.ensures.reply c.reply_to_questions.ensures.panel)
 
--- the media is always due
-pub returns-clause-media : goal.returns-clause-media
-returns-clause-media g c = record {
-  stays = c.dispatch.ensures.media_stays;
-  quiet = quiet_end _ c.dispatch.result c.dispatch.ensures.media_count;
-  unnamed = c.dispatch.ensures.media_unnamed;
-  not_due = λ never. absurd never;
-}
+-- the reply to `validate` is, and so are the questions
+pub returns-in-Validate-clause-known : goal.returns-in-Validate-clause-known
+returns-in-Validate-clause-known g c known =
+    let said = panel_says (map (λ j. (goal.Judge-dyn g (j.vtable, j.value)).says j.value) c.args.judges.now.items) in
+    replies_to c.in-Ok.found command.Validate c.in-Ok.ensures c.in-Validate.is
+    (replies_media (IsValidated g.H.Hashing.digest_of said) (λ file said. CheckAsks g.H.Hashing.digest_of said file)
+    (g.A.Source.known c.args.media.now) (media_told c.in-Ok.found command.Validate c.in-Ok.ensures c.in-Validate.is refl known)
+    (c.one_reading_outcome.ensures.outcome.validate g.H.Hashing.digest_of said)
+    (validate_unfiled g.H.Hashing.digest_of said) tt c.reply_to_validate.ensures.reply c.reply_to_validate.ensures.panel)
 
-pub returns-clause-second : goal.returns-clause-second
-returns-clause-second g c = record {
-  stays = c.dispatch.ensures.second_stays;
-  quiet = quiet_end _ c.dispatch.result c.dispatch.ensures.second_count;
-  unnamed = c.dispatch.ensures.second_unnamed;
-  not_due = c.dispatch.ensures.second_unread;
-}
+-- the reply to `compare` is, behind the evidence
+pub returns-in-Compare-clause-known : goal.returns-in-Compare-clause-known
+returns-in-Compare-clause-known g c known =
+    let said = panel_says (map (λ j. (goal.Judge-dyn g (j.vtable, j.value)).says j.value) c.args.judges.now.items) in
+    let some = media_told c.in-Ok.found command.Compare c.in-Ok.ensures c.in-Compare.is refl known in
+    let due = source_told the_second c.in-Ok.found command.Compare c.in-Ok.ensures c.in-Compare.is refl known
+    (λ n. held (IsNotAccepted g.H.Hashing.digest_of said) (g.A.Source.known c.args.media.now) n) in
+    let a = unwrap_or (g.A.Source.known c.args.media.now) [] in
+    let b = unwrap_or (g.B.Source.known c.args.second.now) [] in
+    replies_to c.in-Ok.found command.Compare c.in-Ok.ensures c.in-Compare.is
+    (record {
+      reply = c.reply_to_compare.ensures.reply a (told (g.A.Source.known c.args.media.now) some) b due;
+      file = takes_none (IsCompareOutcome g.H.Hashing.digest_of said a b) _ c.reply_to_compare.result
+          (compare_unfiled g.H.Hashing.digest_of said a b);
+      met = λ whole. tt;
+      asked = λ qs asks. c.reply_to_compare.ensures.panel.asked qs
+          (record { file = a; is_file = told (g.A.Source.known c.args.media.now) some; other = b; is_other = due; asks = asks });
+      unasked = λ none. c.reply_to_compare.ensures.panel.unasked
+          (record { file = a; is_file = told (g.A.Source.known c.args.media.now) some; other = b; is_other = due; asks = none });
+    })
 
-pub returns-clause-third : goal.returns-clause-third
-returns-clause-third g c = record {
-  stays = c.dispatch.ensures.third_stays;
-  quiet = quiet_end _ c.dispatch.result c.dispatch.ensures.third_count;
-  unnamed = c.dispatch.ensures.third_unnamed;
-  not_due = c.dispatch.ensures.third_unread;
-}
+-- the reply to `validate-external` is
+pub returns-in-ValidateExternal-clause-known : goal.returns-in-ValidateExternal-clause-known
+returns-in-ValidateExternal-clause-known g c known =
+    let said = panel_says (map (λ j. (goal.Judge-dyn g (j.vtable, j.value)).says j.value) c.args.judges.now.items) in
+    let some = media_told c.in-Ok.found command.ValidateExternal c.in-Ok.ensures c.in-ValidateExternal.is refl known in
+    let due = source_told the_second c.in-Ok.found command.ValidateExternal c.in-Ok.ensures c.in-ValidateExternal.is refl known
+    (λ n. held IsRefusedFile (g.A.Source.known c.args.media.now) n) in
+    let a = unwrap_or (g.A.Source.known c.args.media.now) [] in
+    let b = unwrap_or (g.B.Source.known c.args.second.now) [] in
+    replies_to c.in-Ok.found command.ValidateExternal c.in-Ok.ensures c.in-ValidateExternal.is
+    (replies_heard (IsExternalOutcome g.H.Hashing.digest_of said a b) (ExternalAsks g.H.Hashing.digest_of b a said)
+    (c.one_reading_outcome.ensures.outcome.external g.H.Hashing.digest_of said a b) (external_unfiled g.H.Hashing.digest_of said a b) tt
+    (c.reply_to_validate_external.ensures.reply a (told (g.A.Source.known c.args.media.now) some) b due)
+    c.reply_to_validate_external.ensures.panel
+    (λ qs asks. record { file = a; is_file = told (g.A.Source.known c.args.media.now) some; store = b; is_store = due; asks = asks }))
 
-pub returns-clause-out : goal.returns-clause-out
-returns-clause-out g c = record {
-  later = c.dispatch.ensures.out_stays.later;
-  quiet = quiet_end _ c.dispatch.result c.dispatch.ensures.out_count;
-  grows = c.dispatch.ensures.out_stays.grows;
-  unnamed = c.dispatch.ensures.out_unnamed;
-  unfinished = c.dispatch.ensures.out_unfinished;
-  ends = file_ends _ _ _ _ _ c.dispatch.result c.dispatch.ensures.others c.dispatch.ensures.out_unnamed c.dispatch.ensures.out_finished c.dispatch.ensures.out_begun c.dispatch.ensures.out_left c.dispatch.ensures.judged c.dispatch.ensures.out_memory;
-}
+-- the reply to `plan` is
+pub returns-in-Plan-clause-known : goal.returns-in-Plan-clause-known
+returns-in-Plan-clause-known g c known =
+    let said = panel_says (map (λ j. (goal.Judge-dyn g (j.vtable, j.value)).says j.value) c.args.judges.now.items) in
+    let some = media_told c.in-Ok.found command.Plan c.in-Ok.ensures c.in-Plan.is refl known in
+    let due = source_told the_second c.in-Ok.found command.Plan c.in-Ok.ensures c.in-Plan.is refl known
+    (λ n. held IsMediaRefused (g.A.Source.known c.args.media.now) n) in
+    let a = unwrap_or (g.A.Source.known c.args.media.now) [] in
+    let b = unwrap_or (g.B.Source.known c.args.second.now) [] in
+    replies_to c.in-Ok.found command.Plan c.in-Ok.ensures c.in-Plan.is
+    (replies_heard (IsPlanOutcome g.H.Hashing.digest_of said a b) (PlanAsks g.H.Hashing.digest_of said a b)
+    (c.one_building_outcome.ensures.outcome.plan g.H.Hashing.digest_of said a b) (plan_unfiled g.H.Hashing.digest_of said a b) tt
+    (c.reply_to_plan.ensures.reply a (told (g.A.Source.known c.args.media.now) some) b due) c.reply_to_plan.ensures.panel
+    (λ qs asks. inl (record { file = a; is_file = told (g.A.Source.known c.args.media.now) some; bytes = b; is_bytes = due; asks = asks })))
 
-pub returns-clause-report : goal.returns-clause-report
-returns-clause-report g c = record {
-  later = c.dispatch.ensures.report_stays.later;
-  quiet = c.dispatch.ensures.report_count;
-  grows = c.dispatch.ensures.report_stays.grows;
-  unfinished = c.dispatch.ensures.report_stays.unfinished;
-  unwritten = c.dispatch.ensures.report_unwritten;
-  judged = c.dispatch.ensures.report_judged;
-}
+-- the reply to `embed` is, its file is the outcome's, and meets what is promised of it
+pub returns-in-Embed-clause-known : goal.returns-in-Embed-clause-known
+returns-in-Embed-clause-known g c known =
+    let said = panel_says (map (λ j. (goal.Judge-dyn g (j.vtable, j.value)).says j.value) c.args.judges.now.items) in
+    let some = media_told c.in-Ok.found command.Embed c.in-Ok.ensures c.in-Embed.is refl known in
+    let due = source_told the_second c.in-Ok.found command.Embed c.in-Ok.ensures c.in-Embed.is refl known
+    (λ n. held IsMediaRefused (g.A.Source.known c.args.media.now) n) in
+    let due_too = source_told the_third c.in-Ok.found command.Embed c.in-Ok.ensures c.in-Embed.is refl known
+    (λ n. message_due (g.A.Source.known c.args.media.now) (g.B.Source.known c.args.second.now) n) in
+    let a = unwrap_or (g.A.Source.known c.args.media.now) [] in
+    let b = unwrap_or (g.B.Source.known c.args.second.now) [] in
+    let m = unwrap_or (g.C.Source.known c.args.third.now) [] in
+    let made = c.reply_to_embed.ensures.made a (told (g.A.Source.known c.args.media.now) some) b due m due_too in
+    replies_to c.in-Ok.found command.Embed c.in-Ok.ensures c.in-Embed.is
+    (record {
+      reply = begins_filed (IsEmbedOutcome g.H.Hashing.digest_of said a b m) _ c.reply_to_embed.result made.made.stands;
+      file = made.made.takes;
+      met = λ whole built is. record {
+        meets = made.meets whole built is;
+        restores = λ none.
+            c.a_built_file_is_restored.ensures g.H.Hashing.digest_of said a b m built (made.meets whole built is) none;
+      };
+      asked = λ qs asks. c.reply_to_embed.ensures.panel.asked qs
+          (inl (record {
+            file = a;
+            is_file = told (g.A.Source.known c.args.media.now) some;
+            bytes = b;
+            is_bytes = due;
+            signed = m;
+            is_signed = due_too;
+            asks = asks;
+          }));
+      unasked = λ none. c.reply_to_embed.ensures.panel.unasked
+          (inl (record {
+            file = a;
+            is_file = told (g.A.Source.known c.args.media.now) some;
+            bytes = b;
+            is_bytes = due;
+            signed = m;
+            is_signed = due_too;
+            asks = none;
+          }));
+    })
 
-pub returns-clause-judges : goal.returns-clause-judges
-returns-clause-judges g c = record {
-  same = c.dispatch.ensures.judges.same;
-  asked_later = c.dispatch.ensures.judges.asked_later;
-  faults_later = c.dispatch.ensures.judges.faults_later;
-  quiet = quiet_end _ c.dispatch.result c.dispatch.ensures.judges.ok;
-  unnamed = c.dispatch.ensures.judges_unnamed;
-}
+-- the reply to `sample` is
+pub returns-in-Sample-clause-known : goal.returns-in-Sample-clause-known
+returns-in-Sample-clause-known g c known =
+    let said = panel_says (map (λ j. (goal.Judge-dyn g (j.vtable, j.value)).says j.value) c.args.judges.now.items) in
+    let n = pieces_in c.in-Ok.found in
+    replies_to c.in-Ok.found command.Sample c.in-Ok.ensures c.in-Sample.is
+    (replies_heard (IsSampleOutcome g.H.Hashing.digest_of said n) (SampleAsks g.H.Hashing.digest_of said n)
+    (c.one_building_outcome.ensures.outcome.sample g.H.Hashing.digest_of said n) (sample_unfiled g.H.Hashing.digest_of said n) tt
+    (subst (λ (m : ℕ). IfOk c.reply_to_sample.result
+    (λ reply. IsSampleOutcome g.H.Hashing.digest_of said m (outcome_of reply))) c.unwrap_or.ensures
+    c.reply_to_sample.ensures.reply) c.reply_to_sample.ensures.panel
+    (λ qs asks. subst (λ (m : ℕ). SampleAsks g.H.Hashing.digest_of said m qs) (sym c.unwrap_or.ensures) asks))
+
+-- the reply to `strip` is, and its file is the outcome's
+pub returns-in-Strip-clause-known : goal.returns-in-Strip-clause-known
+returns-in-Strip-clause-known g c known =
+    replies_to c.in-Ok.found command.Strip c.in-Ok.ensures c.in-Strip.is
+    (replies_copied IsStripOutcome (g.A.Source.known c.args.media.now) _ _ (media_told c.in-Ok.found command.Strip c.in-Ok.ensures c.in-Strip.is refl known) tt refl
+    c.reply_to_strip.ensures.media.cause c.reply_to_strip.ensures.made)
+
+-- so are those of `extract`
+pub returns-in-Extract-clause-known : goal.returns-in-Extract-clause-known
+returns-in-Extract-clause-known g c known =
+    replies_to c.in-Ok.found command.Extract c.in-Ok.ensures c.in-Extract.is
+    (replies_copied IsExtractOutcome (g.A.Source.known c.args.media.now) _ _ (media_told c.in-Ok.found command.Extract c.in-Ok.ensures c.in-Extract.is refl known) tt refl
+    c.reply_to_extract.ensures.media.cause c.reply_to_extract.ensures.made)
+
+-- the reply to words that fit no command is the usage line
+pub returns-in-Err-Usage-clause-known : goal.returns-in-Err-Usage-clause-known
+returns-in-Err-Usage-clause-known g c known =
+    let fits = c.in-Err-Usage.ensures in
+    replies_usage (rw c.in-Err-Usage.field-0-is at fits) refl c.usage_reply.ensures.reply c.usage_reply.ensures.memory
+
+-- there is none where memory ran out before
+pub returns-in-Err-NoMemory-clause-known : goal.returns-in-Err-NoMemory-clause-known
+returns-in-Err-NoMemory-clause-known g c known = replies_memory refl
+
+-- ---- whose fault it is
+
+-- `digest`
+pub returns-in-Digest-clause-cause : goal.returns-in-Digest-clause-cause
+returns-in-Digest-clause-cause g c =
+    caused_media c.reply_to_digest.result c.in-Ok.found command.Digest c.in-Ok.ensures c.in-Digest.is
+    refl
+    c.reply_to_digest.ensures.words c.reply_to_digest.ensures.media.cause
+
+-- `list`
+pub returns-in-List-clause-cause : goal.returns-in-List-clause-cause
+returns-in-List-clause-cause g c =
+    caused_media c.reply_to_list.result c.in-Ok.found command.List c.in-Ok.ensures c.in-List.is
+    refl
+    c.reply_to_list.ensures.words c.reply_to_list.ensures.media.cause
+
+-- `show`
+pub returns-in-Show-clause-cause : goal.returns-in-Show-clause-cause
+returns-in-Show-clause-cause g c =
+    caused_media c.reply_to_show.result c.in-Ok.found command.Show c.in-Ok.ensures c.in-Show.is
+    refl
+    c.reply_to_show.ensures.words c.reply_to_show.ensures.media.cause
+
+-- `questions`
+pub returns-in-Questions-clause-cause : goal.returns-in-Questions-clause-cause
+returns-in-Questions-clause-cause g c =
+    caused_panel c.reply_to_questions.result c.in-Ok.found command.Questions c.in-Ok.ensures c.in-Questions.is
+    refl refl
+    c.reply_to_questions.ensures.words c.reply_to_questions.ensures.media.cause c.reply_to_questions.ensures.panel.cause
+
+-- `validate`
+pub returns-in-Validate-clause-cause : goal.returns-in-Validate-clause-cause
+returns-in-Validate-clause-cause g c =
+    caused_panel c.reply_to_validate.result c.in-Ok.found command.Validate c.in-Ok.ensures c.in-Validate.is
+    refl refl
+    c.reply_to_validate.ensures.words c.reply_to_validate.ensures.media.cause c.reply_to_validate.ensures.panel.cause
+
+-- `compare`
+pub returns-in-Compare-clause-cause : goal.returns-in-Compare-clause-cause
+returns-in-Compare-clause-cause g c =
+    caused_compare c.reply_to_compare.result c.in-Ok.found command.Compare c.in-Ok.ensures c.in-Compare.is
+    refl refl refl
+    c.reply_to_compare.ensures.words c.reply_to_compare.ensures.media.cause c.reply_to_compare.ensures.report.cause c.reply_to_compare.ensures.panel.cause
+
+-- `plan`
+pub returns-in-Plan-clause-cause : goal.returns-in-Plan-clause-cause
+returns-in-Plan-clause-cause g c =
+    caused_reading c.reply_to_plan.result c.in-Ok.found command.Plan c.in-Ok.ensures c.in-Plan.is
+    refl refl refl
+    c.reply_to_plan.ensures.words c.reply_to_plan.ensures.media.cause c.reply_to_plan.ensures.panel.cause
+
+-- `validate-external`
+pub returns-in-ValidateExternal-clause-cause : goal.returns-in-ValidateExternal-clause-cause
+returns-in-ValidateExternal-clause-cause g c =
+    caused_reading c.reply_to_validate_external.result c.in-Ok.found command.ValidateExternal c.in-Ok.ensures c.in-ValidateExternal.is
+    refl refl refl
+    c.reply_to_validate_external.ensures.words c.reply_to_validate_external.ensures.media.cause c.reply_to_validate_external.ensures.panel.cause
+
+-- `embed`
+pub returns-in-Embed-clause-cause : goal.returns-in-Embed-clause-cause
+returns-in-Embed-clause-cause g c =
+    caused_embed c.reply_to_embed.result c.in-Ok.found command.Embed c.in-Ok.ensures c.in-Embed.is
+    refl refl refl refl refl
+    c.reply_to_embed.ensures.words c.reply_to_embed.ensures.media.cause c.reply_to_embed.ensures.out.writes.cause c.reply_to_embed.ensures.panel.cause
+
+-- `sample`
+pub returns-in-Sample-clause-cause : goal.returns-in-Sample-clause-cause
+returns-in-Sample-clause-cause g c =
+    caused_sample c.reply_to_sample.result c.in-Ok.found command.Sample c.in-Ok.ensures c.in-Sample.is
+    refl
+    c.reply_to_sample.ensures.words c.reply_to_sample.ensures.fault c.reply_to_sample.ensures.panel.cause
+
+-- `strip`
+pub returns-in-Strip-clause-cause : goal.returns-in-Strip-clause-cause
+returns-in-Strip-clause-cause g c =
+    caused_copying c.reply_to_strip.result c.in-Ok.found command.Strip c.in-Ok.ensures c.in-Strip.is
+    refl refl
+    c.reply_to_strip.ensures.words c.reply_to_strip.ensures.media.cause c.reply_to_strip.ensures.writes.cause
+
+-- `extract`
+pub returns-in-Extract-clause-cause : goal.returns-in-Extract-clause-cause
+returns-in-Extract-clause-cause g c =
+    caused_copying c.reply_to_extract.result c.in-Ok.found command.Extract c.in-Ok.ensures c.in-Extract.is
+    refl refl
+    c.reply_to_extract.ensures.words c.reply_to_extract.ensures.media.cause c.reply_to_extract.ensures.writes.cause
+
+-- words that fit no command
+pub returns-in-Err-Usage-clause-cause : goal.returns-in-Err-Usage-clause-cause
+returns-in-Err-Usage-clause-cause g c =
+    let fits = c.in-Err-Usage.ensures in
+    caused_usage c.usage_reply.result (rw c.in-Err-Usage.field-0-is at fits) c.usage_reply.ensures.memory
+
+-- out of memory
+pub returns-in-Err-NoMemory-clause-cause : goal.returns-in-Err-NoMemory-clause-cause
+returns-in-Err-NoMemory-clause-cause g c = caused_memory
+
+-- ---- what it doesn't use
+
+-- `digest`
+pub returns-in-Digest-clause-unused : goal.returns-in-Digest-clause-unused
+returns-in-Digest-clause-unused g c =
+    unused_by c.in-Ok.found command.Digest c.in-Ok.ensures c.in-Digest.is (inl refl)
+    (record { second = λ un. refl; third = λ un. refl; out = λ un. refl; judges = λ un. refl })
+
+-- `list`
+pub returns-in-List-clause-unused : goal.returns-in-List-clause-unused
+returns-in-List-clause-unused g c =
+    unused_by c.in-Ok.found command.List c.in-Ok.ensures c.in-List.is (inl refl)
+    (record { second = λ un. refl; third = λ un. refl; out = λ un. refl; judges = λ un. refl })
+
+-- `show`
+pub returns-in-Show-clause-unused : goal.returns-in-Show-clause-unused
+returns-in-Show-clause-unused g c =
+    unused_by c.in-Ok.found command.Show c.in-Ok.ensures c.in-Show.is (inl refl)
+    (record { second = λ un. refl; third = λ un. refl; out = λ un. refl; judges = λ un. refl })
+
+-- `questions`
+pub returns-in-Questions-clause-unused : goal.returns-in-Questions-clause-unused
+returns-in-Questions-clause-unused g c =
+    unused_by c.in-Ok.found command.Questions c.in-Ok.ensures c.in-Questions.is (inl refl)
+    (record { second = λ un. refl; third = λ un. refl; out = λ un. refl; judges = λ none. absurd (false≢true (sym none)) })
+
+-- `validate`
+pub returns-in-Validate-clause-unused : goal.returns-in-Validate-clause-unused
+returns-in-Validate-clause-unused g c =
+    unused_by c.in-Ok.found command.Validate c.in-Ok.ensures c.in-Validate.is (inl refl)
+    (record { second = λ un. refl; third = λ un. refl; out = λ un. refl; judges = λ none. absurd (false≢true (sym none)) })
+
+-- `compare`
+pub returns-in-Compare-clause-unused : goal.returns-in-Compare-clause-unused
+returns-in-Compare-clause-unused g c =
+    let said = panel_says (map (λ j. (goal.Judge-dyn g (j.vtable, j.value)).says j.value) c.args.judges.now.items) in
+    unused_by c.in-Ok.found command.Compare c.in-Ok.ensures c.in-Compare.is (inl refl)
+    (record { second = undue (left_where_known (IsNotAccepted g.H.Hashing.digest_of said) (g.A.Source.known c.args.media.now) _ c.reply_to_compare.ensures.not_due); third = λ un. refl; out = λ un. refl; judges = λ none. absurd (false≢true (sym none)) })
+
+-- `plan`
+pub returns-in-Plan-clause-unused : goal.returns-in-Plan-clause-unused
+returns-in-Plan-clause-unused g c =
+    unused_by c.in-Ok.found command.Plan c.in-Ok.ensures c.in-Plan.is (inl refl)
+    (record { second = undue (left_where_known IsMediaRefused (g.A.Source.known c.args.media.now) _ c.reply_to_plan.ensures.not_due); third = λ un. refl; out = λ un. refl; judges = λ none. absurd (false≢true (sym none)) })
+
+-- `validate-external`
+pub returns-in-ValidateExternal-clause-unused : goal.returns-in-ValidateExternal-clause-unused
+returns-in-ValidateExternal-clause-unused g c =
+    unused_by c.in-Ok.found command.ValidateExternal c.in-Ok.ensures c.in-ValidateExternal.is (inl refl)
+    (record { second = undue (left_where_known IsRefusedFile (g.A.Source.known c.args.media.now) _ c.reply_to_validate_external.ensures.not_due); third = λ un. refl; out = λ un. refl; judges = λ none. absurd (false≢true (sym none)) })
+
+-- `embed`
+pub returns-in-Embed-clause-unused : goal.returns-in-Embed-clause-unused
+returns-in-Embed-clause-unused g c =
+    unused_by c.in-Ok.found command.Embed c.in-Ok.ensures c.in-Embed.is (inl refl)
+    (record {
+      second = undue (left_where_known IsMediaRefused (g.A.Source.known c.args.media.now) _ c.reply_to_embed.ensures.not_due.definition_unread);
+      third = undue (message_left (g.A.Source.known c.args.media.now) (g.B.Source.known c.args.second.now) _
+          c.reply_to_embed.ensures.not_due.message_unread_first c.reply_to_embed.ensures.not_due.message_unread);
+      out = λ none. absurd (false≢true (sym none));
+      judges = λ none. absurd (false≢true (sym none));
+    })
+
+-- `sample`
+pub returns-in-Sample-clause-unused : goal.returns-in-Sample-clause-unused
+returns-in-Sample-clause-unused g c =
+    unused_by c.in-Ok.found command.Sample c.in-Ok.ensures c.in-Sample.is (inr refl)
+    (record { second = λ un. refl; third = λ un. refl; out = λ un. refl; judges = λ none. absurd (false≢true (sym none)) })
+
+-- `strip`
+pub returns-in-Strip-clause-unused : goal.returns-in-Strip-clause-unused
+returns-in-Strip-clause-unused g c =
+    unused_by c.in-Ok.found command.Strip c.in-Ok.ensures c.in-Strip.is (inl refl)
+    (record { second = λ un. refl; third = λ un. refl; out = λ none. absurd (false≢true (sym none)); judges = λ un. refl })
+
+-- `extract`
+pub returns-in-Extract-clause-unused : goal.returns-in-Extract-clause-unused
+returns-in-Extract-clause-unused g c =
+    unused_by c.in-Ok.found command.Extract c.in-Ok.ensures c.in-Extract.is (inl refl)
+    (record { second = λ un. refl; third = λ un. refl; out = λ none. absurd (false≢true (sym none)); judges = λ un. refl })
+
+-- words that fit no command
+pub returns-in-Err-Usage-clause-unused : goal.returns-in-Err-Usage-clause-unused
+returns-in-Err-Usage-clause-unused g c = unused_idle refl refl refl refl refl
+
+-- out of memory
+pub returns-in-Err-NoMemory-clause-unused : goal.returns-in-Err-NoMemory-clause-unused
+returns-in-Err-NoMemory-clause-unused g c = unused_idle refl refl refl refl refl
+
+-- ---- what is left
+
+-- the new file of `embed`
+pub returns-in-Embed-clause-out : goal.returns-in-Embed-clause-out
+returns-in-Embed-clause-out g c = written_out c.reply_to_embed.ensures.out.writes c.reply_to_embed.ensures.out.ends
+
+-- the new file of `strip`
+pub returns-in-Strip-clause-out : goal.returns-in-Strip-clause-out
+returns-in-Strip-clause-out g c = written_out c.reply_to_strip.ensures.writes c.reply_to_strip.ensures.ends
+
+-- the new file of `extract`
+pub returns-in-Extract-clause-out : goal.returns-in-Extract-clause-out
+returns-in-Extract-clause-out g c = written_out c.reply_to_extract.ensures.writes c.reply_to_extract.ensures.ends
+
+-- the report of `compare`
+pub returns-in-Compare-clause-report : goal.returns-in-Compare-clause-report
+returns-in-Compare-clause-report g c =
+    begun_report _ _ _ _ _ _ _ c.reply_to_compare.result c.reply_to_compare.ensures.report
+    c.reply_to_compare.ensures.judged (early_by _ c.in-Ok.found command.Compare c.in-Ok.ensures c.in-Compare.is refl)
+
+-- `digest` writes no file
+pub returns-in-Digest-clause-out : goal.returns-in-Digest-clause-out
+returns-in-Digest-clause-out g c = idle_out _ _ _ _ _ _ (unnamed_by is_out _ c.in-Ok.found command.Digest c.in-Ok.ensures c.in-Digest.is refl)
+
+-- `list` writes no file
+pub returns-in-List-clause-out : goal.returns-in-List-clause-out
+returns-in-List-clause-out g c = idle_out _ _ _ _ _ _ (unnamed_by is_out _ c.in-Ok.found command.List c.in-Ok.ensures c.in-List.is refl)
+
+-- `show` writes no file
+pub returns-in-Show-clause-out : goal.returns-in-Show-clause-out
+returns-in-Show-clause-out g c = idle_out _ _ _ _ _ _ (unnamed_by is_out _ c.in-Ok.found command.Show c.in-Ok.ensures c.in-Show.is refl)
+
+-- `questions` writes no file
+pub returns-in-Questions-clause-out : goal.returns-in-Questions-clause-out
+returns-in-Questions-clause-out g c = idle_out _ _ _ _ _ _ (unnamed_by is_out _ c.in-Ok.found command.Questions c.in-Ok.ensures c.in-Questions.is refl)
+
+-- `validate` writes no file
+pub returns-in-Validate-clause-out : goal.returns-in-Validate-clause-out
+returns-in-Validate-clause-out g c = idle_out _ _ _ _ _ _ (unnamed_by is_out _ c.in-Ok.found command.Validate c.in-Ok.ensures c.in-Validate.is refl)
+
+-- `compare` writes no file
+pub returns-in-Compare-clause-out : goal.returns-in-Compare-clause-out
+returns-in-Compare-clause-out g c = idle_out _ _ _ _ _ _ (unnamed_by is_out _ c.in-Ok.found command.Compare c.in-Ok.ensures c.in-Compare.is refl)
+
+-- `plan` writes no file
+pub returns-in-Plan-clause-out : goal.returns-in-Plan-clause-out
+returns-in-Plan-clause-out g c = idle_out _ _ _ _ _ _ (unnamed_by is_out _ c.in-Ok.found command.Plan c.in-Ok.ensures c.in-Plan.is refl)
+
+-- `validate-external` writes no file
+pub returns-in-ValidateExternal-clause-out : goal.returns-in-ValidateExternal-clause-out
+returns-in-ValidateExternal-clause-out g c = idle_out _ _ _ _ _ _ (unnamed_by is_out _ c.in-Ok.found command.ValidateExternal c.in-Ok.ensures c.in-ValidateExternal.is refl)
+
+-- `sample` writes no file
+pub returns-in-Sample-clause-out : goal.returns-in-Sample-clause-out
+returns-in-Sample-clause-out g c = idle_out _ _ _ _ _ _ (unnamed_by is_out _ c.in-Ok.found command.Sample c.in-Ok.ensures c.in-Sample.is refl)
+
+-- nor do words that fit no command
+pub returns-in-Err-Usage-clause-out : goal.returns-in-Err-Usage-clause-out
+returns-in-Err-Usage-clause-out g c =
+    let fits = c.in-Err-Usage.ensures in
+    idle_out _ _ _ _ _ _ (ap (names is_out) (rw c.in-Err-Usage.field-0-is at fits))
+
+-- nothing is written where memory ran out before
+pub returns-in-Err-NoMemory-clause-out : goal.returns-in-Err-NoMemory-clause-out
+returns-in-Err-NoMemory-clause-out g c = idle_memory _ _ _ _ _

@@ -1,0 +1,3 @@
+mod Embedding
+mod Faults
+mod Sampling

@@ -1,0 +1,4 @@
+pub mod Errors
+pub mod Laws
+pub mod Outcomes
+pub mod Writing

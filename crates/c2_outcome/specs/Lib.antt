@@ -1,0 +1,4 @@
+pub mod Left
+pub mod Outcome
+pub mod Reply
+pub mod Status

@@ -1,0 +1,11 @@
+mod Asked
+mod Comparing
+mod EachOutcome
+mod Faults
+mod Lines
+mod Listing
+mod Making
+mod OneOutcome
+mod Preparing
+mod Replying
+mod Taking
