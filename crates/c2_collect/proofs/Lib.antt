@@ -1,0 +1,4 @@
+pub mod Manifests
+pub mod Finding
+pub mod Flags
+pub mod Wanted

@@ -1,0 +1,98 @@
+-- A file that is built in its place, and whose new store collects from two stores, meets the rules.
+use Rattle.std.proofs.Common.{◌≡◌, ℕ, ◌≤◌, List, ◌∷◌, length, Option, Some, sym, ap, ◌∙◌, subst, arith}
+use Rattle.std.specs.Option.{option_map}
+use Rattle.std.proofs.lemmas.Option.{same_Some}
+use Rattle.c2_base.specs.declared.limits.TheConstants.{MAX_STORE_LEN}
+use Rattle.c2_base.specs.declared.values.Question.{Question}
+use Rattle.c2_spec.specs.Bmff.Boxes.{box_bytes}
+use Rattle.c2_spec.specs.Bmff.Writing as bmff
+use Rattle.c2_spec.specs.C2pa.Sign1.{question_of}
+use Rattle.c2_spec.specs.Jpeg.Writing.{IsNumberOf, insert_place, packets_bytes}
+use Rattle.c2_spec.specs.Jumbf.Tree.{Tree, tree_bytes}
+use Rattle.c2_spec.specs.PutIn.{put_in}
+use Rattle.c2_spec.specs.declared.digest.Alg.{Alg}
+use Rattle.c2_definition.specs.declared.types.NewAssertion.{NewAssertion}
+use Rattle.c2_built.specs.Built.{CanBuild, HasDigestLen, built_len}
+use Rattle.c2_built.specs.Fresh.{GivesDigests, Meets}
+use Rattle.c2_built.specs.Store.{Content, new_alg, new_claim, new_store}
+use Rattle.c2_built.specs.Unbound.{MeetsUnbound}
+use Rattle.c2_built.proofs.FreshFile.{Laws, built_meets}
+use Rattle.c2_films.specs.Films.{film_len}
+use Rattle.c2_films.proofs.Meeting.{FilmLaws}
+use Rattle.c2_gathered.specs.Gathered.{ContentIsGathered, content_of, gathered_claim, gathered_store}
+use Rattle.c2_gathered.specs.Taken.{questions_from}
+use Rattle.c2_places.specs.Laws.{BindingsAreKnown, PlaceSizeIsFixed}
+use Rattle.c2_places.specs.Places.{CanPut, Place, bound_text, in_boxes, in_segments, place_binding, place_file, place_start, place_store, put_bytes, range_len, store_len}
+use Rattle.c2_collected.specs.Collected.{CollectedStoreMeets, IsStored, collected_readings, collected_roots}
+use Rattle.c2_collected.specs.Files.{CollectedFileMeets}
+use Rattle.c2_collected.proofs.Films.{film_meets}
+
+-- ---- a file in its place
+
+-- the packets that are put in are those under the number that is free
+put_packets : (number : Option ℕ) (en : ℕ) (store bytes : List ℕ) → number ≡ Some en
+    → option_map (packets_bytes store) number ≡ Some bytes → packets_bytes store en ≡ bytes
+put_packets number en store bytes free is =
+    same_Some (packets_bytes store en) bytes (sym (ap (option_map (packets_bytes store)) free) ∙ is)
+
+-- it meets all rules but verdicts, where its store meets all but its binding
+place_meets : Laws → FilmLaws
+    → (hash : Alg → List ℕ → List ℕ) (c : Content) (message base bytes : List ℕ) (p : Place) (qs : List Question)
+    → GivesDigests hash → CanPut c (length message) base p
+    → put_bytes p (tree_bytes (place_store (hash (new_alg c.definition)) c message base p)) ≡ Some bytes
+    → MeetsUnbound hash (place_store (hash (new_alg c.definition)) c message base p)
+    (place_binding (hash (new_alg c.definition)) c (length message) base p) qs
+    → Meets hash (place_file base p bytes) (place_start p) (range_len p c (length message))
+    (place_store (hash (new_alg c.definition)) c message base p) qs
+place_meets laws films hash c message base bytes (in_segments segments number) qs digests can put unbound =
+    let store : Tree = place_store (hash (new_alg c.definition)) c message base (in_segments segments number) in
+    let build : CanBuild c (length message) base segments can.room.0 =
+    record { is_of = can.place.is.1; number = subst (IsNumberOf segments) can.room.1 can.place.is.2; small = can.small } in
+    subst
+    (λ (x : List ℕ). Meets hash (put_in (insert_place segments) x base) (insert_place segments) (built_len c (length message)) store qs)
+    (put_packets number can.room.0 (tree_bytes store) bytes can.room.1 put)
+    (built_meets laws hash c message base segments can.room.0 qs digests build (record { none = can.place.free; fits = can.fits }) unbound)
+place_meets laws films hash c message base bytes (in_boxes roots) qs digests can put unbound =
+    let store : Tree = place_store (hash (new_alg c.definition)) c message base (in_boxes roots) in
+    let sized : HasDigestLen (new_alg c.definition) (hash (new_alg c.definition)) =
+    λ text. (digests (new_alg c.definition) text).sized in
+    subst
+    (λ (x : List ℕ). Meets hash (put_in (bmff.insert_place roots) x base) (bmff.insert_place roots) (film_len c (length message)) store qs)
+    (same_Some (box_bytes (bmff.c2pa_box (tree_bytes store))) bytes put)
+    (film_meets films hash c message base roots qs sized can.place.is.0 (record { has_roots = can.place.is.1; closed = can.room.0; small = can.small; fits = can.fits; few = can.room.1 }) can.place.free unbound)
+
+-- ---- the file
+
+-- what the laws of other crates say
+pub record FileLaws : Type 0 where
+  pub jpeg : Laws
+  pub film : FilmLaws
+  pub same : ContentIsGathered
+  pub sizes : PlaceSizeIsFixed
+  pub known : BindingsAreKnown
+
+-- so it meets the rules
+pub file_meets : FileLaws → CollectedStoreMeets → CollectedFileMeets
+file_meets laws stores hash d old other as_ bs c message base bytes p parts digests is can spells put =
+    let alg : Alg = new_alg c.definition in
+    let h : List ℕ → List ℕ = hash alg in
+    let x : Content = content_of h c in
+    let len : ℕ = range_len p x (length message) in
+    let digest : List ℕ = h (bound_text base p) in
+    let binding : NewAssertion = place_binding h x (length message) base p in
+    let qs : List Question = questions_from (collected_readings as_ bs) (collected_roots as_ bs) in
+    let same = laws.same h c binding message in
+    let store : gathered_store h c binding message ≡ new_store h x binding message = same.0 in
+    let size : length (tree_bytes (new_store h x binding message)) ≡ store_len p x (length message) =
+    laws.sizes h x p len digest message (λ text. (digests alg text).sized) (digests alg (bound_text base p)).sized in
+    let small : length (tree_bytes (new_store h x binding message)) ≤ MAX_STORE_LEN = omega (arith, size, can.small) in
+    let stored : IsStored hash c binding message parts = record {
+      known = laws.known alg p len digest;
+      fits = subst (λ (t : Tree). length (tree_bytes t) ≤ MAX_STORE_LEN) (sym store) small;
+      spells = spells;
+    } in
+    let met : MeetsUnbound hash (gathered_store h c binding message) binding (question_of parts (gathered_claim h c binding) ∷ qs) =
+    stores hash d old other as_ bs c binding message parts is stored in
+    place_meets laws.jpeg laws.film hash x message base bytes p (question_of parts (new_claim h x binding) ∷ qs) digests can put
+    (subst (λ (t : Tree). MeetsUnbound hash t binding (question_of parts (new_claim h x binding) ∷ qs)) store
+    (subst (λ (claim : List ℕ). MeetsUnbound hash (gathered_store h c binding message) binding (question_of parts claim ∷ qs)) same.1 met))

@@ -1,0 +1,177 @@
+-- A collected ingredient: a new store over the joined boxes of a media file's store, where it has one, and of another file's (C2PA
+-- Technical Specification 2.x, "Ingredient"). The last manifest of the media's store is the parent, and the last of the other a component.
+use Rattle.std.specs.Prelude.{◌≡◌, ◌⊎◌, ◌<◌, ◌≤◌, ◌+◌, ℕ, Bool, true, false, Contains, List, [], ◌∷◌, codes, find, length, slice_get}
+use Rattle.std.specs.declared.option.Option.TheVariants.{Some, None}
+use Rattle.std.specs.List.{AllByRecursion, AllZip}
+use Rattle.c2_base.specs.declared.limits.TheConstants.{MAX_MANIFESTS, MAX_STORE_LEN}
+use Rattle.c2_base.specs.declared.values.Question.{Question}
+use Rattle.c2_spec.specs.C2pa.Manifest.{manifests_of}
+use Rattle.c2_spec.specs.C2pa.Sign1.{SignParts, SpellsMessage, question_of}
+use Rattle.c2_spec.specs.Jumbf.Boxes.{any_label, node}
+use Rattle.c2_spec.specs.Jumbf.Tree.{Tree, Trees, tree_bytes}
+use Rattle.c2_spec.specs.declared.assertion.Relationship.TheVariants.{ComponentOf, ParentOf}
+use Rattle.c2_spec.specs.declared.digest.Alg.{Alg}
+use Rattle.c2_spec.specs.declared.panel.Verdict.{Verdict}
+use Rattle.c2_spec.specs.declared.panel.Verdict.TheVariants.{Approved}
+use Rattle.c2_rules.specs.Chains.{is_reached}
+use Rattle.c2_rules.specs.CheckList.{questions}
+use Rattle.c2_rules.specs.Readings.{AreReadings, Reading}
+use Rattle.c2_joined.specs.Joined.{has_manifest, joined, joined_roots}
+use Rattle.c2_joined.specs.Rooted.{is_reached_from, last_roots}
+use Rattle.c2_definition.specs.declared.types.Definition.{Definition}
+use Rattle.c2_definition.specs.declared.types.NewAssertion.{NewAssertion}
+use Rattle.c2_built.specs.FreshBoxes.{contents_of}
+use Rattle.c2_built.specs.Manifests.{is_signature_box, supers_in, supers_of}
+use Rattle.c2_built.specs.Store.{Parent, new_alg}
+use Rattle.c2_built.specs.Unbound.{IsKnownBinding, MeetsUnbound}
+use Rattle.c2_built.specs.Written.{CanBeWritten}
+use Rattle.c2_carried.specs.Redacting.{redacted_boxes}
+use Rattle.c2_gathered.specs.Gathered.{Gathered, NewIngredient, gathered_claim, gathered_store}
+use Rattle.c2_gathered.specs.Taken.{questions_from}
+use Rattle.c2_collected.specs.Refusals.{redaction_refusal_by}
+use Rattle.c2_collected.specs.Sides.{DoNotClash, joined_boxes}
+use Rattle.c2_collected.specs.Stores.{IsSide}
+
+-- ---- the joined chain
+
+-- the joined boxes: those of the media's store, and the manifests of the other that are reached in it, where these are its readings
+abbrev pub collected_boxes : Trees → Trees → List Reading → Trees
+collected_boxes old other bs = joined_boxes old (is_reached bs) other
+
+-- what they are read as, where the two stores are read as these
+abbrev pub collected_readings : List Reading → List Reading → List Reading
+collected_readings as_ bs = joined as_ (is_reached bs) bs
+
+-- the roots of that chain: the last manifests of both stores
+abbrev pub collected_roots : List Reading → List Reading → List ℕ
+collected_roots as_ bs = joined_roots (last_roots as_) bs (last_roots bs) (collected_readings as_ bs)
+
+-- ---- the ingredients
+
+-- An ingredient's manifest: the one at this place, by its label, its contents, and those of its signature box.
+pub record IsParentAt (p : Parent) (manifests : List Tree) (place : ℕ) : Type 0 where
+  pub manifest : Tree
+  pub is_manifest : slice_get manifests place ≡ Some manifest
+  pub label : any_label (node manifest) ≡ Some p.label
+  pub contents : contents_of manifest ≡ p.contents
+  pub signature : Tree
+  pub is_signature : find is_signature_box (supers_of manifest) ≡ Some signature
+  pub signed : contents_of signature ≡ p.signed
+
+-- The ingredients of one manifest or of two: a component, or a parent and then a component, whose label then ends `__1` ("Multiple
+-- instances" of assertions). There are never more, as a joined chain has two roots at most.
+abbrev pub collected_ingredients : List Parent → List NewIngredient
+collected_ingredients [] = []
+collected_ingredients (q ∷ []) =
+    record { label = codes "c2pa.ingredient.v3"; relationship = ComponentOf; of = q } ∷ []
+collected_ingredients (p ∷ q ∷ more) =
+    record { label = codes "c2pa.ingredient.v3"; relationship = ParentOf; of = p }
+    ∷ record { label = codes "c2pa.ingredient.v3__1"; relationship = ComponentOf; of = q }
+    ∷ []
+
+-- What goes into the new store: the joined boxes less what the definition redacts, and as ingredients the manifests at the roots, as
+-- they stand there.
+pub record CollectsFrom (d : Definition) (old other : Trees) (as_ bs : List Reading) (c : Gathered) : Type 0 where
+  pub definition : c.definition ≡ d
+  pub carried : c.carried ≡ redacted_boxes d.redact (collected_boxes old other bs)
+  pub parents : List Parent
+  pub are : AllZip (λ (p : Parent) root. IsParentAt p (supers_in c.carried) root) parents (collected_roots as_ bs)
+  pub ingredients : c.ingredients ≡ collected_ingredients parents
+
+-- ---- what may be collected
+
+-- Two stores, the first of which may have no manifest, that may be joined: both are sides, seen from their last manifests, and the
+-- second has one; and they don't clash.
+pub record CanJoin (hash : Alg → List ℕ → List ℕ) (old other : Trees) (as_ bs : List Reading) : Type 0 where
+  pub media : IsSide hash old as_ (last_roots as_)
+  pub others : IsSide hash other bs (last_roots bs)
+  pub some : 0 < length bs
+  pub apart : DoNotClash (supers_in old) (is_reached as_) (supers_in other) (is_reached bs)
+
+-- This is reached from the roots of the joined chain: of the media's manifests those that are reached in its own store, and those that
+-- are carried of the other, which stand behind the media's.
+pub record JoinedReaches (as_ bs : List Reading) (is_in : ℕ → Bool) : Type 0 where
+  pub media : (i : ℕ) → i < length as_ → is_in i ≡ is_reached as_ i
+  pub carried : (i : ℕ) → length as_ ≤ i → i < length (collected_readings as_ bs) → is_in i ≡ true
+
+-- So it is where two stores may be joined.
+abbrev pub JoinedIsReached : Type 0
+JoinedIsReached = (hash : Alg → List ℕ → List ℕ) (old other : Trees) (as_ bs : List Reading)
+    → CanJoin hash old other as_ bs
+    → JoinedReaches as_ bs (is_reached_from (collected_readings as_ bs) (collected_roots as_ bs))
+
+-- Two stores that may be collected under this definition, as far as the number of their manifests allows: they may be joined, none of
+-- the joined manifests has the new label, and no redaction of what is reached from the roots is refused. That the second file is accepted
+-- says more (`IsAccepted`): its verdicts, and the tests of its binding.
+pub record CanCollect (hash : Alg → List ℕ → List ℕ) (d : Definition) (old other : Trees) (as_ bs : List Reading) : Type 0 where
+  pub joins : CanJoin hash old other as_ bs
+  pub label : has_manifest (collected_readings as_ bs) d.label ≡ false
+  pub redactions : redaction_refusal_by (is_reached_from (collected_readings as_ bs) (collected_roots as_ bs)) d.label
+      (collected_readings as_ bs) d.redact ≡ None
+
+-- Where two stores may be collected, something goes into the new store, whether there is room or not.
+abbrev pub SomeContentCollects : Type 0
+SomeContentCollects = (hash : Alg → List ℕ → List ℕ) (d : Definition) (old other : Trees) (as_ bs : List Reading)
+    → CanCollect hash d old other as_ bs → (c : Gathered) × CollectsFrom d old other as_ bs c
+
+-- And it is one.
+abbrev pub CollectedContentIsOne : Type 0
+CollectedContentIsOne = (d : Definition) (old other : Trees) (as_ bs : List Reading) (b c : Gathered)
+    → CollectsFrom d old other as_ bs b → CollectsFrom d old other as_ bs c → b ≡ c
+
+-- ---- what the new store meets
+
+-- This goes into a new store over two that may be collected: the definition can be written, and there is room for one more manifest
+-- than the joined ones.
+pub record IsCollected (hash : Alg → List ℕ → List ℕ) (d : Definition) (old other : Trees) (as_ bs : List Reading) (c : Gathered) : Type 0 where
+  pub can : CanCollect hash d old other as_ bs
+  pub few : length (collected_readings as_ bs) < MAX_MANIFESTS
+  pub written : CanBeWritten d
+  pub content : CollectsFrom d old other as_ bs c
+
+-- A new store of it, which isn't too large, with a binding of a kind that is known, and a message that spells its parts.
+pub record IsStored (hash : Alg → List ℕ → List ℕ) (c : Gathered) (binding : NewAssertion) (message : List ℕ) (p : SignParts) : Type 0 where
+  pub known : IsKnownBinding binding
+  pub fits : length (tree_bytes (gathered_store (hash (new_alg c.definition)) c binding message)) ≤ MAX_STORE_LEN
+  pub spells : SpellsMessage message p
+
+-- The new store meets each rule but those on its binding and the verdict on its message. It asks the new question, and then those of
+-- what is reached from the roots of the joined chain.
+abbrev pub CollectedStoreMeets : Type 0
+CollectedStoreMeets = (hash : Alg → List ℕ → List ℕ) (d : Definition) (old other : Trees) (as_ bs : List Reading) (c : Gathered) (binding : NewAssertion) (message : List ℕ) (p : SignParts)
+    → IsCollected hash d old other as_ bs c → IsStored hash c binding message p
+    → MeetsUnbound hash (gathered_store (hash (new_alg c.definition)) c binding message) binding
+    (question_of p (gathered_claim (hash (new_alg c.definition)) c binding) ∷ questions_from (collected_readings as_ bs) (collected_roots as_ bs))
+
+-- a question is one of the media's store or of the other
+abbrev pub IsOfEither : List Reading → List Reading → Question → Type 0
+IsOfEither as_ bs q = Contains (questions as_) q ⊎ Contains (questions bs) q
+
+-- judges who say this approve each of these questions
+abbrev pub AreApproved : (Question → Verdict) → List Question → Type 0
+AreApproved said qs = AllByRecursion (λ (q : Question). said q ≡ Approved) qs
+
+-- Each question of the joined chain is one of either.
+abbrev pub QuestionsAreOfEither : Type 0
+QuestionsAreOfEither = (hash : Alg → List ℕ → List ℕ) (old other : Trees) (as_ bs : List Reading)
+    → CanJoin hash old other as_ bs
+    → AllByRecursion (IsOfEither as_ bs) (questions_from (collected_readings as_ bs) (collected_roots as_ bs))
+
+-- So judges who approve each question of both approve each of them.
+abbrev pub QuestionsAreApproved : Type 0
+QuestionsAreApproved = (hash : Alg → List ℕ → List ℕ) (said : Question → Verdict) (old other : Trees) (as_ bs : List Reading)
+    → CanJoin hash old other as_ bs → AreApproved said (questions as_) → AreApproved said (questions bs)
+    → AreApproved said (questions_from (collected_readings as_ bs) (collected_roots as_ bs))
+
+-- In these readings of the new store what is reached are the new manifest, which is the last, and what is reached in the joined chain.
+pub record ReachesCollected (as_ bs all : List Reading) : Type 0 where
+  pub count : length all ≡ length (collected_readings as_ bs) + 1
+  pub older : JoinedReaches as_ bs (is_reached all)
+  pub new : is_reached all (length (collected_readings as_ bs)) ≡ true
+
+-- Its manifests come to such readings.
+abbrev pub CollectedStoreReaches : Type 0
+CollectedStoreReaches = (hash : Alg → List ℕ → List ℕ) (d : Definition) (old other : Trees) (as_ bs : List Reading) (c : Gathered) (binding : NewAssertion) (message : List ℕ) (p : SignParts)
+    → IsCollected hash d old other as_ bs c → IsStored hash c binding message p
+    → (all : List Reading) × AreReadings (manifests_of (gathered_store (hash (new_alg c.definition)) c binding message)) all
+    × ReachesCollected as_ bs all

@@ -1,0 +1,30 @@
+-- What a file meets whose new store collects from two stores, whichever its container is.
+use Rattle.std.specs.Prelude.{◌≡◌, ℕ, List, ◌∷◌, length, Some}
+use Rattle.c2_spec.specs.C2pa.Sign1.{SignParts, SpellsMessage}
+use Rattle.c2_spec.specs.Jumbf.Tree.{Trees, tree_bytes}
+use Rattle.c2_spec.specs.declared.digest.Alg.{Alg}
+use Rattle.c2_rules.specs.Readings.{Reading}
+use Rattle.c2_definition.specs.declared.types.Definition.{Definition}
+use Rattle.c2_built.specs.Fresh.{GivesDigests, Meets}
+use Rattle.c2_built.specs.Store.{Content, new_alg}
+use Rattle.c2_gathered.specs.Gathered.{Gathered, content_of}
+use Rattle.c2_gathered.specs.Taken.{questions_from}
+use Rattle.c2_places.specs.Places.{CanPut, Place, place_file, place_question, place_start, place_store, put_bytes, range_len}
+use Rattle.c2_collected.specs.Collected.{IsCollected, collected_readings, collected_roots}
+
+-- what is collected, as what goes into a new file: its ingredients are further assertions of its definition
+abbrev pub collected_content : (Alg → List ℕ → List ℕ) → Gathered → Content
+collected_content hash c = content_of (hash (new_alg c.definition)) c
+
+-- The file that is built in its place, over a base without a store, and whose new store collects from two stores, has the new store,
+-- meets every rule but the verdict on its message, and asks the new question and then those of what is reached from the roots of the
+-- joined chain. The message may be any that spells its parts.
+abbrev pub CollectedFileMeets : Type 0
+CollectedFileMeets = (hash : Alg → List ℕ → List ℕ) (d : Definition) (old other : Trees) (as_ bs : List Reading) (c : Gathered) (message base bytes : List ℕ) (p : Place) (parts : SignParts)
+    → GivesDigests hash → IsCollected hash d old other as_ bs c → CanPut (collected_content hash c) (length message) base p
+    → SpellsMessage message parts
+    → put_bytes p (tree_bytes (place_store (hash (new_alg c.definition)) (collected_content hash c) message base p)) ≡ Some bytes
+    → Meets hash (place_file base p bytes) (place_start p) (range_len p (collected_content hash c) (length message))
+    (place_store (hash (new_alg c.definition)) (collected_content hash c) message base p)
+    (place_question (hash (new_alg c.definition)) (collected_content hash c) (length message) base p parts
+    ∷ questions_from (collected_readings as_ bs) (collected_roots as_ bs))

@@ -1,0 +1,5 @@
+pub mod Sides
+pub mod Refusals
+pub mod Stores
+pub mod Collected
+pub mod Files

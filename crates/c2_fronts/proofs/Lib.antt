@@ -1,0 +1,6 @@
+mod InFront
+mod Building
+mod Meeting
+mod Staying
+mod Order
+mod Rows

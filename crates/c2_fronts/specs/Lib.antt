@@ -1,0 +1,4 @@
+pub mod InFront
+pub mod Fronts
+pub mod Meeting
+pub mod Order

@@ -1,0 +1,16 @@
+//! What a BMFF file is that a new store is put into right after its file type box, in front of all others (C2PA Technical Specification
+//! 2.x, "Embedding manifests into assets" and "BMFF-based hash"): the places in its chunk tables are moved.
+//!
+//! A store put in there is in the module `InFront`, the new file in `Fronts`, what it meets in `Meeting`, and what is refused, in its
+//! order, in `Order`.
+#![tactic(auto)]
+
+mod in_front;
+mod laws;
+
+pub use in_front::a_store_in_front_is_found;
+pub use laws::{
+    a_built_front_has_its_store, a_built_front_is_one, a_fresh_front_meets_the_rules,
+    a_front_is_refused_or_built, a_front_is_refused_or_planned, bytes_of_a_built_front_stay,
+    chunks_of_a_built_front_stay, the_covered_text_is_known_first,
+};
