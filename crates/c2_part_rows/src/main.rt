@@ -16,6 +16,7 @@ mod messages;
 mod parts;
 mod read;
 mod settings;
+mod sidecars;
 mod stores;
 mod table;
 mod trees;

@@ -2,7 +2,7 @@
 use crate::line::{Line, shown};
 use crate::settings::Settings;
 use crate::trouble::Trouble;
-use crate::{chunks, films, parts};
+use crate::{chunks, films, parts, sidecars};
 use c2_base::{Blob, Found, MediaError, MemSource};
 use c2_jpegseg::{free_number, insert_place, locate};
 use std::alloc::Global;
@@ -23,6 +23,8 @@ pub enum FileView {
     Copied,
     Inserted,
     WithoutStore,
+    StoreAlone,
+    External,
     ChunkTables,
     Shifted,
     ShiftedPart,
@@ -80,6 +82,8 @@ fn said(
         FileView::Copied => parts::copied(alloc, settings, source),
         FileView::Inserted => parts::inserted(alloc, settings, source),
         FileView::WithoutStore => parts::without_store(alloc, settings, source),
+        FileView::StoreAlone => sidecars::store_alone(alloc, settings, source),
+        FileView::External => sidecars::external(alloc, settings, source),
         FileView::ChunkTables => chunks::listed(alloc, source),
         FileView::Shifted => chunks::moved(alloc, settings, source),
         FileView::ShiftedPart => chunks::part(alloc, settings, source),

@@ -36,8 +36,8 @@ pub fn copied(
     taken(alloc, &answer, &sink)
 }
 
-// An answer, and what a sink has; a full stop where nothing follows.
-fn taken<T: fmt::Debug>(alloc: Global, answer: &T, sink: &MemSink) -> Result<String, Trouble> {
+/// An answer, and what a sink has; a full stop where nothing follows.
+pub fn taken<T: fmt::Debug>(alloc: Global, answer: &T, sink: &MemSink) -> Result<String, Trouble> {
     let mut out = Line::new(alloc);
     out.debug(answer);
     out.between(sink.bytes().is_empty(), " ");

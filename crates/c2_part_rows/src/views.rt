@@ -56,7 +56,7 @@ enum BytesView {
 }
 
 // The views by their names.
-const VIEWS: [(&str, Shown); 38] = [
+const VIEWS: [(&str, Shown); 40] = [
     ("label kind", Shown::Text(TextView::LabelKind)),
     ("uri", Shown::Text(TextView::Uri)),
     ("base label", Shown::Text(TextView::BaseLabel)),
@@ -101,6 +101,8 @@ const VIEWS: [(&str, Shown); 38] = [
     ("copied", Shown::File(media::FileView::Copied)),
     ("inserted", Shown::File(media::FileView::Inserted)),
     ("without store", Shown::File(media::FileView::WithoutStore)),
+    ("store alone", Shown::File(media::FileView::StoreAlone)),
+    ("external", Shown::File(media::FileView::External)),
     ("chunk tables", Shown::File(media::FileView::ChunkTables)),
     ("shifted", Shown::File(media::FileView::Shifted)),
     ("shifted part", Shown::File(media::FileView::ShiftedPart)),
