@@ -115,6 +115,7 @@ class Pages(unittest.TestCase):
         done = self.run_over(path, self.write("verdicts", rows.encode()))
         self.assertEqual((done.returncode, done.stderr), (0, b""))
         if KEPT:
+            os.makedirs(KEPT, exist_ok=True)
             with open(os.path.join(KEPT, f"{name}.html"), "wb") as file:
                 file.write(done.stdout)
         page = Page(done.stdout.decode())

@@ -4,11 +4,13 @@ ingredients and the three algorithms mixed.
 
     chance_runs.py C2 COUNT [SEED [KIND]]      draws COUNT stores, the same ones for the same seed; KIND is jpeg, bmff, or both by turns (the default)
 
-Over each store `digest`, `list`, `show`, `questions` and `validate` are run beside store.py, `compare` with a second file beside pairs.py, and
-`plan` and `embed` beside builder.py. The second file is the first one, or differs from it in what no claim binds, in what only a signature
+Over each store `digest`, `list`, `show`, `questions` and `validate` are run beside store.py, `compare` with a second file beside pairs.py,
+`plan` and `embed` beside builder.py, and `strip`, `extract` and `validate-external` beside external.py: over the file with its own store or the second
+file's beside it, and `strip` over what `embed` made of it. The second file is the first one, or differs from it in what no claim binds, in what only a signature
 vouches for, in a version, or in anything. Prints how often each answer came, how many stores had which versions and how many algorithms, and each
 difference, whose files are kept in the current directory: differs-N and differs-N.verdicts-M of what is read, pair-N.first, pair-N.second and
-pair-N.verdicts-M of `compare`, differs-N.media, differs-N.definition and differs-N.signature of builds. The status is 1 where there is a difference.
+pair-N.verdicts-M of `compare`, differs-N.media, differs-N.definition and differs-N.signature of builds, external-N.media, external-N.store and
+external-N.verdicts-M of the last three. The status is 1 where there is a difference.
 Without C2 (a word `-` in its place) only the answers are counted.
 """
 
@@ -22,6 +24,7 @@ from collections import Counter
 import hashing
 import pairs
 from chance_builds import Builds, drawn_definition, drawn_message, manifests_in
+from chance_external import Externals, questions_of, taken
 from chance_pairs import changed
 from chance_pairs import kind_of_answer as kind_of_pair
 from chance_stores import Drawn, changed_file, questions_in, verdict_files
@@ -219,10 +222,11 @@ class Runs:
     """Runs of all commands over the same stores."""
 
     def __init__(self, program, folder):
-        folders = [os.path.join(folder, name) for name in ("read", "pairs", "builds")]
+        folders = [os.path.join(folder, name) for name in ("read", "pairs", "builds", "external")]
         for each in folders:
             os.mkdir(each)
         self.read, self.pairs, self.builds = Comparison(program, folders[0]), Pairs(program, folders[1]), Builds(program, folders[2])
+        self.external = Externals(program, folders[3])
         self.mixture = Mixture()
 
     def run(self, chance, is_bmff):
@@ -233,18 +237,23 @@ class Runs:
             self.pairs.compare(first, second, verdict_files(chance, [*questions_in(first), *questions_in(second)]))
         message, said = drawn_message(chance)
         definition = drawn_definition(chance, manifests_in(first), said)
-        self.builds.compare(first, definition, message, verdict_files(chance, questions_in(first)))
+        built = self.builds.compare(first, definition, message, verdict_files(chance, questions_in(first)))
+        store = taken("extract", first if second is None or chance.random() < 0.5 else second) or b""
+        self.external.compare(chance, first, store, verdict_files(chance, questions_of(store)))
+        if isinstance(built[0], bytes):
+            self.external.compare_built(first, built[0])
 
     def answers(self):
         named = {"validate": self.read.answers, "compare": self.pairs.answers, "embed": self.builds.answers}
-        return Counter({f"{command}: {answer}": times for command, each in named.items() for answer, times in each.items()}) + self.mixture.counts
+        told = Counter({f"{command}: {answer}": times for command, each in named.items() for answer, times in each.items()})
+        return told + self.external.answers + self.mixture.counts
 
     def counts(self):
         """How often each command was run, by name."""
-        return {**self.read.runs, "compare": sum(self.pairs.answers.values()), **dict.fromkeys(("plan", "embed"), sum(self.builds.answers.values()))}
+        return {**self.read.runs, "compare": sum(self.pairs.answers.values()), **dict.fromkeys(("plan", "embed"), sum(self.builds.answers.values())), **self.external.runs}
 
     def differences(self):
-        return self.read.differences + self.pairs.differences + self.builds.differences
+        return self.read.differences + self.pairs.differences + self.builds.differences + self.external.differences
 
 
 def main():

@@ -227,18 +227,25 @@ class Around:
     def file(self, manifests):
         """The file. What its binding covers is computed as rules.py does it, from the file without a right digest."""
         length = len(self.around(write(manifests, Written()))) - len(self.front) - len(self.rest)
-        written = Written(len(self.front), length)
-        written.claim_alg = manifests[-1].claim_alg
-        for given in manifests[-1].assertions:
-            if isinstance(given, (DataHash, BmffHash)):
-                kind = BMFF_HASH if isinstance(given, BmffHash) else DATA_HASH
-                try:
-                    without = media_of(self.around(write(manifests, Written(written.start, length))))
-                    binding = Binding(kind, cbor.read_whole(given.encoded(written)), without)
-                    written.covered, *_ = binding.cover(without, written.algorithm(binding.alg))
-                except (BadBinding, cbor.NotCbor, Refused):
-                    pass
-        return self.around(write(manifests, Written(written.start, length, written.covered)))
+        place = len(self.front), length
+        return self.around(bound(manifests, place, lambda: media_of(self.around(write(manifests, Written(*place))))))
+
+
+def bound(manifests, place, media):
+    """A store whose binding has the digest of what it covers of a media file; `place` is the start and the length of the store's range there, and
+    `media` gives the file."""
+    written = Written(*place)
+    written.claim_alg = manifests[-1].claim_alg
+    for given in manifests[-1].assertions:
+        if isinstance(given, (DataHash, BmffHash)):
+            kind = BMFF_HASH if isinstance(given, BmffHash) else DATA_HASH
+            try:
+                found = media()
+                binding = Binding(kind, cbor.read_whole(given.encoded(written)), found)
+                written.covered, *_ = binding.cover(found, written.algorithm(binding.alg))
+            except (BadBinding, cbor.NotCbor, Refused):
+                pass
+    return write(manifests, Written(*place, written.covered))
 
 
 class Jpeg(Around):

@@ -2,12 +2,14 @@
 
 `faults` lets each source, the new file and the report of each command fail at each of its calls in turn, `judge_faults` each ask of a judge;
 `jpeg_prefixes` and `film_prefixes` have what `validate` says of each prefix of a small built file, and `changed_bytes` its status for each byte
-of a store that is one more. What the runs come to is computed by store.py, pairs.py and builder.py; rows.py writes the tables and checks them.
+of a store that is one more. What the runs come to is computed by store.py, pairs.py, builder.py and external.py; rows.py writes the tables and checks
+them.
 """
 
 from itertools import chain, count, product
 
 import compare_rows
+import external
 import hashing
 import pairs
 import samples
@@ -43,7 +45,8 @@ no store
 """.strip().split("\n")
 USAGE = (
     "usage: c2 digest MEDIA [ALG]; list|show MEDIA; questions|validate MEDIA [JUDGE..]; compare MEDIA OTHER [JUDGE..]; "
-    "plan MEDIA DEFINITION [JUDGE..]; embed MEDIA DEFINITION SIGNATURE OUT [JUDGE..]; sample N"
+    "plan MEDIA DEFINITION [JUDGE..]; embed MEDIA DEFINITION SIGNATURE OUT [JUDGE..]; sample N; "
+    "strip|extract MEDIA OUT; validate-external MEDIA STORE [JUDGE..]"
 )
 
 
@@ -119,7 +122,7 @@ class Run:
 
 def faults():
     lines = lines_of("Each source, the new file and the report of each command fail at each call in turn.", view="each call")
-    for run in chain(read_runs(), compare_runs(), every_build(), other_runs()):
+    for run in chain(read_runs(), compare_runs(), every_build(), other_runs(), sidecar_runs()):
         run.put(lines)
     single_faults(lines)
     return lines.text
@@ -193,6 +196,40 @@ def other_runs():
     yield Run("words that fit no command", "check P", ["00"], 4, USAGE)
 
 
+def sidecar_runs():
+    """The runs of `strip` and `extract`, of which the latter reads of a file with a store that at least, and those of `validate-external`."""
+    for command in external.WRITERS:
+        for what, contents in ("a JPEG", built_file()), ("a film", built_file(FILM)), ("a JPEG without a store", SMALL):
+            yield taking_run(f"{command} of {what}", command, contents)
+    yield taking_run("strip of a film with its store in front", "strip", film_in_front())
+    yield from external_runs()
+
+
+def taking_run(what, command, contents):
+    text, status, new = external.answer(command, contents)
+    media = media_of(contents)
+    length = 1 if media is None else len(contents) if command == "strip" and status == DONE else len(media.store)
+    return Run(what, f"{command} J OUT", [folded(contents)], status, text, new).reads([0], media=length)
+
+
+def external_runs():
+    """A store that isn't read asks for nothing; of one that is refused the media is read no further than its container."""
+    signed, film = built_file(), built_file(FILM)
+    picture_store, film_store = media_of(signed).store, media_of(film).store
+    for what, contents, store in (
+        ("a JPEG and its own store", signed, picture_store),
+        ("a film without a store and the one that it had", FILM, film_store),
+        ("a JPEG and a store with one byte more", signed, picture_store + b"\0"),
+        ("no media", SMALL[:1], picture_store),
+    ):
+        judge = Approving()
+        text, status, _ = external.answer("validate-external", contents, lambda: store, [judge])
+        run = Run(f"validate-external of {what}", "validate-external J S V", [folded(contents), folded(store)], status, text, asked=judge.asked)
+        if contents != SMALL[:1]:
+            run.reads([0], second=len(store))
+        yield run.reads([0, judge.asked], media=len(contents) if status == DONE else 1)
+
+
 def single_faults(lines):
     """A media that fails before anything is written, and a new file that fails behind its first byte."""
     files = SMALL.hex(), definition_text(DEFINITION), folded(MESSAGE)
@@ -214,6 +251,9 @@ def judge_faults():
         each_ask(lines, "one judge", f"{command} P V", [file], asking, ["approved"])
         each_ask(lines, "the second of three judges", f"{command} P V W X", [file], asking, ["silent", "approved", "invalid"])
     each_ask(lines, "one judge", "compare P Q V", [file, file], lambda judges: compared(contents, contents, judges), ["approved"])
+    store = media_of(contents).store
+    asking = lambda judges: (*external.validate_external(contents, lambda: store, judges), None)
+    each_ask(lines, "one judge", "validate-external P S V", [file, folded(store)], asking, ["approved"])
     given = contents, LATER_DEFINITION, MESSAGE
     files = [file, definition_text(LATER_DEFINITION), folded(MESSAGE)]
     lines.set(out=8_000)

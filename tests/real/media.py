@@ -21,11 +21,15 @@ class Media:
         self.data, self.start, self.length, self.store, self.roots = data, start, length, store, roots
 
 
+def is_jpeg(data):
+    return data[:2] == b"\xff\xd8"
+
+
 def media_of(data):
     """The media file that bytes are, or None where it holds no store."""
     if len(data) > LARGEST_FILE:
         raise Refused("FileTooLarge", len(data))
-    if data[:2] == b"\xff\xd8" or data[4:8] != b"ftyp":
+    if is_jpeg(data) or data[4:8] != b"ftyp":
         found = locate(data)
         return Media(data, *found, None) if found else None
     roots = bmff.root_boxes(data)

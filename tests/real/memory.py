@@ -3,14 +3,14 @@
 
     memory.py C2 FILE [VERDICTS]    each command over the file (`compare` over the file and itself, `plan` and `embed` also over a
                                     small JPEG without a store, with a label that the file hasn't)
-    memory.py C2                    `validate`, `compare`, `plan` and `embed` over small files that are made here: built once and
-                                    twice, and pairs of different files, of which one is evidence
+    memory.py C2                    `validate`, `compare`, `plan`, `embed`, `strip`, `extract` and `validate-external` over small files that are
+                                    made here: built once and twice, and pairs of different files, of which one is evidence
     memory.py --rows C2_ROWS        `compare` over pairs that differ under the sum of their bytes, by the program of crates/c2_rows
 
 Each is run first with all the memory that it asks for, then with its first request refused, its second, and so on until a run ends as
 the first did. A run to which memory was refused says so by its status, 8, and has printed nothing or the begin of its report; or it
-prints the whole report, where it could go on. The new file of `embed` isn't there then or is empty, since memory is taken before it is
-begun; or it is whole, where the line of the report alone had no memory. The requests are those to malloc, calloc and realloc of the C
+prints the whole report, where it could go on. The new file of `embed`, `strip` and `extract` isn't there then or is empty, since memory is taken
+before it is begun; or it is whole, where the line of the report alone had no memory. The requests are those to malloc, calloc and realloc of the C
 library. What the whole runs over the files that are made here come to is that of store.py, pairs.py and builder.py.
 """
 import os
@@ -21,12 +21,13 @@ import tempfile
 
 import builder
 import compare_rows
+import external
 import pairs
 import store
 import tables
 from rule_rows import verdicts_on
 from told import write
-from worked_builds import DEFINITION, LATER_DEFINITION, MESSAGE, SMALL
+from worked_builds import DEFINITION, FILM, LATER_DEFINITION, MESSAGE, SMALL
 
 OTHER = re.sub(rb"urn:c2pa:[-0-9a-f]+", b"urn:c2pa:99999999-2222-4333-8444-555555555555", DEFINITION)
 
@@ -142,6 +143,10 @@ def commands(file, verdicts, directory):
     yield "embed", ["embed", *names, out, *verdicts], out, None
     yield "plan over the file", ["plan", file, names[1], *verdicts], None, None
     yield "embed over the file", ["embed", file, *names[1:], out, *verdicts], out, None
+    for command in external.WRITERS:
+        yield command, [command, file, out], out, None
+    beside = written(directory, "store", external.answer("extract", contents_of(file))[2] or b"")
+    yield "validate-external", ["validate-external", file, beside, *verdicts], None, None
 
 
 def written(directory, name, contents):
@@ -158,6 +163,7 @@ class Small:
         self.directory, self.out = directory, os.path.join(directory, "out")
         self.first = builder.embed(SMALL, DEFINITION, MESSAGE)[0]
         self.twice = builder.embed(self.first, LATER_DEFINITION, MESSAGE, [verdicts_on(self.first)])[0]
+        self.film = builder.embed(FILM, DEFINITION, MESSAGE)[0]
 
     def judge(self, *files):
         """The verdicts on the questions of some files, and the name of their file."""
@@ -174,12 +180,29 @@ class Small:
             yield self.compared(what, *files)
         for what, media, definition in ("a small JPEG", SMALL, DEFINITION), ("a built file", self.first, LATER_DEFINITION):
             yield from self.builds(what, media, definition)
+        for what, contents in {"a built file": self.first, "a built film": self.film}.items():
+            yield from self.taken(what, contents)
+            yield self.validated_externally(what, contents)
 
     def validated(self, what, contents):
         known, verdicts = self.judge(contents)
         line, status = store.report("validate", contents, [known])
         words = ["validate", written(self.directory, "media", contents), verdicts]
         return f"validate, {what}", words, None, (line + "\n", status, b"")
+
+    def taken(self, what, contents):
+        for command in external.WRITERS:
+            line, status, out = external.answer(command, contents)
+            words = [command, written(self.directory, "media", contents), self.out]
+            yield f"{command}, {what}", words, self.out, (line + "\n", status, out)
+
+    def validated_externally(self, what, contents):
+        """The store of a file in a file of its own beside it."""
+        known, verdicts = self.judge(contents)
+        beside = external.answer("extract", contents)[2]
+        line, status, _ = external.answer("validate-external", contents, lambda: beside, [known])
+        words = ["validate-external", written(self.directory, "media", contents), written(self.directory, "store", beside), verdicts]
+        return f"validate-external, {what}", words, None, (line + "\n", status, b"")
 
     def compared(self, what, first, second):
         known, verdicts = self.judge(first, second)

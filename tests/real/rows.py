@@ -4,7 +4,7 @@
     rows.py write [TABLE..]    writes the tables of crates/c2_rows that are computed, or those that are named: `show`, `questions`
                                without verdict files, `validate` with a judge who approves every question, `films` under
                                `validate`, `manifests`, `pairs` under `compare`, `builds` and `build_refusals` under `plan` and
-                               `embed`, and those of fault_tables.py and large_tables.py
+                               `embed`, and those of fault_tables.py, large_tables.py and sidecar_tables.py
     rows.py check              fails where one of them isn't the one that would be written
     rows.py files DIRECTORY    writes a JPEG around each of these stores and of those of rule_rows.py, and the verdicts on the latter
 """
@@ -21,6 +21,7 @@ import large_tables
 import question_rows
 import rule_rows
 import show_rows
+import sidecar_tables
 import tables
 import validate_rows
 from drafts import Jpeg
@@ -89,6 +90,7 @@ TABLES = {
     "film_prefixes": fault_tables.film_prefixes,
     "changed_bytes": fault_tables.changed_bytes,
     "large": large_tables.large,
+    "sidecars": sidecar_tables.sidecars,
 }
 
 

@@ -560,7 +560,15 @@ def digest_rows():
 
 def verdicts_on(contents):
     """The verdicts on the questions of a file, by its signatures."""
-    store = media_of(contents).store
+    return verdicts_of_store(media_of(contents).store)
+
+
+def questions_of_store(store):
+    """The ids of the questions that a store puts."""
+    return [identity for identity in (Read(store, found).question() for found in manifests_of(jumbf.read(store))) if identity]
+
+
+def verdicts_of_store(store):
     asked = [Read(store, found) for found in manifests_of(jumbf.read(store))]
     words = {it.question(): REFUSED.get(it.sign and it.sign.signature, "approved") for it in asked}
     return {identity: word for identity, word in words.items() if identity and word != "silent"}

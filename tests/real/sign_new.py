@@ -7,7 +7,8 @@
                                  third algorithm and with both older notes redacted. Compares what a decoder makes of each file with
                                  what it makes of the first (djpeg, heif-dec, avifdec, else ffmpeg's framemd5), and what it has outside
                                  its range; exiftool must find the boxes of a JPEG, builder.py build the same file, and store.py
-                                 validate it
+                                 validate it. `strip` must give back the first file, which decoder and exiftool read, and `extract` the
+                                 store, which `validate-external` checks beside both files as external.py does
 
 Prints a line for each file; the first difference ends the run with status 1.
 """
@@ -23,6 +24,8 @@ from cryptography.hazmat.primitives import hashes
 from cryptography.hazmat.primitives.asymmetric import ec
 from cryptography.hazmat.primitives.asymmetric.utils import decode_dss_signature, encode_dss_signature
 
+from external import extract
+from external import told as told_externally
 from make_store import array, data, mapping, tag
 
 HERE = os.path.dirname(os.path.abspath(__file__))
@@ -140,7 +143,27 @@ class Way:
             self.end("something else is decoded")
         if self.kind == ".jpg" and shutil.which("exiftool"):
             self.compare_labels(new)
+        self.take_out(new, start, length)
         print(f"{os.path.basename(self.picture)}: {line}")
+
+    def take_out(self, new, start, length):
+        """Whether the picture is left without the store, and the store beside it answers as it must."""
+        left, store = self.path("left") + self.kind, self.path("store")
+        if run(self.c2, "strip", new, left).decode() != f"stripped {start} {length}\n" or contents_of(left) != contents_of(self.picture):
+            self.end("strip leaves something else")
+        if decoded(left, self.kind, self.folder) != self.seen:
+            self.end("something else is decoded of what strip leaves")
+        if shutil.which("exiftool"):
+            told = [run("exiftool", "-a", "-G1", "-s", "--System:all", "--ExifTool:all", name) for name in (left, self.picture)]
+            if told[0] != told[1]:
+                self.end("exiftool reads something else of what strip leaves")
+        if run(self.c2, "extract", new, store).decode() != f"extracted {len(contents_of(store))}\n" or contents_of(store) != extract(contents_of(new))[2]:
+            self.end("extract writes another store")
+        for media in new, left:
+            words = "validate-external", media, store, *self.verdicts
+            printed, status = told_externally(*words)
+            if run(self.c2, *words, wanted=status) != printed:
+                self.end("external.py answers something else")
 
     def compare_labels(self, new):
         """The labels that exiftool finds are those of the picture, and among them those of the store's boxes in their order."""

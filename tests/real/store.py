@@ -26,7 +26,7 @@ from rules import CheckList
 LARGEST_VERDICT_FILE = 1_048_576
 VERDICT_ROW = re.compile(rb"([0-9a-f]{64}) (approved|mismatch|untrusted|invalid)")
 COMMANDS = "digest", "list", "show", "questions", "validate"
-DONE, FAILING, REFUSED, NO_STORE, USAGE, INPUT_FAULT, JUDGE_FAULT = 0, 1, 2, 3, 4, 5, 7
+DONE, FAILING, REFUSED, NO_STORE, USAGE, INPUT_FAULT, OUTPUT_FAULT, JUDGE_FAULT = range(8)
 
 
 class JudgeFault(Exception):

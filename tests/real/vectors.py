@@ -17,12 +17,14 @@ import sys
 
 import bmff
 import builder
+import external
 import jumbf
 import pairs
 import rule_rows
 import store
 import tables
 import vector_builds
+import vector_external
 import vector_files
 from build_rows import Vast
 from locate import LARGEST_STORE, Refused
@@ -50,6 +52,17 @@ ALGORITHMS = "sha256", "sha384", "sha512"
 WORDS = "mismatch", "untrusted", "invalid"
 ODD_FILES = "the-first-row-holds", "upper-case-digits", "no-line-feed-at-the-end"
 USUAL = {DEFINITION: "plain", LATER_DEFINITION: "later", MESSAGE: "plain"}
+# Files whose stores are kept beside one of each form: what is left of them, and the store.
+TAKEN_OUT = {
+    "the store between other boxes",
+    "the store before an index of fragments",
+    "a scan, an end, and bytes behind it",
+    "packets with fill bytes between them",
+    "a store in packets with a length of eight bytes",
+    "an update and a redaction in a film",
+    "a C2PA box of eight bytes of length isn't the one that /uuid excludes by its user type at 8",
+}
+TAKEN = [[command] for command in external.WRITERS]
 GROUPS = {
     "valid": "Valid",
     "failing": "A rule fails",
@@ -118,7 +131,7 @@ class Vectors:
     def __init__(self):
         self.files, self.runs = Files(), []
         # what each shows: the names of its files, and what else it takes
-        self.media, self.pairs, self.builds = [], [], []
+        self.media, self.pairs, self.builds, self.externals = [], [], [], []
         # the verdicts on all questions that any file puts: the judge's, by signature, and those of one who approves
         self.verdicts = {"judge": {}, "approving": {}}
         self.collect()
@@ -128,6 +141,8 @@ class Vectors:
         self.read_digests()
         self.compare()
         self.build()
+        self.take_out()
+        self.validate_external()
         self.run_words()
 
     # What there is
@@ -142,6 +157,13 @@ class Vectors:
                 self.ask(contents)
         for each in vector_builds.rows():
             self.add_build(each)
+        for what, known, media, contents in vector_external.rows():
+            kept = self.files.put("external", what, "jpg" if ending(media) == "jpg" else "mp4", media)
+            store_name = self.files.put("external", what, "c2pa", contents)
+            self.externals.append((what, known, kept, store_name, media, contents))
+            found = vector_external.verdicts_in(contents) if isinstance(contents, bytes) else {}
+            self.verdicts["judge"] |= found
+            self.verdicts["approving"] |= {identity: "approved" for identity in rule_rows.questions_of_store(contents)} if found else {}
 
     def add_media(self, kind, what, known, contents):
         """A media file, in a folder that says what `validate` answers."""
@@ -283,12 +305,54 @@ class Vectors:
                 self.judged(contents, name, APPROVING)
                 assert self.runs[-1]["status"] == DONE, name
 
+    def take_out(self):
+        """`strip` and `extract`: of built files what was built into is left; of some files the store is kept; and one file for each refusal of a
+        container, and where there is no store."""
+        for (_, (media, *_), built) in self.builds:
+            if built is not None and media in self.files.contents and media_of(self.files.contents[media]) is None:
+                line, status, left = external.answer("strip", self.files.contents[built])
+                assert left == self.files.contents[media], built
+                self.run((line, status), "strip", built, "OUT", new=media)
+        taken, seen = 0, set()
+        for name, group, what, _, data in self.media:
+            if isinstance(data, bytes) and len(data) > MOST_ASKED:
+                continue
+            for command in external.WRITERS:
+                line, status, new = external.answer(command, data)
+                answer = (command, *line.split(" ")[: 2 if group == "refused" else 1], ending(data))
+                if new is not None and (group != "valid" or name not in self.files.contents or answer in seen and what not in TAKEN_OUT):
+                    continue
+                if new is None and answer in seen:
+                    continue
+                seen.add(answer)
+                kept = None if new is None else self.files.put("taken", f"{what} {command}", ending(data) if command == "strip" else "c2pa", new)
+                self.run((line, status), command, name, "OUT", new=kept)
+
+    def validate_external(self):
+        """Stores beside files: without a judge, under the judge and one who approves; of the first ones under judges that fail or aren't there."""
+        for number, (_, known, media, kept, data, contents) in enumerate(self.externals):
+            for judges in [], [JUDGE], [APPROVING], *([[BROKEN], ["verdicts/not-there"], ["verdicts/empty", APPROVING]] if number == 0 else []):
+                line, status, _ = external.answer("validate-external", data, lambda: whole(contents) if isinstance(contents, list) else contents, self.judges(judges))
+                assert judges != [JUDGE] or known in (None, line), (media, line, known)
+                self.run((line, status), "validate-external", media, kept, *judges)
+        _, _, media, kept, *_ = self.externals[0]
+        self.run(("", INPUT_FAULT), "validate-external", media, "external/not-there.c2pa")
+        self.run(("", INPUT_FAULT), "validate-external", "external/not-there.jpg", kept)
+        refused = next(each for each in self.externals if each[0] == "the container before the store")
+        self.run((refused[1], store.REFUSED), "validate-external", refused[2], "external/not-there.c2pa")
+
     def run_words(self):
         """Words that don't fit, for which the usage line isn't compared, and a file that isn't there."""
         valid, *_ = self.media[0]
         for words in [], ["check", valid], ["digest"], ["list", valid, valid], ["digest", f"-{valid}"], ["show", ""], ["sample", "0"], ["sample", "007"]:
             self.run((None, USAGE), *words)
         self.run((None, USAGE), "validate", valid, *(["verdicts/empty"] * 65))
+        for command in external.WRITERS:
+            for more in [], [valid], [valid, "OUT", valid]:
+                self.run((None, USAGE), command, *more)
+            self.run(("", INPUT_FAULT), command, "valid/not-there.jpg", "OUT")
+        for more in [valid], [valid, valid, *(["verdicts/empty"] * 65)]:
+            self.run((None, USAGE), "validate-external", *more)
         for command in (*READERS, "questions", "validate"):
             self.run(("", INPUT_FAULT), command, "valid/not-there.jpg")
 
@@ -326,6 +390,10 @@ def page(vectors):
         lines += table(title, ("File", "Shows", "`validate` under `verdicts/judge`"), rows)
     reports = {tuple(run["words"]): run for run in vectors.runs}
     told = lambda *words: reports[words]["report"].split("\n")[0] or f"status {reports[words]['status']}"
+    rows = [(f"`{media}` `{kept}`", what, told("validate-external", media, kept, JUDGE)) for what, _, media, kept, *_ in vectors.externals]
+    lines += table("A store beside a file", ("Media, store", "Show", "`validate-external` under `verdicts/judge`"), rows)
+    rows = [(f"`{run['words'][1]}`", f"`{run['new']}`" if "new" in run else "", run["report"].strip()) for run in vectors.runs if run["words"][:1] in TAKEN and run["report"]]
+    lines += table("A store taken out", ("Media", "The new file", "`strip` or `extract`"), rows)
     rows = [(f"`{first}` `{second}`", what, told("compare", first, second, APPROVING)) for what, first, second in vectors.pairs]
     lines += table("Pairs", ("Files", "Show", "`compare` under `verdicts/approving`"), rows)
     rows = [("`" + "` `".join((*names, *each.judges)) + "`", each.what, told("embed", *names, "OUT", *each.judges)) for each, names, _ in vectors.builds]
@@ -397,6 +465,7 @@ def unshown(files):
     for code in codes:
         if f"failing {code} " not in reports:
             yield code
+    reasons |= {f"store {reason}" for reason in vector_external.REASONS} | {"strip Middle"}
     for reason in reasons:
         if f"refused {reason} " not in reports and f'"{reason}' not in reports:
             yield reason

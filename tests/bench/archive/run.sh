@@ -22,4 +22,5 @@ rm -rf "$work/archive"
 for size in 100000 100000000 500000000 10000000000; do python3 "$here/photographs.py" --one "$work/$size.jpg" $size; done
 python3 "$here/photographs.py" --film "$work/500000000.mp4" 500000000
 python3 "$here/sizes.py" "$program" "$work"/{100000,100000000,500000000,10000000000}.jpg "$work/500000000.mp4" || failed=1
+python3 "$here/taken_out.py" "$program" "$work" || failed=1
 exit $failed
