@@ -3,7 +3,7 @@
 
     judge.py --anchors ANCHORS.pem [--at TIME] MEDIA.. > VERDICTS
 
-For each manifest whose signature can be asked about, one line `ID WORD`:
+MEDIA are JPEG or BMFF files, and manifest stores that lie in files of their own. For each manifest whose signature can be asked about, one line `ID WORD`:
 
     approved    the signature holds, and its certificate leads to one of the anchors at the time
     mismatch    the signature doesn't hold over the claim

@@ -1,6 +1,6 @@
 """The questions that a media file puts to a judge: one for each manifest whose signature can be asked about.
 
-A C2PA manifest store is a tree of boxes (ISO/IEC 19566-5) inside a JPEG or a BMFF file (HEIF, AVIF, MP4 and the like). Each
+A C2PA manifest store is a tree of boxes (ISO/IEC 19566-5) inside a JPEG or a BMFF file (HEIF, AVIF, MP4 and the like), or in a file of its own. Each
 of its manifests has a claim and a COSE_Sign1 message over the claim (RFC 9052). This reader finds them in files that are as
 they should be. It isn't strict: whether a file is as it should be is for c2 to say.
 """
@@ -133,13 +133,15 @@ def described(payload):
 
 
 def store_of(media):
-    """The manifest store of a JPEG or a BMFF file."""
+    """The manifest store of a JPEG or a BMFF file, or that a file is."""
     if media[:2] == b"\xff\xd8":
         store = jpeg_store(media)
     elif media[4:8] == b"ftyp":
         store = bmff_store(media)
+    elif media[4:8] == b"jumb":
+        store = media
     else:
-        raise Unreadable("neither JPEG nor BMFF")
+        raise Unreadable("neither JPEG nor BMFF nor a manifest store")
     if not store:
         raise Unreadable("no manifest store")
     return store
