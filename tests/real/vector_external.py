@@ -1,4 +1,4 @@
-"""The media files and stores of vectors/ that lie beside one another, for `validate-external`: what each pair shows and what it must come to, written
+"""The media files and external stores of vectors/, for `validate-external`: what each pair shows and what it must come to, written
 by hand; vectors.py computes all that is said of them."""
 
 import external
@@ -24,7 +24,7 @@ def unbound(alg="sha256"):
 
 
 def beside(media, *manifests):
-    """A store that is bound to a media file beside which it lies."""
+    """A store that is bound to a media file in which it does not lie."""
     return bound(manifests, (0, 0), lambda: external.apart(media))
 
 

@@ -52,7 +52,7 @@ ALGORITHMS = "sha256", "sha384", "sha512"
 WORDS = "mismatch", "untrusted", "invalid"
 ODD_FILES = "the-first-row-holds", "upper-case-digits", "no-line-feed-at-the-end"
 USUAL = {DEFINITION: "plain", LATER_DEFINITION: "later", MESSAGE: "plain"}
-# Files whose stores are kept beside one of each form: what is left of them, and the store.
+# Files whose stores are kept in files of their own, one of each form: what is left of them, and the store.
 TAKEN_OUT = {
     "the store between other boxes",
     "the store before an index of fragments",
@@ -329,7 +329,7 @@ class Vectors:
                 self.run((line, status), command, name, "OUT", new=kept)
 
     def validate_external(self):
-        """Stores beside files: without a judge, under the judge and one who approves; of the first ones under judges that fail or aren't there."""
+        """External stores: without a judge, under the judge and one who approves; of the first ones under judges that fail or aren't there."""
         for number, (_, known, media, kept, data, contents) in enumerate(self.externals):
             for judges in [], [JUDGE], [APPROVING], *([[BROKEN], ["verdicts/not-there"], ["verdicts/empty", APPROVING]] if number == 0 else []):
                 line, status, _ = external.answer("validate-external", data, lambda: whole(contents) if isinstance(contents, list) else contents, self.judges(judges))
@@ -391,7 +391,7 @@ def page(vectors):
     reports = {tuple(run["words"]): run for run in vectors.runs}
     told = lambda *words: reports[words]["report"].split("\n")[0] or f"status {reports[words]['status']}"
     rows = [(f"`{media}` `{kept}`", what, told("validate-external", media, kept, JUDGE)) for what, _, media, kept, *_ in vectors.externals]
-    lines += table("A store beside a file", ("Media, store", "Show", "`validate-external` under `verdicts/judge`"), rows)
+    lines += table("External stores", ("Media, store", "Show", "`validate-external` under `verdicts/judge`"), rows)
     rows = [(f"`{run['words'][1]}`", f"`{run['new']}`" if "new" in run else "", run["report"].strip()) for run in vectors.runs if run["words"][:1] in TAKEN and run["report"]]
     lines += table("A store taken out", ("Media", "The new file", "`strip` or `extract`"), rows)
     rows = [(f"`{first}` `{second}`", what, told("compare", first, second, APPROVING)) for what, first, second in vectors.pairs]
