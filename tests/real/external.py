@@ -16,7 +16,7 @@ import jumbf
 from locate import LARGEST_STORE, Refused
 from media import Media, is_jpeg, media_of
 from rules import CheckList
-from store import DONE, INPUT_FAULT, JUDGE_FAULT, NO_STORE, OUTPUT_FAULT, REFUSED, USAGE, JudgeFault, read_verdicts, validated, verdict_of
+from store import DONE, INPUT_FAULT, JUDGE_FAULT, NO_STORE, OUTPUT_FAULT, REFUSED, USAGE, JudgeFault, end_with, read_verdicts, validated, verdict_of
 
 STRIP_REFUSED = 13
 MOST_JUDGES = 64
@@ -110,12 +110,5 @@ def told(command="", *names):
     return line.encode() + b"\n" if line else b"", status
 
 
-def main():
-    printed, status = told(*sys.argv[1:])
-    sys.stdout.buffer.write(printed)
-    sys.stdout.buffer.flush()
-    sys.exit(status)
-
-
 if __name__ == "__main__":
-    main()
+    end_with(*told(*sys.argv[1:]))

@@ -157,12 +157,12 @@ def answer(command, name, *more):
     return text.encode("utf-8") + b"\n", status
 
 
-def main():
-    printed, status = answer(*sys.argv[1:])
+def end_with(printed, status):
+    """Prints these bytes, and ends with this status."""
     sys.stdout.buffer.write(printed)
     sys.stdout.buffer.flush()
     sys.exit(status)
 
 
 if __name__ == "__main__":
-    main()
+    end_with(*answer(*sys.argv[1:]))
