@@ -15,7 +15,7 @@ use Rattle.c2_built.specs.Built.{HasDigestLen}
 use Rattle.c2_built.specs.Store.{Content, new_manifest, new_store, new_alg}
 use Rattle.c2_films.specs.Films.{film_binding, film_len, film_store_size}
 use Rattle.c2_films.proofs.Building.{SizeLaws, boxed_store, film_fixed}
-use Rattle.c2_fronts.specs.Fronts.{CanBuildFront, CoveredTextIsKnown, FrontHasItsStore, FrontIsBuilt, FrontIsOne, IsMovable, front_covered, front_file, front_store, moved_media, moved_roots, tables_of}
+use Rattle.c2_fronts.specs.Fronts.{CanBuildFront, CoveredTextIsKnown, FrontHasItsStore, IsMovable, OneFront, SomeFront, front_covered, front_file, front_store, moved_media, moved_roots, tables_of}
 use Rattle.c2_fronts.specs.InFront.{CanTakeFront, FrontHasRoots, HasFrontRoom, HoldsFrontStore, OnlyOthersAreCovered, StoreIsPutInFront, front_place, front_with, open_first, others_text, put_in_front}
 use Rattle.c2_fronts.proofs.InFront.{box_size}
 
@@ -94,6 +94,10 @@ pub store_size : SizeLaws → (hash : List ℕ → List ℕ) (c : Content) (mess
 store_size laws hash c message media roots h =
     film_fixed laws hash c (hash (front_covered (film_len c (length message)) media roots)) message h (h (front_covered (film_len c (length message)) media roots))
 
+-- at the place that it has in the media
+place_same : ShiftLaws → (len : ℕ) (media : List ℕ) (roots : List Box) → IsMovable media roots → front_place (moved_roots len media roots) ≡ front_place roots
+place_same laws len media roots m = (media_roots laws len media roots m).first
+
 -- so the new file has it
 pub front_holds : PutLaws → (hash : List ℕ → List ℕ) (c : Content) (message media : List ℕ) (roots : List Box)
     → HasDigestLen (new_alg c.definition) hash → CanBuildFront c (length message) media roots
@@ -102,12 +106,11 @@ pub front_holds : PutLaws → (hash : List ℕ → List ℕ) (c : Content) (mess
 front_holds laws hash c message media roots h can =
     let len : ℕ = film_len c (length message) in
     let text : List ℕ = front_covered len media roots in
-    laws.put (moved_media len media roots) (moved_roots len media roots) (tree_bytes (front_store hash c message media roots))
-    (can_take laws hash c (hash text) message media roots h (h text) can)
-
--- at the place that it has in the media
-place_same : ShiftLaws → (len : ℕ) (media : List ℕ) (roots : List Box) → IsMovable media roots → front_place (moved_roots len media roots) ≡ front_place roots
-place_same laws len media roots m = (media_roots laws len media roots m).first
+    let base : List ℕ = moved_media len media roots in
+    let boxes : List Box = moved_roots len media roots in
+    let store : List ℕ = tree_bytes (front_store hash c message media roots) in
+    subst (λ (n : ℕ). HoldsFrontStore base boxes store (put_in n (box_bytes (c2pa_box store)) base)) (place_same laws.shifts len media roots can.movable)
+    (laws.put base boxes store (can_take laws hash c (hash text) message media roots h (h text) can))
 
 -- in its range, without which is the moved media
 pub front_has : PutLaws → FrontHasItsStore
@@ -159,7 +162,7 @@ pub record CoverLaws : Type 0 where
   pub front : OnlyOthersAreCovered
 
 -- the file is built so
-pub front_is : CoverLaws → FrontIsBuilt
+pub front_is : CoverLaws → SomeFront
 front_is laws hash c message media roots h can =
     let len : ℕ = film_len c (length message) in
     let t : Tree = front_store hash c message media roots in
@@ -185,7 +188,7 @@ front_is laws hash c message media roots h can =
       store = t;
       store_is = ap (λ (x : List ℕ). new_store hash c (film_binding (new_alg c.definition) (hash x)) message) (sym text);
       size = sym (box_size store ∙ ap (λ n. c2pa_frame_len + n) size);
-      put = ap (λ n. put_in n (box_bytes (c2pa_box store)) (moved_media len media roots)) (place_same laws.put.shifts len media roots can.movable);
+      put = refl;
     }
 
 -- two media files shifted by the same are one
@@ -199,7 +202,7 @@ base_same laws start len n media base rs roots m same place size shifts =
     (subst (λ k. IsShifted (front_place roots) k tables media base) size by_place) (media_shifts laws n media roots m)
 
 -- and no other file is
-pub front_once : CoverLaws → FrontIsOne
+pub front_once : CoverLaws → OneFront
 front_once laws hash c message media f start len roots h can b =
     let n : ℕ = film_len c (length message) in
     let base : List ℕ = moved_media n media roots in
@@ -217,4 +220,5 @@ front_once laws hash c message media f start len roots h can b =
     let text : b.text ≡ front_covered n media roots =
     laws.told f b.boxes (length f) b.excluded b.text b.has_boxes b.covers ∙ ap built_text boxes ∙ front_text_is laws.put.shifts laws.front c (length message) media roots store can.movable own in
     let stores : b.store ≡ front_store hash c message media roots = b.store_is ∙ ap (λ (x : List ℕ). new_store hash c (film_binding (new_alg c.definition) (hash x)) message) text in
-    record { bytes = put ∙ ap (λ (t : Tree). put_in_front base moved (tree_bytes t)) stores; place = place; size = size }
+    let own_put : f ≡ put_in (front_place roots) (box_bytes (c2pa_box store)) base = b.put ∙ ap₂ (λ (k : ℕ) (x : List ℕ). put_in k (box_bytes (c2pa_box store)) x) place bases in
+    record { bytes = own_put ∙ ap (λ (t : Tree). put_in (front_place roots) (box_bytes (c2pa_box (tree_bytes t))) base) stores; place = place; size = size }

@@ -2,5 +2,11 @@ mod InFront
 mod Building
 mod Meeting
 mod Staying
+mod Shifts
+mod Stages
 mod Order
+mod OneOutcome
+mod SomeOutcome
+mod Made
+mod Unrefused
 mod Rows

@@ -61,8 +61,8 @@ front_media laws hash c message media roots h can =
 -- ---- the binding
 
 -- it is of a kind that is known
-front_known : (alg : Alg) (digest : List ℕ) → IsKnownBinding (film_binding alg digest)
-front_known alg digest = record { label = inr refl; item = refl }
+binding_known : (alg : Alg) (digest : List ℕ) → IsKnownBinding (film_binding alg digest)
+binding_known alg digest = record { label = inr refl; item = refl }
 
 -- it is met in the new file
 front_met : RuleLaws → (hash : Alg → List ℕ → List ℕ) (c : Content) (message media : List ℕ) (roots : List Box)
@@ -114,6 +114,6 @@ fresh_front laws fresh hash c message media roots p digests is_fresh w can spell
     let file : List ℕ = front_file h c message media roots in
     let small : length (tree_bytes t) ≤ MAX_STORE_LEN = omega (arith, store_size laws.covers.put.sizes h c message media roots g, can.small) in
     laws.bound hash file (front_place roots) len t (film_binding alg digest) (front_question h c (length message) media roots p ∷ [])
-    (fresh hash c (film_binding alg digest) message p is_fresh w (front_known alg digest) small spells)
+    (fresh hash c (film_binding alg digest) message p is_fresh w (binding_known alg digest) small spells)
     (front_located file (front_place roots) len (tree_bytes t) (front_media laws.covers.put h c message media roots g can) (front_has laws.covers.put h c message media roots g can).store)
     (front_met laws hash c message media roots g can)

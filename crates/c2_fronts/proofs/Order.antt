@@ -1,14 +1,15 @@
 -- What is refused, and what can be built.
-use Rattle.std.proofs.Common.{◌≡◌, ℕ, ◌+◌, Bool, true, false, cond, List, [], ◌∷◌, ◌++◌, length, map, Option, Some, None, option_map, refl, sym, ap, ap₂, ◌∙◌, subst, ⊎_elim}
+use Rattle.std.proofs.Common.{◌≡◌, ℕ, ◌+◌, Bool, true, false, cond, List, [], ◌∷◌, length, map, Option, Some, None, option_map, refl, sym, ap, ◌∙◌, subst, ⊎_elim}
 use Rattle.std.specs.Prelude.{nat_lt, nat_le}
+use Rattle.std.specs.List.{flat_map}
 use Rattle.std.specs.Option.{option_to_list}
 use Rattle.std.proofs.lemmas.Bool.{le-ltb, leb-false, lt-leb, ltb-false}
 use Rattle.c2_base.specs.declared.limits.TheConstants.{MAX_STORE_LEN, MAX_ROOT_BOXES, FILE_LEN_LIMIT}
 use Rattle.c2_spec.specs.C2pa.Message.{bare_bytes}
+use Rattle.c2_spec.specs.declared.reason.Reason.TheVariants.{FileTooLarge, TooManyBoxes}
 use Rattle.c2_box_rows.specs.Rows.{rows_of}
 use Rattle.c2_chunks.specs.Fields.{overflow_places}
 use Rattle.c2_chunks.specs.Refusals.{shift_refusals}
-use Rattle.c2_chunks.specs.declared.table.ShiftError.TheVariants.{Overflow}
 use Rattle.c2_message.specs.Refusals.{reserve_needed}
 use Rattle.c2_message.specs.Signed.{FillsOrNeedsMore, IsSigned}
 use Rattle.c2_built.specs.Fresh.{fresh_content}
@@ -16,16 +17,14 @@ use Rattle.c2_carried.specs.Carrying.{FirstIsRefused}
 use Rattle.c2_carried.specs.Refusing.{redaction_refusal}
 use Rattle.c2_carried.specs.declared.refused.RefusedRedaction.{RefusedRedaction}
 use Rattle.c2_films.specs.Films.{film_len, film_store_size}
-use Rattle.c2_fronts.specs.Fronts.{CanBuildFront, FrontIsBuilt, front_file, tables_of}
+use Rattle.c2_fronts.specs.Fronts.{CanBuildFront, SomeFront, front_file, tables_of}
 use Rattle.c2_fronts.specs.InFront.{front_place, open_first}
-use Rattle.c2_fronts.specs.Order.{BuildableIsFresh, BuildableIsUnrefused, BuiltIsNotRefused, CanBuildFrontOf, FrontRefusal, IsFrontFile, NothingRefusedIsBuilt, UnrefusedCanBeBuilt, file_too_large, open_box, overflow_refusals, plan_refusals, redaction, reserve_too_small, shift, size_refusals, store_too_large, too_many_boxes}
+use Rattle.c2_fronts.specs.Order.{BuiltIsNotRefused, CanPlanFront, FrontRefusal, IsFrontFile, NothingRefusedIsBuilt, PlannedIsFresh, PlannedIsNotRefused, UnrefusedCanBePlanned}
+use Rattle.c2_fronts.specs.Order.{media_refused, open_box, overflow, overflow_refusals, plan_refusals, redaction_refused, reserve_too_small, shift_refusal, size_refusals, store_too_large}
+use Rattle.c2_fronts.proofs.Shifts.{both_none, none_shifted}
+use Rattle.c2_fronts.proofs.Stages.{none_both}
 
 -- ---- no refusal
-
--- two lists that are none together
-both_none : (xs ys : List FrontRefusal) → xs ++ ys ≡ [] → (xs ≡ []) × (ys ≡ [])
-both_none [] ys e = (refl, e)
-both_none (x ∷ xs) ys e = absurd (cc (e))
 
 -- nothing comes of nothing
 none_told : {A : Type 0} (f : A → FrontRefusal) (o : Option A) → option_to_list (option_map f o) ≡ [] → o ≡ None
@@ -46,24 +45,20 @@ test_false false r e = refl
 test_none : (b : Bool) (r : FrontRefusal) → b ≡ false → cond b (r ∷ []) [] ≡ []
 test_none b r e = ap (λ (t : Bool). cond t (r ∷ []) []) e
 
--- none and none
-none_both : (xs ys : List FrontRefusal) → xs ≡ [] → ys ≡ [] → xs ++ ys ≡ []
-none_both xs ys e h = ap₂ (λ (a b : List FrontRefusal). a ++ b) e h
-
 -- ---- both ways
 
 -- where nothing is refused of a plan, a new file can be built
-pub unrefused_can : UnrefusedCanBeBuilt
+pub unrefused_can : UnrefusedCanBePlanned
 unrefused_can media roots d film bytes has none e =
     let store : ℕ = film_store_size (fresh_content d) d.reserve in
     let len : ℕ = film_len (fresh_content d) d.reserve in
     let file : ℕ = length media + len in
     let opens = both_none (option_to_list (option_map open_box (open_first roots))) _ e in
-    let redacts = both_none (option_to_list (option_map redaction (redaction_refusal d.label [] d.redact))) _ opens.1 in
-    let shifts = both_none (map shift (shift_refusals media (rows_of roots))) _ redacts.1 in
+    let redacts = both_none (option_to_list (option_map redaction_refused (redaction_refusal d.label [] d.redact))) _ opens.1 in
+    let shifts = both_none (flat_map shift_refusal (shift_refusals media (rows_of roots))) _ redacts.1 in
     let sizes = both_none (size_refusals store file (length roots)) _ shifts.1 in
     let stores = both_none (cond (nat_lt MAX_STORE_LEN store) (store_too_large store ∷ []) []) _ sizes.0 in
-    let files = both_none (cond (nat_le FILE_LEN_LIMIT file) (file_too_large file ∷ []) []) _ stores.1 in
+    let files = both_none (cond (nat_le FILE_LEN_LIMIT file) (media_refused FileTooLarge file ∷ []) []) _ stores.1 in
     record {
       can = record {
         movable = record {
@@ -72,34 +67,34 @@ unrefused_can media roots d film bytes has none e =
           has_roots = has;
           none = none;
           closed = none_told open_box (open_first roots) opens.0;
-          unrefused = empty_told shift (shift_refusals media (rows_of roots)) shifts.0;
+          unrefused = none_shifted media (rows_of roots) shifts.0;
         };
         small = ltb-false MAX_STORE_LEN store (test_false (nat_lt MAX_STORE_LEN store) (store_too_large store) stores.0);
-        fits = leb-false FILE_LEN_LIMIT file (test_false (nat_le FILE_LEN_LIMIT file) (file_too_large file) files.0);
-        few = leb-false MAX_ROOT_BOXES (length roots) (test_false (nat_le MAX_ROOT_BOXES (length roots)) too_many_boxes files.1);
-        moves = empty_told (λ (at : ℕ). shift (Overflow at)) (overflow_places (front_place roots) len media (tables_of media roots)) sizes.1;
+        fits = leb-false FILE_LEN_LIMIT file (test_false (nat_le FILE_LEN_LIMIT file) (media_refused FileTooLarge file) files.0);
+        few = leb-false MAX_ROOT_BOXES (length roots) (test_false (nat_le MAX_ROOT_BOXES (length roots)) (media_refused TooManyBoxes MAX_ROOT_BOXES) files.1);
+        moves = empty_told overflow (overflow_places (front_place roots) len media (tables_of media roots)) sizes.1;
       };
-      redactions = none_told redaction (redaction_refusal d.label [] d.redact) redacts.0;
+      redactions = none_told redaction_refused (redaction_refusal d.label [] d.redact) redacts.0;
     }
 
 -- and where a file can be built, nothing is refused of a plan
-pub can_unrefused : BuildableIsUnrefused
+pub can_unrefused : PlannedIsNotRefused
 can_unrefused media roots d h =
     let store : ℕ = film_store_size (fresh_content d) d.reserve in
     let len : ℕ = film_len (fresh_content d) d.reserve in
     let file : ℕ = length media + len in
     let sizes : size_refusals store file (length roots) ≡ [] =
     none_both (cond (nat_lt MAX_STORE_LEN store) (store_too_large store ∷ []) []) _ (test_none (nat_lt MAX_STORE_LEN store) (store_too_large store) (le-ltb MAX_STORE_LEN store h.can.small))
-    (none_both (cond (nat_le FILE_LEN_LIMIT file) (file_too_large file ∷ []) []) _ (test_none (nat_le FILE_LEN_LIMIT file) (file_too_large file) (lt-leb FILE_LEN_LIMIT file h.can.fits))
-    (test_none (nat_le MAX_ROOT_BOXES (length roots)) too_many_boxes (lt-leb MAX_ROOT_BOXES (length roots) h.can.few))) in
-    let moves : overflow_refusals len media roots ≡ [] = ap (map (λ (at : ℕ). shift (Overflow at))) h.can.moves in
+    (none_both (cond (nat_le FILE_LEN_LIMIT file) (media_refused FileTooLarge file ∷ []) []) _ (test_none (nat_le FILE_LEN_LIMIT file) (media_refused FileTooLarge file) (lt-leb FILE_LEN_LIMIT file h.can.fits))
+    (test_none (nat_le MAX_ROOT_BOXES (length roots)) (media_refused TooManyBoxes MAX_ROOT_BOXES) (lt-leb MAX_ROOT_BOXES (length roots) h.can.few))) in
+    let moves : overflow_refusals len media roots ≡ [] = ap (map overflow) h.can.moves in
     none_both (option_to_list (option_map open_box (open_first roots))) _ (ap (λ (o : Option ℕ). option_to_list (option_map open_box o)) h.can.movable.closed)
-    (none_both (option_to_list (option_map redaction (redaction_refusal d.label [] d.redact))) _ (ap (λ (o : Option RefusedRedaction). option_to_list (option_map redaction o)) h.redactions)
-    (none_both (map shift (shift_refusals media (rows_of roots))) _ (ap (map shift) h.can.movable.unrefused)
+    (none_both (option_to_list (option_map redaction_refused (redaction_refusal d.label [] d.redact))) _ (ap (λ (o : Option RefusedRedaction). option_to_list (option_map redaction_refused o)) h.redactions)
+    (none_both (flat_map shift_refusal (shift_refusals media (rows_of roots))) _ (ap (flat_map shift_refusal) h.can.movable.unrefused)
     (none_both (size_refusals store file (length roots)) (overflow_refusals len media roots) sizes moves)))
 
 -- and the definition redacts nothing
-pub can_fresh : FirstIsRefused → BuildableIsFresh
+pub can_fresh : FirstIsRefused → PlannedIsFresh
 can_fresh first media roots d h = record { carried = refl; parent = refl; redact = by d.redact refl }
   where
     by : (texts : List (List ℕ)) → d.redact ≡ texts → d.redact ≡ []
@@ -116,14 +111,14 @@ none_needed None h = refl
 none_needed (Some n) h = absurd (h n refl)
 
 -- where nothing is refused, the message fills what is reserved for it, and the file is built with it
-pub nothing_refused : FillsOrNeedsMore → FrontIsBuilt → NothingRefusedIsBuilt
+pub nothing_refused : FillsOrNeedsMore → SomeFront → NothingRefusedIsBuilt
 nothing_refused fills is hash d bytes p media roots h pads film are has none e =
     let both = both_none (plan_refusals media roots d) _ e in
-    let can : CanBuildFrontOf media roots d = unrefused_can media roots d film are has none both.0 in
+    let can : CanPlanFront media roots d = unrefused_can media roots d film are has none both.0 in
     let enough : reserve_needed d.reserve (length (bare_bytes p)) ≡ None = none_told reserve_too_small (reserve_needed d.reserve (length (bare_bytes p))) both.1 in
     ⊎_elim (λ s. made can s) (λ n. absurd (let bad = sym enough ∙ n.1 in cc (bad))) (fills.either bytes p d.reserve pads)
   where
-    made : CanBuildFrontOf media roots d → (message : List ℕ) × IsSigned p d.reserve message → (file : List ℕ) × IsFrontFile hash d p media roots file
+    made : CanPlanFront media roots d → (message : List ℕ) × IsSigned p d.reserve message → (file : List ℕ) × IsFrontFile hash d p media roots file
     made can s =
         let fits : CanBuildFront (fresh_content d) (length s.0) media roots = subst (λ n. CanBuildFront (fresh_content d) n media roots) (sym s.1.filled) can.can in
         (front_file hash (fresh_content d) s.0 media roots, record { can = can; message = s.0; signed = s.1; built = is hash (fresh_content d) s.0 media roots h fits })

@@ -10,13 +10,14 @@ use Rattle.c2_spec.specs.Bmff.Store.{is_c2pa_box, is_other_box}
 use Rattle.c2_spec.specs.Container.{is_bmff}
 use Rattle.c2_spec.specs.Cbor.Deterministic.{shortest_head}
 use Rattle.c2_spec.specs.Cbor.Item.{dict, no_pairs}
+use Rattle.c2_spec.specs.Jumbf.Tree.{Tree}
+use Rattle.c2_spec.specs.Located.{absent, here}
 use Rattle.c2_spec.specs.declared.digest.Alg.TheVariants.{Sha256}
 use Rattle.c2_rules.specs.Rules.{label_kind}
 use Rattle.c2_rules.specs.declared.code.Code.TheVariants.{ProfileRedactionUri}
 use Rattle.c2_chunks.specs.Fields.{number_at, overflow_places}
 use Rattle.c2_chunks.specs.Refusals.{shift_refusals}
 use Rattle.c2_chunks.specs.Tables.{chunk_tables}
-use Rattle.c2_chunks.specs.declared.table.ShiftError.TheVariants.{BadTable, OffsetTable, Overflow}
 use Rattle.c2_definition.specs.declared.types.Definition.{Definition}
 use Rattle.c2_built.specs.Built.{no_digest}
 use Rattle.c2_built.specs.Fresh.{fresh_content}
@@ -26,7 +27,7 @@ use Rattle.c2_films.specs.Films.{film_len, film_store_size}
 use Rattle.c2_fronts.specs.Fronts.{CanBuildFront, IsMovable, front_covered, front_file, moved_media, tables_of}
 use Rattle.c2_fronts.specs.InFront.{front_place, open_first}
 use Rattle.c2_fronts.specs.Meeting.{front_question}
-use Rattle.c2_fronts.specs.Order.{front_refusals, plan_refusals, redaction, reserve_too_small, shift}
+use Rattle.c2_fronts.specs.Order.{bad_table, film_refusals, front_refusals, has_store, not_bmff, offset_table, overflow, plan_refusals, redaction_refused, reserve_too_small}
 
 -- ---- the film
 
@@ -208,7 +209,7 @@ abbrev far : List Box → List Box
 far others = film (0 ∷ 0 ∷ 0 ∷ 1 ∷ 255 ∷ 255 ∷ 255 ∷ 255 ∷ []) others
 
 -- that can't be moved
-q_far : plan_refusals (bytes_of (far [])) (far []) defined ≡ shift (Overflow 72) ∷ []
+q_far : plan_refusals (bytes_of (far [])) (far []) defined ≡ overflow 72 ∷ []
 unfolding defined actions shortest_head shift_refusals chunk_tables box_fault
 q_far = refl
 
@@ -231,7 +232,7 @@ abbrev next_sum : List Box
 next_sum = with_field (0xFF ∷ 0xFF ∷ 0xFB ∷ 0x3C ∷ [])
 
 -- is refused
-sum_over : plan_refusals (bytes_of next_sum) next_sum defined ≡ shift (Overflow 72) ∷ []
+sum_over : plan_refusals (bytes_of next_sum) next_sum defined ≡ overflow 72 ∷ []
 unfolding defined actions shortest_head shift_refusals chunk_tables box_fault
 sum_over = refl
 
@@ -240,7 +241,7 @@ abbrev short_table : List Box
 short_table = film (0 ∷ 0 ∷ 0 ∷ 2 ∷ 0 ∷ 0 ∷ 0 ∷ 84 ∷ []) []
 
 -- hasn't its form
-q_count : plan_refusals (bytes_of short_table) short_table defined ≡ shift (BadTable 56) ∷ []
+q_count : plan_refusals (bytes_of short_table) short_table defined ≡ bad_table 56 ∷ []
 unfolding defined actions shortest_head shift_refusals chunk_tables box_fault
 q_count = refl
 
@@ -249,7 +250,7 @@ abbrev items : List Box
 items = far (boxed (codes "meta") [] ∷ [])
 
 -- that box, and then the field
-q_meta : plan_refusals (bytes_of items) items defined ≡ shift (OffsetTable 85) ∷ shift (Overflow 72) ∷ []
+q_meta : plan_refusals (bytes_of items) items defined ≡ offset_table 85 ∷ overflow 72 ∷ []
 unfolding defined actions shortest_head shift_refusals chunk_tables box_fault
 q_meta = refl
 
@@ -268,7 +269,7 @@ redacting = record {
 }
 
 -- comes before both
-q_redacts : plan_refusals (bytes_of items) items redacting ≡ redaction (record { text = codes "D"; code = ProfileRedactionUri }) ∷ shift (OffsetTable 85) ∷ shift (Overflow 72) ∷ []
+q_redacts : plan_refusals (bytes_of items) items redacting ≡ redaction_refused (record { text = codes "D"; code = ProfileRedactionUri }) ∷ offset_table 85 ∷ overflow 72 ∷ []
 unfolding redacting defined actions shortest_head shift_refusals chunk_tables box_fault label_kind
 q_redacts = refl
 
@@ -305,10 +306,22 @@ open_movable = record {
 }
 
 -- a message of 311 bytes comes last
-q_reserve : front_refusals (bytes_of (far [])) (far []) defined (record { protected = 0xA1 ∷ 0x01 ∷ 0x26 ∷ []; unprotected = dict no_pairs; signature = replicate 300 0 }) ≡ shift (Overflow 72) ∷ reserve_too_small 311 ∷ []
+q_reserve : front_refusals (bytes_of (far [])) (far []) defined (record { protected = 0xA1 ∷ 0x01 ∷ 0x26 ∷ []; unprotected = dict no_pairs; signature = replicate 300 0 }) ≡ overflow 72 ∷ reserve_too_small 311 ∷ []
 unfolding defined actions shortest_head shift_refusals chunk_tables box_fault
 q_reserve = refl
 
 -- bytes that begin as a JPEG and as a BMFF file are a JPEG
 both_begin : is_bmff (0xFF ∷ 0xD8 ∷ 0 ∷ 0 ∷ codes "ftyp") ≡ false
 both_begin = refl
+
+-- a film with a store is refused for that
+q_stored : (t : Tree) → film_refusals (bytes_of film_q) (here 16 1220 t) ≡ has_store ∷ []
+q_stored t = refl
+
+-- a JPEG is no BMFF file, and with a store it is refused for that first
+jpeg_stored : (t : Tree) → film_refusals (0xFF ∷ 0xD8 ∷ []) (here 2 52 t) ≡ not_bmff ∷ has_store ∷ []
+jpeg_stored t = refl
+
+-- a film without a store isn't refused before its root boxes are looked at
+q_fresh : film_refusals (bytes_of film_q) absent ≡ []
+q_fresh = refl

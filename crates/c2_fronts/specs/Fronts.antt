@@ -21,7 +21,7 @@ use Rattle.c2_chunks.specs.declared.table.ChunkTable.{ChunkTable}
 use Rattle.c2_built.specs.Built.{HasDigestLen, SameFile}
 use Rattle.c2_built.specs.Store.{Content, new_store, new_alg}
 use Rattle.c2_films.specs.Films.{AreOthers, film_binding, film_len, film_store_size}
-use Rattle.c2_fronts.specs.InFront.{front_place, front_with, open_first, others_text, put_in_front}
+use Rattle.c2_fronts.specs.InFront.{front_place, front_with, open_first, others_text}
 
 -- ---- the new file
 
@@ -29,8 +29,9 @@ use Rattle.c2_fronts.specs.InFront.{front_place, front_with, open_first, others_
 abbrev pub tables_of : List ℕ → List Box → List ChunkTable
 tables_of media roots = chunk_tables media (rows_of roots)
 
--- A BMFF file with these root boxes and without a store, whose boxes after the first can be moved: the first isn't open, and nothing
--- that stands in the way of moving media data is there. It isn't a JPEG, as a file that begins as both is.
+-- A BMFF file with these root boxes and without a store, whose boxes after the first can be moved: the first box says its size, and
+-- nothing is there that stands in the way of moving media data. A file that begins as a JPEG and as a BMFF file is a JPEG, and so isn't
+-- one of these.
 pub record IsMovable (media : List ℕ) (roots : List Box) : Type 0 where
   pub film : is_bmff media ≡ true
   pub bytes : AreBytes media
@@ -60,35 +61,36 @@ pub record IsFrontBuilt (hash : List ℕ → List ℕ) (c : Content) (message me
   pub size : len ≡ length (box_bytes (c2pa_box (tree_bytes store)))
   pub put : file ≡ put_in start (box_bytes (c2pa_box (tree_bytes store))) base
 
--- ---- the same without a circle
+-- ---- the new file by what is known before its store
 
--- the media with the places in its tables moved by so many bytes
+-- a media file with these root boxes, with the places in its chunk tables from the end of the first box on greater by so many bytes
 abbrev pub moved_media : ℕ → List ℕ → List Box → List ℕ
 moved_media len media roots = shifted (front_place roots) len (tables_of media roots) media
 
--- its root boxes
+-- the root boxes of that file
 abbrev pub moved_roots : ℕ → List ℕ → List Box → List Box
 moved_roots len media roots = roots_in (moved_media len media roots) roots
 
--- what the exclusions leave of the new file, where so many bytes are put in
+-- what the exclusions of the new store's binding leave of the new file, where so many bytes are put in
 abbrev pub front_covered : ℕ → List ℕ → List Box → List ℕ
 front_covered len media roots = others_text len (moved_roots len media roots)
 
--- the new store: its length depends on no digest, so what its binding binds is known before it is
+-- the new store. Its length depends on no digest, so the bytes that its binding binds are known before the store is
 abbrev pub front_store : (List ℕ → List ℕ) → Content → List ℕ → List ℕ → List Box → Tree
 front_store hash c message media roots =
     new_store hash c (film_binding (new_alg c.definition) (hash (front_covered (film_len c (length message)) media roots))) message
 
--- the new file
+-- the new file: the box of the new store, put in at the end of the first root box of the media with moved places
 abbrev pub front_file : (List ℕ → List ℕ) → Content → List ℕ → List ℕ → List Box → List ℕ
 front_file hash c message media roots =
-    put_in_front (moved_media (film_len c (length message)) media roots) (moved_roots (film_len c (length message)) media roots)
-    (tree_bytes (front_store hash c message media roots))
+    put_in (front_place roots) (box_bytes (c2pa_box (tree_bytes (front_store hash c message media roots))))
+    (moved_media (film_len c (length message)) media roots)
 
--- ---- both are one
+-- ---- one file is built
 
--- A media file with these root boxes can take a new store there with so many bytes for its message: its boxes can be moved, each moved
--- place fits, the store isn't too large, nor has the new file too many bytes or root boxes.
+-- A media file with these root boxes can take a store of this content after the first of them, with so many bytes for its message: the
+-- boxes behind can be moved, each moved place fits into its field, the store isn't too large, nor has the new file too many bytes or
+-- root boxes.
 pub record CanBuildFront (c : Content) (reserve : ℕ) (media : List ℕ) (roots : List Box) : Type 0 where
   pub movable : IsMovable media roots
   pub small : film_store_size c reserve ≤ MAX_STORE_LEN
@@ -96,20 +98,22 @@ pub record CanBuildFront (c : Content) (reserve : ℕ) (media : List ℕ) (roots
   pub few : length roots < most_roots
   pub moves : overflow_places (front_place roots) (film_len c reserve) media (tables_of media roots) ≡ []
 
--- Where a media file can take a new store, the file `front_file` is built so, in the range that begins behind the first root box.
-abbrev pub FrontIsBuilt : Type 0
-FrontIsBuilt = (hash : List ℕ → List ℕ) (c : Content) (message media : List ℕ) (roots : List Box)
+-- Where a media file can take a store of this content, `front_file` is the media with that store built in, and the new range begins
+-- right behind the first root box.
+abbrev pub SomeFront : Type 0
+SomeFront = (hash : List ℕ → List ℕ) (c : Content) (message media : List ℕ) (roots : List Box)
     → HasDigestLen (new_alg c.definition) hash → CanBuildFront c (length message) media roots
     → IsFrontBuilt hash c message media (front_file hash c message media roots) (front_place roots) (film_len c (length message))
 
--- Where a media file can take a new store, each file that is built so is `front_file`, and its range is that one.
-abbrev pub FrontIsOne : Type 0
-FrontIsOne = (hash : List ℕ → List ℕ) (c : Content) (message media f : List ℕ) (start len : ℕ) (roots : List Box)
+-- Where a media file can take a store of this content, each file that is the media with that store built in is `front_file`, with the
+-- range right behind the first root box.
+abbrev pub OneFront : Type 0
+OneFront = (hash : List ℕ → List ℕ) (c : Content) (message media f : List ℕ) (start len : ℕ) (roots : List Box)
     → HasDigestLen (new_alg c.definition) hash → CanBuildFront c (length message) media roots
     → IsFrontBuilt hash c message media f start len
     → SameFile f (front_file hash c message media roots) start (front_place roots) len (film_len c (length message))
 
--- ---- what is known before the store
+-- ---- the covered text
 
 -- The box of a store with these bytes in it is put into the media with moved places, behind the file type box: the root boxes of the
 -- file, and what the exclusions leave of it.
@@ -118,22 +122,22 @@ pub record HasCoveredText (c : Content) (reserve : ℕ) (media : List ℕ) (root
       (front_with store (moved_roots (film_len c reserve) media roots))
   pub text : built_text (front_with store (moved_roots (film_len c reserve) media roots)) ≡ front_covered (film_len c reserve) media roots
 
--- All bytes that are as many as those of the new store give these root boxes, and the same covered text.
+-- All bytes that are as many as those of the new store give these root boxes, and the covered text of the new file.
 abbrev pub CoveredTextIsKnown : Type 0
 CoveredTextIsKnown = (c : Content) (reserve : ℕ) (media : List ℕ) (roots : List Box) (store : List ℕ)
     → CanBuildFront c reserve media roots → length store ≡ film_store_size c reserve → HasCoveredText c reserve media roots store
 
 -- ---- what a reader finds
 
--- The file has the new store in the new range, without which it is the media with moved places.
-pub record HoldsFront (hash : List ℕ → List ℕ) (c : Content) (message media : List ℕ) (roots : List Box) : Type 0 where
+-- The new file has the new store in the new range, and less that range it is the media with moved places.
+pub record HasNewStore (hash : List ℕ → List ℕ) (c : Content) (message media : List ℕ) (roots : List Box) : Type 0 where
   pub store : HasBmffStore (front_file hash c message media roots) (front_place roots) (film_len c (length message))
       (tree_bytes (front_store hash c message media roots))
   pub left : taken_out (front_place roots) (film_len c (length message)) (front_file hash c message media roots)
       ≡ moved_media (film_len c (length message)) media roots
 
--- Where a media file can take a new store, its `front_file` has that store.
+-- Where a media file can take a store of this content, the file `front_file` has that store.
 abbrev pub FrontHasItsStore : Type 0
 FrontHasItsStore = (hash : List ℕ → List ℕ) (c : Content) (message media : List ℕ) (roots : List Box)
     → HasDigestLen (new_alg c.definition) hash → CanBuildFront c (length message) media roots
-    → HoldsFront hash c message media roots
+    → HasNewStore hash c message media roots

@@ -21,7 +21,7 @@ open_first (b ∷ bs) = if is_to_end b.form then Some 0 else None
 abbrev pub front_with : List ℕ → List Box → List Box
 front_with store roots = take 1 roots ++ c2pa_box store ∷ drop 1 roots
 
--- the file with the box put in there
+-- a file with the box of a store put in after its first root box
 abbrev pub put_in_front : List ℕ → List Box → List ℕ → List ℕ
 put_in_front base roots store = put_in (front_place roots) (box_bytes (c2pa_box store)) base
 
@@ -30,8 +30,8 @@ put_in_front base roots store = put_in (front_place roots) (box_bytes (c2pa_box 
 abbrev pub others_text : ℕ → List Box → List ℕ
 others_text len roots = flat_map built_part (placed_from (front_place roots + len) (drop 1 roots))
 
--- A file with these root boxes has room there for a store of so many bytes: its first box isn't open, and with the store's box it is
--- small enough.
+-- A file with these root boxes has room after the first of them for a store of so many bytes: the first box says its size, and with the
+-- store's box the file is small enough.
 pub record HasFrontRoom (base : List ℕ) (roots : List Box) (size : ℕ) : Type 0 where
   pub has_roots : HasRoots base roots
   pub closed : open_first roots ≡ None
@@ -39,7 +39,7 @@ pub record HasFrontRoom (base : List ℕ) (roots : List Box) (size : ℕ) : Type
   pub fits : length base + (c2pa_frame_len + size) < 2 ^ 62
   pub few : length roots < most_roots
 
--- A file with these root boxes can take the store there: it has room for it, and none of its own.
+-- A file with these root boxes can take the store after the first of them: it has room for it, and no store of its own.
 pub record CanTakeFront (base : List ℕ) (roots : List Box) (store : List ℕ) : Type 0 where
   pub room : HasFrontRoom base roots (length store)
   pub others : AllByRecursion (λ b. is_other_box b ≡ true) roots
@@ -54,20 +54,20 @@ pub record HoldsFrontStore (base : List ℕ) (roots : List Box) (store file : Li
   pub size : length file ≡ length base + (c2pa_frame_len + length store)
   pub starts : take 2 file ≡ take 2 base
 
--- A file with room has, once a box is put in there, the root boxes that it had and the new one, whatever bytes are there in place of a
--- store.
+-- A file with room for a store after its first root box has, once a store's box is put in, the root boxes that it had and the new one,
+-- whatever bytes are in the box in place of a store.
 abbrev pub FrontHasRoots : Type 0
 FrontHasRoots = (base : List ℕ) (roots : List Box) (store : List ℕ) → HasFrontRoom base roots (length store)
     → HasRoots (put_in_front base roots store) (front_with store roots)
 
--- A store that is put into a file which can take it there is in that file, which is otherwise the file it was.
+-- A store that is put into a file after its first root box, where the file can take it, is in that file, which is otherwise as it was.
 abbrev pub StoreIsPutInFront : Type 0
 StoreIsPutInFront =
     (base : List ℕ) (roots : List Box) (store : List ℕ) → CanTakeFront base roots store
     → HoldsFrontStore base roots store (put_in_front base roots store)
 
--- Of the new file the exclusions leave nothing of the first box and of the store: only the boxes behind are covered, at their new
--- places. So two stores of one length leave the same.
+-- Of a file with a store put in after its first root box the exclusions of a new BMFF hash leave nothing of that box and of the store: only
+-- the boxes behind are covered, at their new places. So two stores of one length leave the same.
 abbrev pub OnlyOthersAreCovered : Type 0
 OnlyOthersAreCovered = (base : List ℕ) (roots : List Box) (store : List ℕ) → HasRoots base roots
     → built_text (front_with store roots) ≡ others_text (c2pa_frame_len + length store) roots

@@ -2,3 +2,5 @@ pub mod InFront
 pub mod Fronts
 pub mod Meeting
 pub mod Order
+pub mod Outcomes
+pub mod Made

@@ -16,13 +16,13 @@ use Rattle.c2_fronts.specs.InFront.{front_place}
 
 -- ---- the rules
 
--- the question of the new manifest, where so many bytes are reserved for a message with these parts
+-- the question of the new manifest of a store in front, where so many bytes are reserved for a message with these parts
 abbrev pub front_question : (List ℕ → List ℕ) → Content → ℕ → List ℕ → List Box → SignParts → Question
 front_question hash c reserve media roots p =
     question_of p (new_claim hash c (film_binding (new_alg c.definition) (hash (front_covered (film_len c reserve) media roots))))
 
--- The file has the new store, meets every rule but the verdict on its message, and asks one question. The message may be any that spells
--- its parts.
+-- Where a media file can take a store of this content, the file `front_file` has that store, meets every rule but the verdict on its
+-- message, and asks one question. The message may be any that spells its parts.
 abbrev pub FreshFrontMeets : Type 0
 FreshFrontMeets = (hash : Alg → List ℕ → List ℕ) (c : Content) (message media : List ℕ) (roots : List Box) (p : SignParts)
     → GivesDigests hash → IsFresh c → CanBeWritten c.definition
@@ -39,7 +39,7 @@ pub record ChunkIsThere (media file : List ℕ) (len : ℕ) (ts : List ChunkTabl
   pub field : number_at f.wide file (f.at + len) ≡ v + len
   pub byte : ((g : Field) → Contains (all_fields ts) g → Covers g v → ⊥) → get_or file (v + len) 0 ≡ get_or media v 0
 
--- In a built file each field stays true whose number is a place of the media from the new store's on.
+-- In a file with its store in front each field of a chunk table stays true whose number is a place of the media from the new store's on.
 abbrev pub ChunksOfFrontStay : Type 0
 ChunksOfFrontStay = (hash : List ℕ → List ℕ) (c : Content) (message media file : List ℕ) (start len : ℕ)
     → (b : IsFrontBuilt hash c message media file start len) → (f : Field) (v : ℕ)
@@ -50,8 +50,8 @@ ChunksOfFrontStay = (hash : List ℕ → List ℕ) (c : Content) (message media 
 abbrev pub place_in_front : ℕ → ℕ → ℕ → ℕ
 place_in_front start len i = if nat_lt i start then i else i + len
 
--- Each byte of the media that lies in no moved field is in the built file, in the order of the media. A field isn't moved where its
--- number is below the place of the new store.
+-- Each byte of the media that lies in no moved field is in the file with its store in front, in the order of the media. A field isn't moved
+-- where its number is below the place of the new store.
 abbrev pub BytesOfFrontStay : Type 0
 BytesOfFrontStay = (hash : List ℕ → List ℕ) (c : Content) (message media file : List ℕ) (start len : ℕ)
     → (b : IsFrontBuilt hash c message media file start len) → (i : ℕ) → i < length media

@@ -1,8 +1,8 @@
 //! Laws of the file that is built with its store in front.
 
-ghost use Rattle.c2_fronts.specs.Fronts.{CoveredTextIsKnown, FrontHasItsStore, FrontIsBuilt, FrontIsOne};
+ghost use Rattle.c2_fronts.specs.Fronts.{CoveredTextIsKnown, FrontHasItsStore, OneFront, SomeFront};
 ghost use Rattle.c2_fronts.specs.Meeting.{BytesOfFrontStay, ChunksOfFrontStay, FreshFrontMeets};
-ghost use Rattle.c2_fronts.specs.Order.{BuildableIsFresh, BuildableIsUnrefused, BuiltIsNotRefused, NothingRefusedIsBuilt, UnrefusedCanBeBuilt};
+ghost use Rattle.c2_fronts.specs.Order.{BuiltIsNotRefused, NothingRefusedIsBuilt, PlannedIsFresh, PlannedIsNotRefused, UnrefusedCanBePlanned};
 
 use crate::in_front::a_store_in_front_is_found;
 use c2_assertion::{
@@ -20,8 +20,8 @@ use c2_message::a_message_fills_its_reserve_or_needs_more;
 /// There is one file whose new store comes right after the file type box and binds all that its exclusions leave of the file, and in
 /// whose chunk tables the places of the media from there on are moved: the file that the definition `front_file` gives.
 pub fn a_built_front_is_one()
-    ensures is { FrontIsBuilt }
-    ensures once { FrontIsOne }
+    ensures some { SomeFront }
+    ensures once { OneFront }
 {
     // Only the prover needs these laws.
     sorting_keeps_the_length();
@@ -95,9 +95,9 @@ pub fn bytes_of_a_built_front_stay()
 
 /// Of a BMFF file without a store a new file can be planned exactly where nothing is refused of a plan; its definition redacts nothing.
 pub fn a_front_is_refused_or_planned()
-    ensures planned { UnrefusedCanBeBuilt }
-    ensures none { BuildableIsUnrefused }
-    ensures fresh { BuildableIsFresh }
+    ensures planned { UnrefusedCanBePlanned }
+    ensures none { PlannedIsNotRefused }
+    ensures fresh { PlannedIsFresh }
 {
     // Only the prover needs this law.
     redactions_that_pass_may_be_made();

@@ -37,12 +37,9 @@ impl Shift {
     pub fn moved(&self, wide: bool, number: u64) -> u64
         ensures { result ≡ moved wide self.now.from self.now.by number }
     {
-        if number < self.from {
-            return number;
-        }
         match number.checked_add(self.by) {
             Some(sum) => {
-                if sum > most(wide) {
+                if number < self.from || sum > most(wide) {
                     return number;
                 }
                 sum

@@ -2,8 +2,8 @@ use Rattle.c2_fronts.proofs.Building.{front_is, front_once}
 use Rattle.c2_fronts.proofs.laws.a_built_front_is_one.Goals as goal
 
 -- the file is one such
-pub returns-clause-is : goal.returns-clause-is
-returns-clause-is c = front_is (record {
+pub returns-clause-some : goal.returns-clause-some
+returns-clause-some c = front_is (record {
   put = record {
     sizes = record { keeps = c.sorting_keeps_the_length.ensures; sizes = c.new_stores_have_one_length.ensures };
     shifts = record {
