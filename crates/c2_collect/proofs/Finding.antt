@@ -14,7 +14,7 @@ use Rattle.c2_rules.proofs.ListLemmas.{in_any}
 use Rattle.c2_joined.proofs.Places.{contains_at}
 use Rattle.c2_lookup.specs.Places.{ArePlaces, kept_place}
 use Rattle.c2_lookup.specs.declared.places.Places.{Places}
-use Rattle.c2_collected.specs.Sides.{has_box}
+use Rattle.c2_collected.specs.Sides.{has_same_label}
 use Rattle.c2_collect.specs.Carried.{FindsLabels, IsFound, IsShared, StoresClash}
 use Rattle.c2_collect.specs.Marked.{MarkedStore, box_labels, is_marked, manifests_in}
 use Rattle.c2_collect.proofs.Manifests.{MappedFrom, mapped_from}
@@ -79,7 +79,7 @@ one_place (x ∷ xs) (suc p) (suc q) t u l d e f g h = ap suc (one_place xs p q 
 -- no manifest has its label
 pub no_label : (old other : MarkedStore) (places : Places) (i : ℕ) (l : List ℕ) → FindsLabels (manifests_in old) places → is_marked other i ≡ true → slice_get (box_labels (manifests_in other)) i ≡ Some (Some l) → kept_place places l ≡ None
     → IsFound old other i (Some true)
-no_label old other places i l h e at none = (λ t is. sym (ap (λ b. b && not (has_box olds t)) e ∙ ap not (free t is)), clash)
+no_label old other places i l h e at none = (λ t is. sym (ap (λ b. b && not (has_same_label olds t)) e ∙ ap not (free t is)), clash)
   where
     olds : List Tree
     olds = manifests_in old
@@ -93,7 +93,7 @@ no_label old other places i l h e at none = (λ t is. sym (ap (λ b. b && not (h
     label_of : (t : Tree) → slice_get (manifests_in other) i ≡ Some t → tree_label t ≡ Some l
     label_of t is = ap tree_label (same_Some t m.it (sym is ∙ m.is)) ∙ m.gives
 
-    free : (t : Tree) → slice_get (manifests_in other) i ≡ Some t → has_box olds t ≡ false
+    free : (t : Tree) → slice_get (manifests_in other) i ≡ Some t → has_same_label olds t ≡ false
     free t is = ap (λ o. list_any (λ (x : Tree). is_given (tree_label x) (unwrap_or o [])) olds) (label_of t is) ∙ lacks
 
     clash : StoresClash old other i → ⊥
@@ -103,7 +103,7 @@ no_label old other places i l h e at none = (λ t is. sym (ap (λ b. b && not (h
 -- a manifest has its label, and both are the same
 pub shared : (old other : MarkedStore) (places : Places) (i p : ℕ) (l : List ℕ) (b : Bool) → FindsLabels (manifests_in old) places → is_marked other i ≡ true → slice_get (box_labels (manifests_in other)) i ≡ Some (Some l) → kept_place places l ≡ Some p
     → IsShared old other p i b → b ≡ true → IsFound old other i (Some false)
-shared old other places i p l b h e at kept same so = (λ t is. sym (ap (λ x. x && not (has_box olds t)) e ∙ ap not (there t is)), clash)
+shared old other places i p l b h e at kept same so = (λ t is. sym (ap (λ x. x && not (has_same_label olds t)) e ∙ ap not (there t is)), clash)
   where
     olds : List Tree
     olds = manifests_in old
@@ -117,14 +117,14 @@ shared old other places i p l b h e at kept same so = (λ t is. sym (ap (λ x. x
     label_of : (t : Tree) → slice_get (manifests_in other) i ≡ Some t → tree_label t ≡ Some l
     label_of t is = ap tree_label (same_Some t m.it (sym is ∙ m.is)) ∙ m.gives
 
-    there : (t : Tree) → slice_get (manifests_in other) i ≡ Some t → has_box olds t ≡ true
+    there : (t : Tree) → slice_get (manifests_in other) i ≡ Some t → has_same_label olds t ≡ true
     there t is = ap (λ o. list_any (λ (x : Tree). is_given (tree_label x) (unwrap_or o [])) olds) (label_of t is)
         ∙ in_any (λ (x : Tree). is_given (tree_label x) l) olds f.it (contains_at olds p f.it f.is) (some_given (tree_label f.it) l f.gives)
 
     clash : StoresClash old other i → ⊥
     clash c =
         let place : c.place ≡ p = one_place olds c.place p c.ours f.it l h.distinct c.is_ours f.is (c.label ∙ label_of c.theirs c.is_theirs) f.gives in
-        both_ways b (same c.ours c.theirs (ap (slice_get olds) (sym place) ∙ c.is_ours) c.is_theirs ∙ ap (λ n. is_marked old n && bytes_eq (tree_bytes c.ours) (tree_bytes c.theirs)) (sym place) ∙ c.other) so
+        both_ways b (same c.ours c.theirs (ap (slice_get olds) (sym place) ∙ c.is_ours) c.is_theirs ∙ ap (λ n. is_marked old n && bytes_eq (tree_bytes c.ours) (tree_bytes c.theirs)) (sym place) ∙ c.differs) so
 
 -- a manifest has its label, and they differ
 pub clashes : (old other : MarkedStore) (places : Places) (i p : ℕ) (l : List ℕ) (b : Bool) → FindsLabels (manifests_in old) places → is_marked other i ≡ true → slice_get (box_labels (manifests_in other)) i ≡ Some (Some l) → kept_place places l ≡ Some p
@@ -140,7 +140,7 @@ clashes old other places i p l b h e at kept same differs =
       ours = f.it;
       is_ours = f.is;
       label = f.gives ∙ sym m.gives;
-      other = sym (same f.it m.it f.is m.is) ∙ differs;
+      differs = sym (same f.it m.it f.is m.is) ∙ differs;
     }
 
 -- ---- labels one by one

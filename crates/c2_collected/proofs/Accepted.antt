@@ -151,9 +151,9 @@ no_ingredient reached own rs texts m b h e = go b.boxed.label (not-false (passes
     go (Some l) g = taken_kind reached own rs m l (takes reached own rs m l texts h g)
 
 -- what holds of any box holds of each
-each_box : (P : ReadBox → Type 0) (bs : List ReadBox) → ((b : ReadBox) → P b) → AllByRecursion P bs
+each_box : (P : ReadBox → Type 0) (boxes : List ReadBox) → ((b : ReadBox) → P b) → AllByRecursion P boxes
 each_box P [] h = tt
-each_box P (b ∷ bs) h = (h b, each_box P bs h)
+each_box P (b ∷ boxes) h = (h b, each_box P boxes h)
 
 -- ---- the manifest that loses a box
 
@@ -218,11 +218,11 @@ abbrev BoxFine : List (List ℕ) → ReadBox → Type 0
 BoxFine texts b = AllByRecursion (λ (text : List ℕ). names_unsigned (uri_of text) b ≡ false) texts
 
 -- none of these boxes lacks a signature
-none_unsigned : (u : Option PlainUri) (bs : List ReadBox) → list_any (names_unsigned u) bs ≡ false
-    → AllByRecursion (λ (b : ReadBox). names_unsigned u b ≡ false) bs
+none_unsigned : (u : Option PlainUri) (boxes : List ReadBox) → list_any (names_unsigned u) boxes ≡ false
+    → AllByRecursion (λ (b : ReadBox). names_unsigned u b ≡ false) boxes
 none_unsigned u [] e = tt
-none_unsigned u (b ∷ bs) e =
-    let parts = or_parts (names_unsigned u b) (list_any (names_unsigned u) bs) e in (parts.0, none_unsigned u bs parts.1)
+none_unsigned u (b ∷ boxes) e =
+    let parts = or_parts (names_unsigned u b) (list_any (names_unsigned u) boxes) e in (parts.0, none_unsigned u boxes parts.1)
 
 -- of one text, over the boxes of a reached manifest
 signed_boxes : (reached : ℕ → Bool) (rs : List Reading) (i : ℕ) (r : Reading) (text : List ℕ) → reached i ≡ true
@@ -235,11 +235,11 @@ signed_boxes reached rs i r text there is h =
     none_unsigned (uri_of text) r.boxes (sym (ap (λ x. x && passes_some f (slice_get rs i)) there ∙ ap (passes_some f) is) ∙ at)
 
 -- box by box, of one more text
-add_text : (text : List ℕ) (texts : List (List ℕ)) (bs : List ReadBox)
-    → AllByRecursion (λ (b : ReadBox). names_unsigned (uri_of text) b ≡ false) bs → AllByRecursion (BoxFine texts) bs
-    → AllByRecursion (BoxFine (text ∷ texts)) bs
+add_text : (text : List ℕ) (texts : List (List ℕ)) (boxes : List ReadBox)
+    → AllByRecursion (λ (b : ReadBox). names_unsigned (uri_of text) b ≡ false) boxes → AllByRecursion (BoxFine texts) boxes
+    → AllByRecursion (BoxFine (text ∷ texts)) boxes
 add_text text texts [] h k = tt
-add_text text texts (b ∷ bs) h k = ((h.0, k.0), add_text text texts bs h.1 k.1)
+add_text text texts (b ∷ boxes) h k = ((h.0, k.0), add_text text texts boxes h.1 k.1)
 
 -- of all texts
 boxes_fine : (reached : ℕ → Bool) (own : List ℕ) (rs : List Reading) (i : ℕ) (r : Reading) (texts : List (List ℕ))
@@ -263,11 +263,11 @@ box_signed m l b (text ∷ texts) n h t = ⊎_elim (λ here.
     not-false (has_signature b) (sym (ap (λ x. x && not (has_signature b)) names) ∙ lacks)) (λ later. box_signed m l b texts n h.1 later) (or_cases (names_assertion m l (uri_of text)) (takes_out texts m l) t)
 
 -- so each box names a signature where something is taken out of its child
-all_signed : (rs : List Reading) (i : ℕ) (texts : List (List ℕ)) (bs : List ReadBox)
-    → AllByRecursion (BoxFine texts) bs → AllByRecursion (SignsTaken texts rs i) bs
+all_signed : (rs : List Reading) (i : ℕ) (texts : List (List ℕ)) (boxes : List ReadBox)
+    → AllByRecursion (BoxFine texts) boxes → AllByRecursion (SignsTaken texts rs i) boxes
 all_signed rs i texts [] h = tt
-all_signed rs i texts (b ∷ bs) h =
-    ((λ m c label child is taken. box_signed (label_in c) label b texts (child_label rs i m b c child is) h.0 taken), all_signed rs i texts bs h.1)
+all_signed rs i texts (b ∷ boxes) h =
+    ((λ m c label child is taken. box_signed (label_in c) label b texts (child_label rs i m b c child is) h.0 taken), all_signed rs i texts boxes h.1)
 
 -- ---- all of them
 

@@ -5,64 +5,68 @@ use Rattle.std.specs.List.{AllByRecursion, AllZip}
 use Rattle.std.proofs.lemmas.Bool.{cases_eq, cases_lt}
 use Rattle.std.proofs.lemmas.Option.{slice_get_within}
 use Rattle.c2_base.specs.declared.values.Question.{Question}
+use Rattle.c2_spec.specs.C2pa.Manifest.{Manifest, manifests_of}
 use Rattle.c2_spec.specs.C2pa.Sign1.{SignParts}
 use Rattle.c2_spec.specs.Jumbf.Tree.{Trees}
 use Rattle.c2_spec.specs.declared.digest.Alg.{Alg}
 use Rattle.c2_spec.specs.declared.panel.Verdict.TheVariants.{Approved}
 use Rattle.c2_rules.specs.Chains.{is_reached}
 use Rattle.c2_rules.specs.CheckList.{question_at, questions, questions_of}
-use Rattle.c2_rules.specs.Readings.{Reading, question_in}
+use Rattle.c2_rules.specs.Readings.{AreReadings, Reading, question_in}
 use Rattle.c2_rules.specs.Tests.{downward}
 use Rattle.c2_rules.proofs.ListLemmas.{both_true, contains_head}
 use Rattle.c2_joined.specs.Joined.{JoinIs, has_manifest, is_carried, joined, picked}
 use Rattle.c2_joined.specs.Rooted.{is_reached_from, last_roots}
+use Rattle.c2_joined.proofs.Joining as joining
 use Rattle.c2_joined.proofs.Places.{contains_left, contains_right, from_right, get_left, member_of, picked_of, some_at}
 use Rattle.c2_definition.specs.declared.types.Definition.{Definition}
 use Rattle.c2_definition.specs.declared.types.NewAssertion.{NewAssertion}
 use Rattle.c2_built.specs.Manifests.{supers_in}
-use Rattle.c2_built.specs.Store.{Parent}
+use Rattle.c2_built.specs.Store.{Parent, new_alg}
 use Rattle.c2_built.specs.Written.{CanBeWritten}
 use Rattle.c2_built.proofs.Lists.{each-append}
 use Rattle.c2_carried.specs.Less.{IsReadLess, RedactedStoreIsRead}
 use Rattle.c2_carried.specs.Redacting.{redacted_boxes}
-use Rattle.c2_gathered.specs.Gathered.{AreIngredients, Gathered, GatheredStoreMeets, GatheredStoreReaches, IsOverRoots, NewIngredient, ReachesRoots}
+use Rattle.c2_gathered.specs.Gathered.{AreIngredients, Gathered, GatheredStoreMeets, GatheredStoreReaches, IsOverRoots, NewIngredient, ReachesRoots, gathered_store}
 use Rattle.c2_gathered.specs.Taken.{IsRoot, IsTakenFrom, question_from, questions_from}
-use Rattle.c2_collected.specs.Collected.{CanJoin, CollectedStoreMeets, CollectedStoreReaches, CollectsFrom, IsCollected, IsOfEither, IsParentAt, IsStored, JoinedIsReached, JoinedReaches, QuestionsAreApproved, QuestionsAreOfEither, collected_boxes, collected_ingredients, collected_readings, collected_roots}
-use Rattle.c2_collected.specs.Stores.{IsSide}
-use Rattle.c2_collected.proofs.Contents.{apart_from, ingredients_ok, ingredients_zip, roots_are, same_reached, side, two_roots}
-use Rattle.c2_collected.proofs.Stores.{SideLaws, none_clashes, taken_less}
+use Rattle.c2_collected.specs.Collected.{CanJoin, CollectedStoreMeets, CollectedStoreReaches, CollectsFrom, IsCollected, IsNamedAt, IsOfEither, IsStored, JoinedIsReached, JoinedReaches}
+use Rattle.c2_collected.specs.Collected.{QuestionsAreApproved, QuestionsAreOfEither, ReachesCollected, WasReached, collected_boxes, collected_ingredients, collected_readings, collected_roots}
+use Rattle.c2_collected.specs.Collected.WasReached.{in_media, in_other}
+use Rattle.c2_collected.specs.Stores.{IsRootedStore}
+use Rattle.c2_collected.proofs.Contents.{apart_from, ingredients_ok, ingredients_zip, joined_store, roots_are, same_reached, two_roots}
+use Rattle.c2_collected.proofs.Stores.{JoiningLaws, none_clashes, taken_less}
 
 -- ---- the store
 
 -- what the new store is: over the joined chain, with an ingredient for each of its roots
-record IsMade (hash : Alg → List ℕ → List ℕ) (as_ bs : List Reading) (c : Gathered) (binding : NewAssertion) (message : List ℕ) (p : SignParts) : Type 0 where
+record IsMade (hash : Alg → List ℕ → List ℕ) (old_rs other_rs : List Reading) (c : Gathered) (binding : NewAssertion) (message : List ℕ) (p : SignParts) : Type 0 where
   left : List Reading
-  over : IsOverRoots hash c binding message p (collected_roots as_ bs) (collected_readings as_ bs) left
+  over : IsOverRoots hash c binding message p (collected_roots old_rs other_rs) (collected_readings old_rs other_rs) left
 
 -- it is that
-made : SideLaws → RedactedStoreIsRead
-    → (hash : Alg → List ℕ → List ℕ) (d : Definition) (old other : Trees) (as_ bs : List Reading) (c : Gathered)
+made : JoiningLaws → RedactedStoreIsRead
+    → (hash : Alg → List ℕ → List ℕ) (d : Definition) (old other : Trees) (old_rs other_rs : List Reading) (c : Gathered)
     (binding : NewAssertion) (message : List ℕ) (p : SignParts)
-    → IsCollected hash d old other as_ bs c → IsStored hash c binding message p
-    → IsMade hash as_ bs c binding message p
-made laws less hash d old other as_ bs c binding message p is stored =
-    let js : List Reading = collected_readings as_ bs in
-    let roots : List ℕ = collected_roots as_ bs in
-    let boxes : Trees = collected_boxes old other bs in
-    let from : CollectsFrom d old other as_ bs c = is.content in
-    let s : IsSide hash boxes js roots = side laws hash old other as_ bs is.can.joins in
+    → IsCollected hash d old other old_rs other_rs c → IsStored hash c binding message p
+    → IsMade hash old_rs other_rs c binding message p
+made laws less hash d old other old_rs other_rs c binding message p is stored =
+    let js : List Reading = collected_readings old_rs other_rs in
+    let roots : List ℕ = collected_roots old_rs other_rs in
+    let boxes : Trees = collected_boxes old other other_rs in
+    let from : CollectsFrom d old other old_rs other_rs c = is.content in
+    let s : IsRootedStore hash boxes js roots = joined_store laws hash old other old_rs other_rs is.can.joins in
     let k : IsReadLess d.redact boxes js = less d.redact boxes js s.legal s.stores s.reads in
     let taken : IsTakenFrom hash d (redacted_boxes d.redact boxes) roots js k.ss =
     taken_less hash d boxes js roots k s is.can.label is.few is.can.redactions in
-    let zips : AllZip (λ (g : NewIngredient) root. IsRoot js k.ss g.of root) (collected_ingredients from.parents) roots =
-    ingredients_zip (IsRoot js k.ss) from.parents roots (two_roots as_ bs)
-    (roots_are hash d.redact boxes roots js from.parents roots k s.rooted s.rooted.within
-    (subst (λ (x : Trees). AllZip (λ (q : Parent) root. IsParentAt q (supers_in x) root) from.parents roots) from.carried from.are)) in
+    let zips : AllZip (λ (g : NewIngredient) root. IsRoot js k.ss g.of root) (collected_ingredients from.named) roots =
+    ingredients_zip (IsRoot js k.ss) from.named roots (two_roots old_rs other_rs)
+    (roots_are hash d.redact boxes roots js from.named roots k s.rooted s.rooted.within
+    (subst (λ (x : Trees). AllZip (λ (q : Parent) root. IsNamedAt q (supers_in x) root) from.named roots) from.carried from.are)) in
     record {
       left = k.ss;
       over = record {
         written = subst CanBeWritten (sym from.definition) is.written;
-        ingredients = subst AreIngredients (sym from.ingredients) (ingredients_ok from.parents);
+        ingredients = subst AreIngredients (sym from.ingredients) (ingredients_ok from.named);
         known = stored.known;
         fits = stored.fits;
         spells = stored.spells;
@@ -73,70 +77,119 @@ made laws less hash d old other as_ bs c binding message p is stored =
     }
 
 -- so it meets the rules
-pub collected_meets : SideLaws → RedactedStoreIsRead → GatheredStoreMeets → CollectedStoreMeets
-collected_meets laws less gathers hash d old other as_ bs c binding message p is stored =
-    let m : IsMade hash as_ bs c binding message p = made laws less hash d old other as_ bs c binding message p is stored in
-    gathers hash c binding message p (collected_roots as_ bs) (collected_readings as_ bs) m.left m.over
+pub collected_meets : JoiningLaws → RedactedStoreIsRead → GatheredStoreMeets → CollectedStoreMeets
+collected_meets laws less gathers hash d old other old_rs other_rs c binding message p is stored =
+    let m : IsMade hash old_rs other_rs c binding message p = made laws less hash d old other old_rs other_rs c binding message p is stored in
+    gathers hash c binding message p (collected_roots old_rs other_rs) (collected_readings old_rs other_rs) m.left m.over
 
 -- ---- what is reached
 
 -- two chains that may be joined join to one
-joins : SideLaws → (hash : Alg → List ℕ → List ℕ) (old other : Trees) (as_ bs : List Reading) → CanJoin hash old other as_ bs
-    → JoinIs hash as_ (last_roots as_) bs (last_roots bs) (collected_readings as_ bs)
-joins laws hash old other as_ bs can =
-    subst (λ f. JoinIs hash as_ (last_roots as_) bs (last_roots bs) (joined as_ f bs)) (sym (same_reached bs))
-    (laws.join hash as_ bs (last_roots as_) (last_roots bs) can.media.rooted can.others.rooted
-    (none_clashes laws hash old other as_ bs (last_roots as_) (last_roots bs) can.media can.others (apart_from hash old other as_ bs can)))
+joins : JoiningLaws → (hash : Alg → List ℕ → List ℕ) (old other : Trees) (old_rs other_rs : List Reading) → CanJoin hash old other old_rs other_rs
+    → JoinIs hash old_rs (last_roots old_rs) other_rs (last_roots other_rs) (collected_readings old_rs other_rs)
+joins laws hash old other old_rs other_rs can =
+    subst (λ f. JoinIs hash old_rs (last_roots old_rs) other_rs (last_roots other_rs) (joined old_rs f other_rs)) (sym (same_reached other_rs))
+    (laws.join hash old_rs other_rs (last_roots old_rs) (last_roots other_rs) can.old_store.rooted can.other_store.rooted
+    (none_clashes laws hash old other old_rs other_rs (last_roots old_rs) (last_roots other_rs) can.old_store can.other_store (apart_from hash old other old_rs other_rs can)))
 
 -- a manifest that is carried
-record IsCarriedFrom (bs : List Reading) (i : ℕ) (r : Reading) : Type 0 where
+record IsCarriedFrom (other_rs : List Reading) (i : ℕ) (r : Reading) : Type 0 where
   place : ℕ
-  is_reached : is_reached bs place ≡ true
-  stands : slice_get bs place ≡ Some r
+  is_reached : is_reached other_rs place ≡ true
+  stands : slice_get other_rs place ≡ Some r
 
 -- each behind the media's is one
-carried_from : (as_ bs : List Reading) (i : ℕ) (r : Reading) → length as_ ≤ i
-    → slice_get (collected_readings as_ bs) i ≡ Some r → IsCarriedFrom bs i r
-carried_from as_ bs i r le is =
-    let cs : List Reading = picked (is_carried as_ (is_reached bs)) 0 bs in
-    let from = picked_of (is_carried as_ (is_reached bs)) (i - length as_) bs r (from_right as_ cs i r le is) in
-    record { place = from.0; is_reached = (both_true (is_reached bs from.0) (not (has_manifest as_ _)) from.2).0; stands = from.1 }
+carried_from : (old_rs other_rs : List Reading) (i : ℕ) (r : Reading) → length old_rs ≤ i
+    → slice_get (collected_readings old_rs other_rs) i ≡ Some r → IsCarriedFrom other_rs i r
+carried_from old_rs other_rs i r le is =
+    let cs : List Reading = picked (is_carried old_rs (is_reached other_rs)) 0 other_rs in
+    let from = picked_of (is_carried old_rs (is_reached other_rs)) (i - length old_rs) other_rs r (from_right old_rs cs i r le is) in
+    record { place = from.0; is_reached = (both_true (is_reached other_rs from.0) (not (has_manifest old_rs _)) from.2).0; stands = from.1 }
+
+-- a manifest that is reached in the other store stands somewhere in the joined chain
+stood : JoiningLaws → (hash : Alg → List ℕ → List ℕ) (old other : Trees) (old_rs other_rs : List Reading)
+    → CanJoin hash old other old_rs other_rs
+    → (place : ℕ) (r : Reading) → is_reached other_rs place ≡ true → slice_get other_rs place ≡ Some r
+    → (i : ℕ) × (slice_get (collected_readings old_rs other_rs) i ≡ Some r)
+stood laws hash old other old_rs other_rs can place r e is =
+    let apart = none_clashes laws hash old other old_rs other_rs (last_roots old_rs) (last_roots other_rs) can.old_store can.other_store (apart_from hash old other old_rs other_rs can) in
+    let found = (joining.joins hash old_rs other_rs (last_roots old_rs) (last_roots other_rs) can.old_store.rooted can.other_store.rooted apart).stands place r (sym (ap (λ f. f place) (same_reached other_rs)) ∙ e) is in
+    subst (λ f. (i : ℕ) × (slice_get (joined old_rs f other_rs) i ≡ Some r)) (sym (same_reached other_rs)) (found.0, found.1)
 
 -- this is reached in the joined chain
-pub joined_reaches : SideLaws → JoinedIsReached
-joined_reaches laws hash old other as_ bs can =
-    let j : JoinIs hash as_ (last_roots as_) bs (last_roots bs) (collected_readings as_ bs) =
-    joins laws hash old other as_ bs can in
+pub joined_reaches : JoiningLaws → JoinedIsReached
+joined_reaches laws hash old other old_rs other_rs can =
+    record { each = λ i lt. (to i lt, from i); media = media; carried = carried; stands = stands }
+  where
+    js : List Reading
+    js = collected_readings old_rs other_rs
+
+    is_in : ℕ → Bool
+    is_in = is_reached_from js (collected_roots old_rs other_rs)
+
+    j : JoinIs hash old_rs (last_roots old_rs) other_rs (last_roots other_rs) js
+    j = joins laws hash old other old_rs other_rs can
+
+    media : (i : ℕ) → i < length old_rs → is_in i ≡ is_reached old_rs i
+    media i lt = j.reached.front i lt ∙ sym (ap (λ f. f i) (same_reached old_rs))
+
+    found : (place i : ℕ) (r : Reading) → is_reached other_rs place ≡ true → slice_get other_rs place ≡ Some r → slice_get js i ≡ Some r
+        → is_in i ≡ true
+    found place i r e is at = j.reached.carried place i r (sym (ap (λ f. f place) (same_reached other_rs)) ∙ e) is at
+
+    carried : (i : ℕ) → length old_rs ≤ i → i < length js → is_in i ≡ true
+    carried i le lt =
+        let at = some_at js i lt in
+        let from : IsCarriedFrom other_rs i at.0 = carried_from old_rs other_rs i at.0 le at.1 in
+        found from.place i at.0 from.is_reached from.stands at.1
+
+    stands : (place : ℕ) (r : Reading) → is_reached other_rs place ≡ true → slice_get other_rs place ≡ Some r
+        → (i : ℕ) × (slice_get js i ≡ Some r) × (is_in i ≡ true)
+    stands place r e is =
+        let at = stood laws hash old other old_rs other_rs can place r e is in (at.0, at.1, found place at.0 r e is at.1)
+
+    to : (i : ℕ) → i < length js → is_in i ≡ true → WasReached old_rs other_rs i
+    to i lt e = ⊎_elim (λ own. in_media own (sym (media i own) ∙ e))
+        (λ le.
+        let at = some_at js i lt in
+        let k : IsCarriedFrom other_rs i at.0 = carried_from old_rs other_rs i at.0 le at.1 in
+        in_other k.place at.0 k.is_reached k.stands at.1) (cases_lt i (length old_rs))
+
+    from : (i : ℕ) → WasReached old_rs other_rs i → is_in i ≡ true
+    from i (in_media lt e) = media i lt ∙ e
+    from i (in_other place r e is at) = found place i r e is at
+
+-- what is reached of older places is so by another test that says the same of them
+older_reaches : (old_rs other_rs : List Reading) (f g : ℕ → Bool)
+    → ((i : ℕ) → i < length (collected_readings old_rs other_rs) → g i ≡ f i) → JoinedReaches old_rs other_rs f
+    → JoinedReaches old_rs other_rs g
+older_reaches old_rs other_rs f g same k =
+    let js : List Reading = collected_readings old_rs other_rs in
+    let cs : List Reading = picked (is_carried old_rs (is_reached other_rs)) 0 other_rs in
+    let front : length js ≡ length old_rs + length cs = length-append old_rs cs in
     record {
-      media = λ i lt. j.reached.front i lt ∙ sym (ap (λ f. f i) (same_reached as_));
-      carried = λ i le lt.
-          let at = some_at (collected_readings as_ bs) i lt in
-          let from : IsCarriedFrom bs i at.0 = carried_from as_ bs i at.0 le at.1 in
-          j.reached.carried from.place i at.0 (sym (ap (λ f. f from.place) (same_reached bs)) ∙ from.is_reached) from.stands at.1;
+      each = λ i lt. let e = k.each i lt in (λ h. e.0 (sym (same i lt) ∙ h), λ h. same i lt ∙ e.1 h);
+      media = λ i lt. same i (omega (arith, front, lt)) ∙ k.media i lt;
+      carried = λ i le lt. same i lt ∙ k.carried i le lt;
+      stands = λ place r e is.
+          let at = k.stands place r e is in (at.0, at.1, same at.0 (slice_get_within js at.0 r at.1) ∙ at.2);
     }
 
+-- manifests come to one list of readings
+abbrev pub OneReadings : Type 0
+OneReadings = (ms : List Manifest) (rs ss : List Reading) → AreReadings ms rs → AreReadings ms ss → rs ≡ ss
+
 -- so this is reached in the new store
-pub collected_reaches : SideLaws → RedactedStoreIsRead → GatheredStoreReaches → CollectedStoreReaches
-collected_reaches laws less gathers hash d old other as_ bs c binding message p is stored =
-    let js : List Reading = collected_readings as_ bs in
-    let roots : List ℕ = collected_roots as_ bs in
-    let m : IsMade hash as_ bs c binding message p = made laws less hash d old other as_ bs c binding message p is stored in
+pub collected_reaches : JoiningLaws → RedactedStoreIsRead → GatheredStoreReaches → OneReadings → CollectedStoreReaches
+collected_reaches laws less gathers one hash d old other old_rs other_rs c binding message p all is stored reads =
+    let js : List Reading = collected_readings old_rs other_rs in
+    let roots : List ℕ = collected_roots old_rs other_rs in
+    let m : IsMade hash old_rs other_rs c binding message p = made laws less hash d old other old_rs other_rs c binding message p is stored in
     let g = gathers hash c binding message p roots js m.left m.over in
     let r : ReachesRoots js roots g.0 = g.2 in
-    let k : JoinedReaches as_ bs (is_reached_from js roots) = joined_reaches laws hash old other as_ bs is.can.joins in
-    let cs : List Reading = picked (is_carried as_ (is_reached bs)) 0 bs in
-    let front : length js ≡ length as_ + length cs = length-append as_ cs in (
-      g.0,
-      g.1,
-      record {
-        count = r.count;
-        older = record {
-          media = λ i lt. r.older i (omega (arith, front, lt)) ∙ k.media i lt;
-          carried = λ i le lt. r.older i lt ∙ k.carried i le lt;
-        };
-        new = r.new;
-      },
-    )
+    let k : JoinedReaches old_rs other_rs (is_reached_from js roots) = joined_reaches laws hash old other old_rs other_rs is.can.joins in
+    subst (ReachesCollected old_rs other_rs) (one (manifests_of (gathered_store (hash (new_alg c.definition)) c binding message)) g.0 all g.1 reads)
+    (record { count = r.count; new = r.new; older = older_reaches old_rs other_rs (is_reached_from js roots) (is_reached g.0) r.older k })
 
 -- ---- questions
 
@@ -162,48 +215,48 @@ asked rs i r q reached is asks = in_places (question_at rs) (length rs) i q (sli
     (subst (λ o. Contains (questions_of o) q) (sym is) (subst (λ o. Contains (option_to_list o) q) (sym asks) (contains_head q []))))
 
 -- each question of the joined chain is one of either
-pub of_either : SideLaws → QuestionsAreOfEither
-of_either laws hash old other as_ bs can =
-    all_places (IsOfEither as_ bs) (question_from js roots) (length js)
+pub of_either : JoiningLaws → QuestionsAreOfEither
+of_either laws hash old other old_rs other_rs can =
+    all_places (IsOfEither old_rs other_rs) (question_from js roots) (length js)
     (λ i lt. go i (is_reached_from js roots i) (slice_get js i) refl refl)
   where
     js : List Reading
-    js = collected_readings as_ bs
+    js = collected_readings old_rs other_rs
 
     roots : List ℕ
-    roots = collected_roots as_ bs
+    roots = collected_roots old_rs other_rs
 
     cs : List Reading
-    cs = picked (is_carried as_ (is_reached bs)) 0 bs
+    cs = picked (is_carried old_rs (is_reached other_rs)) 0 other_rs
 
     from : (i : ℕ) (r : Reading) (q : Question) → question_in r ≡ Some q → is_reached_from js roots i ≡ true
-        → slice_get js i ≡ Some r → IsOfEither as_ bs q
+        → slice_get js i ≡ Some r → IsOfEither old_rs other_rs q
     from i r q asks reached is =
         ⊎_elim
-        (λ lt. inl (asked as_ i r q (sym ((joined_reaches laws hash old other as_ bs can).media i lt) ∙ reached) (sym (get_left as_ cs i lt) ∙ is) asks))
-        (λ le. let k : IsCarriedFrom bs i r = carried_from as_ bs i r le is in inr (asked bs k.place r q k.is_reached k.stands asks)) (cases_lt i (length as_))
+        (λ lt. inl (asked old_rs i r q (sym ((joined_reaches laws hash old other old_rs other_rs can).media i lt) ∙ reached) (sym (get_left old_rs cs i lt) ∙ is) asks))
+        (λ le. let k : IsCarriedFrom other_rs i r = carried_from old_rs other_rs i r le is in inr (asked other_rs k.place r q k.is_reached k.stands asks)) (cases_lt i (length old_rs))
 
     one : (i : ℕ) (r : Reading) (o : Option Question) → question_in r ≡ o → is_reached_from js roots i ≡ true
-        → slice_get js i ≡ Some r → AllByRecursion (IsOfEither as_ bs) (option_to_list o)
+        → slice_get js i ≡ Some r → AllByRecursion (IsOfEither old_rs other_rs) (option_to_list o)
     one i r None asks reached is = tt
     one i r (Some q) asks reached is = (from i r q asks reached is, tt)
 
     go : (i : ℕ) (b : Bool) (o : Option Reading) → is_reached_from js roots i ≡ b → slice_get js i ≡ o
-        → AllByRecursion (IsOfEither as_ bs) (cond b (questions_of o) [])
+        → AllByRecursion (IsOfEither old_rs other_rs) (cond b (questions_of o) [])
     go i false o e f = tt
     go i true None e f = tt
     go i true (Some r) e f = one i r (question_in r) refl e f
 
 -- what holds of the questions of both holds of each that is of either
-each_of_either : (P : Question → Type 0) (as_ bs : List Reading) (qs : List Question)
-    → AllByRecursion P (questions as_) → AllByRecursion P (questions bs) → AllByRecursion (IsOfEither as_ bs) qs
+each_of_either : (P : Question → Type 0) (old_rs other_rs : List Reading) (qs : List Question)
+    → AllByRecursion P (questions old_rs) → AllByRecursion P (questions other_rs) → AllByRecursion (IsOfEither old_rs other_rs) qs
     → AllByRecursion P qs
-each_of_either P as_ bs [] a b h = tt
-each_of_either P as_ bs (q ∷ qs) a b h =
-    (⊎_elim (λ own. member_of P (questions as_) q a own) (λ other. member_of P (questions bs) q b other) h.0, each_of_either P as_ bs qs a b h.1)
+each_of_either P old_rs other_rs [] a b h = tt
+each_of_either P old_rs other_rs (q ∷ qs) a b h =
+    (⊎_elim (λ own. member_of P (questions old_rs) q a own) (λ other. member_of P (questions other_rs) q b other) h.0, each_of_either P old_rs other_rs qs a b h.1)
 
 -- so those of the joined chain are approved
-pub all_approved : SideLaws → QuestionsAreApproved
-all_approved laws hash said old other as_ bs can a b =
-    each_of_either (λ q. said q ≡ Approved) as_ bs (questions_from (collected_readings as_ bs) (collected_roots as_ bs)) a b
-    (of_either laws hash old other as_ bs can)
+pub all_approved : JoiningLaws → QuestionsAreApproved
+all_approved laws hash said old other old_rs other_rs can a b =
+    each_of_either (λ q. said q ≡ Approved) old_rs other_rs (questions_from (collected_readings old_rs other_rs) (collected_roots old_rs other_rs)) a b
+    (of_either laws hash old other old_rs other_rs can)

@@ -35,35 +35,35 @@ use Rattle.c2_carried.proofs.Stores.{label_some, legal_at, read_label, read_len}
 use Rattle.c2_carried.proofs.Valid.{all_each}
 use Rattle.c2_gathered.specs.Gathered.{AreIngredients, NewIngredient}
 use Rattle.c2_gathered.specs.Taken.{IsRoot}
-use Rattle.c2_collected.specs.Collected.{CanJoin, CollectedContentIsOne, IsParentAt, SomeContentCollects, collected_boxes, collected_ingredients, collected_readings, collected_roots}
+use Rattle.c2_collected.specs.Collected.{CanJoin, CollectedContentIsOne, IsNamedAt, SomeContentCollects, collected_boxes, collected_ingredients, collected_readings, collected_roots}
 use Rattle.c2_collected.specs.Sides.{DoNotClash, joined_boxes}
-use Rattle.c2_collected.specs.Stores.{IsSide}
-use Rattle.c2_collected.proofs.Stores.{SideLaws, sides_join}
+use Rattle.c2_collected.specs.Stores.{IsRootedStore}
+use Rattle.c2_collected.proofs.Stores.{JoiningLaws, rooted_join}
 use Rattle.c2_collected.proofs.Zips.{Reads, reads_zip}
 
--- ---- the joined side
+-- ---- the joined store
 
 -- what is reached in a store is what is reached from its last manifest
 pub same_reached : (rs : List Reading) → is_reached rs ≡ is_reached_from rs (last_roots rs)
 same_reached rs = fun_ext (λ i. last_active rs i)
 
 -- two stores that don't clash don't by what is reached from their last manifests
-pub apart_from : (hash : Alg → List ℕ → List ℕ) (old other : Trees) (as_ bs : List Reading)
-    → CanJoin hash old other as_ bs
-    → DoNotClash (supers_in old) (is_reached_from as_ (last_roots as_)) (supers_in other) (is_reached_from bs (last_roots bs))
-apart_from hash old other as_ bs can =
-    subst (λ f. DoNotClash (supers_in old) f (supers_in other) (is_reached_from bs (last_roots bs))) (same_reached as_)
-    (subst (λ f. DoNotClash (supers_in old) (is_reached as_) (supers_in other) f) (same_reached bs) can.apart)
+pub apart_from : (hash : Alg → List ℕ → List ℕ) (old other : Trees) (old_rs other_rs : List Reading)
+    → CanJoin hash old other old_rs other_rs
+    → DoNotClash (supers_in old) (is_reached_from old_rs (last_roots old_rs)) (supers_in other) (is_reached_from other_rs (last_roots other_rs))
+apart_from hash old other old_rs other_rs can =
+    subst (λ f. DoNotClash (supers_in old) f (supers_in other) (is_reached_from other_rs (last_roots other_rs))) (same_reached old_rs)
+    (subst (λ f. DoNotClash (supers_in old) (is_reached old_rs) (supers_in other) f) (same_reached other_rs) can.apart)
 
--- the joined boxes are a side
-pub side : SideLaws → (hash : Alg → List ℕ → List ℕ) (old other : Trees) (as_ bs : List Reading)
-    → CanJoin hash old other as_ bs
-    → IsSide hash (collected_boxes old other bs) (collected_readings as_ bs) (collected_roots as_ bs)
-side laws hash old other as_ bs can =
+-- the joined boxes are a store that can be joined again
+pub joined_store : JoiningLaws → (hash : Alg → List ℕ → List ℕ) (old other : Trees) (old_rs other_rs : List Reading)
+    → CanJoin hash old other old_rs other_rs
+    → IsRootedStore hash (collected_boxes old other other_rs) (collected_readings old_rs other_rs) (collected_roots old_rs other_rs)
+joined_store laws hash old other old_rs other_rs can =
     subst
-    (λ f. IsSide hash (joined_boxes old f other) (joined as_ f bs) (joined_roots (last_roots as_) bs (last_roots bs) (joined as_ f bs)))
-    (sym (same_reached bs))
-    (sides_join laws hash old other as_ bs (last_roots as_) (last_roots bs) can.media can.others (apart_from hash old other as_ bs can))
+    (λ f. IsRootedStore hash (joined_boxes old f other) (joined old_rs f other_rs) (joined_roots (last_roots old_rs) other_rs (last_roots other_rs) (joined old_rs f other_rs)))
+    (sym (same_reached other_rs))
+    (rooted_join laws hash old other old_rs other_rs (last_roots old_rs) (last_roots other_rs) can.old_store can.other_store (apart_from hash old other old_rs other_rs can))
 
 -- ---- what an ingredient names
 
@@ -103,7 +103,7 @@ box_contents : (t : Tree) → (superbox_of t).contents ≡ contents_of t
 box_contents (leaf b) = refl
 box_contents (super wide d us) = refl
 
--- a manifest that is left of a side once redactions took boxes out of it, at a root
+-- a manifest that is left of a store once redactions took boxes out of it, at a root
 record IsAtRoot (redacts : List (List ℕ)) (rs ss : List Reading) (t : Tree) (root : ℕ) : Type 0 where
   pair : LessAt redacts rs ss root
   reads : Reads t pair.new
@@ -122,7 +122,7 @@ at_root redacts boxes rs t root k within is =
 root_is : (hash : Alg → List ℕ → List ℕ) (redacts : List (List ℕ)) (boxes : Trees) (all : List ℕ) (rs : List Reading)
     (p : Parent) (root : ℕ)
     → (k : IsReadLess redacts boxes rs) → IsRooted hash rs all → root < length rs
-    → IsParentAt p (supers_in (redacted_boxes redacts boxes)) root → IsRoot rs k.ss p root
+    → IsNamedAt p (supers_in (redacted_boxes redacts boxes)) root → IsRoot rs k.ss p root
 root_is hash redacts boxes all rs p root k rooted within h =
     let at : IsAtRoot redacts rs k.ss h.manifest root = at_root redacts boxes rs h.manifest root k within h.is_manifest in
     let named : label_in at.pair.new ≡ p.label =
@@ -147,7 +147,7 @@ pub roots_are : (hash : Alg → List ℕ → List ℕ) (redacts : List (List ℕ
     (ps : List Parent) (roots : List ℕ)
     → (k : IsReadLess redacts boxes rs) → IsRooted hash rs all
     → AllByRecursion (λ c. c < length rs) roots
-    → AllZip (λ (p : Parent) root. IsParentAt p (supers_in (redacted_boxes redacts boxes)) root) ps roots
+    → AllZip (λ (p : Parent) root. IsNamedAt p (supers_in (redacted_boxes redacts boxes)) root) ps roots
     → AllZip (IsRoot rs k.ss) ps roots
 roots_are hash redacts boxes all rs [] [] k rooted within h = tt
 roots_are hash redacts boxes all rs [] (n ∷ ns) k rooted within h = absurd h
@@ -199,23 +199,23 @@ one_root [] = lit≤ tt
 one_root (r ∷ rs) = lit≤ tt
 
 -- and of those that are placed
-placed_len : (js bs : List Reading) (ns : List ℕ) → length (filter_map (place_in js bs) ns) ≤ length ns
-placed_len js bs [] = lit≤ tt
-placed_len js bs (n ∷ ns) = step (place_in js bs n) (placed_len js bs ns)
+placed_len : (js other_rs : List Reading) (ns : List ℕ) → length (filter_map (place_in js other_rs) ns) ≤ length ns
+placed_len js other_rs [] = lit≤ tt
+placed_len js other_rs (n ∷ ns) = step (place_in js other_rs n) (placed_len js other_rs ns)
   where
-    step : (o : Option ℕ) → length (filter_map (place_in js bs) ns) ≤ length ns
-        → length (cons_option o (filter_map (place_in js bs) ns)) ≤ suc (length ns)
+    step : (o : Option ℕ) → length (filter_map (place_in js other_rs) ns) ≤ length ns
+        → length (cons_option o (filter_map (place_in js other_rs) ns)) ≤ suc (length ns)
     step None h = omega (arith, h)
     step (Some k) h = omega (arith, h)
 
 -- so there are at most two
-pub two_roots : (as_ bs : List Reading) → length (collected_roots as_ bs) ≤ 2
-two_roots as_ bs =
-    let js : List Reading = collected_readings as_ bs in
-    let a = one_root as_ in
-    let b = one_root bs in
-    let c = placed_len js bs (last_roots bs) in
-    let e = length-append (last_roots as_) (filter_map (place_in js bs) (last_roots bs)) in
+pub two_roots : (old_rs other_rs : List Reading) → length (collected_roots old_rs other_rs) ≤ 2
+two_roots old_rs other_rs =
+    let js : List Reading = collected_readings old_rs other_rs in
+    let a = one_root old_rs in
+    let b = one_root other_rs in
+    let c = placed_len js other_rs (last_roots other_rs) in
+    let e = length-append (last_roots old_rs) (filter_map (place_in js other_rs) (last_roots other_rs)) in
     omega (arith, a, b, c, e)
 
 -- ---- there is a content
@@ -247,18 +247,18 @@ still_signed redacts rs ss t root at h =
 -- a manifest with a label that can be named and a signature box can be an ingredient's
 named_at : (ms : List Tree) (root : ℕ) (t box : Tree) → slice_get ms root ≡ Some t
     → is_manifest_label (any_label (node t)) ≡ true → find is_signature_box (supers_of t) ≡ Some box
-    → (p : Parent) × IsParentAt p ms root
+    → (p : Parent) × IsNamedAt p ms root
 named_at ms root t box is named found = (
   record { label = unwrap_or (any_label (node t)) []; contents = contents_of t; signed = contents_of box },
   record { manifest = t; is_manifest = is; label = label_some (any_label (node t)) named; contents = refl; signature = box; is_signature = found; signed = refl },
 )
 
 -- so can the one at a root
-parent_at : (hash : Alg → List ℕ → List ℕ) (redacts : List (List ℕ)) (boxes : Trees) (all : List ℕ) (rs : List Reading)
+root_named : (hash : Alg → List ℕ → List ℕ) (redacts : List (List ℕ)) (boxes : Trees) (all : List ℕ) (rs : List Reading)
     (root : ℕ)
     → (k : IsReadLess redacts boxes rs) → IsRooted hash rs all → root < length rs → Contains all root
-    → (p : Parent) × IsParentAt p (supers_in (redacted_boxes redacts boxes)) root
-parent_at hash redacts boxes all rs root k rooted within c =
+    → (p : Parent) × IsNamedAt p (supers_in (redacted_boxes redacts boxes)) root
+root_named hash redacts boxes all rs root k rooted within c =
     let vs : List Tree = supers_in (redacted_boxes redacts boxes) in
     let count : length vs ≡ length rs = read_len vs k.ss k.reads ∙ less_len redacts rs k.ss k.less in
     let t = some_at vs root (omega (arith, count, within)) in
@@ -271,36 +271,36 @@ parent_at hash redacts boxes all rs root k rooted within c =
     named_at vs root t.0 box.0 t.1 at.reads.1.label box.1
 
 -- those at all roots can
-parents_at : (hash : Alg → List ℕ → List ℕ) (redacts : List (List ℕ)) (boxes : Trees) (all : List ℕ) (rs : List Reading)
+roots_named : (hash : Alg → List ℕ → List ℕ) (redacts : List (List ℕ)) (boxes : Trees) (all : List ℕ) (rs : List Reading)
     (roots : List ℕ)
     → IsReadLess redacts boxes rs → IsRooted hash rs all → AllByRecursion (λ c. c < length rs) roots
     → ((c : ℕ) → Contains roots c → Contains all c)
-    → (ps : List Parent) × AllZip (λ (p : Parent) root. IsParentAt p (supers_in (redacted_boxes redacts boxes)) root) ps roots
-parents_at hash redacts boxes all rs [] k rooted within in_all = ([], tt)
-parents_at hash redacts boxes all rs (n ∷ ns) k rooted within in_all =
-    let first = parent_at hash redacts boxes all rs n k rooted within.0 (in_all n (contains_head n ns)) in
-    let others = parents_at hash redacts boxes all rs ns k rooted within.1 (λ c h. in_all c (contains_tail n c ns h)) in
+    → (ps : List Parent) × AllZip (λ (p : Parent) root. IsNamedAt p (supers_in (redacted_boxes redacts boxes)) root) ps roots
+roots_named hash redacts boxes all rs [] k rooted within in_all = ([], tt)
+roots_named hash redacts boxes all rs (n ∷ ns) k rooted within in_all =
+    let first = root_named hash redacts boxes all rs n k rooted within.0 (in_all n (contains_head n ns)) in
+    let others = roots_named hash redacts boxes all rs ns k rooted within.1 (λ c h. in_all c (contains_tail n c ns h)) in
     (first.0 ∷ others.0, (first.1, others.1))
 
 -- so something goes into the new store
-pub some_collects : SideLaws → RedactedStoreIsRead → SomeContentCollects
-some_collects laws less hash d old other as_ bs can =
-    let js : List Reading = collected_readings as_ bs in
-    let roots : List ℕ = collected_roots as_ bs in
-    let boxes : Trees = collected_boxes old other bs in
-    let s : IsSide hash boxes js roots = side laws hash old other as_ bs can.joins in
+pub some_collects : JoiningLaws → RedactedStoreIsRead → SomeContentCollects
+some_collects laws less hash d old other old_rs other_rs can =
+    let js : List Reading = collected_readings old_rs other_rs in
+    let roots : List ℕ = collected_roots old_rs other_rs in
+    let boxes : Trees = collected_boxes old other other_rs in
+    let s : IsRootedStore hash boxes js roots = joined_store laws hash old other old_rs other_rs can.joins in
     let ps =
-    parents_at hash d.redact boxes roots js roots (less d.redact boxes js s.legal s.stores s.reads) s.rooted s.rooted.within
+    roots_named hash d.redact boxes roots js roots (less d.redact boxes js s.legal s.stores s.reads) s.rooted s.rooted.within
     (λ c h. h) in (
       record { definition = d; carried = redacted_boxes d.redact boxes; ingredients = collected_ingredients ps.0 },
-      record { definition = refl; carried = refl; parents = ps.0; are = ps.1; ingredients = refl },
+      record { definition = refl; carried = refl; named = ps.0; are = ps.1; ingredients = refl },
     )
 
 -- ---- it is one
 
 -- the manifest at a place is one
-one_parent : (ms : List Tree) (root : ℕ) (p q : Parent) → IsParentAt p ms root → IsParentAt q ms root → p ≡ q
-one_parent ms root p q a b =
+one_named : (ms : List Tree) (root : ℕ) (p q : Parent) → IsNamedAt p ms root → IsNamedAt q ms root → p ≡ q
+one_named ms root p q a b =
     let active : a.manifest ≡ b.manifest = same_Some a.manifest b.manifest (sym a.is_manifest ∙ b.is_manifest) in
     let label : p.label ≡ q.label =
     same_Some p.label q.label (sym a.label ∙ ap (λ (x : Tree). any_label (node x)) active ∙ b.label) in
@@ -315,24 +315,24 @@ one_parent ms root p q a b =
 
 -- those at places are
 one_each : (ms : List Tree) (roots : List ℕ) (ps qs : List Parent)
-    → AllZip (λ (p : Parent) root. IsParentAt p ms root) ps roots
-    → AllZip (λ (p : Parent) root. IsParentAt p ms root) qs roots → ps ≡ qs
+    → AllZip (λ (p : Parent) root. IsNamedAt p ms root) ps roots
+    → AllZip (λ (p : Parent) root. IsNamedAt p ms root) qs roots → ps ≡ qs
 one_each ms [] [] [] h k = refl
 one_each ms [] [] (q ∷ qs) h k = absurd k
 one_each ms [] (p ∷ ps) qs h k = absurd h
 one_each ms (n ∷ ns) [] qs h k = absurd h
 one_each ms (n ∷ ns) (p ∷ ps) [] h k = absurd k
 one_each ms (n ∷ ns) (p ∷ ps) (q ∷ qs) h k =
-    ap (λ x. x ∷ ps) (one_parent ms n p q h.0 k.0) ∙ ap (λ (xs : List Parent). q ∷ xs) (one_each ms ns ps qs h.1 k.1)
+    ap (λ x. x ∷ ps) (one_named ms n p q h.0 k.0) ∙ ap (λ (xs : List Parent). q ∷ xs) (one_each ms ns ps qs h.1 k.1)
 
 -- so is all that goes into the new store
 pub content_one : CollectedContentIsOne
-content_one d old other as_ bs b c h k =
+content_one d old other old_rs other_rs b c h k =
     let carried : b.carried ≡ c.carried = h.carried ∙ sym k.carried in
-    let parents : h.parents ≡ k.parents = one_each (supers_in c.carried) (collected_roots as_ bs) h.parents k.parents
-    (subst (λ (x : Trees). AllZip (λ (p : Parent) root. IsParentAt p (supers_in x) root) h.parents (collected_roots as_ bs)) carried h.are) k.are in
+    let same : h.named ≡ k.named = one_each (supers_in c.carried) (collected_roots old_rs other_rs) h.named k.named
+    (subst (λ (x : Trees). AllZip (λ (p : Parent) root. IsNamedAt p (supers_in x) root) h.named (collected_roots old_rs other_rs)) carried h.are) k.are in
     ap (λ (x : Definition). record { definition = x; carried = b.carried; ingredients = b.ingredients })
     (h.definition ∙ sym k.definition)
     ∙ ap (λ (x : Trees). record { definition = c.definition; carried = x; ingredients = b.ingredients }) carried
     ∙ ap (λ (x : List NewIngredient). record { definition = c.definition; carried = c.carried; ingredients = x })
-    (h.ingredients ∙ ap collected_ingredients parents ∙ sym k.ingredients)
+    (h.ingredients ∙ ap collected_ingredients same ∙ sym k.ingredients)

@@ -1,4 +1,4 @@
--- A file that is built in its place, and whose new store collects from two stores, meets the rules.
+-- A file that is built in its place, and whose new store collects from two stores, meets the rules; and what is reached in it.
 use Rattle.std.proofs.Common.{◌≡◌, ℕ, ◌≤◌, List, ◌∷◌, length, Option, Some, sym, ap, ◌∙◌, subst, arith}
 use Rattle.std.specs.Option.{option_map}
 use Rattle.std.proofs.lemmas.Option.{same_Some}
@@ -6,11 +6,13 @@ use Rattle.c2_base.specs.declared.limits.TheConstants.{MAX_STORE_LEN}
 use Rattle.c2_base.specs.declared.values.Question.{Question}
 use Rattle.c2_spec.specs.Bmff.Boxes.{box_bytes}
 use Rattle.c2_spec.specs.Bmff.Writing as bmff
-use Rattle.c2_spec.specs.C2pa.Sign1.{question_of}
+use Rattle.c2_spec.specs.C2pa.Manifest.{manifests_of}
+use Rattle.c2_spec.specs.C2pa.Sign1.{SignParts, SpellsMessage, question_of}
 use Rattle.c2_spec.specs.Jpeg.Writing.{IsNumberOf, insert_place, packets_bytes}
 use Rattle.c2_spec.specs.Jumbf.Tree.{Tree, tree_bytes}
 use Rattle.c2_spec.specs.PutIn.{put_in}
 use Rattle.c2_spec.specs.declared.digest.Alg.{Alg}
+use Rattle.c2_rules.specs.Readings.{AreReadings}
 use Rattle.c2_definition.specs.declared.types.NewAssertion.{NewAssertion}
 use Rattle.c2_built.specs.Built.{CanBuild, HasDigestLen, built_len}
 use Rattle.c2_built.specs.Fresh.{GivesDigests, Meets}
@@ -19,12 +21,12 @@ use Rattle.c2_built.specs.Unbound.{MeetsUnbound}
 use Rattle.c2_built.proofs.FreshFile.{Laws, built_meets}
 use Rattle.c2_films.specs.Films.{film_len}
 use Rattle.c2_films.proofs.Meeting.{FilmLaws}
-use Rattle.c2_gathered.specs.Gathered.{ContentIsGathered, content_of, gathered_claim, gathered_store}
+use Rattle.c2_gathered.specs.Gathered.{ContentIsGathered, Gathered, content_of, gathered_claim, gathered_store}
 use Rattle.c2_gathered.specs.Taken.{questions_from}
 use Rattle.c2_places.specs.Laws.{BindingsAreKnown, PlaceSizeIsFixed}
 use Rattle.c2_places.specs.Places.{CanPut, Place, bound_text, in_boxes, in_segments, place_binding, place_file, place_start, place_store, put_bytes, range_len, store_len}
-use Rattle.c2_collected.specs.Collected.{CollectedStoreMeets, IsStored, collected_readings, collected_roots}
-use Rattle.c2_collected.specs.Files.{CollectedFileMeets}
+use Rattle.c2_collected.specs.Collected.{CollectedStoreMeets, CollectedStoreReaches, IsStored, collected_readings, collected_roots}
+use Rattle.c2_collected.specs.Files.{CollectedFileMeets, CollectedFileReaches, collected_content}
 use Rattle.c2_collected.proofs.Films.{film_meets}
 
 -- ---- a file in its place
@@ -63,36 +65,56 @@ place_meets laws films hash c message base bytes (in_boxes roots) qs digests can
 
 -- ---- the file
 
--- what the laws of other crates say
-pub record FileLaws : Type 0 where
-  pub jpeg : Laws
-  pub film : FilmLaws
+-- what the laws of other crates say of a new store in its place
+pub record PutLaws : Type 0 where
   pub same : ContentIsGathered
   pub sizes : PlaceSizeIsFixed
   pub known : BindingsAreKnown
 
--- so it meets the rules
-pub file_meets : FileLaws → CollectedStoreMeets → CollectedFileMeets
-file_meets laws stores hash d old other as_ bs c message base bytes p parts digests is can spells put =
+-- and of a file
+pub record FileLaws : Type 0 where
+  pub jpeg : Laws
+  pub film : FilmLaws
+  pub put : PutLaws
+
+-- the store of a file in its place, as a new store
+stored_in : PutLaws → (hash : Alg → List ℕ → List ℕ) (c : Gathered) (message base : List ℕ) (p : Place) (parts : SignParts)
+    → GivesDigests hash → CanPut (collected_content hash c) (length message) base p → SpellsMessage message parts
+    → IsStored hash c (place_binding (hash (new_alg c.definition)) (collected_content hash c) (length message) base p) message parts
+stored_in laws hash c message base p parts digests can spells =
     let alg : Alg = new_alg c.definition in
     let h : List ℕ → List ℕ = hash alg in
     let x : Content = content_of h c in
     let len : ℕ = range_len p x (length message) in
     let digest : List ℕ = h (bound_text base p) in
     let binding : NewAssertion = place_binding h x (length message) base p in
-    let qs : List Question = questions_from (collected_readings as_ bs) (collected_roots as_ bs) in
-    let same = laws.same h c binding message in
-    let store : gathered_store h c binding message ≡ new_store h x binding message = same.0 in
     let size : length (tree_bytes (new_store h x binding message)) ≡ store_len p x (length message) =
     laws.sizes h x p len digest message (λ text. (digests alg text).sized) (digests alg (bound_text base p)).sized in
     let small : length (tree_bytes (new_store h x binding message)) ≤ MAX_STORE_LEN = omega (arith, size, can.small) in
-    let stored : IsStored hash c binding message parts = record {
+    record {
       known = laws.known alg p len digest;
-      fits = subst (λ (t : Tree). length (tree_bytes t) ≤ MAX_STORE_LEN) (sym store) small;
+      fits = subst (λ (t : Tree). length (tree_bytes t) ≤ MAX_STORE_LEN) (sym (laws.same h c binding message).0) small;
       spells = spells;
-    } in
+    }
+
+-- so it meets the rules
+pub file_meets : FileLaws → CollectedStoreMeets → CollectedFileMeets
+file_meets laws stores hash d old other old_rs other_rs c message base bytes p parts digests is can spells put =
+    let h : List ℕ → List ℕ = hash (new_alg c.definition) in
+    let x : Content = content_of h c in
+    let binding : NewAssertion = place_binding h x (length message) base p in
+    let qs : List Question = questions_from (collected_readings old_rs other_rs) (collected_roots old_rs other_rs) in
+    let same = laws.put.same h c binding message in
     let met : MeetsUnbound hash (gathered_store h c binding message) binding (question_of parts (gathered_claim h c binding) ∷ qs) =
-    stores hash d old other as_ bs c binding message parts is stored in
+    stores hash d old other old_rs other_rs c binding message parts is (stored_in laws.put hash c message base p parts digests can spells) in
     place_meets laws.jpeg laws.film hash x message base bytes p (question_of parts (new_claim h x binding) ∷ qs) digests can put
-    (subst (λ (t : Tree). MeetsUnbound hash t binding (question_of parts (new_claim h x binding) ∷ qs)) store
+    (subst (λ (t : Tree). MeetsUnbound hash t binding (question_of parts (new_claim h x binding) ∷ qs)) same.0
     (subst (λ (claim : List ℕ). MeetsUnbound hash (gathered_store h c binding message) binding (question_of parts claim ∷ qs)) same.1 met))
+
+-- and this is reached in it
+pub file_reaches : PutLaws → CollectedStoreReaches → CollectedFileReaches
+file_reaches laws stores hash d old other old_rs other_rs c message base file p parts s digests is can spells reads =
+    let h : List ℕ → List ℕ = hash (new_alg c.definition) in
+    let binding : NewAssertion = place_binding h (content_of h c) (length message) base p in
+    stores hash d old other old_rs other_rs c binding message parts s.readings is (stored_in laws hash c message base p parts digests can spells)
+    (subst (λ (t : Tree). AreReadings (manifests_of t) s.readings) (sym (laws.same h c binding message).0) reads.reads.each)

@@ -18,7 +18,7 @@ failing_of reached own rs before text = first_failing (entry_tests_by reached ow
 -- a redaction that stands first has what stands before the list before it
 first_of : (reached : ℕ → Bool) (own : List ℕ) (rs : List Reading) (before : List (List ℕ)) (text : List ℕ) (o : Option Failing)
     → failing_of reached own rs before text ≡ o → failing_of reached own rs (before ++ []) text ≡ o
-first_of reached own rs before text o e = ap (λ bs. failing_of reached own rs bs text) (append-nil before) ∙ e
+first_of reached own rs before text o e = ap (λ other_rs. failing_of reached own rs other_rs text) (append-nil before) ∙ e
 
 -- one that stands behind another has this before it too
 behind_of : (reached : ℕ → Bool) (own : List ℕ) (rs : List Reading) (before : List (List ℕ)) (one : List ℕ)
@@ -26,7 +26,7 @@ behind_of : (reached : ℕ → Bool) (own : List ℕ) (rs : List Reading) (befor
     → failing_of reached own rs ((before ++ one ∷ []) ++ taken) text ≡ o
     → failing_of reached own rs (before ++ one ∷ taken) text ≡ o
 behind_of reached own rs before one taken text o e =
-    ap (λ bs. failing_of reached own rs bs text) (sym (append_assoc before (one ∷ []) taken)) ∙ e
+    ap (λ other_rs. failing_of reached own rs other_rs text) (sym (append_assoc before (one ∷ []) taken)) ∙ e
 
 module _ (reached : ℕ → Bool) (own : List ℕ) (rs : List Reading) (before : List (List ℕ)) (one : List ℕ)
     (others : List (List ℕ)) where

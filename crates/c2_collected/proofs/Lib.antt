@@ -6,4 +6,10 @@ pub mod Contents
 pub mod Collecting
 pub mod Films
 pub mod Filed
+pub mod Order
+pub mod Approved
+pub mod Sizes
+pub mod Whole
+pub mod Worked
+pub mod WorkedPair
 mod Rows

@@ -1,10 +1,15 @@
 -- Worked stores that collect, computed: the first is a store of a definition with one assertion of actions, without a title, and 256
--- bytes reserved for the message; a store of the same definition under another label collects it, over no store and over itself.
-use Rattle.std.proofs.Common.{◌≡◌, ℕ, true, false, Bool, List, [], ◌∷◌, ◌++◌, length, replicate, None, refl, codes, arith}
+-- bytes reserved for the message; a store of the same definition under another label collects it, over no store and over itself. And
+-- what is refused first of two files.
+use Rattle.std.proofs.Common.{◌≡◌, ℕ, true, false, Bool, List, [], ◌∷◌, ◌++◌, length, replicate, Option, Some, None, refl, codes, arith}
 use Rattle.c2_spec.specs.Cbor.Deterministic.{shortest_head}
 use Rattle.c2_spec.specs.Digest.{zero_digest}
 use Rattle.c2_spec.specs.Jumbf.Tree.{Tree, none, trees_bytes}
 use Rattle.c2_spec.specs.declared.digest.Alg.TheVariants.{Sha256}
+use Rattle.c2_rules.specs.declared.answer.Answer.{Answer}
+use Rattle.c2_rules.specs.declared.answer.Answer.TheVariants as answers
+use Rattle.c2_rules.specs.declared.answer.Failing.{Failing}
+use Rattle.c2_rules.specs.declared.answer.Summary.{Summary}
 use Rattle.c2_definition.specs.declared.types.Definition.{Definition}
 use Rattle.c2_built.specs.Built.{built_len, no_digest, store_size}
 use Rattle.c2_built.specs.Fresh.{fresh_content}
@@ -15,6 +20,7 @@ use Rattle.c2_built.proofs.BuildRows.{actions}
 use Rattle.c2_carried.specs.Redacting.{boxes_in, redacted_boxes}
 use Rattle.c2_gathered.specs.Gathered.{Gathered, content_of}
 use Rattle.c2_collected.specs.Collected.{collected_ingredients}
+use Rattle.c2_collected.specs.Order.{FilePair, first_refusal, label_clash, other_refused, pair_refusals, parent_fails}
 use Rattle.c2_collected.specs.Sides.{ClashFirst, joined_boxes}
 
 -- the label of a manifest, which ends so
@@ -132,7 +138,34 @@ clash = record {
     ours = manifest (zero_digest Sha256);
     is_ours = refl;
     label = refl;
-    other = refl;
+    differs = refl;
   };
   earlier = λ j before h. absurd (omega (arith, before));
 }
+
+-- ---- what is refused first
+
+-- two files without boxes, of which a check found this
+abbrev pair_of : Option Failing → Answer → Option (List ℕ) → FilePair
+pair_of failing a clash = record {
+  media = record { boxes = none; readings = []; failing = failing; base = [] };
+  other = record { answer = a; boxes = none; readings = [] };
+  clash = clash;
+}
+
+-- a rule of the media's store comes before the other file
+parent_first : (f : Failing) → first_refusal (pair_refusals (defined (codes "1")) (pair_of (Some f) answers.NoStore None)) ≡ Some (parent_fails f)
+parent_first f = refl
+
+-- the other file comes before a clash
+other_first : first_refusal (pair_refusals (defined (codes "1")) (pair_of None answers.NoStore (Some (label (codes "0"))))) ≡ Some (other_refused answers.NoStore)
+other_first = refl
+
+-- a clash is refused where the other file is valid
+clash_first : (s : Summary) → first_refusal (pair_refusals (defined (codes "1")) (pair_of None (answers.Valid s) (Some (label (codes "0"))))) ≡ Some (label_clash (label (codes "0")))
+clash_first s = refl
+
+-- and where there is none, nothing is
+none_first : (s : Summary) → pair_refusals (defined (codes "1")) (pair_of None (answers.Valid s) None) ≡ []
+unfolding defined
+none_first s = refl

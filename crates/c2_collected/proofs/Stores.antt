@@ -1,5 +1,5 @@
--- Two sides that don't clash join to one; a valid store is a side, and so is that of an accepted file; and a side is taken over by a new
--- store.
+-- Two stores that can be joined and don't clash join to one; a valid store can be joined, and so can that of an accepted file; and a
+-- store that can be joined is taken over by a new one.
 use Rattle.std.proofs.Common.{◌≡◌, ℕ, zero, suc, ◌+◌, ◌<◌, Bool, true, false, not, ◌&&◌, cond, List, [], ◌∷◌, ◌++◌, length, map, Option, Some, None, slice_get, refl, sym, ap, ◌∙◌, subst, arith, bytes_eq, lit≤}
 use Rattle.std.specs.Prelude.{option_map, unwrap_or}
 use Rattle.std.specs.Bool.{MatchBool}
@@ -40,8 +40,8 @@ use Rattle.c2_carried.proofs.Stores.{label_some, legal_at, legal_inside, none_ta
 use Rattle.c2_carried.proofs.Valid.{all_each}
 use Rattle.c2_gathered.specs.Taken.{IsTakenFrom}
 use Rattle.c2_collected.specs.Refusals.{AreAcceptedBy, redaction_refusal_by}
-use Rattle.c2_collected.specs.Sides.{DoNotClash, carried_trees, has_box, is_carried_box, joined_boxes}
-use Rattle.c2_collected.specs.Stores.{AcceptedFileIsSide, IsSide, NoStoreIsSide, SideIsTaken, SidesJoin, ValidStoreIsSide}
+use Rattle.c2_collected.specs.Sides.{DoNotClash, carried_trees, has_same_label, is_carried_box, joined_boxes}
+use Rattle.c2_collected.specs.Stores.{AcceptedFileIsRooted, IsRootedStore, NoStoreIsRooted, RootedStoreIsTaken, RootedStoresJoin, ValidStoreIsRooted}
 use Rattle.c2_collected.proofs.Accepted.{accepted}
 use Rattle.c2_collected.proofs.Zips.{IsFree, Reads, ZipAt, all_picked, are_supers, box_label, free_of, higher, legal_supers, picked_distinct, reads_zip, supers_distinct, then_distinct, then_legal, then_supers, zip_append, zip_at, zip_picked, zip_reads}
 
@@ -56,12 +56,12 @@ abbrev pub OneReading : Type 0
 OneReading = (m : Manifest) (r s : Reading) → IsReading m r → IsReading m s → r ≡ s
 
 -- all that is used of two stores that are joined
-pub record SideLaws : Type 0 where
+pub record JoiningLaws : Type 0 where
   pub tree : OneTree
   pub reading : OneReading
   pub join : ChainsJoin
 
--- ---- sides that join
+-- ---- stores that join
 
 -- two boxes of one spelling are one
 same_tree : OneTree → (t u : Tree) → IsLegalTree 2 t → IsLegalTree 2 u → tree_bytes t ≡ tree_bytes u → t ≡ u
@@ -69,37 +69,37 @@ same_tree one t u a b e =
     one (tree_bytes t) t u (record { whole = refl; legal = higher 1 2 t (lit≤ tt) a })
     (record { whole = e; legal = higher 1 2 u (lit≤ tt) b })
 
--- two sides that don't clash by their bytes don't by what they are read as
-pub none_clashes : SideLaws
-    → (hash : Alg → List ℕ → List ℕ) (old other : Trees) (as_ bs : List Reading) (ra rb : List ℕ)
-    → IsSide hash old as_ ra → IsSide hash other bs rb
-    → DoNotClash (supers_in old) (is_reached_from as_ ra) (supers_in other) (is_reached_from bs rb)
-    → NoneClashes as_ (is_reached_from as_ ra) bs (is_reached_from bs rb)
-none_clashes laws hash old other as_ bs ra rb a b apart i p r s reached is at same =
+-- two stores that don't clash by their bytes don't by what they are read as
+pub none_clashes : JoiningLaws
+    → (hash : Alg → List ℕ → List ℕ) (old other : Trees) (old_rs other_rs : List Reading) (old_roots other_roots : List ℕ)
+    → IsRootedStore hash old old_rs old_roots → IsRootedStore hash other other_rs other_roots
+    → DoNotClash (supers_in old) (is_reached_from old_rs old_roots) (supers_in other) (is_reached_from other_rs other_roots)
+    → NoneClashes old_rs (is_reached_from old_rs old_roots) other_rs (is_reached_from other_rs other_roots)
+none_clashes laws hash old other old_rs other_rs old_roots other_roots a b apart i p r s reached is at same =
     (both.0, laws.reading (manifest_of theirs.it) s r (subst (λ (x : Tree). IsReading (manifest_of x) s) one ours.corresponds.0) theirs.corresponds.0)
   where
     theirs : ZipAt Reads (supers_in other) i r
-    theirs = zip_at Reads (supers_in other) bs i r (reads_zip (supers_in other) bs b.reads b.stores) is
+    theirs = zip_at Reads (supers_in other) other_rs i r (reads_zip (supers_in other) other_rs b.reads b.stores) is
 
     ours : ZipAt Reads (supers_in old) p s
-    ours = zip_at Reads (supers_in old) as_ p s (reads_zip (supers_in old) as_ a.reads a.stores) at
+    ours = zip_at Reads (supers_in old) old_rs p s (reads_zip (supers_in old) old_rs a.reads a.stores) at
 
     label : tree_label ours.it ≡ tree_label theirs.it
     label =
         read_label ours.it s ours.corresponds.0 ours.corresponds.1 ∙ ap Some (sym same)
         ∙ sym (read_label theirs.it r theirs.corresponds.0 theirs.corresponds.1)
 
-    sure : (x : Bool) → (is_reached_from as_ ra p && bytes_eq (tree_bytes ours.it) (tree_bytes theirs.it)) ≡ x
-        → (is_reached_from as_ ra p && bytes_eq (tree_bytes ours.it) (tree_bytes theirs.it)) ≡ true
+    sure : (x : Bool) → (is_reached_from old_rs old_roots p && bytes_eq (tree_bytes ours.it) (tree_bytes theirs.it)) ≡ x
+        → (is_reached_from old_rs old_roots p && bytes_eq (tree_bytes ours.it) (tree_bytes theirs.it)) ≡ true
     sure true e = e
     sure false e =
         absurd
-        (apart i (record { is_reached = reached; theirs = theirs.it; is_theirs = theirs.is; place = p; ours = ours.it; is_ours = ours.is; label = label; other = e }))
+        (apart i (record { is_reached = reached; theirs = theirs.it; is_theirs = theirs.is; place = p; ours = ours.it; is_ours = ours.is; label = label; differs = e }))
 
-    both : (is_reached_from as_ ra p ≡ true) × (bytes_eq (tree_bytes ours.it) (tree_bytes theirs.it) ≡ true)
+    both : (is_reached_from old_rs old_roots p ≡ true) × (bytes_eq (tree_bytes ours.it) (tree_bytes theirs.it) ≡ true)
     both =
-        both_true (is_reached_from as_ ra p) (bytes_eq (tree_bytes ours.it) (tree_bytes theirs.it))
-        (sure (is_reached_from as_ ra p && bytes_eq (tree_bytes ours.it) (tree_bytes theirs.it)) refl)
+        both_true (is_reached_from old_rs old_roots p) (bytes_eq (tree_bytes ours.it) (tree_bytes theirs.it))
+        (sure (is_reached_from old_rs old_roots p && bytes_eq (tree_bytes ours.it) (tree_bytes theirs.it)) refl)
 
     one : ours.it ≡ theirs.it
     one =
@@ -122,7 +122,7 @@ carried_free : (old : Trees) (reached : ℕ → Bool) (i : ℕ) (t : Tree)
     → is_carried_box (supers_in old) reached i t ≡ true → IsStoreBox t → IsFree old t
 carried_free old reached i t e k =
     let l = label_there t k in
-    free_of old t l.0 l.1 (from_not (has_box (supers_in old) t) (both_true (reached i) (not (has_box (supers_in old) t)) e).1)
+    free_of old t l.0 l.1 (from_not (has_same_label (supers_in old) t) (both_true (reached i) (not (has_same_label (supers_in old) t)) e).1)
 
 -- so is that of each carried manifest
 all_free : (old : Trees) (reached : ℕ → Bool) (k : ℕ) (ts : List Tree) → AllByRecursion IsStoreBox ts
@@ -137,25 +137,25 @@ all_free old reached k (t ∷ ts) h = step (is_carried_box (supers_in old) reach
     step true e rest = (carried_free old reached k t e h.0, rest)
     step false e rest = rest
 
--- two sides that don't clash join to one
-pub sides_join : SideLaws → SidesJoin
-sides_join laws hash old other as_ bs ra rb a b apart =
-    let reached : ℕ → Bool = is_reached_from bs rb in
+-- two stores that don't clash join to one
+pub rooted_join : JoiningLaws → RootedStoresJoin
+rooted_join laws hash old other old_rs other_rs old_roots other_roots a b apart =
+    let reached : ℕ → Bool = is_reached_from other_rs other_roots in
     let cs : List Tree = carried_trees (supers_in old) reached (supers_in other) in
     let picks : ℕ → Tree → Bool = is_carried_box (supers_in old) reached in
     let supers : supers_in (joined_boxes old reached other) ≡ supers_in old ++ cs =
     then_supers old cs (all_picked (λ (x : Tree). is_super x ≡ true) picks 0 (supers_in other) (are_supers other)) in
-    let old_zip = reads_zip (supers_in old) as_ a.reads a.stores in
-    let zips : AllZip Reads cs (picked (is_carried as_ reached) 0 bs) =
-    zip_picked Reads picks (is_carried as_ reached) 0 (supers_in other) bs
-    (λ i t r h. ap (λ x. reached i && not x) (box_label (supers_in old) as_ t r old_zip h)) (reads_zip (supers_in other) bs b.reads b.stores) in
+    let old_zip = reads_zip (supers_in old) old_rs a.reads a.stores in
+    let zips : AllZip Reads cs (picked (is_carried old_rs reached) 0 other_rs) =
+    zip_picked Reads picks (is_carried old_rs reached) 0 (supers_in other) other_rs
+    (λ i t r h. ap (λ x. reached i && not x) (box_label (supers_in old) old_rs t r old_zip h)) (reads_zip (supers_in other) other_rs b.reads b.stores) in
     record {
       legal = then_legal 2 old cs a.legal (all_picked (IsLegalTree 2) picks 0 (supers_in other) (legal_supers 2 other b.legal));
       distinct = then_distinct old cs a.distinct (picked_distinct picks 0 (supers_in other) (supers_distinct other b.distinct)) (all_free old reached 0 (supers_in other) b.stores);
       stores = subst (AllByRecursion IsStoreBox) (sym supers) (each-append IsStoreBox (supers_in old) cs a.stores (all_picked IsStoreBox picks 0 (supers_in other) b.stores));
-      reads = subst (λ (ts : List Tree). AreReadings (map manifest_of ts) (joined as_ reached bs)) (sym supers)
-          (zip_reads (supers_in old ++ cs) (joined as_ reached bs) (zip_append Reads (supers_in old) cs as_ (picked (is_carried as_ reached) 0 bs) old_zip zips));
-      rooted = (laws.join hash as_ bs ra rb a.rooted b.rooted (none_clashes laws hash old other as_ bs ra rb a b apart)).rooted;
+      reads = subst (λ (ts : List Tree). AreReadings (map manifest_of ts) (joined old_rs reached other_rs)) (sym supers)
+          (zip_reads (supers_in old ++ cs) (joined old_rs reached other_rs) (zip_append Reads (supers_in old) cs old_rs (picked (is_carried old_rs reached) 0 other_rs) old_zip zips));
+      rooted = (laws.join hash old_rs other_rs old_roots other_roots a.rooted b.rooted (none_clashes laws hash old other old_rs other_rs old_roots other_roots a b apart)).rooted;
     }
 
 -- ---- a valid store
@@ -208,38 +208,38 @@ box_kind b r h e = ap value_in (go (is_ingredient b) (sym (ap is_ingredient h.sa
     go false f m = m
 
 -- each of a manifest
-boxes_kinds : (bs : List Superbox) (rs : List ReadBox) → AllZip IsReadBox bs rs
-    → AllByRecursion (λ (b : ReadBox). is_ingredient b.boxed ≡ false → value_in b.ingredient ≡ None) rs
+boxes_kinds : (boxes : List Superbox) (reads : List ReadBox) → AllZip IsReadBox boxes reads
+    → AllByRecursion (λ (b : ReadBox). is_ingredient b.boxed ≡ false → value_in b.ingredient ≡ None) reads
 boxes_kinds [] [] h = tt
-boxes_kinds [] (r ∷ rs) h = absurd h
-boxes_kinds (b ∷ bs) [] h = absurd h
-boxes_kinds (b ∷ bs) (r ∷ rs) h = (box_kind b r h.0, boxes_kinds bs rs h.1)
+boxes_kinds [] (r ∷ reads) h = absurd h
+boxes_kinds (b ∷ boxes) [] h = absurd h
+boxes_kinds (b ∷ boxes) (r ∷ reads) h = (box_kind b r h.0, boxes_kinds boxes reads h.1)
 
 -- each of a chain
 all_kinds : (ms : List Manifest) (rs : List Reading) → AreReadings ms rs → AllReadKinds rs
 all_kinds ms rs h i r is = let at = zip_at IsReading ms rs i r h is in boxes_kinds at.it.assertions r.boxes at.corresponds.boxes
 
--- a valid store is a side
-pub valid_side : StoreIsRooted → ValidStoreIsSide
-valid_side rooted hash said t s h =
+-- a valid store can be joined
+pub valid_rooted : StoreIsRooted → ValidStoreIsRooted
+valid_rooted rooted hash said t s h =
     let rs : List Reading = s.readings in
-    let bs : Trees = boxes_in t in
+    let boxes : Trees = boxes_in t in
     let inside = legal_inside t h.legal in
-    let supers : supers_of t ≡ supers_in bs = supers_are t in
-    let stores : AllByRecursion IsStoreBox (supers_in bs) = subst (AllByRecursion IsStoreBox) supers (store_boxes t h.store) in
-    let ms : manifests_of t ≡ map manifest_of (supers_in bs) = same_manifests t ∙ ap (map manifest_of) supers in
-    let reads : AreReadings (map manifest_of (supers_in bs)) rs = subst (λ (x : List Manifest). AreReadings x rs) ms h.reads in
+    let supers : supers_of t ≡ supers_in boxes = supers_are t in
+    let stores : AllByRecursion IsStoreBox (supers_in boxes) = subst (AllByRecursion IsStoreBox) supers (store_boxes t h.store) in
+    let ms : manifests_of t ≡ map manifest_of (supers_in boxes) = same_manifests t ∙ ap (map manifest_of) supers in
+    let reads : AreReadings (map manifest_of (supers_in boxes)) rs = subst (λ (x : List Manifest). AreReadings x rs) ms h.reads in
     record {
       legal = inside.legal;
       distinct = inside.distinct;
       stores = stores;
       reads = reads;
-      rooted = rooted hash rs (store_differs bs rs reads stores inside.distinct) (all_kinds (map manifest_of (supers_in bs)) rs reads) (valid_chain hash said s h.valid);
+      rooted = rooted hash rs (store_differs boxes rs reads stores inside.distinct) (all_kinds (map manifest_of (supers_in boxes)) rs reads) (valid_chain hash said s h.valid);
     }
 
--- so are no boxes
-pub no_side : NoStoreIsSide
-no_side hash = record {
+-- so can no boxes
+pub none_rooted : NoStoreIsRooted
+none_rooted hash = record {
   legal = tt;
   distinct = tt;
   stores = tt;
@@ -275,21 +275,21 @@ found file start len t h = by_place h.0 h.2
     by_place located.absent e = absurd (cc (e))
     by_place (located.here at n store) e = by_tree at n store e.0 e.1 e.2
 
--- so it is a side
-pub accepted_side : StoreIsRooted → AcceptedFileIsSide
-accepted_side rooted hash said file start len t s h =
+-- so it can be joined
+pub accepted_rooted : StoreIsRooted → AcceptedFileIsRooted
+accepted_rooted rooted hash said file start len t s h =
     let o : IsFound t = found file start len t h.opened in
-    let sided : IsSide hash (boxes_in t) s.readings (last_roots s.readings) =
-    valid_side rooted hash said t s
+    let sided : IsRootedStore hash (boxes_in t) s.readings (last_roots s.readings) =
+    valid_rooted rooted hash said t s
     (record { legal = o.legal; store = o.store; reads = h.reads.reads.each; valid = h.valid }) in
     (sided, subst (λ k. 0 < k) (ap length (supers_are t) ∙ read_len (supers_in (boxes_in t)) s.readings sided.reads) (some_boxes t o.store))
 
 -- ---- what is taken over
 
--- a side is taken over as what is left of it is read
+-- a store is taken over as what is left of it is read
 pub taken_less : (hash : Alg → List ℕ → List ℕ) (d : Definition) (boxes : Trees) (rs : List Reading) (roots : List ℕ)
     → (k : IsReadLess d.redact boxes rs)
-    → IsSide hash boxes rs roots → has_manifest rs d.label ≡ false → length rs < MAX_MANIFESTS
+    → IsRootedStore hash boxes rs roots → has_manifest rs d.label ≡ false → length rs < MAX_MANIFESTS
     → redaction_refusal_by (is_reached_from rs roots) d.label rs d.redact ≡ None
     → IsTakenFrom hash d (redacted_boxes d.redact boxes) roots rs k.ss
 taken_less hash d boxes rs roots k h free room refusal =
@@ -312,8 +312,8 @@ taken_less hash d boxes rs roots k h free room refusal =
       redactions = may.rules;
     }
 
--- so a side is taken over
-pub side_taken : RedactedStoreIsRead → SideIsTaken
-side_taken less hash d boxes rs roots h free room refusal =
+-- so a store is taken over
+pub rooted_taken : RedactedStoreIsRead → RootedStoreIsTaken
+rooted_taken less hash d boxes rs roots h free room refusal =
     let k : IsReadLess d.redact boxes rs = less d.redact boxes rs h.legal h.stores h.reads in
     (k.ss, taken_less hash d boxes rs roots k h free room refusal)

@@ -14,7 +14,7 @@ use Rattle.c2_built.specs.Manifests.{is_super, manifest_of, supers_in}
 use Rattle.c2_built.specs.Written.{IsStoreBox}
 use Rattle.c2_built.proofs.Lists.{each-append}
 use Rattle.c2_carried.proofs.Stores.{read_label}
-use Rattle.c2_collected.specs.Sides.{boxes_then, has_box}
+use Rattle.c2_collected.specs.Sides.{boxes_then, has_same_label}
 
 -- ---- lists that correspond
 
@@ -104,13 +104,13 @@ zip_reads (t ∷ ts) (r ∷ rs) h = (h.0.0, zip_reads ts rs h.1)
 
 -- a box of a label is there exactly where a reading of it is
 pub box_label : (ts : List Tree) (rs : List Reading) (t : Tree) (r : Reading) → AllZip Reads ts rs → Reads t r
-    → has_box ts t ≡ has_manifest rs (label_in r)
+    → has_same_label ts t ≡ has_manifest rs (label_in r)
 box_label [] [] t r h k = refl
 box_label [] (q ∷ rs) t r h k = absurd h
 box_label (u ∷ ts) [] t r h k = absurd h
 box_label (u ∷ ts) (q ∷ rs) t r h k =
-    ap (λ o. is_given o (unwrap_or (tree_label t) []) || has_box ts t) (read_label u q h.0.0 h.0.1)
-    ∙ ap (λ o. bytes_eq (label_in q) (unwrap_or o []) || has_box ts t) (read_label t r k.0 k.1)
+    ap (λ o. is_given o (unwrap_or (tree_label t) []) || has_same_label ts t) (read_label u q h.0.0 h.0.1)
+    ∙ ap (λ o. bytes_eq (label_in q) (unwrap_or o []) || has_same_label ts t) (read_label t r k.0 k.1)
     ∙ ap (λ b. bytes_eq (label_in q) (label_in r) || b) (box_label ts rs t r h.1 k)
 
 -- labels among others
@@ -171,12 +171,12 @@ abbrev pub IsFree : Trees → Tree → Type 0
 IsFree olds t = AllByRecursion (λ o. o ≢ tree_label t) (tree_labels olds)
 
 -- where no manifest has a label, no box has
-pub free_of : (olds : Trees) (t : Tree) (l : List ℕ) → tree_label t ≡ Some l → has_box (supers_in olds) t ≡ false
+pub free_of : (olds : Trees) (t : Tree) (l : List ℕ) → tree_label t ≡ Some l → has_same_label (supers_in olds) t ≡ false
     → IsFree olds t
 free_of none t l e h = tt
 free_of (more (leaf b) ts) t l e h = (λ f. cc (f, e), free_of ts t l e h)
 free_of (more (super wide d us) ts) t l e h =
-    let parts = or_parts (is_given d.label (unwrap_or (tree_label t) [])) (has_box (supers_in ts) t) h in
+    let parts = or_parts (is_given d.label (unwrap_or (tree_label t) [])) (has_same_label (supers_in ts) t) h in
     ((λ f. false≢true (sym parts.0 ∙ ap (λ o. is_given o (unwrap_or (tree_label t) [])) (f ∙ e) ∙ ap (λ o. bytes_eq l (unwrap_or o [])) e ∙ (bytes_eq-Decides l l).1 refl)), free_of ts t l e parts.1)
 
 -- a box of a label that none of these trees has

@@ -1,6 +1,6 @@
 -- A collected ingredient: a new store over the joined boxes of a media file's store, where it has one, and of another file's (C2PA
 -- Technical Specification 2.x, "Ingredient"). The last manifest of the media's store is the parent, and the last of the other a component.
-use Rattle.std.specs.Prelude.{◌≡◌, ◌⊎◌, ◌<◌, ◌≤◌, ◌+◌, ℕ, Bool, true, false, Contains, List, [], ◌∷◌, codes, find, length, slice_get}
+use Rattle.std.specs.Prelude.{◌≡◌, ◌⊎◌, ◌↔◌, ◌<◌, ◌≤◌, ◌+◌, ℕ, Bool, true, false, Contains, List, [], ◌∷◌, codes, find, length, slice_get}
 use Rattle.std.specs.declared.option.Option.TheVariants.{Some, None}
 use Rattle.std.specs.List.{AllByRecursion, AllZip}
 use Rattle.c2_base.specs.declared.limits.TheConstants.{MAX_MANIFESTS, MAX_STORE_LEN}
@@ -30,26 +30,26 @@ use Rattle.c2_gathered.specs.Gathered.{Gathered, NewIngredient, gathered_claim, 
 use Rattle.c2_gathered.specs.Taken.{questions_from}
 use Rattle.c2_collected.specs.Refusals.{redaction_refusal_by}
 use Rattle.c2_collected.specs.Sides.{DoNotClash, joined_boxes}
-use Rattle.c2_collected.specs.Stores.{IsSide}
+use Rattle.c2_collected.specs.Stores.{IsRootedStore}
 
 -- ---- the joined chain
 
 -- the joined boxes: those of the media's store, and the manifests of the other that are reached in it, where these are its readings
 abbrev pub collected_boxes : Trees → Trees → List Reading → Trees
-collected_boxes old other bs = joined_boxes old (is_reached bs) other
+collected_boxes old other other_rs = joined_boxes old (is_reached other_rs) other
 
--- what they are read as, where the two stores are read as these
+-- what the joined boxes are read as, where the two stores are read as these
 abbrev pub collected_readings : List Reading → List Reading → List Reading
-collected_readings as_ bs = joined as_ (is_reached bs) bs
+collected_readings old_rs other_rs = joined old_rs (is_reached other_rs) other_rs
 
--- the roots of that chain: the last manifests of both stores
+-- the roots of the joined chain: the last manifests of both stores
 abbrev pub collected_roots : List Reading → List Reading → List ℕ
-collected_roots as_ bs = joined_roots (last_roots as_) bs (last_roots bs) (collected_readings as_ bs)
+collected_roots old_rs other_rs = joined_roots (last_roots old_rs) other_rs (last_roots other_rs) (collected_readings old_rs other_rs)
 
 -- ---- the ingredients
 
--- An ingredient's manifest: the one at this place, by its label, its contents, and those of its signature box.
-pub record IsParentAt (p : Parent) (manifests : List Tree) (place : ℕ) : Type 0 where
+-- The manifest that an ingredient names: the one at this place, by its label, its contents, and those of its signature box.
+pub record IsNamedAt (p : Parent) (manifests : List Tree) (place : ℕ) : Type 0 where
   pub manifest : Tree
   pub is_manifest : slice_get manifests place ≡ Some manifest
   pub label : any_label (node manifest) ≡ Some p.label
@@ -58,7 +58,7 @@ pub record IsParentAt (p : Parent) (manifests : List Tree) (place : ℕ) : Type 
   pub is_signature : find is_signature_box (supers_of manifest) ≡ Some signature
   pub signed : contents_of signature ≡ p.signed
 
--- The ingredients of one manifest or of two: a component, or a parent and then a component, whose label then ends `__1` ("Multiple
+-- The ingredients that name one manifest or two: a component, or a parent and then a component, whose label then ends `__1` ("Multiple
 -- instances" of assertions). There are never more, as a joined chain has two roots at most.
 abbrev pub collected_ingredients : List Parent → List NewIngredient
 collected_ingredients [] = []
@@ -69,109 +69,123 @@ collected_ingredients (p ∷ q ∷ more) =
     ∷ record { label = codes "c2pa.ingredient.v3__1"; relationship = ComponentOf; of = q }
     ∷ []
 
--- What goes into the new store: the joined boxes less what the definition redacts, and as ingredients the manifests at the roots, as
--- they stand there.
-pub record CollectsFrom (d : Definition) (old other : Trees) (as_ bs : List Reading) (c : Gathered) : Type 0 where
+-- What goes into the new store: the joined boxes less what the definition redacts, and ingredients that name the manifests at the roots,
+-- as they stand there.
+pub record CollectsFrom (d : Definition) (old other : Trees) (old_rs other_rs : List Reading) (c : Gathered) : Type 0 where
   pub definition : c.definition ≡ d
-  pub carried : c.carried ≡ redacted_boxes d.redact (collected_boxes old other bs)
-  pub parents : List Parent
-  pub are : AllZip (λ (p : Parent) root. IsParentAt p (supers_in c.carried) root) parents (collected_roots as_ bs)
-  pub ingredients : c.ingredients ≡ collected_ingredients parents
+  pub carried : c.carried ≡ redacted_boxes d.redact (collected_boxes old other other_rs)
+  pub named : List Parent
+  pub are : AllZip (λ (p : Parent) root. IsNamedAt p (supers_in c.carried) root) named (collected_roots old_rs other_rs)
+  pub ingredients : c.ingredients ≡ collected_ingredients named
 
 -- ---- what may be collected
 
--- Two stores, the first of which may have no manifest, that may be joined: both are sides, seen from their last manifests, and the
--- second has one; and they don't clash.
-pub record CanJoin (hash : Alg → List ℕ → List ℕ) (old other : Trees) (as_ bs : List Reading) : Type 0 where
-  pub media : IsSide hash old as_ (last_roots as_)
-  pub others : IsSide hash other bs (last_roots bs)
-  pub some : 0 < length bs
-  pub apart : DoNotClash (supers_in old) (is_reached as_) (supers_in other) (is_reached bs)
+-- Two stores, the first of which may have no manifest, that may be joined: the rules but the verdicts hold of what is reached from the
+-- last manifest of each, the second has a manifest, and they don't clash.
+pub record CanJoin (hash : Alg → List ℕ → List ℕ) (old other : Trees) (old_rs other_rs : List Reading) : Type 0 where
+  pub old_store : IsRootedStore hash old old_rs (last_roots old_rs)
+  pub other_store : IsRootedStore hash other other_rs (last_roots other_rs)
+  pub some : 0 < length other_rs
+  pub apart : DoNotClash (supers_in old) (is_reached old_rs) (supers_in other) (is_reached other_rs)
 
--- This is reached from the roots of the joined chain: of the media's manifests those that are reached in its own store, and those that
--- are carried of the other, which stand behind the media's.
-pub record JoinedReaches (as_ bs : List Reading) (is_in : ℕ → Bool) : Type 0 where
-  pub media : (i : ℕ) → i < length as_ → is_in i ≡ is_reached as_ i
-  pub carried : (i : ℕ) → length as_ ≤ i → i < length (collected_readings as_ bs) → is_in i ≡ true
+-- What stands at place `i` of the joined chain was reached where it comes from: in the media's store, where it stands at the same place;
+-- or in the other store.
+pub data WasReached (old_rs other_rs : List Reading) (i : ℕ) : Type 0 where
+  in_media : i < length old_rs → is_reached old_rs i ≡ true → WasReached old_rs other_rs i
+  in_other : (place : ℕ) (r : Reading) → is_reached other_rs place ≡ true → slice_get other_rs place ≡ Some r
+      → slice_get (collected_readings old_rs other_rs) i ≡ Some r → WasReached old_rs other_rs i
 
--- So it is where two stores may be joined.
+-- This is reached of the joined chain: each manifest that was reached in the media's store or in the other, and nothing else. Of the
+-- media's manifests that is what was reached in its own store; the carried ones, which stand behind them, are all reached; and each
+-- manifest that was reached in the other store stands somewhere in the chain.
+pub record JoinedReaches (old_rs other_rs : List Reading) (is_in : ℕ → Bool) : Type 0 where
+  pub each : (i : ℕ) → i < length (collected_readings old_rs other_rs) → (is_in i ≡ true) ↔ WasReached old_rs other_rs i
+  pub media : (i : ℕ) → i < length old_rs → is_in i ≡ is_reached old_rs i
+  pub carried : (i : ℕ) → length old_rs ≤ i → i < length (collected_readings old_rs other_rs) → is_in i ≡ true
+  pub stands : (place : ℕ) (r : Reading) → is_reached other_rs place ≡ true → slice_get other_rs place ≡ Some r
+      → (i : ℕ) × (slice_get (collected_readings old_rs other_rs) i ≡ Some r) × (is_in i ≡ true)
+
+-- Where two stores may be joined, what is reached from the roots of the joined chain is what was reached in the one or in the other.
 abbrev pub JoinedIsReached : Type 0
-JoinedIsReached = (hash : Alg → List ℕ → List ℕ) (old other : Trees) (as_ bs : List Reading)
-    → CanJoin hash old other as_ bs
-    → JoinedReaches as_ bs (is_reached_from (collected_readings as_ bs) (collected_roots as_ bs))
+JoinedIsReached = (hash : Alg → List ℕ → List ℕ) (old other : Trees) (old_rs other_rs : List Reading)
+    → CanJoin hash old other old_rs other_rs
+    → JoinedReaches old_rs other_rs (is_reached_from (collected_readings old_rs other_rs) (collected_roots old_rs other_rs))
 
 -- Two stores that may be collected under this definition, as far as the number of their manifests allows: they may be joined, none of
 -- the joined manifests has the new label, and no redaction of what is reached from the roots is refused. That the second file is accepted
--- says more (`IsAccepted`): its verdicts, and the tests of its binding.
-pub record CanCollect (hash : Alg → List ℕ → List ℕ) (d : Definition) (old other : Trees) (as_ bs : List Reading) : Type 0 where
-  pub joins : CanJoin hash old other as_ bs
-  pub label : has_manifest (collected_readings as_ bs) d.label ≡ false
-  pub redactions : redaction_refusal_by (is_reached_from (collected_readings as_ bs) (collected_roots as_ bs)) d.label
-      (collected_readings as_ bs) d.redact ≡ None
+-- says more (`IsAcceptedFile`): its verdicts, and the tests of its binding.
+pub record CanCollect (hash : Alg → List ℕ → List ℕ) (d : Definition) (old other : Trees) (old_rs other_rs : List Reading) : Type 0 where
+  pub joins : CanJoin hash old other old_rs other_rs
+  pub label : has_manifest (collected_readings old_rs other_rs) d.label ≡ false
+  pub redactions : redaction_refusal_by (is_reached_from (collected_readings old_rs other_rs) (collected_roots old_rs other_rs)) d.label
+      (collected_readings old_rs other_rs) d.redact ≡ None
 
 -- Where two stores may be collected, something goes into the new store, whether there is room or not.
 abbrev pub SomeContentCollects : Type 0
-SomeContentCollects = (hash : Alg → List ℕ → List ℕ) (d : Definition) (old other : Trees) (as_ bs : List Reading)
-    → CanCollect hash d old other as_ bs → (c : Gathered) × CollectsFrom d old other as_ bs c
+SomeContentCollects = (hash : Alg → List ℕ → List ℕ) (d : Definition) (old other : Trees) (old_rs other_rs : List Reading)
+    → CanCollect hash d old other old_rs other_rs → (c : Gathered) × CollectsFrom d old other old_rs other_rs c
 
--- And it is one.
+-- What goes into a new store over two stores is one.
 abbrev pub CollectedContentIsOne : Type 0
-CollectedContentIsOne = (d : Definition) (old other : Trees) (as_ bs : List Reading) (b c : Gathered)
-    → CollectsFrom d old other as_ bs b → CollectsFrom d old other as_ bs c → b ≡ c
+CollectedContentIsOne = (d : Definition) (old other : Trees) (old_rs other_rs : List Reading) (b c : Gathered)
+    → CollectsFrom d old other old_rs other_rs b → CollectsFrom d old other old_rs other_rs c → b ≡ c
 
 -- ---- what the new store meets
 
 -- This goes into a new store over two that may be collected: the definition can be written, and there is room for one more manifest
 -- than the joined ones.
-pub record IsCollected (hash : Alg → List ℕ → List ℕ) (d : Definition) (old other : Trees) (as_ bs : List Reading) (c : Gathered) : Type 0 where
-  pub can : CanCollect hash d old other as_ bs
-  pub few : length (collected_readings as_ bs) < MAX_MANIFESTS
+pub record IsCollected (hash : Alg → List ℕ → List ℕ) (d : Definition) (old other : Trees) (old_rs other_rs : List Reading) (c : Gathered) : Type 0 where
+  pub can : CanCollect hash d old other old_rs other_rs
+  pub few : length (collected_readings old_rs other_rs) < MAX_MANIFESTS
   pub written : CanBeWritten d
-  pub content : CollectsFrom d old other as_ bs c
+  pub content : CollectsFrom d old other old_rs other_rs c
 
--- A new store of it, which isn't too large, with a binding of a kind that is known, and a message that spells its parts.
+-- A new store of what is gathered, which isn't too large, with a binding of a kind that is known, and a message that spells its parts.
 pub record IsStored (hash : Alg → List ℕ → List ℕ) (c : Gathered) (binding : NewAssertion) (message : List ℕ) (p : SignParts) : Type 0 where
   pub known : IsKnownBinding binding
   pub fits : length (tree_bytes (gathered_store (hash (new_alg c.definition)) c binding message)) ≤ MAX_STORE_LEN
   pub spells : SpellsMessage message p
 
--- The new store meets each rule but those on its binding and the verdict on its message. It asks the new question, and then those of
--- what is reached from the roots of the joined chain.
+-- A new store that collects from two stores meets each rule but the one on its binding and the verdict on its message. It asks the new
+-- question, and then those of what is reached from the roots of the joined chain.
 abbrev pub CollectedStoreMeets : Type 0
-CollectedStoreMeets = (hash : Alg → List ℕ → List ℕ) (d : Definition) (old other : Trees) (as_ bs : List Reading) (c : Gathered) (binding : NewAssertion) (message : List ℕ) (p : SignParts)
-    → IsCollected hash d old other as_ bs c → IsStored hash c binding message p
+CollectedStoreMeets = (hash : Alg → List ℕ → List ℕ) (d : Definition) (old other : Trees) (old_rs other_rs : List Reading) (c : Gathered) (binding : NewAssertion) (message : List ℕ) (p : SignParts)
+    → IsCollected hash d old other old_rs other_rs c → IsStored hash c binding message p
     → MeetsUnbound hash (gathered_store (hash (new_alg c.definition)) c binding message) binding
-    (question_of p (gathered_claim (hash (new_alg c.definition)) c binding) ∷ questions_from (collected_readings as_ bs) (collected_roots as_ bs))
+    (question_of p (gathered_claim (hash (new_alg c.definition)) c binding)
+    ∷ questions_from (collected_readings old_rs other_rs) (collected_roots old_rs other_rs))
 
 -- a question is one of the media's store or of the other
 abbrev pub IsOfEither : List Reading → List Reading → Question → Type 0
-IsOfEither as_ bs q = Contains (questions as_) q ⊎ Contains (questions bs) q
+IsOfEither old_rs other_rs q = Contains (questions old_rs) q ⊎ Contains (questions other_rs) q
 
 -- judges who say this approve each of these questions
 abbrev pub AreApproved : (Question → Verdict) → List Question → Type 0
 AreApproved said qs = AllByRecursion (λ (q : Question). said q ≡ Approved) qs
 
--- Each question of the joined chain is one of either.
+-- Each question of what is reached from the roots of the joined chain is a question of the media's store or of the other.
 abbrev pub QuestionsAreOfEither : Type 0
-QuestionsAreOfEither = (hash : Alg → List ℕ → List ℕ) (old other : Trees) (as_ bs : List Reading)
-    → CanJoin hash old other as_ bs
-    → AllByRecursion (IsOfEither as_ bs) (questions_from (collected_readings as_ bs) (collected_roots as_ bs))
+QuestionsAreOfEither = (hash : Alg → List ℕ → List ℕ) (old other : Trees) (old_rs other_rs : List Reading)
+    → CanJoin hash old other old_rs other_rs
+    → AllByRecursion (IsOfEither old_rs other_rs) (questions_from (collected_readings old_rs other_rs) (collected_roots old_rs other_rs))
 
--- So judges who approve each question of both approve each of them.
+-- Judges who approve each question of the media's store and of the other approve each question of the joined chain.
 abbrev pub QuestionsAreApproved : Type 0
-QuestionsAreApproved = (hash : Alg → List ℕ → List ℕ) (said : Question → Verdict) (old other : Trees) (as_ bs : List Reading)
-    → CanJoin hash old other as_ bs → AreApproved said (questions as_) → AreApproved said (questions bs)
-    → AreApproved said (questions_from (collected_readings as_ bs) (collected_roots as_ bs))
+QuestionsAreApproved = (hash : Alg → List ℕ → List ℕ) (said : Question → Verdict) (old other : Trees) (old_rs other_rs : List Reading)
+    → CanJoin hash old other old_rs other_rs → AreApproved said (questions old_rs) → AreApproved said (questions other_rs)
+    → AreApproved said (questions_from (collected_readings old_rs other_rs) (collected_roots old_rs other_rs))
 
--- In these readings of the new store what is reached are the new manifest, which is the last, and what is reached in the joined chain.
-pub record ReachesCollected (as_ bs all : List Reading) : Type 0 where
-  pub count : length all ≡ length (collected_readings as_ bs) + 1
-  pub older : JoinedReaches as_ bs (is_reached all)
-  pub new : is_reached all (length (collected_readings as_ bs)) ≡ true
+-- In these readings of the new store what is reached are the new manifest, which is the last, and of the joined chain before it what was
+-- reached in the media's store or in the other.
+pub record ReachesCollected (old_rs other_rs all : List Reading) : Type 0 where
+  pub count : length all ≡ length (collected_readings old_rs other_rs) + 1
+  pub new : is_reached all (length (collected_readings old_rs other_rs)) ≡ true
+  pub older : JoinedReaches old_rs other_rs (is_reached all)
 
--- Its manifests come to such readings.
+-- Whatever the manifests of a new store that collects from two stores are read as, what is reached in it are the new manifest and what was
+-- reached in the media's store or in the other.
 abbrev pub CollectedStoreReaches : Type 0
-CollectedStoreReaches = (hash : Alg → List ℕ → List ℕ) (d : Definition) (old other : Trees) (as_ bs : List Reading) (c : Gathered) (binding : NewAssertion) (message : List ℕ) (p : SignParts)
-    → IsCollected hash d old other as_ bs c → IsStored hash c binding message p
-    → (all : List Reading) × AreReadings (manifests_of (gathered_store (hash (new_alg c.definition)) c binding message)) all
-    × ReachesCollected as_ bs all
+CollectedStoreReaches = (hash : Alg → List ℕ → List ℕ) (d : Definition) (old other : Trees) (old_rs other_rs : List Reading) (c : Gathered) (binding : NewAssertion) (message : List ℕ) (p : SignParts) (all : List Reading)
+    → IsCollected hash d old other old_rs other_rs c → IsStored hash c binding message p
+    → AreReadings (manifests_of (gathered_store (hash (new_alg c.definition)) c binding message)) all
+    → ReachesCollected old_rs other_rs all

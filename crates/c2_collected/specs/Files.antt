@@ -4,27 +4,38 @@ use Rattle.c2_spec.specs.C2pa.Sign1.{SignParts, SpellsMessage}
 use Rattle.c2_spec.specs.Jumbf.Tree.{Trees, tree_bytes}
 use Rattle.c2_spec.specs.declared.digest.Alg.{Alg}
 use Rattle.c2_rules.specs.Readings.{Reading}
+use Rattle.c2_rules.specs.CheckList.{StoreReading}
+use Rattle.c2_rules.specs.Validated.{IsFileReading}
 use Rattle.c2_definition.specs.declared.types.Definition.{Definition}
 use Rattle.c2_built.specs.Fresh.{GivesDigests, Meets}
 use Rattle.c2_built.specs.Store.{Content, new_alg}
 use Rattle.c2_gathered.specs.Gathered.{Gathered, content_of}
 use Rattle.c2_gathered.specs.Taken.{questions_from}
 use Rattle.c2_places.specs.Places.{CanPut, Place, place_file, place_question, place_start, place_store, put_bytes, range_len}
-use Rattle.c2_collected.specs.Collected.{IsCollected, collected_readings, collected_roots}
+use Rattle.c2_collected.specs.Collected.{IsCollected, ReachesCollected, collected_readings, collected_roots}
 
 -- what is collected, as what goes into a new file: its ingredients are further assertions of its definition
 abbrev pub collected_content : (Alg → List ℕ → List ℕ) → Gathered → Content
 collected_content hash c = content_of (hash (new_alg c.definition)) c
 
--- The file that is built in its place, over a base without a store, and whose new store collects from two stores, has the new store,
+-- A file that is built in its place, over a base without a store, and whose new store collects from two stores, has the new store,
 -- meets every rule but the verdict on its message, and asks the new question and then those of what is reached from the roots of the
 -- joined chain. The message may be any that spells its parts.
 abbrev pub CollectedFileMeets : Type 0
-CollectedFileMeets = (hash : Alg → List ℕ → List ℕ) (d : Definition) (old other : Trees) (as_ bs : List Reading) (c : Gathered) (message base bytes : List ℕ) (p : Place) (parts : SignParts)
-    → GivesDigests hash → IsCollected hash d old other as_ bs c → CanPut (collected_content hash c) (length message) base p
+CollectedFileMeets = (hash : Alg → List ℕ → List ℕ) (d : Definition) (old other : Trees) (old_rs other_rs : List Reading) (c : Gathered) (message base bytes : List ℕ) (p : Place) (parts : SignParts)
+    → GivesDigests hash → IsCollected hash d old other old_rs other_rs c → CanPut (collected_content hash c) (length message) base p
     → SpellsMessage message parts
     → put_bytes p (tree_bytes (place_store (hash (new_alg c.definition)) (collected_content hash c) message base p)) ≡ Some bytes
     → Meets hash (place_file base p bytes) (place_start p) (range_len p (collected_content hash c) (length message))
     (place_store (hash (new_alg c.definition)) (collected_content hash c) message base p)
     (place_question (hash (new_alg c.definition)) (collected_content hash c) (length message) base p parts
-    ∷ questions_from (collected_readings as_ bs) (collected_roots as_ bs))
+    ∷ questions_from (collected_readings old_rs other_rs) (collected_roots old_rs other_rs))
+
+-- Where the new store of a file in its place collects from two stores, the manifests that are reached in it, whatever it is read as, are
+-- the new one and those that were reached in the media's store or in the other.
+abbrev pub CollectedFileReaches : Type 0
+CollectedFileReaches = (hash : Alg → List ℕ → List ℕ) (d : Definition) (old other : Trees) (old_rs other_rs : List Reading) (c : Gathered) (message base file : List ℕ) (p : Place) (parts : SignParts) (s : StoreReading)
+    → GivesDigests hash → IsCollected hash d old other old_rs other_rs c → CanPut (collected_content hash c) (length message) base p
+    → SpellsMessage message parts
+    → IsFileReading file (place_store (hash (new_alg c.definition)) (collected_content hash c) message base p) s
+    → ReachesCollected old_rs other_rs s.readings

@@ -3,3 +3,5 @@ pub mod Refusals
 pub mod Stores
 pub mod Collected
 pub mod Files
+pub mod Order
+pub mod Whole

@@ -1,7 +1,7 @@
 -- Which redactions of a chain are refused, where these manifests of it are reached (C2PA Technical Specification 2.x, "Redaction of
 -- assertions"): what a redaction names must be there in a reached manifest, and each ingredient of a reached manifest that names that
--- one must name its signature. Seen from the
--- last manifest of one store, a redaction is refused here exactly where `c2_carried` refuses it of that store.
+-- one must name its signature. Seen from the last manifest of one store, a redaction is refused here exactly where `c2_carried` refuses it
+-- of that store.
 use Rattle.std.specs.Prelude.{◌≡◌, ◌<◌, ℕ, Bool, not, ◌&&◌, List, [], ◌∷◌, ◌++◌, length, take, slice_get, option_map}
 use Rattle.std.specs.declared.option.Option.{Option}
 use Rattle.std.specs.declared.option.Option.TheVariants.{Some, None}
@@ -72,7 +72,7 @@ IsFirstRefusedBy reached own rs before redacts None =
 IsFirstRefusedBy reached own rs before redacts (Some r) =
     (place : ℕ) × IsRefusedAtBy reached own rs before redacts place r
 
--- What is answered is the first that is refused.
+-- What is answered of a list of redactions is the first that is refused.
 abbrev pub FirstRedactionIsLeastBy : Type 0
 FirstRedactionIsLeastBy = (reached : ℕ → Bool) (own : List ℕ) (rs : List Reading) (before redacts : List (List ℕ))
     → IsFirstRefusedBy reached own rs before redacts (refusal_after_by reached own rs before redacts)
@@ -84,12 +84,12 @@ pub record AreAcceptedBy (reached : ℕ → Bool) (own : List ℕ) (rs : List Re
   pub can : CanRedactBy reached redacts rs
   pub rules : RedactionsPass own redacts
 
--- So it is in each chain whose manifests have different labels.
+-- In a chain whose manifests have different labels, redactions of which none is refused may be made, and their rules hold.
 abbrev pub RedactionsAreAcceptedBy : Type 0
 RedactionsAreAcceptedBy = (reached : ℕ → Bool) (own : List ℕ) (rs : List Reading) (redacts : List (List ℕ))
     → LabelsDiffer rs → redaction_refusal_by reached own rs redacts ≡ None → AreAcceptedBy reached own rs redacts
 
--- In one store what is refused is what is refused of what is reached there.
+-- In one store the same redactions are refused as where what is reached is told.
 abbrev pub RefusalsAreStanding : Type 0
 RefusalsAreStanding = (own : List ℕ) (rs : List Reading) (redacts : List (List ℕ))
     → redaction_refusal_by (is_reached rs) own rs redacts ≡ redaction_refusal own rs redacts

@@ -1,9 +1,11 @@
-// Laws of stores that are joined, and of a new store over them.
+// Laws of stores that are joined, of a new store over them, and of the file that is built with it.
 
 ghost use Rattle.c2_collected.specs.Collected.{CollectedContentIsOne, CollectedStoreMeets, CollectedStoreReaches, JoinedIsReached, QuestionsAreApproved, QuestionsAreOfEither, SomeContentCollects};
-ghost use Rattle.c2_collected.specs.Files.{CollectedFileMeets};
+ghost use Rattle.c2_collected.specs.Files.{CollectedFileMeets, CollectedFileReaches};
+ghost use Rattle.c2_collected.specs.Order.{CollectablePairIsUnrefused, CollectedIsNotRefused, NothingRefusedIsCollected, SomeFileIsCollected, UnrefusedPairCollects};
 ghost use Rattle.c2_collected.specs.Refusals.{FirstRedactionIsLeastBy, RedactionsAreAcceptedBy, RefusalsAreStanding};
-ghost use Rattle.c2_collected.specs.Stores.{AcceptedFileIsSide, NoStoreIsSide, SideIsTaken, SidesJoin, ValidStoreIsSide};
+ghost use Rattle.c2_collected.specs.Whole.{EachCollectedFileMeets};
+ghost use Rattle.c2_collected.specs.Stores.{AcceptedFileIsRooted, NoStoreIsRooted, RootedStoreIsTaken, RootedStoresJoin, ValidStoreIsRooted};
 
 use c2_assertion::{
     a_written_bmff_hash_is_read, a_written_data_hash_has_one_length, a_written_data_hash_is_read,
@@ -18,8 +20,13 @@ use c2_gathered::{a_gathered_store_meets_the_rules, stores_are_gathered};
 use c2_joined::{a_store_is_rooted_at_its_last_manifest, chains_join};
 use c2_jpegseg::packets_hold_the_store;
 use c2_jumbf::each_list_is_a_tree_or_not;
-use c2_places::{a_new_store_has_one_length_in_its_place, bindings_are_known};
+use c2_message::a_message_fills_its_reserve_or_needs_more;
+use c2_places::{
+    a_base_stays, a_file_built_in_its_place_meets_the_rules,
+    a_new_store_has_one_length_in_its_place, bindings_are_known,
+};
 use c2_reading::one_reading;
+use c2_rules::a_question_where_the_claim_rules_hold;
 use c2_uri::written_uris_are_read;
 
 /// Redactions of a chain of which none is refused may be made, and the rules on redactions hold of them. What is answered is the first
@@ -33,10 +40,10 @@ pub fn redactions_of_a_chain_may_be_made()
 /// A valid store can be joined with another, seen from its last manifest; media without a store joins as one of no boxes. Two that
 /// don't clash join to one, seen from the roots of both; and one is taken over by a new store, less what is redacted.
 pub fn stores_join()
-    ensures valid { ValidStoreIsSide }
-    ensures none { NoStoreIsSide }
-    ensures join { SidesJoin }
-    ensures taken { SideIsTaken }
+    ensures valid { ValidStoreIsRooted }
+    ensures none { NoStoreIsRooted }
+    ensures join { RootedStoresJoin }
+    ensures taken { RootedStoreIsTaken }
 {
     // Only the prover needs these laws.
     a_store_is_rooted_at_its_last_manifest();
@@ -48,14 +55,15 @@ pub fn stores_join()
 
 /// The store of an accepted file can be joined with another, seen from its last manifest, and it has one.
 pub fn an_accepted_file_can_be_collected()
-    ensures { AcceptedFileIsSide }
+    ensures { AcceptedFileIsRooted }
 {
     // Only the prover needs this law.
     a_store_is_rooted_at_its_last_manifest();
 }
 
-/// What is reached from the last manifests of two stores that may be joined is what is carried of the second, and of the first what is
-/// reached in its own store. Each question of that is one of either, and judges approve it who approve those of both.
+/// What is reached from the last manifests of two stores that may be joined is what was reached in the one or in the other: of the first
+/// what is reached in its own store, and all that is carried of the second. Each question of that is one of either, and judges approve it
+/// who approve those of both.
 pub fn what_is_joined_is_reached()
     ensures reached { JoinedIsReached }
     ensures questions { QuestionsAreOfEither }
@@ -80,8 +88,8 @@ pub fn what_is_collected_is_one()
 }
 
 /// A new store over the joined boxes of two stores meets each rule but the verdict on its message and the one on its binding, and asks
-/// the new question and then those of the joined chain. What is reached in it are the new manifest, those that are carried, and of the
-/// media's those that are reached in its own store.
+/// the new question and then those of the joined chain. Whatever it is read as, what is reached in it are the new manifest and what was
+/// reached in the media's store or in the other.
 pub fn a_collected_store_meets_the_rules()
     ensures meets { CollectedStoreMeets }
     ensures reaches { CollectedStoreReaches }
@@ -94,10 +102,11 @@ pub fn a_collected_store_meets_the_rules()
     one_reading();
 }
 
-/// So does a file that is built over a base without a store, whichever its container is: it has the new store, and meets each rule but
-/// the verdict on its message.
+/// A file that is built with such a store over a base without one, whichever its container is, has the new store, and meets each rule but
+/// the verdict on its message. What is reached in it is what is reached in that store.
 pub fn a_collected_file_meets_the_rules()
-    ensures { CollectedFileMeets }
+    ensures meets { CollectedFileMeets }
+    ensures reaches { CollectedFileReaches }
 {
     // Only the prover needs these laws.
     a_collected_store_meets_the_rules();
@@ -118,4 +127,52 @@ pub fn a_collected_file_meets_the_rules()
     a_written_bmff_hash_is_read();
     written_items_have_plain_keys();
     a_bound_file_meets_the_rules();
+}
+
+/// A new store may collect from a media file and another file exactly where the list of what is refused of both is empty.
+pub fn two_files_are_refused_or_collected()
+    ensures collects { UnrefusedPairCollects }
+    ensures none { CollectablePairIsUnrefused }
+{
+    // Only the prover needs this law.
+    a_store_is_rooted_at_its_last_manifest();
+}
+
+/// Of inputs none of which is refused alone there is a new file that collects, whose message fills what is reserved for it, exactly where
+/// the list of all that is refused is empty.
+pub fn a_collected_file_is_refused_or_built()
+    ensures built { NothingRefusedIsCollected }
+    ensures none { CollectedIsNotRefused }
+{
+    // Only the prover needs these laws.
+    a_store_is_rooted_at_its_last_manifest();
+    a_message_fills_its_reserve_or_needs_more();
+}
+
+/// The file of a new store that collects from two files has the new store, and each rule but the verdict on its message holds of it. Each
+/// question but the new one is one of the media's store or of the other. What is reached in it are the new manifest and what was reached in
+/// one of both. Less its range it is what is left of the media, and judges accept it who approve its questions.
+pub fn each_collected_file_meets_the_rules()
+    ensures { EachCollectedFileMeets }
+{
+    // Only the prover needs these laws.
+    a_collected_file_meets_the_rules();
+    what_is_joined_is_reached();
+    a_base_stays();
+    a_question_where_the_claim_rules_hold();
+}
+
+/// Some file is built that collects, whatever the hash, where it gives digests and judges approve each question: of a media file without a
+/// store, and of one with a store.
+pub fn some_file_is_collected()
+    ensures { SomeFileIsCollected }
+{
+    // Only the prover needs these laws.
+    a_message_fills_its_reserve_or_needs_more();
+    a_file_built_in_its_place_meets_the_rules();
+    a_new_store_has_one_length_in_its_place();
+    a_base_stays();
+    a_question_where_the_claim_rules_hold();
+    a_store_is_rooted_at_its_last_manifest();
+    sorting_keeps_the_length();
 }

@@ -1,13 +1,16 @@
 //! A collected ingredient: the boxes of two stores joined, and a new store over them (C2PA Technical Specification 2.x, "Ingredient").
 //!
 //! Which boxes are joined, and where two stores clash, stands in `Sides`; what is asked of each store in `Stores`; which redactions
-//! are refused in `Refusals`; what goes into the new store, and what it meets, in `Collected`; and what its file meets in `Files`.
+//! are refused in `Refusals`; what goes into the new store, and what it meets, in `Collected`; what its file meets in `Files`; what
+//! is refused of a build, over both files and in its order, in `Order`; and what the file of both meets as a whole in `Whole`.
 #![tactic(auto)]
 
 mod laws;
 
 pub use laws::{
-    a_collected_file_meets_the_rules, a_collected_store_meets_the_rules,
-    an_accepted_file_can_be_collected, redactions_of_a_chain_may_be_made, stores_join,
-    what_is_collected_is_one, what_is_joined_is_reached,
+    a_collected_file_is_refused_or_built, a_collected_file_meets_the_rules,
+    a_collected_store_meets_the_rules, an_accepted_file_can_be_collected,
+    each_collected_file_meets_the_rules, redactions_of_a_chain_may_be_made, some_file_is_collected,
+    stores_join, two_files_are_refused_or_collected, what_is_collected_is_one,
+    what_is_joined_is_reached,
 };

@@ -1,9 +1,9 @@
-use Rattle.c2_collected.proofs.Filed.{file_meets}
+use Rattle.c2_collected.proofs.Filed.{file_meets, file_reaches}
 use Rattle.c2_collected.proofs.laws.a_collected_file_meets_the_rules.Goals as goal
 
 -- the file meets the rules, by the laws of its container
-pub returns : goal.returns
-returns c = file_meets (record {
+pub returns-clause-meets : goal.returns-clause-meets
+returns-clause-meets c = file_meets (record {
   jpeg = record {
     store = record {
       keeps = c.sorting_keeps_the_length.ensures;
@@ -33,7 +33,17 @@ returns c = file_meets (record {
     };
     bound = c.a_bound_file_meets_the_rules.ensures;
   };
+  put = record {
+    same = c.stores_are_gathered.ensures.content;
+    sizes = c.a_new_store_has_one_length_in_its_place.ensures;
+    known = c.bindings_are_known.ensures;
+  };
+}) c.a_collected_store_meets_the_rules.ensures.meets
+
+-- and this is reached in it
+pub returns-clause-reaches : goal.returns-clause-reaches
+returns-clause-reaches c = file_reaches (record {
   same = c.stores_are_gathered.ensures.content;
   sizes = c.a_new_store_has_one_length_in_its_place.ensures;
   known = c.bindings_are_known.ensures;
-}) c.a_collected_store_meets_the_rules.ensures.meets
+}) c.a_collected_store_meets_the_rules.ensures.reaches

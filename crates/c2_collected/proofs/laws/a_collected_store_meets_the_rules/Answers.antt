@@ -15,4 +15,4 @@ returns-clause-reaches c = collected_reaches (record {
   tree = c.each_list_is_a_tree_or_not.ensures.one_tree;
   reading = c.one_reading.ensures.manifest;
   join = c.chains_join.ensures;
-}) c.a_redacted_store_is_read.ensures.less c.a_gathered_store_meets_the_rules.ensures.reaches
+}) c.a_redacted_store_is_read.ensures.less c.a_gathered_store_meets_the_rules.ensures.reaches c.one_reading.ensures.manifests

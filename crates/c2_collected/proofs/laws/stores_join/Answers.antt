@@ -1,17 +1,17 @@
-use Rattle.c2_collected.proofs.Stores.{no_side, side_taken, sides_join, valid_side}
+use Rattle.c2_collected.proofs.Stores.{none_rooted, rooted_taken, rooted_join, valid_rooted}
 use Rattle.c2_collected.proofs.laws.stores_join.Goals as goal
 
 -- a valid store
 pub returns-clause-valid : goal.returns-clause-valid
-returns-clause-valid c = valid_side c.a_store_is_rooted_at_its_last_manifest.ensures
+returns-clause-valid c = valid_rooted c.a_store_is_rooted_at_its_last_manifest.ensures
 
 -- none
 pub returns-clause-none : goal.returns-clause-none
-returns-clause-none c = no_side
+returns-clause-none c = none_rooted
 
 -- two
 pub returns-clause-join : goal.returns-clause-join
-returns-clause-join c = sides_join (record {
+returns-clause-join c = rooted_join (record {
   tree = c.each_list_is_a_tree_or_not.ensures.one_tree;
   reading = c.one_reading.ensures.manifest;
   join = c.chains_join.ensures;
@@ -19,4 +19,4 @@ returns-clause-join c = sides_join (record {
 
 -- what is taken over
 pub returns-clause-taken : goal.returns-clause-taken
-returns-clause-taken c = side_taken c.a_redacted_store_is_read.ensures.less
+returns-clause-taken c = rooted_taken c.a_redacted_store_is_read.ensures.less
