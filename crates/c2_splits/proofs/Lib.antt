@@ -1,0 +1,14 @@
+mod Roots
+mod Frames
+mod Boxes
+mod Segments
+mod Texts
+mod Holding
+mod Bound
+mod Meeting
+mod Contents
+mod Built
+mod Kept
+mod Places
+mod Following
+mod Refusals
