@@ -1,0 +1,40 @@
+//! Laws of the length of a new store.
+
+ghost use Rattle.c2_lengths.specs.Lengths.{DefinitionsAreShort, FilmStoresAreShort, JpegStoresAreShort, StoresAreShort, StoresFit};
+
+use c2_assertion::a_written_data_hash_has_one_length;
+use c2_cbor::sorting_keeps_the_length;
+use c2_definition::definitions_are_well_formed;
+use c2_films::a_new_film_store_has_one_length;
+
+/// Of a definition that was read of a file no text is longer than a definition file may be, and its assertions hold thrice that together
+/// at most.
+pub fn a_definition_is_short()
+    ensures { DefinitionsAreShort }
+{
+    // Only the prover needs this law.
+    definitions_are_well_formed();
+}
+
+/// A new store of a short definition, of no more than a store's bytes taken over of an older one, and of a short binding has fewer than
+/// 2^40 bytes. The bindings of JPEG files and of BMFF files are short.
+pub fn a_new_store_is_short()
+    ensures any { StoresAreShort }
+    ensures jpeg { JpegStoresAreShort }
+    ensures film { FilmStoresAreShort }
+{
+    // Only the prover needs these laws.
+    sorting_keeps_the_length();
+    a_written_data_hash_has_one_length();
+    a_new_film_store_has_one_length();
+}
+
+/// Where a file is the definition, and no more than a store's bytes is taken over of an older one, the length of the new store is less
+/// than 2^64 - 1.
+pub fn the_length_of_a_new_store_fits()
+    ensures { StoresFit }
+{
+    // Only the prover needs these laws.
+    a_definition_is_short();
+    a_new_store_is_short();
+}
