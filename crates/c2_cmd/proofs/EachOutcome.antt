@@ -1,11 +1,14 @@
 -- Words and inputs whose files are bytes come to an outcome, and to a list of questions.
-use Rattle.std.proofs.Common.{◌≡◌, true, refl, List, [], Option, Some, None}
+use Rattle.std.proofs.Common.{◌≡◌, true, refl, ℕ, ◌<◌, ◌^◌, List, [], Option, Some, None}
+use Rattle.std.specs.Prelude.{All}
 use Rattle.c2_base.specs.declared.values.Question.{Question}
 use Rattle.c2_building_commands.specs.Laws.{EachBuildingOutcome, EachBuildingQuestions}
 use Rattle.c2_built.specs.Fresh.{GivesDigests}
+use Rattle.c2_extract_command.specs.Outcomes.{IsExtractOutcome}
 use Rattle.c2_outcome.specs.Outcome.{Outcome, reports}
 use Rattle.c2_outcome.specs.declared.types.Answer.TheVariants as answer
 use Rattle.c2_reading_commands.specs.Laws.{EachReadingOutcome, EachReadingQuestions}
+use Rattle.c2_strip_command.specs.Outcomes.{IsStripOutcome}
 use Rattle.c2_texts.specs.Texts.{usage_line}
 use Rattle.c2_words.specs.CommandLine.{makes_media}
 use Rattle.c2_words.specs.declared.types.Command.{Command}
@@ -14,33 +17,40 @@ use Rattle.c2_words.specs.declared.types.Roles.{Roles}
 use Rattle.c2_cmd.specs.Outcome.{AreBytes, Asks, CommandAsks, HasDigests, Inputs, IsCommandOutcome, IsOutcome, digest_alg, pieces_in}
 use Rattle.c2_cmd.specs.Sources.{the_media, the_second, the_third}
 
+-- what the laws of the crates of the commands say
+pub record Laws : Type 0 where
+  pub reads : EachReadingOutcome
+  pub builds : EachBuildingOutcome
+  pub strips : (file : List ℕ) → All (λ b. b < 2 ^ 8) file → (expected : Outcome) × IsStripOutcome file expected
+  pub extracts : (file : List ℕ) → All (λ b. b < 2 ^ 8) file → (expected : Outcome) × IsExtractOutcome file expected
+
 -- every command has an outcome where its files are bytes
-each_command : EachReadingOutcome → EachBuildingOutcome → (c : Command) (roles : Roles) (i : Inputs)
+each_command : Laws → (c : Command) (roles : Roles) (i : Inputs)
     → AreBytes i → (makes_media c ≡ true → GivesDigests i.hash) → (e : Outcome) × IsCommandOutcome c roles i e
-each_command reads builds command.Digest roles i held gives =
-    reads.digest (i.hash (digest_alg roles)) i.files.media (held the_media)
-each_command reads builds command.List roles i held gives = reads.list i.files.media (held the_media)
-each_command reads builds command.Show roles i held gives = reads.show i.files.media (held the_media)
-each_command reads builds command.Questions roles i held gives = reads.questions i.said i.files.media (held the_media)
-each_command reads builds command.Validate roles i held gives = reads.validate i.hash i.said i.files.media (held the_media)
-each_command reads builds command.Compare roles i held gives =
-    reads.compare i.hash i.said i.files.media i.files.second (held the_media) (held the_second)
-each_command reads builds command.Plan roles i held gives = builds.plan i.hash i.said i.files.media i.files.second (held the_media)
-each_command reads builds command.Embed roles i held gives =
-    builds.embed i.hash i.said i.files.media i.files.second i.files.third (held the_media) (held the_third)
-each_command reads builds command.Sample roles i held gives =
-    builds.sample i.hash i.said (pieces_in roles) (gives refl)
-each_command reads builds command.Strip roles i held gives = reads.strip i.files.media (held the_media)
-each_command reads builds command.Extract roles i held gives = reads.extract i.files.media (held the_media)
-each_command reads builds command.ValidateExternal roles i held gives =
-    reads.external i.hash i.said i.files.media i.files.second (held the_media) (held the_second)
+each_command laws command.Digest roles i held gives =
+    laws.reads.digest (i.hash (digest_alg roles)) i.files.media (held the_media)
+each_command laws command.List roles i held gives = laws.reads.list i.files.media (held the_media)
+each_command laws command.Show roles i held gives = laws.reads.show i.files.media (held the_media)
+each_command laws command.Questions roles i held gives = laws.reads.questions i.said i.files.media (held the_media)
+each_command laws command.Validate roles i held gives = laws.reads.validate i.hash i.said i.files.media (held the_media)
+each_command laws command.Compare roles i held gives =
+    laws.reads.compare i.hash i.said i.files.media i.files.second (held the_media) (held the_second)
+each_command laws command.Plan roles i held gives = laws.builds.plan i.hash i.said i.files.media i.files.second (held the_media)
+each_command laws command.Embed roles i held gives =
+    laws.builds.embed i.hash i.said i.files.media i.files.second i.files.third (held the_media) (held the_third)
+each_command laws command.Sample roles i held gives =
+    laws.builds.sample i.hash i.said (pieces_in roles) (gives refl)
+each_command laws command.Strip roles i held gives = laws.strips i.files.media (held the_media)
+each_command laws command.Extract roles i held gives = laws.extracts i.files.media (held the_media)
+each_command laws command.ValidateExternal roles i held gives =
+    laws.reads.external i.hash i.said i.files.media i.files.second (held the_media) (held the_second)
 
 -- a call whose files are bytes has an outcome, whether its words fit a command or none
-pub each_outcome : EachReadingOutcome → EachBuildingOutcome → (roles : Option Roles) (i : Inputs)
+pub each_outcome : Laws → (roles : Option Roles) (i : Inputs)
     → AreBytes i → HasDigests roles i → (e : Outcome) × IsOutcome roles i e
-each_outcome reads builds None i held gives = (reports answer.Usage usage_line, refl)
-each_outcome reads builds (Some roles) i held gives =
-    each_command reads builds roles.command roles i held gives
+each_outcome laws None i held gives = (reports answer.Usage usage_line, refl)
+each_outcome laws (Some roles) i held gives =
+    each_command laws roles.command roles i held gives
 
 -- every command has a list of questions for its judges where its files are bytes
 each_asks : EachReadingQuestions → EachBuildingQuestions → (c : Command) (roles : Roles) (i : Inputs)

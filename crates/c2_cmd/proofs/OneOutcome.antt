@@ -1,36 +1,45 @@
 -- Words and inputs come to one outcome, and to one list of questions.
-use Rattle.std.proofs.Common.{◌≡◌, sym, ◌∙◌, List, Option, Some, None}
+use Rattle.std.proofs.Common.{◌≡◌, sym, ◌∙◌, ℕ, List, Option, Some, None}
 use Rattle.c2_base.specs.declared.values.Question.{Question}
 use Rattle.c2_building_commands.specs.Laws.{OneBuildingOutcome, OneBuildingQuestions}
-use Rattle.c2_outcome.specs.Outcome.{Outcome}
+use Rattle.c2_extract_command.specs.Outcomes.{IsExtractOutcome}
+use Rattle.c2_outcome.specs.Outcome.{IsOneOutcome, Outcome}
 use Rattle.c2_reading_commands.specs.Laws.{OneReadingOutcome, OneReadingQuestions}
+use Rattle.c2_strip_command.specs.Outcomes.{IsStripOutcome}
 use Rattle.c2_words.specs.declared.types.Command.{Command}
 use Rattle.c2_words.specs.declared.types.Command.TheVariants as command
 use Rattle.c2_words.specs.declared.types.Roles.{Roles}
 use Rattle.c2_cmd.specs.Outcome.{Asks, CommandAsks, Inputs, IsCommandOutcome, IsOutcome, digest_alg, pieces_in}
 
+-- what the laws of the crates of the commands say
+pub record Laws : Type 0 where
+  pub reads : OneReadingOutcome
+  pub builds : OneBuildingOutcome
+  pub strips : (file : List ℕ) → IsOneOutcome (IsStripOutcome file)
+  pub extracts : (file : List ℕ) → IsOneOutcome (IsExtractOutcome file)
+
 -- a command has one outcome at most for what it is handed
-one_command : OneReadingOutcome → OneBuildingOutcome → (c : Command) (roles : Roles) (i : Inputs) (x y : Outcome)
+one_command : Laws → (c : Command) (roles : Roles) (i : Inputs) (x y : Outcome)
     → IsCommandOutcome c roles i x → IsCommandOutcome c roles i y → x ≡ y
-one_command reads builds command.Digest roles i x y h k = reads.digest (i.hash (digest_alg roles)) i.files.media x y h k
-one_command reads builds command.List roles i x y h k = reads.list i.files.media x y h k
-one_command reads builds command.Show roles i x y h k = reads.show i.files.media x y h k
-one_command reads builds command.Questions roles i x y h k = reads.questions i.said i.files.media x y h k
-one_command reads builds command.Validate roles i x y h k = reads.validate i.hash i.said i.files.media x y h k
-one_command reads builds command.Compare roles i x y h k = reads.compare i.hash i.said i.files.media i.files.second x y h k
-one_command reads builds command.Plan roles i x y h k = builds.plan i.hash i.said i.files.media i.files.second x y h k
-one_command reads builds command.Embed roles i x y h k = builds.embed i.hash i.said i.files.media i.files.second i.files.third x y h k
-one_command reads builds command.Sample roles i x y h k = builds.sample i.hash i.said (pieces_in roles) x y h k
-one_command reads builds command.Strip roles i x y h k = reads.strip i.files.media x y h k
-one_command reads builds command.Extract roles i x y h k = reads.extract i.files.media x y h k
-one_command reads builds command.ValidateExternal roles i x y h k =
-    reads.external i.hash i.said i.files.media i.files.second x y h k
+one_command laws command.Digest roles i x y h k = laws.reads.digest (i.hash (digest_alg roles)) i.files.media x y h k
+one_command laws command.List roles i x y h k = laws.reads.list i.files.media x y h k
+one_command laws command.Show roles i x y h k = laws.reads.show i.files.media x y h k
+one_command laws command.Questions roles i x y h k = laws.reads.questions i.said i.files.media x y h k
+one_command laws command.Validate roles i x y h k = laws.reads.validate i.hash i.said i.files.media x y h k
+one_command laws command.Compare roles i x y h k = laws.reads.compare i.hash i.said i.files.media i.files.second x y h k
+one_command laws command.Plan roles i x y h k = laws.builds.plan i.hash i.said i.files.media i.files.second x y h k
+one_command laws command.Embed roles i x y h k = laws.builds.embed i.hash i.said i.files.media i.files.second i.files.third x y h k
+one_command laws command.Sample roles i x y h k = laws.builds.sample i.hash i.said (pieces_in roles) x y h k
+one_command laws command.Strip roles i x y h k = laws.strips i.files.media x y h k
+one_command laws command.Extract roles i x y h k = laws.extracts i.files.media x y h k
+one_command laws command.ValidateExternal roles i x y h k =
+    laws.reads.external i.hash i.said i.files.media i.files.second x y h k
 
 -- a call has one outcome at most, whether its words fit a command or none
-pub one_outcome : OneReadingOutcome → OneBuildingOutcome → (roles : Option Roles) (i : Inputs) (x y : Outcome)
+pub one_outcome : Laws → (roles : Option Roles) (i : Inputs) (x y : Outcome)
     → IsOutcome roles i x → IsOutcome roles i y → x ≡ y
-one_outcome reads builds None i x y h k = h ∙ sym k
-one_outcome reads builds (Some roles) i x y h k = one_command reads builds roles.command roles i x y h k
+one_outcome laws None i x y h k = h ∙ sym k
+one_outcome laws (Some roles) i x y h k = one_command laws roles.command roles i x y h k
 
 -- a command has one list of questions at most for what it is handed
 one_asks : OneReadingQuestions → OneBuildingQuestions → (c : Command) (roles : Roles) (i : Inputs)

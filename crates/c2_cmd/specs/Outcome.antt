@@ -19,8 +19,10 @@ use Rattle.c2_texts.specs.Texts.{usage_line}
 use Rattle.c2_validate.specs.External.{ExternalAsks}
 use Rattle.c2_outcome.specs.Outcome.{Outcome, reports}
 use Rattle.c2_outcome.specs.declared.types.Answer.TheVariants as answer
-use Rattle.c2_reading_commands.specs.Outcomes.{IsCompareOutcome, IsDigestOutcome, IsExternalOutcome, IsExtractOutcome, IsListOutcome, IsMediaOutcome, IsQuestioned, IsShown, IsStripOutcome, IsValidated}
+use Rattle.c2_reading_commands.specs.Outcomes.{IsCompareOutcome, IsDigestOutcome, IsExternalOutcome, IsListOutcome, IsMediaOutcome, IsQuestioned, IsShown, IsValidated}
 use Rattle.c2_building_commands.specs.Outcomes.{IsEmbedOutcome, IsPlanOutcome, IsSampleOutcome}
+use Rattle.c2_extract_command.specs.Outcomes.{IsExtractOutcome}
+use Rattle.c2_strip_command.specs.Outcomes.{IsStripOutcome}
 use Rattle.c2_words.specs.declared.types.Command.{Command}
 use Rattle.c2_words.specs.declared.types.Command.TheVariants as command
 use Rattle.c2_words.specs.declared.types.Roles.{Roles}

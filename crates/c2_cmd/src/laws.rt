@@ -10,7 +10,9 @@ ghost use Rattle.c2_outcome.specs.declared.types.Status.TheVariants.{NoMemory};
 ghost use Rattle.c2_words.specs.declared.types.Roles.{Roles as AnyRoles};
 
 use c2_building_commands::{each_building_outcome, one_building_outcome};
+use c2_extract_command::an_extract_comes_to_one_outcome;
 use c2_reading_commands::{each_reading_outcome, one_reading_outcome};
+use c2_strip_command::a_strip_comes_to_one_outcome;
 
 /// Words and inputs come to one outcome at most, and to one list of questions at most.
 pub fn one_outcome()
@@ -21,6 +23,8 @@ pub fn one_outcome()
 {
     one_reading_outcome();
     one_building_outcome();
+    a_strip_comes_to_one_outcome();
+    an_extract_comes_to_one_outcome();
 }
 
 /// Words and inputs whose files are bytes come to an outcome, and to a list of questions.
@@ -32,6 +36,8 @@ pub fn each_run_has_an_outcome()
 {
     each_reading_outcome();
     each_building_outcome();
+    a_strip_comes_to_one_outcome();
+    an_extract_comes_to_one_outcome();
 }
 
 /// A run of which no object that its command names fails has answered, or memory ran out: so say `cause` and the field `complete` of

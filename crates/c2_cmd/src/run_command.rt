@@ -14,16 +14,17 @@ ghost use Rattle.c2_cmd.specs.Run.{ComesTo, Faults, IsCaused, IsKnown, LeavesUnu
 use crate::laws::each_run_has_an_outcome;
 use c2_base::{Failed, Sink, Source, write_all};
 use c2_building_commands::{one_building_outcome, reply_to_embed, reply_to_plan, reply_to_sample};
+use c2_extract_command::reply_to_extract;
 use c2_hash::{Alg, Hashing};
 use c2_judge::Judge;
 use c2_outcome::types::Status;
 use c2_outcome::{Fault, Reply, usage_reply};
 use c2_reading_commands::{
-    one_reading_outcome, reply_to_compare, reply_to_digest, reply_to_extract, reply_to_list,
-    reply_to_questions, reply_to_show, reply_to_strip, reply_to_validate,
-    reply_to_validate_external,
+    one_reading_outcome, reply_to_compare, reply_to_digest, reply_to_list, reply_to_questions,
+    reply_to_show, reply_to_validate, reply_to_validate_external,
 };
 use c2_restored::a_built_file_is_restored;
+use c2_strip_command::reply_to_strip;
 use c2_words::roles;
 use c2_words::types::{Command, Roles, RolesError};
 use std::alloc::Global;

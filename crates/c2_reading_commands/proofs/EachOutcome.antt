@@ -21,10 +21,7 @@ use Rattle.c2_binding.specs.declared.compared.Compared.{Compared}
 use Rattle.c2_texts.specs.Texts.{refused_line, none_line, listing, digest_line}
 use Rattle.c2_spec.specs.PutIn.{taken_out}
 use Rattle.c2_outcome.specs.Outcome.{answered, Outcome, Reports, reports}
-use Rattle.c2_reading_commands.specs.Outcomes.{IsCompareOutcome, IsDigestOutcome, IsDigested, IsListOutcome, IsListing, IsMediaOutcome, IsQuestioned, IsShown, compare_outcome, external_outcome, extract_file, extract_report, questioned, shown, strip_file, strip_report, with_file}
-use Rattle.c2_sidecar.specs.Extracting.{extracted_of}
-use Rattle.c2_strip.specs.Stripping.{StripsTo}
-use Rattle.c2_strip.specs.declared.error.Stripped.{Stripped}
+use Rattle.c2_reading_commands.specs.Outcomes.{IsCompareOutcome, IsDigestOutcome, IsDigested, IsListOutcome, IsListing, IsMediaOutcome, IsQuestioned, IsShown, compare_outcome, external_outcome, questioned, shown}
 use Rattle.c2_validate.specs.External.{IsExternalAnswer}
 use Rattle.c2_validate.specs.declared.external.External.{External}
 use Rattle.c2_reading_commands.specs.Laws.{AreBytes, EachReadingOutcome}
@@ -35,8 +32,6 @@ pub record Laws : Type 0 where
   pub answer : (hash : Alg → List ℕ → List ℕ) (said : Question → Verdict) (file : List ℕ) → All (λ b. b < 2 ^ 8) file → (a : Answer) × IsAnswer hash said file a
   pub claim : (m : Manifest) (r : Reading) → IsReading m r → HasClaim m (claim_in r)
   pub compared : (hash : Alg → List ℕ → List ℕ) (said : Question → Verdict) (first second : List ℕ) (a b : Answer) → IsAnswer hash said first a → IsAnswer hash said second b → (what : Compared) × (text : List ℕ) × IsComparison hash said first second what text
-  pub located : (file : List ℕ) → All (λ b. b < 2 ^ 8) file → (l : Located) × IsLocated file l
-  pub stripped : (file : List ℕ) → All (λ b. b < 2 ^ 8) file → (a : Stripped) × StripsTo file a
   pub external : (hash : Alg → List ℕ → List ℕ) (said : Question → Verdict) (file store : List ℕ) → All (λ b. b < 2 ^ 8) file → All (λ b. b < 2 ^ 8) store → (a : External) × IsExternalAnswer hash said file store a
 
 -- ---- a file is opened, and its manifests are read
@@ -133,8 +128,6 @@ each_outcome laws = record {
   questions = λ said file held. each_media laws (IsQuestioned said) (each_questioned said) file held;
   validate = λ hash said file held. let a = laws.answer hash said file held in (answered a.0, (a.0, a.1, refl));
   compare = each_compared laws;
-  strip = λ file held. let a = laws.stripped file held in (with_file (strip_file file a.0) (strip_report a.0), (a.0, a.1, refl));
-  extract = λ file held. let l = laws.located file held in (with_file (extract_file l.0) (extract_report (extracted_of l.0)), (l.0, l.1, refl));
   external = λ hash said file store held other. let a = laws.external hash said file store held other in (external_outcome a.0, (a.0, a.1, refl));
 }
 

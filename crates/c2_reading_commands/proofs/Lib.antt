@@ -4,8 +4,6 @@ mod EachOutcome
 mod Faults
 mod Lines
 mod Listing
-mod Making
 mod OneOutcome
 mod Preparing
 mod Replying
-mod Taking

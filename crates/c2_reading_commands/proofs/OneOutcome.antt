@@ -20,10 +20,7 @@ use Rattle.c2_rules.specs.declared.answer.Answer.{Answer as Checked}
 use Rattle.c2_binding.specs.Comparison.{IsComparison}
 use Rattle.c2_binding.specs.declared.compared.Compared.{Compared}
 use Rattle.c2_outcome.specs.Outcome.{answered, IsOneOutcome, Outcome, Reports}
-use Rattle.c2_reading_commands.specs.Outcomes.{IsCompareOutcome, IsDigested, IsListOutcome, IsListing, IsMediaOutcome, IsQuestioned, IsShown, compare_outcome, external_outcome, extract_file, extract_report, questioned, shown, strip_file, strip_report, with_file}
-use Rattle.c2_sidecar.specs.Extracting.{extracted_of}
-use Rattle.c2_strip.specs.Stripping.{StripsTo}
-use Rattle.c2_strip.specs.declared.error.Stripped.{Stripped}
+use Rattle.c2_reading_commands.specs.Outcomes.{IsCompareOutcome, IsDigested, IsListOutcome, IsListing, IsMediaOutcome, IsQuestioned, IsShown, compare_outcome, external_outcome, questioned, shown}
 use Rattle.c2_validate.specs.External.{IsExternalAnswer}
 use Rattle.c2_validate.specs.declared.external.External.{External}
 use Rattle.c2_reading_commands.specs.Laws.{OneReadingOutcome}
@@ -39,7 +36,6 @@ pub record Laws : Type 0 where
   pub opened : (file : List ℕ) (a b : Opening Tree) → IsOpened file a → IsOpened file b → a ≡ b
   pub answer : (hash : Alg → List ℕ → List ℕ) (said : Question → Verdict) (file : List ℕ) (a b : Checked) → IsAnswer hash said file a → IsAnswer hash said file b → a ≡ b
   pub compared : (hash : Alg → List ℕ → List ℕ) (said : Question → Verdict) (first second : List ℕ) (a b : Compared) (t u : List ℕ) → IsComparison hash said first second a t → IsComparison hash said first second b u → (a ≡ b) × (t ≡ u)
-  pub stripped : (file : List ℕ) (a b : Stripped) → StripsTo file a → StripsTo file b → a ≡ b
   pub external : (hash : Alg → List ℕ → List ℕ) (said : Question → Verdict) (file store : List ℕ) (a b : External) → IsExternalAnswer hash said file store a → IsExternalAnswer hash said file store b → a ≡ b
 
 -- where the first value is one, and so is each that follows from it, the second is one
@@ -113,7 +109,5 @@ one_outcome laws = record {
   questions = λ said file x y h k. one_media laws (IsQuestioned said) (one_questioned laws said) file x y h k;
   validate = λ hash said file x y h k. one_after (IsAnswer hash said file) (λ found e. e ≡ answered found) (laws.answer hash said file) (λ found a b p q. p ∙ sym q) x y h k;
   compare = λ hash said first second x y h k. one_compared hash said first second (laws.compared hash said first second) x y h k;
-  strip = λ file x y h k. one_after (StripsTo file) (λ a e. e ≡ with_file (strip_file file a) (strip_report a)) (laws.stripped file) (λ a c d p q. p ∙ sym q) x y h k;
-  extract = λ file x y h k. one_after (IsLocated file) (λ l e. e ≡ with_file (extract_file l) (extract_report (extracted_of l))) (laws.located file) (λ l c d p q. p ∙ sym q) x y h k;
   external = λ hash said file store x y h k. one_after (IsExternalAnswer hash said file store) (λ a e. e ≡ external_outcome a) (laws.external hash said file store) (λ a c d p q. p ∙ sym q) x y h k;
 }

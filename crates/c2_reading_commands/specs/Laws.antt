@@ -7,7 +7,7 @@ use Rattle.c2_binding.specs.Comparison.{CompareAsks}
 use Rattle.c2_rules.specs.Validated.{AreQuestions, CheckAsks}
 use Rattle.c2_validate.specs.External.{ExternalAsks}
 use Rattle.c2_outcome.specs.Outcome.{IsOneOutcome, Outcome}
-use Rattle.c2_reading_commands.specs.Outcomes.{IsCompareOutcome, IsDigestOutcome, IsExternalOutcome, IsExtractOutcome, IsListOutcome, IsMediaOutcome, IsQuestioned, IsShown, IsStripOutcome, IsValidated}
+use Rattle.c2_reading_commands.specs.Outcomes.{IsCompareOutcome, IsDigestOutcome, IsExternalOutcome, IsListOutcome, IsMediaOutcome, IsQuestioned, IsShown, IsValidated}
 
 -- each command comes to one outcome at most for what it is handed
 pub record OneReadingOutcome : Type 0 where
@@ -17,8 +17,6 @@ pub record OneReadingOutcome : Type 0 where
   pub questions : (said : Question → Verdict) (file : List ℕ) → IsOneOutcome (IsMediaOutcome (IsQuestioned said) file)
   pub validate : (hash : Alg → List ℕ → List ℕ) (said : Question → Verdict) (file : List ℕ) → IsOneOutcome (IsValidated hash said file)
   pub compare : (hash : Alg → List ℕ → List ℕ) (said : Question → Verdict) (first second : List ℕ) → IsOneOutcome (IsCompareOutcome hash said first second)
-  pub strip : (file : List ℕ) → IsOneOutcome (IsStripOutcome file)
-  pub extract : (file : List ℕ) → IsOneOutcome (IsExtractOutcome file)
   pub external : (hash : Alg → List ℕ → List ℕ) (said : Question → Verdict) (file store : List ℕ) → IsOneOutcome (IsExternalOutcome hash said file store)
 
 -- a list of bytes
@@ -33,8 +31,6 @@ pub record EachReadingOutcome : Type 0 where
   pub questions : (said : Question → Verdict) (file : List ℕ) → AreBytes file → (expected : Outcome) × IsMediaOutcome (IsQuestioned said) file expected
   pub validate : (hash : Alg → List ℕ → List ℕ) (said : Question → Verdict) (file : List ℕ) → AreBytes file → (expected : Outcome) × IsValidated hash said file expected
   pub compare : (hash : Alg → List ℕ → List ℕ) (said : Question → Verdict) (first second : List ℕ) → AreBytes first → AreBytes second → (expected : Outcome) × IsCompareOutcome hash said first second expected
-  pub strip : (file : List ℕ) → AreBytes file → (expected : Outcome) × IsStripOutcome file expected
-  pub extract : (file : List ℕ) → AreBytes file → (expected : Outcome) × IsExtractOutcome file expected
   pub external : (hash : Alg → List ℕ → List ℕ) (said : Question → Verdict) (file store : List ℕ) → AreBytes file → AreBytes store → (expected : Outcome) × IsExternalOutcome hash said file store expected
 
 -- ---- questions

@@ -1,18 +1,14 @@
--- What a command comes to that reads media files and builds none.
-use Rattle.std.specs.Prelude.{◌≡◌, ℕ, List, [], unwrap_or, Some, None}
+-- What a command comes to that reads media files and neither builds nor writes any.
+use Rattle.std.specs.Prelude.{◌≡◌, ℕ, List, Some, None}
 use Rattle.std.specs.List.{flat_map}
-use Rattle.std.specs.Option.{option_map}
 use Rattle.std.specs.declared.option.Option.{Option}
-use Rattle.c2_base.specs.declared.media.MediaError.{MediaError}
 use Rattle.c2_base.specs.declared.values.Question.{Question}
 use Rattle.c2_spec.specs.declared.digest.Alg.{Alg}
 use Rattle.c2_spec.specs.declared.panel.Verdict.{Verdict}
-use Rattle.c2_spec.specs.Located.{Opening, Located, refused, absent, here}
+use Rattle.c2_spec.specs.Located.{Opening, Located}
 use Rattle.c2_spec.specs.Container.{IsLocated}
 use Rattle.c2_spec.specs.Jumbf.Tree.{Tree}
 use Rattle.c2_spec.specs.PutIn.{taken_out}
-use Rattle.c2_spec.specs.Reason.{media_refusal}
-use Rattle.c2_spec.specs.declared.reason.Refusal.{Refusal}
 use Rattle.c2_spec.specs.C2pa.Manifest.{manifests_of}
 use Rattle.c2_spec.specs.Judges.Question.{question_digest}
 use Rattle.c2_spec.specs.declared.claim.Claim.{Claim}
@@ -27,15 +23,9 @@ use Rattle.c2_binding.specs.declared.compared.Compared.{Compared}
 use Rattle.c2_binding.specs.declared.compared.Compared.TheVariants as compared
 use Rattle.c2_outcome.specs.Outcome.{Outcome, Reports, answered, reports}
 use Rattle.c2_outcome.specs.declared.types.Answer.TheVariants as answer
-use Rattle.c2_sidecar.specs.Extracting.{extracted_of}
-use Rattle.c2_sidecar.specs.declared.error.Extracted.{Extracted}
-use Rattle.c2_sidecar.specs.declared.error.Extracted.TheVariants as extract
-use Rattle.c2_strip.specs.Stripping.{StripsTo, stripped}
-use Rattle.c2_strip.specs.declared.error.Stripped.{Stripped}
-use Rattle.c2_strip.specs.declared.error.Stripped.TheVariants as strip
 use Rattle.c2_texts.specs.Show.{show_line}
-use Rattle.c2_texts.specs.Stores.{extracted_line, middle_line, store_refused_line, stripped_line}
-use Rattle.c2_texts.specs.Texts.{digest_line, listing, question_line, no_question_line, same_line, different_line, none_line, not_accepted_line, refused_line}
+use Rattle.c2_texts.specs.Stores.{store_refused_line}
+use Rattle.c2_texts.specs.Texts.{digest_line, listing, question_line, no_question_line, same_line, different_line, not_accepted_line}
 use Rattle.c2_validate.specs.External.{IsExternalAnswer}
 use Rattle.c2_validate.specs.declared.external.External.{External}
 use Rattle.c2_validate.specs.declared.external.External.TheVariants.{Of, StoreRefused}
@@ -102,47 +92,7 @@ abbrev pub IsCompareOutcome : (Alg → List ℕ → List ℕ) → (Question → 
 IsCompareOutcome hash said first second expected =
     (what : Compared) × (text : List ℕ) × IsComparison hash said first second what text × (expected ≡ compare_outcome what text)
 
--- ---- a store beside a file
-
--- an outcome with this new file, or with none
-abbrev pub with_file : Option (List ℕ) → Outcome → Outcome
-with_file file o = record { answer = o.answer; report = o.report; file = file }
-
--- what is reported where an error of the container refuses the file; an error that refuses nothing has no line
-abbrev pub refused_outcome : MediaError → Outcome
-refused_outcome e = reports answer.Refused (unwrap_or (option_map (λ (r : Refusal). refused_line r.reason r.number) (media_refusal e)) [])
-
--- what is reported where a file comes to this without its store
-abbrev pub strip_report : Stripped → Outcome
-strip_report (strip.Done range) = reports answer.Done (stripped_line range.start range.length)
-strip_report strip.NoStore = reports answer.NoStore none_line
-strip_report (strip.Refused e) = refused_outcome e
-strip_report (strip.Middle at) = reports answer.StripRefused (middle_line at)
-
--- the new file of `strip`: the bytes outside the embedded range, where this is left out
-abbrev pub strip_file : List ℕ → Stripped → Option (List ℕ)
-strip_file file (strip.Done range) = Some (stripped range file)
-strip_file file a = None
-
--- the outcome of `strip`
-abbrev pub IsStripOutcome : List ℕ → Outcome → Type 0
-IsStripOutcome file expected = (a : Stripped) × StripsTo file a × (expected ≡ with_file (strip_file file a) (strip_report a))
-
--- what is reported where a file comes to this whose store is to be extracted
-abbrev pub extract_report : Extracted → Outcome
-extract_report (extract.Done count) = reports answer.Done (extracted_line count)
-extract_report extract.NoStore = reports answer.NoStore none_line
-extract_report (extract.Refused reason number) = reports answer.Refused (refused_line reason number)
-
--- the new file of `extract`: the bytes of the store, where there is one
-abbrev pub extract_file : Located → Option (List ℕ)
-extract_file (refused reason number) = None
-extract_file absent = None
-extract_file (here start len store) = Some store
-
--- the outcome of `extract`: it makes the tests of the container alone
-abbrev pub IsExtractOutcome : List ℕ → Outcome → Type 0
-IsExtractOutcome file expected = (l : Located) × IsLocated file l × (expected ≡ with_file (extract_file l) (extract_report (extracted_of l)))
+-- ---- an external store
 
 -- what is reported of the answer of the check with an external store
 abbrev pub external_outcome : External → Outcome

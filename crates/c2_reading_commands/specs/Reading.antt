@@ -23,10 +23,6 @@ use Rattle.c2_calls.specs.Asks.{AsksThese}
 use Rattle.c2_texts.specs.Texts.{refused_line, none_line}
 use Rattle.c2_evidence.specs.declared.error.CompareError.{CompareError}
 use Rattle.c2_evidence.specs.declared.error.CompareError.TheVariants as compare_error
-use Rattle.c2_sidecar.specs.declared.error.ExtractError.{ExtractError}
-use Rattle.c2_sidecar.specs.declared.error.ExtractError.TheVariants as extract_error
-use Rattle.c2_strip.specs.declared.error.StripError.{StripError}
-use Rattle.c2_strip.specs.declared.error.StripError.TheVariants as strip_error
 use Rattle.c2_outcome.specs.Outcome.{Outcome, reports, Reports}
 use Rattle.c2_outcome.specs.Reply.{fault_heard, outcome_of}
 use Rattle.c2_outcome.specs.declared.reply.Fault.{Fault}
@@ -45,18 +41,6 @@ compare_fault compare_error.ReadFault = Input
 compare_fault compare_error.WriteFault = Output
 compare_fault compare_error.JudgeFault = Judge
 compare_fault compare_error.NoMemory = Memory
-
--- the fault that an error of `strip` stands for
-abbrev pub strip_fault : StripError → Fault
-strip_fault strip_error.ReadFault = Input
-strip_fault strip_error.WriteFault = Output
-strip_fault strip_error.NoMemory = Memory
-
--- the fault that an error of `extract` stands for
-abbrev pub extract_fault : ExtractError → Fault
-extract_fault extract_error.ReadFault = Input
-extract_fault extract_error.WriteFault = Output
-extract_fault extract_error.NoMemory = Memory
 
 -- ---- the media
 

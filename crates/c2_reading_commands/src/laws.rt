@@ -4,7 +4,6 @@ ghost use Rattle.c2_reading_commands.specs.Laws.{EachReadingOutcome, EachReading
 use c2_binding::{each_comparison, one_comparison};
 use c2_chain::{a_reading_is_the_claim_and_the_question, one_list_of_claims, one_reading};
 use c2_jumbf::each_list_is_a_tree_or_not;
-use c2_strip::each_file_is_stripped;
 use c2_validate::{
     each_file_has_a_check, each_file_has_an_external_check, each_media_file_is_located, one_check,
     one_external_check, one_opening,
@@ -22,7 +21,6 @@ pub fn one_reading_outcome()
     one_opening();
     one_check();
     one_comparison();
-    each_file_is_stripped();
     one_external_check();
 }
 
@@ -34,7 +32,5 @@ pub fn each_reading_outcome()
     each_file_has_a_check();
     each_comparison();
     a_reading_is_the_claim_and_the_question();
-    each_file_is_stripped();
     each_file_has_an_external_check();
-    each_media_file_is_located();
 }

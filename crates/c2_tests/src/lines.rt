@@ -1,11 +1,12 @@
 // Lines of reports as texts, with numbers and characters that no file brings about.
 use c2_base::Text;
+use c2_extract_command::extracted_line;
 use c2_rules::{Code, Failing, Summary};
 use c2_spec::{Reason, Verdict};
+use c2_strip_command::{middle_line, stripped_line};
 use c2_texts::{
-    different_line, digest_line, extracted_line, failing_line, middle_line, no_question_line,
-    none_line, question_line, refused_line, same_line, store_refused_line, stripped_line,
-    usage_line, valid_line,
+    different_line, digest_line, failing_line, no_question_line, none_line, question_line,
+    refused_line, same_line, store_refused_line, usage_line, valid_line,
 };
 use std::test::Fail;
 

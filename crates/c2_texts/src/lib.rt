@@ -1,7 +1,7 @@
 //! The lines of reports, as texts in memory.
 //!
-//! What each line is stands in `specs/`: `Texts` for the plain lines, `Builds` for those on what is built, `Stores` for those on stores
-//! that are taken out or stand beside their file, `Show` for the JSON of `show`. An error means that memory ran out.
+//! What each line is stands in `specs/`: `Texts` for the plain lines, `Builds` for those on what is built, `Stores` for that on an
+//! external store, `Show` for the JSON of `show`. An error means that memory ran out.
 #![tactic(auto)]
 
 mod builds;
@@ -26,5 +26,5 @@ pub use lines::{
 };
 pub use names::code_name;
 pub use show::show_line;
-pub use stores::{extracted_line, middle_line, store_refused_line, stripped_line};
+pub use stores::store_refused_line;
 pub use tree::listing;

@@ -3,7 +3,12 @@ use Rattle.c2_cmd.proofs.laws.each_run_has_an_outcome.Goals as goal
 
 -- every call whose files are bytes comes to an outcome
 pub returns-clause-outcome : goal.returns-clause-outcome
-returns-clause-outcome c = each_outcome c.each_reading_outcome.ensures.outcome c.each_building_outcome.ensures.outcome
+returns-clause-outcome c = each_outcome (record {
+  reads = c.each_reading_outcome.ensures.outcome;
+  builds = c.each_building_outcome.ensures.outcome;
+  strips = c.a_strip_comes_to_one_outcome.ensures.each;
+  extracts = c.an_extract_comes_to_one_outcome.ensures.each;
+})
 
 -- every call whose files are bytes has a list of questions for its judges
 pub returns-clause-questions : goal.returns-clause-questions

@@ -3,7 +3,12 @@ use Rattle.c2_cmd.proofs.laws.one_outcome.Goals as goal
 
 -- two outcomes of the same call are the same
 pub returns-clause-outcome : goal.returns-clause-outcome
-returns-clause-outcome c = one_outcome c.one_reading_outcome.ensures.outcome c.one_building_outcome.ensures.outcome
+returns-clause-outcome c = one_outcome (record {
+  reads = c.one_reading_outcome.ensures.outcome;
+  builds = c.one_building_outcome.ensures.outcome;
+  strips = c.a_strip_comes_to_one_outcome.ensures.once;
+  extracts = c.an_extract_comes_to_one_outcome.ensures.once;
+})
 
 -- two lists of questions of the same call are the same
 pub returns-clause-questions : goal.returns-clause-questions

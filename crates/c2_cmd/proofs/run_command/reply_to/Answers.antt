@@ -4,12 +4,14 @@ use Rattle.std.proofs.lemmas.Bool.{false≢true}
 use Rattle.c2_build.specs.Building.{IsMediaRefused, PlanAsks}
 use Rattle.c2_building_commands.specs.Outcomes.{IsEmbedOutcome, IsPlanOutcome, IsSampleOutcome}
 use Rattle.c2_compare.specs.Comparing.{IsNotAccepted}
+use Rattle.c2_extract_command.specs.Outcomes.{IsExtractOutcome}
 use Rattle.c2_outcome.specs.Reply.{Replies, outcome_of}
-use Rattle.c2_reading_commands.specs.Outcomes.{IsCompareOutcome, IsDigestOutcome, IsExternalOutcome, IsExtractOutcome, IsListOutcome, IsMediaOutcome, IsQuestioned, IsShown, IsStripOutcome, IsValidated}
+use Rattle.c2_reading_commands.specs.Outcomes.{IsCompareOutcome, IsDigestOutcome, IsExternalOutcome, IsListOutcome, IsMediaOutcome, IsQuestioned, IsShown, IsValidated}
 use Rattle.c2_rules.specs.Validated.{AreQuestions, CheckAsks}
 use Rattle.c2_sample.specs.Sample.{SampleAsks}
 use Rattle.c2_sidecar.specs.Checking.{IsRefusedFile}
 use Rattle.c2_spec.specs.Judges.Panel.{panel_says}
+use Rattle.c2_strip_command.specs.Outcomes.{IsStripOutcome}
 use Rattle.c2_validate.specs.External.{ExternalAsks}
 use Rattle.c2_words.specs.CommandLine.{is_out}
 use Rattle.c2_words.specs.declared.types.Command.TheVariants as command

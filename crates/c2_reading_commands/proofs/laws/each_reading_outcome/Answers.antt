@@ -6,8 +6,6 @@ returns-clause-outcome c = each_outcome (record {
   answer = c.each_file_has_a_check.ensures.answer;
   claim = c.a_reading_is_the_claim_and_the_question.ensures.claim;
   compared = c.each_comparison.ensures.answer;
-  located = c.each_media_file_is_located.ensures.located;
-  stripped = c.each_file_is_stripped.ensures.each;
   external = c.each_file_has_an_external_check.ensures.answer;
 })
 

@@ -12,7 +12,6 @@ returns-clause-outcome c = one_outcome (record {
   opened = c.one_opening.ensures.file;
   answer = c.one_check.ensures.answer;
   compared = λ hash said first second. c.one_comparison.ensures.answer hash said first second (c.one_opening.ensures.file first) (c.one_opening.ensures.file second);
-  stripped = c.each_file_is_stripped.ensures.once;
   external = c.one_external_check.ensures.answer;
 })
 

@@ -2,9 +2,9 @@ use Rattle.c2_calls.proofs.SinkLemmas.{writes_error, writes_then}
 use Rattle.c2_calls.proofs.SourceLemmas.{reads_error, reads_then}
 use Rattle.c2_sidecar.specs.Extracts.{IsReadCause}
 use Rattle.c2_outcome.specs.Reply.{IsCopyingCause, IsOutputCause}
-use Rattle.c2_reading_commands.proofs.Faults.{memory_only}
-use Rattle.c2_reading_commands.proofs.Making.{extract_begun, extract_ends, extract_made, extract_read_cause, extract_unended, extract_words, extract_write_cause}
-use Rattle.c2_reading_commands.proofs.extract.reply_to_extract.Goals as goal
+use Rattle.c2_written.proofs.Results.{memory_only}
+use Rattle.c2_extract_command.proofs.Making.{extract_begun, extract_ends, extract_made, extract_read_cause, extract_unended, extract_words, extract_write_cause}
+use Rattle.c2_extract_command.proofs.extract.reply_to_extract.Goals as goal
 
 -- ---- the call answers
 

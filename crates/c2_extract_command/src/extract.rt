@@ -5,14 +5,14 @@ ghost use Rattle.c2_base.specs.Sink.{WritesSink, unsaid};
 ghost use Rattle.c2_base.specs.Source.{ReadsSource};
 ghost use Rattle.c2_outcome.specs.Left.{state_of};
 ghost use Rattle.c2_outcome.specs.Reply.{EndsFile, IsCopyingCause, IsOutputCause, MakesFile, outcome_of};
-ghost use Rattle.c2_reading_commands.specs.Outcomes.{IsExtractOutcome, extract_report};
-ghost use Rattle.c2_reading_commands.specs.Reading.{extract_fault};
+ghost use Rattle.c2_extract_command.specs.Faults.{extract_fault};
+ghost use Rattle.c2_extract_command.specs.Outcomes.{IsExtractOutcome, extract_report};
 
+use crate::lines::extracted_line;
 use c2_base::{Sink, Source};
 use c2_outcome::types::Answer;
 use c2_outcome::{Fault, Reply, none_reply, refused_reply};
 use c2_sidecar::{ExtractError, Extracted, each_file_is_extracted, extract};
-use c2_texts::extracted_line;
 use std::alloc::Global;
 
 /// The reply to `extract`: how many bytes the store has, once the new file has them all and is finished.

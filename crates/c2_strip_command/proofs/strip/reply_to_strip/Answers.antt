@@ -4,10 +4,10 @@ use Rattle.c2_calls.proofs.SourceLemmas.{reads_error, reads_nothing, reads_then}
 use Rattle.c2_strip.specs.Answers.{IsReadCause}
 use Rattle.c2_outcome.specs.Reply.{IsCopyingCause, IsOutputCause}
 use Rattle.c2_outcome.specs.declared.reply.Fault.TheVariants.{Memory}
-use Rattle.c2_reading_commands.specs.Outcomes.{IsStripOutcome}
-use Rattle.c2_reading_commands.proofs.Faults.{memory_only}
-use Rattle.c2_reading_commands.proofs.Making.{ends_none, made_none, strip_begun, strip_ends, strip_made, strip_read_cause, strip_unended, strip_words, strip_write_cause}
-use Rattle.c2_reading_commands.proofs.strip.reply_to_strip.Goals as goal
+use Rattle.c2_written.proofs.Results.{ends_none, made_none, memory_only}
+use Rattle.c2_strip_command.specs.Outcomes.{IsStripOutcome}
+use Rattle.c2_strip_command.proofs.Making.{strip_begun, strip_ends, strip_made, strip_read_cause, strip_unended, strip_words, strip_write_cause}
+use Rattle.c2_strip_command.proofs.strip.reply_to_strip.Goals as goal
 
 -- ---- there is no memory for the buffer
 

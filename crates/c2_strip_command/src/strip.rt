@@ -5,16 +5,16 @@ ghost use Rattle.c2_base.specs.Sink.{WritesSink, unsaid};
 ghost use Rattle.c2_base.specs.Source.{ReadsSource};
 ghost use Rattle.c2_outcome.specs.Left.{state_of};
 ghost use Rattle.c2_outcome.specs.Reply.{EndsFile, IsCopyingCause, IsOutputCause, MakesFile, outcome_of};
-ghost use Rattle.c2_reading_commands.specs.Outcomes.{IsStripOutcome, refused_outcome, strip_report};
-ghost use Rattle.c2_reading_commands.specs.Reading.{strip_fault};
+ghost use Rattle.c2_strip_command.specs.Faults.{strip_fault};
+ghost use Rattle.c2_strip_command.specs.Outcomes.{IsStripOutcome, refused_outcome, strip_report};
 
+use crate::lines::{middle_line, stripped_line};
 use c2_base::limits::PIECE_LEN;
 use c2_base::{MediaError, Sink, Source};
 use c2_outcome::types::Answer;
 use c2_outcome::{Fault, Reply, none_reply, refused_reply};
 use c2_spec::Refusal;
 use c2_strip::{StripError, Stripped, each_file_is_stripped, strip};
-use c2_texts::{middle_line, stripped_line};
 use std::alloc::Global;
 
 /// The reply to `strip`: the range that was left out of the new file, once this is whole and finished.

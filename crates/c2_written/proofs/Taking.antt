@@ -14,7 +14,7 @@ use Rattle.c2_outcome.specs.declared.reply.Fault.TheVariants.{Input, Output, Mem
 use Rattle.c2_outcome.specs.declared.reply.Reply.{Reply}
 use Rattle.c2_outcome.specs.declared.types.Answer.TheVariants as answer
 use Rattle.c2_outcome.proofs.Replying.{each_ok, nothing_written, then_nothing}
-use Rattle.c2_reading_commands.specs.Outcomes.{with_file}
+use Rattle.c2_written.specs.Written.{with_file}
 
 -- ---- by the ending of the call
 
@@ -52,7 +52,8 @@ module _ {K : Type 0} (written : K → Option (List ℕ)) (finished : K → Bool
   still old new same = ap (state_of written finished) same
 
   -- of no bytes nothing is written
-  nothing_begun : (old new : K) → copying.Begins written finished [] old new → state_of written finished new ≡ state_of written finished old
+  nothing_begun : (old new : K) → copying.Begins written finished [] old new
+      → state_of written finished new ≡ state_of written finished old
   nothing_begun old new h =
       let text : written new ≡ written old = h.prefix.1 ∙ ap (then_written (written old)) (no_take h.prefix.0) ∙ sym (then_nothing (written old)) in
       let first : state_of written finished new ≡ record { written = written old; finished = finished new } = ap (λ (w : Option (List ℕ)). record { written = w; finished = finished new }) text in
@@ -64,36 +65,45 @@ module _ {K : Type 0} (written : K → Option (List ℕ)) (finished : K → Bool
   begun_none bytes old new same = subst (copying.Begins written finished bytes old) (sym same) (record { prefix = nothing_written (written old) bytes; unfinished = refl })
 
   -- a file that was begun when a source failed
-  takes_input : (file : Option (List ℕ)) (old new : K) → copying.Begins written finished (unwrap_or file []) old new → TakesFile file (state_of written finished old) (state_of written finished new) (Err Input)
+  takes_input : (file : Option (List ℕ)) (old new : K) → copying.Begins written finished (unwrap_or file []) old new
+      → TakesFile file (state_of written finished old) (state_of written finished new) (Err Input)
   takes_input None old new h = nothing_begun old new h
   takes_input (Some bytes) old new h = record { prefix = h.prefix; same = h.unfinished }
 
-  -- and when the sink did
-  takes_output : (file : Option (List ℕ)) (old new : K) → copying.Begins written finished (unwrap_or file []) old new → TakesFile file (state_of written finished old) (state_of written finished new) (Err Output)
+  -- a file that was begun when its sink failed
+  takes_output : (file : Option (List ℕ)) (old new : K) → copying.Begins written finished (unwrap_or file []) old new
+      → TakesFile file (state_of written finished old) (state_of written finished new) (Err Output)
   takes_output None old new h = nothing_begun old new h
   takes_output (Some bytes) old new h = record { prefix = h.prefix; same = h.unfinished }
 
   -- a file of which nothing was written when memory ran out
-  takes_memory : (file : Option (List ℕ)) (old new : K) → new ≡ old → TakesFile file (state_of written finished old) (state_of written finished new) (Err Memory)
+  takes_memory : (file : Option (List ℕ)) (old new : K) → new ≡ old
+      → TakesFile file (state_of written finished old) (state_of written finished new) (Err Memory)
   takes_memory None old new same = still old new same
   takes_memory (Some bytes) old new same = inl (still old new same)
 
   -- a file that is whole, whatever came of the reply
-  takes_whole : (bytes : List ℕ) (old new : K) (r : Result Reply Fault) → IfErr r (λ e. e ≡ Memory) → copying.Delivers written finished bytes old new → TakesFile (Some bytes) (state_of written finished old) (state_of written finished new) r
+  takes_whole : (bytes : List ℕ) (old new : K) (r : Result Reply Fault) → IfErr r (λ e. e ≡ Memory)
+      → copying.Delivers written finished bytes old new
+      → TakesFile (Some bytes) (state_of written finished old) (state_of written finished new) r
   takes_whole bytes old new (Ok reply) memory h = record { written = h.whole; is_finished = h.ends }
   takes_whole bytes old new (Err e) memory h =
       subst (λ (f : Fault). TakesFile (Some bytes) (state_of written finished old) (state_of written finished new) (Err f)) (sym memory) (inr (record { written = h.whole; is_finished = h.ends }))
 
   -- an untouched sink under a fault
-  pub takes_none : (file : Option (List ℕ)) (old new : K) (e : Fault) → new ≡ old → (e ≡ Input) ⊎ (e ≡ Memory) → TakesFile file (state_of written finished old) (state_of written finished new) (Err e)
+  pub takes_none : (file : Option (List ℕ)) (old new : K) (e : Fault) → new ≡ old → (e ≡ Input) ⊎ (e ≡ Memory)
+      → TakesFile file (state_of written finished old) (state_of written finished new) (Err e)
   takes_none file old new e same (inl input) =
       subst (λ (f : Fault). TakesFile file (state_of written finished old) (state_of written finished new) (Err f)) (sym input) (takes_input file old new (begun_none (unwrap_or file []) old new same))
   takes_none file old new e same (inr memory) =
       subst (λ (f : Fault). TakesFile file (state_of written finished old) (state_of written finished new) (Err f)) (sym memory) (takes_memory file old new same)
 
   -- what the sink took of a file, where the call writes just its bytes
-  pub takes_file : (Writes : List ℕ → Type 0) (file : Option (List ℕ)) (old new : K) (e : Ending) (r : Result Reply Fault) → Writes (unwrap_or file []) → ((bytes : List ℕ) → Writes bytes → bytes ≡ unwrap_or file []) → HasWritten written finished Writes old new e
-      → LeavesSink old new e → IsEndOf e r → FitsFile e file r → TakesFile file (state_of written finished old) (state_of written finished new) r
+  pub takes_file : (Writes : List ℕ → Type 0) (file : Option (List ℕ)) (old new : K) (e : Ending) (r : Result Reply Fault)
+      → Writes (unwrap_or file []) → ((bytes : List ℕ) → Writes bytes → bytes ≡ unwrap_or file [])
+      → HasWritten written finished Writes old new e
+      → LeavesSink old new e → IsEndOf e r → FitsFile e file r
+      → TakesFile file (state_of written finished old) (state_of written finished new) r
   takes_file Writes None old new complete r is one h left end fits = absurd (false≢true fits)
   takes_file Writes (Some bytes) old new complete r is one h left end fits = takes_whole bytes old new r end (subst (λ (l : List ℕ). copying.Delivers written finished l old new) (one h.0 h.1) h.2)
   takes_file Writes file old new read_fault r is one h left end fits =
@@ -108,12 +118,14 @@ module _ {K : Type 0} (written : K → Option (List ℕ)) (finished : K → Bool
 
 module _ {K : Type 0} (finished : K → Bool) where
   -- an untouched sink under a fault
-  end_none : (old new : K) (e : Fault) → new ≡ old → finished new ≡ finished old → (e ≡ Input) ⊎ (e ≡ Memory) → FileEnd (new ≡ old) (finished old) (finished new) (Err e)
+  end_none : (old new : K) (e : Fault) → new ≡ old → finished new ≡ finished old → (e ≡ Input) ⊎ (e ≡ Memory)
+      → FileEnd (new ≡ old) (finished old) (finished new) (Err e)
   end_none old new e same finish (inl input) = subst (λ (f : Fault). FileEnd (new ≡ old) (finished old) (finished new) (Err f)) (sym input) finish
   end_none old new e same finish (inr memory) = subst (λ (f : Fault). FileEnd (new ≡ old) (finished old) (finished new) (Err f)) (sym memory) (inl same)
 
   -- by the ending of the call
-  pub file_end : (old new : K) (e : Ending) (r : Result Reply Fault) → copying.EndsSink finished old new e → IsEndOf e r → FitsAnswer e r → FileEnd (new ≡ old) (finished old) (finished new) r
+  pub file_end : (old new : K) (e : Ending) (r : Result Reply Fault) → copying.EndsSink finished old new e → IsEndOf e r
+      → FitsAnswer e r → FileEnd (new ≡ old) (finished old) (finished new) r
   file_end old new complete (Ok reply) h end fits = ((λ done. h.finish), inl fits)
   file_end old new complete (Err e) h end fits = subst (λ (f : Fault). FileEnd (new ≡ old) (finished old) (finished new) (Err f)) (sym end) (inr h.finish)
   file_end old new read_fault r h end fits = subst (FileEnd (new ≡ old) (finished old) (finished new)) (sym end) h.finish
@@ -124,6 +136,7 @@ module _ {K : Type 0} (finished : K → Bool) where
 -- ---- the reply
 
 -- a reply that is what is reported stands for the outcome with a file
-pub stands_with : (o : Outcome) (file : Option (List ℕ)) (r : Result Reply Fault) (expected : Outcome) → expected ≡ with_file file o → IfOk r (λ reply. outcome_of reply ≡ o) → IfOk r (StandsFor expected [])
+pub stands_with : (o : Outcome) (file : Option (List ℕ)) (r : Result Reply Fault) (expected : Outcome)
+    → expected ≡ with_file file o → IfOk r (λ reply. outcome_of reply ≡ o) → IfOk r (StandsFor expected [])
 stands_with o file r expected is out = each_ok _ (StandsFor expected []) r
     (λ reply same. record { answer = ap (λ (x : Outcome). x.answer) is ∙ sym (ap (λ (x : Outcome). x.answer) same); report = ap (λ (x : Outcome). x.report) is ∙ sym (ap (λ (x : Outcome). x.report) same) }) out
