@@ -16,7 +16,7 @@ from collections import Counter
 TOP = os.path.join(os.path.dirname(os.path.abspath(__file__)), "..")
 OPEN = {
     "c2_spec", "c2_rules", "c2_calls", "c2_older", "c2_joined", "c2_boxed", "c2_box_rows", "c2_chunks", "c2_binding", "c2_built", "c2_carried", "c2_gathered",
-    "c2_succeeding", "c2_films", "c2_places", "c2_fronts", "c2_collected",
+    "c2_succeeding", "c2_films", "c2_places", "c2_fronts", "c2_lengths", "c2_collected", "c2_written",
 }
 # the one file of laws of a crate of code: what calls leave of a sink, what the errors of two calls come from, and what is replied
 LAWS = {"c2_base": "Growing", "c2_evidence": "Leaving", "c2_outcome": "Replying"}
