@@ -1,0 +1,204 @@
+// The parts of the new manifest over a media file.
+ghost use Rattle.std.specs.Prelude.{◌≡◌, ◌+◌, ◌<◌, IfErr, IfOk, length, option_map, ℕ};
+ghost use Rattle.c2_base.specs.Source.{ReadsSource};
+ghost use Rattle.c2_cleared.specs.Clears.{cleared, cleared_len};
+ghost use Rattle.c2_spec.specs.Digest.{digest_len};
+ghost use Rattle.c2_definition.specs.DefinitionFile.{IsWellFormed};
+ghost use Rattle.c2_layout.specs.Parts.{AreParts, IsContent, parts_size};
+ghost use Rattle.c2_built.specs.Store.{Content, new_alg};
+ghost use Rattle.c2_bound_parts.specs.Bound.{AreNewParts, IsBoundDigest, IsOverBase, IsSmall, seat_binding, seat_store_len};
+ghost use Rattle.c2_refusals.specs.Kinds.{IsReadCause, SaysNothing};
+
+use crate::digesting::hash_all;
+use c2_base::{Failed, NoMemory, Range, Source};
+use c2_built::a_new_store_has_one_length;
+use c2_cleared::{Cleared, Named};
+use c2_definition::{Definition, NewAssertion};
+use c2_film_binding::film_binding;
+use c2_film_hash::{FilmError, film_digest};
+use c2_films::a_new_film_store_has_one_length;
+use c2_hash::{Alg, Digest, Hashing};
+use c2_layout::{NewParts, bound_parts, data_binding};
+use c2_refusals::{BuildError, Drafted, Seat};
+use std::alloc::Global;
+use std::marker::Brand;
+
+// What a new binding binds.
+#[derive(Drop)]
+struct Bound<'d> {
+    // What was drafted: the base, and the place in it.
+    drafted: &'d Drafted,
+
+    // The algorithm of the digest.
+    alg: Alg,
+}
+
+// The digest of what is bound of a base, which is read through a buffer that isn't empty.
+fn digest_of<B: Source, H: Hashing>(
+    alloc: Global,
+    hashing: &H,
+    base: &mut B,
+    bound: &Bound<'_>,
+    buf: &mut [u8],
+) -> Result<Digest, BuildError>
+    requires over { IsOverBase (B.len base.old) bound.now.drafted.now }
+    requires room { 0 < length buf.old }
+    ensures digest { IsBoundDigest H.digest_of bound.now.alg bound.now.drafted.now.seat
+        (B.known base.old) result }
+    ensures reads { ReadsSource B.len B.known B.faults IsReadCause base.old base.new result }
+{
+    let alg = bound.alg;
+    let drafted = bound.drafted;
+    match &drafted.seat {
+        Seat::Segments { .. } => match hash_all(hashing, alg, base, drafted.draft.size, buf) {
+            Ok(digest) => Ok(digest),
+            Err(Failed) => Err(BuildError::ReadFault),
+        },
+        Seat::Boxes(roots) => match film_digest(alloc, hashing, alg, base, roots, buf) {
+            Ok(digest) => Ok(digest),
+            Err(FilmError::ReadFault) => Err(BuildError::ReadFault),
+            Err(FilmError::NoMemory) => Err(BuildError::NoMemory),
+        },
+    }
+}
+
+// Puts the digest of what is bound of what is left into `found`, of a media file of which this is known, and gives the file back.
+fn digest_left<'m, A: Source, K: Named, H: Hashing>(
+    alloc: Global,
+    hashing: &H,
+    media: &'m mut A,
+    bound: &Bound<'_>,
+    buf: &mut [u8],
+    found: &mut Result<Digest, BuildError>,
+) -> &'m mut A
+    requires name { media.ghost_name ≡ K.name }
+    requires len { A.len media.old ≡ K.len }
+    requires known { A.known media.old ≡ K.known }
+    requires over { let clearing = bound.now.drafted.now.ground.clearing in
+        IsOverBase (cleared_len clearing (A.len media.old)) bound.now.drafted.now }
+    requires room { 0 < length buf.old }
+    ensures same { result.ghost_name ≡ media.entry.ghost_name }
+    ensures digest { let clearing = bound.now.drafted.now.ground.clearing in
+        IsBoundDigest H.digest_of bound.now.alg bound.now.drafted.now.seat
+        (option_map (cleared clearing) (A.known media.old)) found.new }
+    ensures reads { ReadsSource A.len A.known A.faults IsReadCause media.old result.now found.new }
+{
+    let mut base = Cleared::<A, K>::new(media, bound.drafted.ground.clearing);
+    *found = digest_of(alloc, hashing, &mut base, bound, buf);
+    base.into_media()
+}
+
+// The digest of what is bound of what is left of a media file, which is read through a buffer that isn't empty.
+fn left_digest<A: Source, H: Hashing>(
+    alloc: Global,
+    hashing: &H,
+    media: &mut A,
+    bound: &Bound<'_>,
+    buf: &mut [u8],
+) -> Result<Digest, BuildError>
+    requires over { let clearing = bound.now.drafted.now.ground.clearing in
+        IsOverBase (cleared_len clearing (A.len media.old)) bound.now.drafted.now }
+    requires room { 0 < length buf.old }
+    ensures digest { let clearing = bound.now.drafted.now.ground.clearing in
+        IsBoundDigest H.digest_of bound.now.alg bound.now.drafted.now.seat
+        (option_map (cleared clearing) (A.known media.old)) result }
+    ensures reads { ReadsSource A.len A.known A.faults IsReadCause media.old media.new result }
+{
+    let mut found = Err(BuildError::NoMemory);
+    let _media = digest_left::<A, Brand, H>(alloc, hashing, media, bound, buf, &mut found);
+    found
+}
+
+// The new binding at this place, to a file outside this range, by this digest by an algorithm.
+fn binding_at(
+    alloc: Global,
+    alg: Alg,
+    seat: &Seat,
+    range: Range,
+    digest: &Digest,
+) -> Result<NewAssertion, NoMemory>
+    ensures { IfOk result (λ a. a
+        ≡ seat_binding alg seat.now range.start range.length digest.now) }
+{
+    match seat {
+        Seat::Segments { .. } => data_binding(alloc, alg, range, digest.as_slice()),
+        Seat::Boxes(_) => film_binding(alloc, alg, digest.as_slice()),
+    }
+}
+
+// The parts of the new manifest with this digest of what its binding binds.
+fn parts_with<H: Hashing>(
+    alloc: Global,
+    hashing: &H,
+    definition: &Definition,
+    drafted: &Drafted,
+    digest: &Digest,
+) -> Result<NewParts, NoMemory>
+    requires formed { IsWellFormed definition.now }
+    requires small { (len : ℕ) × IsSmall (H.digest_of (new_alg definition.now)) len definition.now
+        drafted.now }
+    requires digest { length digest.now ≡ digest_len (new_alg definition.now) }
+    ensures parts { IfOk result (λ p. (c : Content)
+        → IsContent (H.digest_of (new_alg definition.now)) definition.now drafted.now.ground.carried
+        c
+        → AreParts (H.digest_of (new_alg definition.now)) c (seat_binding (new_alg definition.now)
+        drafted.now.seat
+        drafted.now.draft.start drafted.now.draft.length digest.now) p) }
+    ensures size { IfOk result (λ p. (c : Content)
+        → IsContent (H.digest_of (new_alg definition.now)) definition.now drafted.now.ground.carried
+        c
+        → length drafted.now.ground.carried.boxes
+        + parts_size definition.now.label p definition.now.reserve
+        ≡ seat_store_len drafted.now.seat c) }
+{
+    // Only the prover needs these laws.
+    a_new_store_has_one_length();
+    a_new_film_store_has_one_length();
+    let range = Range {
+        start: drafted.draft.start,
+        length: drafted.draft.length,
+    };
+    let binding = binding_at(alloc, definition.alg, &drafted.seat, range, digest)?;
+    bound_parts(alloc, hashing, definition, &drafted.ground.carried, binding)
+}
+
+/// The parts of a new manifest over a media file, whose base is digested through a buffer that isn't empty. `ReadFault` comes only where the
+/// file's count of faults rose in this call, and `NoMemory` where memory ran out.
+pub fn parts_for<A: Source, H: Hashing>(
+    alloc: Global,
+    hashing: &H,
+    media: &mut A,
+    definition: &Definition,
+    drafted: &Drafted,
+    buf: &mut [u8],
+) -> Result<NewParts, BuildError>
+    requires formed { IsWellFormed definition.now }
+    requires small { IsSmall (H.digest_of (new_alg definition.now))
+        (cleared_len drafted.now.ground.clearing (A.len media.old)) definition.now drafted.now }
+    requires room { 0 < length buf.old }
+    ensures parts { IfOk result (AreNewParts (H.digest_of (new_alg definition.now))
+        (option_map (cleared drafted.now.ground.clearing) (A.known media.old))
+        definition.now drafted.now) }
+    ensures size { IfOk result (λ p. (c : Content)
+        → IsContent (H.digest_of (new_alg definition.now)) definition.now drafted.now.ground.carried
+        c
+        → length drafted.now.ground.carried.boxes
+        + parts_size definition.now.label p definition.now.reserve
+        ≡ seat_store_len drafted.now.seat c) }
+    ensures nothing { IfErr result SaysNothing }
+    ensures reads { ReadsSource A.len A.known A.faults IsReadCause media.old media.new result }
+{
+    // Matched and not handed up by `?`: each way out has clauses of its own.
+    let bound = Bound {
+        drafted,
+        alg: definition.alg,
+    };
+    let digest = match left_digest(alloc, hashing, media, &bound, buf) {
+        Ok(digest) => digest,
+        Err(error) => return Err(error),
+    };
+    match parts_with(alloc, hashing, definition, drafted, &digest) {
+        Ok(parts) => Ok(parts),
+        Err(NoMemory) => Err(BuildError::NoMemory),
+    }
+}

@@ -1,0 +1,3 @@
+mod Opened
+mod Checks
+mod Grounds

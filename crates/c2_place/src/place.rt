@@ -1,0 +1,184 @@
+// Where a new store goes in a media file without its older store.
+ghost use Rattle.std.specs.Prelude.{◌≡◌, ℕ, ◌<◌, List, IfErr, IfOk, OnOk};
+ghost use Rattle.std.specs.Option.{ForSome};
+ghost use Rattle.c2_base.specs.Source.{ReadsSource, StaysSource};
+ghost use Rattle.c2_base.specs.declared.limits.TheConstants.{FILE_LEN_LIMIT};
+ghost use Rattle.c2_box_rows.specs.Faults.{FirstRootsFault};
+ghost use Rattle.c2_boxes.specs.Causes.{IsRootsCause, OrOutside};
+ghost use Rattle.c2_spec.specs.Jpeg.Places.{IsOfSegments};
+ghost use Rattle.c2_spec.specs.Jpeg.Segments.{Segment};
+ghost use Rattle.c2_spec.specs.Located.{HasReason};
+ghost use Rattle.c2_jpegseg.specs.Refusals.{TellsFault};
+ghost use Rattle.c2_place.specs.Spots.{HasSeat, IsSpotLeft, TellsNoPlace};
+ghost use Rattle.c2_refusals.specs.Seats.{IsForm, IsSeatIn};
+ghost use Rattle.c2_refusals.specs.Kinds.{IsReadCause, SaysNothing};
+
+use c2_base::{Failed, MediaError, Range, Source};
+use c2_boxes::{a_bmff_file_comes_to_one_thing, roots};
+use c2_cleared::{Cleared, Clearing, Named};
+use c2_jpegseg::{free_number, insert_place, segments_end_or_fail};
+use c2_refusals::{BuildError, FileForm, Seat};
+use c2_spec::Refusal;
+use std::alloc::Global;
+use std::marker::Brand;
+
+// No range is left out.
+const NO_RANGE: Range = Range {
+    start: 0,
+    length: 0,
+};
+
+/// A file without a store, as its place was looked for.
+#[derive(Debug, Drop)]
+pub struct Spot {
+    /// How many bytes it has.
+    pub size: u64,
+
+    /// The place.
+    pub seat: Seat,
+}
+
+// Why a file can't be walked. A file that has a free place isn't refused.
+fn walk_error(error: MediaError) -> BuildError
+    ensures told { (file : List ℕ) (segments : List Segment)
+        → IsOfSegments file segments → TellsFault file error → SaysNothing result }
+    ensures cause { (len before now : ℕ)
+        → HasReason len before now error → IsReadCause before now result }
+    ensures boxes { (file : List ℕ) → OrOutside error (FirstRootsFault file error)
+        → IsForm file FileForm.Bmff → TellsNoPlace file result }
+    ensures boxes_cause { (len before now : ℕ) → IsRootsCause len before now error
+        → IsReadCause before now result }
+{
+    // Only the prover needs these laws.
+    segments_end_or_fail();
+    a_bmff_file_comes_to_one_thing();
+    match error {
+        MediaError::ReadFault => BuildError::ReadFault,
+        MediaError::NoMemory => BuildError::NoMemory,
+        other => match Refusal::of_media(other) {
+            Some(refusal) => BuildError::MediaRefused(refusal.reason, refusal.number),
+            // Every other error is a refusal.
+            None => unreachable!(),
+        },
+    }
+}
+
+// The place in a JPEG file.
+fn seat_in_segments<B: Source>(alloc: Global, base: &mut B) -> Result<Seat, BuildError>
+    ensures seat { IfOk result (λ s. ForSome (B.known base.old) (λ file.
+        IsForm file FileForm.Jpeg → HasSeat file s)) }
+    ensures told { IfErr result (λ e. ForSome (B.known base.old) (λ file.
+        IsForm file FileForm.Jpeg → TellsNoPlace file e)) }
+    ensures inside { IfOk result (IsSeatIn (B.len base.old)) }
+    ensures short { OnOk result (B.len base.old < FILE_LEN_LIMIT) }
+    ensures cause { IfErr result (IsReadCause (B.faults base.old) (B.faults base.new)) }
+    ensures count { OnOk result (B.faults base.new ≡ B.faults base.old) }
+    ensures stays { StaysSource B.len B.known B.faults base.old base.new }
+{
+    // Only the prover needs this law.
+    segments_end_or_fail();
+    let start = match insert_place(base, NO_RANGE) {
+        Ok(start) => start,
+        Err(error) => return Err(walk_error(error)),
+    };
+    match free_number(alloc, base, NO_RANGE) {
+        Ok(number) => Ok(Seat::Segments { start, number }),
+        Err(error) => Err(walk_error(error)),
+    }
+}
+
+// The place in a BMFF file.
+fn seat_in_boxes<B: Source>(alloc: Global, base: &mut B) -> Result<Seat, BuildError>
+    ensures seat { IfOk result (λ s. ForSome (B.known base.old) (λ file.
+        IsForm file FileForm.Bmff → HasSeat file s)) }
+    ensures told { IfErr result (λ e. ForSome (B.known base.old) (λ file.
+        IsForm file FileForm.Bmff → TellsNoPlace file e)) }
+    ensures inside { IfOk result (IsSeatIn (B.len base.old)) }
+    ensures short { OnOk result (B.len base.old < FILE_LEN_LIMIT) }
+    ensures cause { IfErr result (IsReadCause (B.faults base.old) (B.faults base.new)) }
+    ensures count { OnOk result (B.faults base.new ≡ B.faults base.old) }
+    ensures stays { StaysSource B.len B.known B.faults base.old base.new }
+{
+    match roots(alloc, base) {
+        Ok(roots) => Ok(Seat::Boxes(roots)),
+        Err(error) => Err(walk_error(error)),
+    }
+}
+
+// The place in a file of this form.
+fn seat_in<B: Source>(alloc: Global, base: &mut B, form: FileForm) -> Result<Seat, BuildError>
+    ensures seat { IfOk result (λ s. ForSome (B.known base.old) (λ file.
+        IsForm file form → HasSeat file s)) }
+    ensures told { IfErr result (λ e. ForSome (B.known base.old) (λ file.
+        IsForm file form → TellsNoPlace file e)) }
+    ensures inside { IfOk result (IsSeatIn (B.len base.old)) }
+    ensures short { OnOk result (B.len base.old < FILE_LEN_LIMIT) }
+    ensures cause { IfErr result (IsReadCause (B.faults base.old) (B.faults base.new)) }
+    ensures count { OnOk result (B.faults base.new ≡ B.faults base.old) }
+    ensures stays { StaysSource B.len B.known B.faults base.old base.new }
+{
+    match form {
+        FileForm::Jpeg => seat_in_segments(alloc, base),
+        FileForm::Bmff => seat_in_boxes(alloc, base),
+    }
+}
+
+// The place in a file of this form, with the file's length.
+fn spot_in<B: Source>(alloc: Global, base: &mut B, form: FileForm) -> Result<Spot, BuildError>
+    ensures seat { IfOk result (λ s. ForSome (B.known base.old) (λ file.
+        IsForm file form → HasSeat file s.seat)) }
+    ensures told { IfErr result (λ e. ForSome (B.known base.old) (λ file.
+        IsForm file form → TellsNoPlace file e)) }
+    ensures size { IfOk result (λ s. s.size ≡ B.len base.old) }
+    ensures inside { IfOk result (λ s. IsSeatIn s.size s.seat) }
+    ensures short { IfOk result (λ s. s.size < FILE_LEN_LIMIT) }
+    ensures cause { IfErr result (IsReadCause (B.faults base.old) (B.faults base.new)) }
+    ensures count { OnOk result (B.faults base.new ≡ B.faults base.old) }
+    ensures stays { StaysSource B.len B.known B.faults base.old base.new }
+{
+    let size = match base.size() {
+        Ok(size) => size,
+        Err(Failed) => return Err(BuildError::ReadFault),
+    };
+    // Matched and not handed up by `?`: each way out has clauses of its own.
+    match seat_in(alloc, base, form) {
+        Ok(seat) => Ok(Spot { size, seat }),
+        Err(error) => Err(error),
+    }
+}
+
+// Puts the place in what is left into `found`, of a media file of which this is known, and gives the file back.
+fn spot_left<'m, A: Source, K: Named>(
+    alloc: Global,
+    media: &'m mut A,
+    clearing: Clearing,
+    form: FileForm,
+    found: &mut Result<Spot, BuildError>,
+) -> &'m mut A
+    requires name { media.ghost_name ≡ K.name }
+    requires len { A.len media.old ≡ K.len }
+    requires known { A.known media.old ≡ K.known }
+    ensures same { result.ghost_name ≡ media.entry.ghost_name }
+    ensures spot { IsSpotLeft clearing form (A.known media.old) (A.len media.old) found.new }
+    ensures reads { ReadsSource A.len A.known A.faults IsReadCause media.old result.now found.new }
+{
+    let mut base = Cleared::<A, K>::new(media, clearing);
+    *found = spot_in(alloc, &mut base, form);
+    base.into_media()
+}
+
+/// Where a new store goes in what is left of a media file of this form, once it is cleared. Where what is left has a free place, only two
+/// errors come: `ReadFault` where the file's count of faults rose in this call, and `NoMemory` where memory ran out.
+pub fn find_spot<A: Source>(
+    alloc: Global,
+    media: &mut A,
+    clearing: Clearing,
+    form: FileForm,
+) -> Result<Spot, BuildError>
+    ensures spot { IsSpotLeft clearing form (A.known media.old) (A.len media.old) result }
+    ensures reads { ReadsSource A.len A.known A.faults IsReadCause media.old media.new result }
+{
+    let mut found = Err(BuildError::NoMemory);
+    let _media = spot_left::<A, Brand>(alloc, media, clearing, form, &mut found);
+    found
+}

@@ -1,0 +1,7 @@
+pub mod Outside
+pub mod Stages
+pub mod FirstRefusal
+pub mod Inputs
+pub mod Passing
+pub mod Judged
+mod Seen
