@@ -2,11 +2,11 @@ mod InFront
 mod Building
 mod Meeting
 mod Staying
-mod Shifts
-mod Stages
+pub mod Shifts
+pub mod Stages
 mod Order
 mod OneOutcome
-mod SomeOutcome
+pub mod SomeOutcome
 mod Made
 mod Unrefused
 mod Rows

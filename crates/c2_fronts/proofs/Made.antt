@@ -168,6 +168,7 @@ meets_of l hash media definition message b digests texts bytes k =
       defined = defined;
       parts = k.parts;
       spelled = taken.spelled;
+      own = taken.accepted.1.1.1.0 k.parts taken.spelled;
       padded = k.signed;
       filled = k.is_signed;
       built = built;

@@ -51,7 +51,7 @@ abbrev pub HasTextsIn : List ℕ → Type 0
 HasTextsIn file = (d : Definition) → IsDefinition file (Ok d) → HasTexts d
 
 -- The file is the media with the new store of the definition right after its first root box, and with the places in its chunk tables moved.
--- Its message is the signed one, padded to the bytes that the definition reserves. The file has its store in the new range, meets every
+-- Its message is the signed one, whose protected header is the definition's, padded to the bytes that the definition reserves. The file has its store in the new range, meets every
 -- rule but the verdict on its message, and asks one question, over the bytes that a plan gives. Less the new range it is the media with
 -- moved places: each byte of the media outside its moved fields is there, and each field tells where the same byte is.
 pub record FrontMeets (hash : Alg → List ℕ → List ℕ) (media definition message : List ℕ) (b : NewFile) : Type 0 where
@@ -59,6 +59,7 @@ pub record FrontMeets (hash : Alg → List ℕ → List ℕ) (media definition m
   pub defined : IsDefinition definition (Ok new)
   pub parts : SignParts
   pub spelled : SpellsMessage message parts
+  pub own : parts.protected ≡ new.protected
   pub padded : List ℕ
   pub filled : IsSigned parts new.reserve padded
   pub built : IsFrontBuilt (hash (new_alg new)) (fresh_content new) padded media b.file b.start b.len

@@ -1,0 +1,90 @@
+-- The causes of errors, from one step to the next.
+use Rattle.std.proofs.Common.{◌≡◌, ℕ, List, refl, subst}
+use Rattle.std.specs.Prelude.{IfErr, Result, Ok, Err}
+use Rattle.c2_base.specs.Source.{ReadsSource}
+use Rattle.std.specs.declared.option.Option.{Option}
+use Rattle.c2_refusals.proofs.Outside.{read_cause}
+use Rattle.c2_refusals.specs.Kinds.{Effects, ErrorKind, IsQuietKind, IsReadKind, IsSourceCause, front_refusal, judge_fault, kind_of, message_effects, message_refusal, no_memory, other_refusal, read_fault, refusal, write_fault}
+use Rattle.c2_refusals.specs.Sinks.{IsSinkCause, KindLeaves}
+use Rattle.c2_refusals.specs.declared.error.BuildError.{BuildError}
+use Rattle.c2_build_front.specs.Answers.{embed_effects, plan_effects, prepare_effects}
+
+-- a step that reads nothing is one that reads
+pub quiet_step : (does : Effects) (m n : ℕ) (k : ErrorKind) → n ≡ m → IsQuietKind k → IsReadKind does m n k
+quiet_step does m n refusal same h = same
+quiet_step does m n message_refusal same h = absurd h
+quiet_step does m n front_refusal same h = absurd h
+quiet_step does m n other_refusal same h = absurd h
+quiet_step does m n read_fault same h = absurd h
+quiet_step does m n judge_fault same h = absurd h
+quiet_step does m n write_fault same h = absurd h
+quiet_step does m n no_memory same h = tt
+
+-- a step of a plan is one before a file is written
+pub plan_prepares : (m n : ℕ) (k : ErrorKind) → IsReadKind plan_effects m n k → IsReadKind prepare_effects m n k
+plan_prepares m n refusal h = h
+plan_prepares m n message_refusal h = absurd h
+plan_prepares m n front_refusal h = h
+plan_prepares m n other_refusal h = absurd h
+plan_prepares m n read_fault h = h
+plan_prepares m n judge_fault h = absurd h
+plan_prepares m n write_fault h = absurd h
+plan_prepares m n no_memory h = tt
+
+-- and so is one that looks at a message
+pub message_prepares : (m n : ℕ) (k : ErrorKind) → IsReadKind message_effects m n k → IsReadKind prepare_effects m n k
+message_prepares m n refusal h = h
+message_prepares m n message_refusal h = h
+message_prepares m n front_refusal h = absurd h
+message_prepares m n other_refusal h = absurd h
+message_prepares m n read_fault h = h
+message_prepares m n judge_fault h = absurd h
+message_prepares m n write_fault h = absurd h
+message_prepares m n no_memory h = tt
+
+-- what is done before a file is written is done by what writes it
+pub prepare_writes : (Other : Type 0) (m n : ℕ) (k : ErrorKind) → IsSourceCause prepare_effects Other m n k → IsSourceCause embed_effects Other m n k
+prepare_writes Other m n refusal h = h
+prepare_writes Other m n message_refusal h = h
+prepare_writes Other m n front_refusal h = h
+prepare_writes Other m n other_refusal h = absurd h
+prepare_writes Other m n read_fault h = h
+prepare_writes Other m n judge_fault h = absurd h
+prepare_writes Other m n write_fault h = absurd h
+prepare_writes Other m n no_memory h = tt
+
+-- it leaves the sink
+pub prepare_sink : (Other : Type 0) (m n : ℕ) (k : ErrorKind) (count : ℕ) → IsSourceCause prepare_effects Other m n k → IsSinkCause count count k
+prepare_sink Other m n refusal count h = refl
+prepare_sink Other m n message_refusal count h = refl
+prepare_sink Other m n front_refusal count h = refl
+prepare_sink Other m n other_refusal count h = refl
+prepare_sink Other m n read_fault count h = tt
+prepare_sink Other m n judge_fault count h = tt
+prepare_sink Other m n write_fault count h = absurd h
+prepare_sink Other m n no_memory count h = tt
+
+-- whatever is claimed of a sink that is left holds of one that was
+pub leaves_kind : (k : ErrorKind) {P : Type 0} → P → KindLeaves k P
+leaves_kind refusal h = h
+leaves_kind message_refusal h = h
+leaves_kind front_refusal h = h
+leaves_kind other_refusal h = h
+leaves_kind read_fault h = tt
+leaves_kind judge_fault h = h
+leaves_kind write_fault h = tt
+leaves_kind no_memory h = h
+
+-- an answer of a step that reads one source, where others are read
+pub results_in : {T : Type 0} (Other : Type 0) (does : Effects) (m n : ℕ) (r : Result T BuildError) → IfErr r (λ e. IsReadKind does m n (kind_of e)) → IfErr r (λ e. IsSourceCause does Other m n (kind_of e))
+results_in Other does m n (Ok x) h = tt
+results_in Other does m n (Err e) h = read_cause Other does m n (kind_of e) h
+
+-- the same of what it leaves of the source
+pub reads_in : {S T : Type 0} (Other : Type 0) (does : Effects) {len : S → ℕ} {known : S → Option (List ℕ)} {faults : S → ℕ} (old new : S) (r : Result T BuildError) → ReadsSource len known faults (λ m n e. IsReadKind does m n (kind_of e)) old new r
+    → ReadsSource len known faults (λ m n e. IsSourceCause does Other m n (kind_of e)) old new r
+reads_in Other does {len} {known} {faults} old new r h = record { stays = h.stays; quiet = h.quiet; cause = results_in Other does (faults old) (faults new) r h.cause }
+
+-- the cause of an error by a count that stayed
+pub prepares_of : (m n : ℕ) (k : ErrorKind) → n ≡ m → IsReadKind prepare_effects n n k → IsReadKind prepare_effects m n k
+prepares_of m n k same h = subst (λ (i : ℕ). IsReadKind prepare_effects i n k) same h

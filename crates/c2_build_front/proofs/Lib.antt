@@ -1,0 +1,10 @@
+mod Told
+mod First
+mod Rows
+mod Stages
+mod Drafts
+mod Causes
+mod Walked
+mod Sized
+mod Films
+mod Ended

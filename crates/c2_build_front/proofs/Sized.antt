@@ -1,0 +1,49 @@
+-- The new store of a definition alone, and its length.
+use Rattle.std.specs.Prelude.{Ok}
+use Rattle.std.proofs.Common.{◌≡◌, inr, lit≤, arith, ℕ, ◌+◌, List, [], length, replicate, Option, None, refl, sym, ap, ◌∙◌, subst}
+use Rattle.std.proofs.lemmas.List.{length-replicate}
+use Rattle.c2_spec.specs.Digest.{digest_len}
+use Rattle.c2_spec.specs.Jumbf.Tree.{tree_bytes}
+use Rattle.c2_spec.specs.declared.digest.Alg.{Alg}
+use Rattle.c2_spec.proofs.Digests.{zero_len}
+use Rattle.c2_definition.specs.declared.types.Definition.{Definition}
+use Rattle.c2_built.specs.Built.{HasDigestLen, bound_len, no_digest}
+use Rattle.c2_built.specs.Fresh.{fresh_content}
+use Rattle.c2_built.specs.Store.{new_alg, new_store}
+use Rattle.c2_built.specs.Unbound.{IsKnownBinding}
+use Rattle.c2_films.specs.Films.{FilmSizeIsFixed, film_binding, film_store_size}
+use Rattle.c2_layout.specs.Parts.{HasRefs, IsContent}
+use Rattle.c2_layout.specs.declared.carried.Carried.{Carried}
+use Rattle.c2_layout.specs.declared.carried.ParentRefs.{ParentRefs}
+use Rattle.c2_lengths.specs.Lengths.{StoresFit}
+use Rattle.c2_fronts.proofs.SomeOutcome.{defined_of}
+use Rattle.c2_refusals.specs.Stages.{IsDefinitionStage}
+use Rattle.c2_build_front.proofs.Stages.{defined_as}
+use Rattle.c2_build_front.specs.Steps.{HasSize, store_size}
+
+-- the content of a definition alone
+pub fresh_is : (hash : List ℕ → List ℕ) (d : Definition) (k : Carried) → k.boxes ≡ [] → k.parent ≡ None → IsContent hash d k (fresh_content d)
+fresh_is hash d k boxes parent = record { definition = refl; boxes = boxes; parent = subst (λ (o : Option ParentRefs). HasRefs hash None o) (sym parent) tt }
+
+-- its binding is of a kind that is known
+pub known_binding : (alg : Alg) (digest : List ℕ) → IsKnownBinding (film_binding alg digest)
+known_binding alg digest = record { label = inr refl; item = refl }
+
+-- its length is the same with each digest
+pub bound_is : FilmSizeIsFixed → (d : Definition) (digest : List ℕ) → length digest ≡ digest_len (new_alg d) → bound_len (fresh_content d) (film_binding (new_alg d) digest) d.reserve ≡ store_size d
+bound_is law d digest sized = law (no_digest (new_alg d)) (fresh_content d) digest (replicate d.reserve 0) (λ text. zero_len (new_alg d)) sized ∙ ap (film_store_size (fresh_content d)) (length-replicate {A = ℕ} d.reserve 0)
+
+-- and with each message that fills what is reserved
+pub filled_is : FilmSizeIsFixed → (hash : List ℕ → List ℕ) (d : Definition) (digest message : List ℕ) → HasDigestLen (new_alg d) hash → length digest ≡ digest_len (new_alg d) → length message ≡ d.reserve
+    → length (tree_bytes (new_store hash (fresh_content d) (film_binding (new_alg d) digest) message)) ≡ store_size d
+filled_is law hash d digest message digests sized filled = law hash (fresh_content d) digest message digests sized ∙ ap (film_store_size (fresh_content d)) filled
+
+-- a length to which nothing is added
+pub sized_is : (boxes parts size : ℕ) → boxes ≡ 0 → boxes + parts ≡ size → parts ≡ size
+sized_is boxes parts size none all = omega (arith, none, all)
+
+-- ---- the definition of a file
+
+-- 64 bits hold the length of the new store of a definition that a file is
+pub has_size : StoresFit → (file : List ℕ) (d : Definition) → IsDefinitionStage file (Ok d) → HasSize d
+has_size law file d stage = (law file (fresh_content d) (defined_of file d (defined_as file d stage)) (record { boxes = lit≤ tt; parent = tt })).film

@@ -1,0 +1,152 @@
+-- For private clauses: what the steps of a build in front of a BMFF file come to.
+use Rattle.std.specs.Prelude.{◌≡◌, ◌⊎◌, ℕ, ◌+◌, ◌-◌, ◌^◌, ◌<◌, ◌≤◌, List, [], ◌∷◌, length, vec_len, Some, IfOk, OnOk}
+use Rattle.std.specs.declared.option.Option.{Option}
+use Rattle.std.specs.declared.result.Result.{Result}
+use Rattle.std.specs.declared.result.Result.TheVariants.{Ok, Err}
+use Rattle.std.specs.Option.{ForSome}
+use Rattle.c2_base.specs.declared.limits.TheConstants.{FILE_LEN_LIMIT, MAX_STORE_LEN}
+use Rattle.c2_spec.specs.Bmff.Boxes.{Box, HasRoots}
+use Rattle.c2_spec.specs.Bmff.Writing.{c2pa_frame_len}
+use Rattle.c2_spec.specs.C2pa.Message.{bare_bytes}
+use Rattle.c2_spec.specs.C2pa.Sign1.{SignParts}
+use Rattle.c2_spec.specs.Digest.{digest_len}
+use Rattle.c2_spec.specs.Jpeg.Writing.{IsPacketStore}
+use Rattle.c2_spec.specs.Jumbf.Tree.{Tree}
+use Rattle.c2_spec.specs.Located.{Opening}
+use Rattle.c2_spec.specs.declared.digest.Alg.{Alg}
+use Rattle.c2_chunks.specs.declared.table.ShiftError.{ShiftError}
+use Rattle.c2_chunks.specs.declared.table.ShiftError.TheVariants as shift
+use Rattle.c2_definition.specs.declared.types.Definition.{Definition}
+use Rattle.c2_message.specs.Refusals.{reserve_needed}
+use Rattle.c2_built.specs.Fresh.{fresh_content}
+use Rattle.c2_built.specs.Store.{new_alg}
+use Rattle.c2_layout.specs.Parts.{AreParts}
+use Rattle.c2_layout.specs.declared.parts.NewParts.{NewParts}
+use Rattle.c2_films.specs.Films.{film_binding, film_len, film_store_size}
+use Rattle.c2_front_hash.specs.Putting.{FitsIn, range_of, with_store}
+use Rattle.c2_front_hash.specs.declared.front.Front.{Front}
+use Rattle.c2_fronts.specs.Fronts.{front_covered, tables_of}
+use Rattle.c2_fronts.specs.InFront.{front_place}
+use Rattle.c2_fronts.specs.Order.{CanPlanFront, FrontRefusal, film_refusals, plan_refusals}
+use Rattle.c2_fronts.specs.Outcomes.{IsFrontMade, NewFile}
+use Rattle.c2_refusals.specs.Kinds.{IsReadKind, WithoutFault, kind_of}
+use Rattle.c2_refusals.specs.Stages.{HasTextsIn, IsDefinitionTold, IsMessageTold}
+use Rattle.c2_refusals.specs.declared.error.BuildError.{BuildError}
+use Rattle.c2_refusals.specs.declared.error.BuildError.TheVariants.{OffsetTable, BadTree, BadTable, Overflow, ReserveTooSmall, ReadFault, NoMemory}
+use Rattle.c2_build_front.specs.Answers.{plan_effects, prepare_effects}
+use Rattle.c2_build_front.specs.Errors.{IsRefusedWith, error_of}
+use Rattle.c2_build_front.specs.declared.drafting.Sizes.{Sizes}
+use Rattle.c2_build_front.specs.declared.ready.Ready.{Ready}
+
+-- ---- errors
+
+-- of these refusals the first has this error
+abbrev pub IsFirstError : List FrontRefusal → BuildError → Type 0
+IsFirstError refusals e = (refusal : FrontRefusal) × (others : List FrontRefusal) × (refusals ≡ refusal ∷ others) × (e ≡ error_of refusal)
+
+-- the cause of an error of a step of a plan that reads the media
+abbrev pub IsPlanStep : ℕ → ℕ → BuildError → Type 0
+IsPlanStep before now e = IsReadKind plan_effects before now (kind_of e)
+
+-- of a step that reads the media before a new file is written
+abbrev pub IsPrepareStep : ℕ → ℕ → BuildError → Type 0
+IsPrepareStep before now e = IsReadKind prepare_effects before now (kind_of e)
+
+-- the error of a build that an error of a shift is
+abbrev pub error_of_shift : ShiftError → BuildError
+error_of_shift (shift.OffsetTable at) = OffsetTable at
+error_of_shift (shift.BadTree at) = BadTree at
+error_of_shift (shift.BadTable at) = BadTable at
+error_of_shift (shift.Overflow at) = Overflow at
+error_of_shift shift.ReadFault = ReadFault
+error_of_shift shift.NoMemory = NoMemory
+
+-- ---- numbers
+
+-- how many bytes the new store of a definition has, with what it reserves for its message
+abbrev pub store_size : Definition → ℕ
+store_size d = film_store_size (fresh_content d) d.reserve
+
+-- 64 bits hold that number
+abbrev pub HasSize : Definition → Type 0
+HasSize d = store_size d < 2 ^ 64 - 1
+
+-- The sizes of what is to be built over a media file of this length, whatever is known of its bytes: neither the new store nor the new file
+-- is too large.
+pub record IsSized (len : ℕ) (d : Definition) (s : Sizes) : Type 0 where
+  pub size : s.size ≡ len
+  pub store : s.store_len ≡ store_size d
+  pub small : s.store_len ≤ MAX_STORE_LEN
+  pub short : len + (c2pa_frame_len + s.store_len) < FILE_LEN_LIMIT
+
+-- ---- what is drafted
+
+-- What is to be built in front of a media file with these root boxes: nothing is refused of a plan, and these are the numbers of the new
+-- file.
+pub record IsDrafted (media : List ℕ) (roots : List Box) (d : Definition) (f : Front) : Type 0 where
+  pub unrefused : plan_refusals media roots d ≡ []
+  pub place : f.place ≡ front_place roots
+  pub store : f.store_len ≡ store_size d
+  pub tables : f.tables ≡ tables_of media roots
+
+-- The same of a media file that is opened so: it is a BMFF file without a store.
+pub record IsDraftedOver (media : List ℕ) (what : Opening Tree) (d : Definition) (f : Front) : Type 0 where
+  pub roots : List Box
+  pub has_roots : HasRoots media roots
+  pub film : film_refusals media what ≡ []
+  pub can : CanPlanFront media roots d
+  pub is : IsDrafted media roots d f
+
+-- What is refused first of a media file that is opened so has this error: what it is, or something of a plan over its root boxes.
+abbrev pub IsRefusedOver : List ℕ → Opening Tree → Definition → BuildError → Type 0
+IsRefusedOver media what d e =
+    IsFirstError (film_refusals media what) e
+    ⊎ ((roots : List Box) × HasRoots media roots × (film_refusals media what ≡ []) × IsFirstError (plan_refusals media roots d) e)
+
+-- ---- the parts
+
+-- how many bytes the new file's box has
+abbrev pub box_len : Definition → ℕ
+box_len d = film_len (fresh_content d) d.reserve
+
+-- The parts of the new manifest, made with a digest that is the one of what the exclusions leave of the new file, where the media's bytes are
+-- known and it was drafted so.
+pub record AreFrontParts (hash : List ℕ → List ℕ) (known : Option (List ℕ)) (d : Definition) (f : Front) (p : NewParts) : Type 0 where
+  pub digest : List ℕ
+  pub sized : length digest ≡ digest_len (new_alg d)
+  pub parts : AreParts hash (fresh_content d) (film_binding (new_alg d) digest) p
+  pub is_digest : ForSome known (λ file. (what : Opening Tree) → (k : IsDraftedOver file what d f)
+      → digest ≡ hash (front_covered (box_len d) file k.roots))
+
+-- ---- the message
+
+-- the error says that a message with these parts doesn't fit into what a definition reserves
+abbrev pub IsReserveRefusal : Definition → SignParts → BuildError → Type 0
+IsReserveRefusal d p e = (n : ℕ) × (reserve_needed d.reserve (length (bare_bytes p)) ≡ Some n) × (e ≡ ReserveTooSmall n)
+
+-- ---- what is ready to be written
+
+-- a new file is ready to be written over this media file
+pub record IsReady (media : List ℕ) (r : Ready) (b : NewFile) : Type 0 where
+  pub file : b.file ≡ with_store r.front r.store media
+  pub start : b.start ≡ r.front.place
+  pub len : b.len ≡ range_of r.front
+
+-- what is ready can be written over a media file of this length, whatever is known of its bytes
+pub record CanWrite (len : ℕ) (r : Ready) : Type 0 where
+  pub fits : FitsIn len r.front
+  pub store : IsPacketStore r.store
+  pub room : 0 < vec_len r.buffer
+
+-- over inputs that come to something a new file is ready to be written over this media file, or the error is that of what is refused first
+abbrev pub IsReadyFor : List ℕ → (Result NewFile FrontRefusal → Type 0) → Result Ready BuildError → Type 0
+IsReadyFor media Is (Ok r) = (b : NewFile) × Is (Ok b) × IsReady media r b
+IsReadyFor media Is (Err e) = WithoutFault e (IsRefusedWith Is e)
+
+-- What was prepared of a media file of this length, of a definition file and of a message file: over known bytes what they come to, ready to
+-- be written, and that the texts of the definition are texts; and of all files that the new file can be written.
+pub record IsPrepared (hash : Alg → List ℕ → List ℕ) (media definition message : Option (List ℕ)) (len : ℕ) (result : Result Ready BuildError) : Type 0 where
+  pub ready : ForSome media (λ file. (bytes : List ℕ) → IsDefinitionTold file definition bytes → (signed : List ℕ)
+      → IsMessageTold file bytes message signed → IsReadyFor file (IsFrontMade hash file bytes signed) result)
+  pub texts : ForSome definition (λ bytes. OnOk result (HasTextsIn bytes))
+  pub can_write : IfOk result (CanWrite len)

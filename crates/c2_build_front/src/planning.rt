@@ -1,0 +1,164 @@
+// What is to be signed of a new manifest whose store stands in front.
+ghost use Rattle.std.specs.Prelude.{◌≡◌, IfOk, ℕ, List};
+ghost use Rattle.std.specs.Option.{ForSome};
+ghost use Rattle.c2_base.specs.Causes.{Rose};
+ghost use Rattle.c2_base.specs.Source.{ReadsSource};
+ghost use Rattle.c2_container.specs.Contained.{HasRootsInside};
+ghost use Rattle.c2_definition.specs.DefinitionFile.{IsWellFormed};
+ghost use Rattle.c2_fronts.specs.Outcomes.{IsFilmStage, IsFrontPlanned, IsPlannedIn, Then};
+ghost use Rattle.c2_ground.specs.Grounds.{IsFoundIn, IsKind, IsReadIn};
+ghost use Rattle.c2_refusals.specs.Stages.{IsDefinitionTold, IsMediaRefused, MediaKind};
+ghost use Rattle.c2_spec.specs.C2pa.Sign1.{sig_structure};
+ghost use Rattle.c2_spec.specs.Cbor.Deterministic.{deterministic};
+ghost use Rattle.c2_spec.specs.Cbor.Item.{dict, no_pairs};
+ghost use Rattle.c2_spec.specs.Cbor.View.{view};
+ghost use Rattle.c2_build_front.specs.Answers.{IsPlanCause};
+ghost use Rattle.c2_build_front.specs.Errors.{IsAnswerTo};
+ghost use Rattle.c2_build_front.specs.Steps.{HasSize, IsPlanStep};
+
+use crate::drafting::drafted;
+use crate::parts::parts_over;
+use c2_base::limits::PIECE_LEN;
+use c2_base::{Blob, NoMemory, Source};
+use c2_cbor::Cbor;
+use c2_definition::{Definition, each_definition_is_read_one_way};
+use c2_ground::{MediaFile, MediaRead, open_media, read_media};
+use c2_hash::Hashing;
+use c2_lengths::the_length_of_a_new_store_fits;
+use c2_refusals::{BuildError, read_definition_file};
+use c2_sigstruct::{Sign1, question};
+use c2_validate::one_opening;
+use std::alloc::Global;
+
+// A map without entries.
+fn empty_map(alloc: Global) -> Cbor
+    ensures { view result ≡ dict no_pairs }
+{
+    Cbor::Map(Vec::new(alloc))
+}
+
+// What is signed over a claim: the definition's protected header stands before it (RFC 9052, section 4.4).
+fn signed_over(alloc: Global, definition: &Definition, claim: &[u8]) -> Result<Blob, NoMemory>
+    ensures { IfOk result (λ b. b
+        ≡ deterministic (sig_structure definition.now.protected claim.now)) }
+{
+    let sign = Sign1 {
+        protected: Blob::copied(alloc, definition.protected.as_slice())?,
+        unprotected: empty_map(alloc),
+        signature: Blob::copied(alloc, &[])?,
+    };
+    let asked = question(alloc, &sign, claim)?;
+    Ok(asked.tbs)
+}
+
+// What is to be signed, where this was read of a media file, of a definition.
+fn plan_over<A: Source, H: Hashing>(
+    alloc: Global,
+    hashing: &H,
+    media: &mut A,
+    file: &MediaRead<'_>,
+    definition: &Definition,
+) -> Result<Blob, BuildError>
+    requires formed { IsWellFormed definition.now }
+    requires read { IsReadIn (A.len media.old) file.now }
+    ensures planned { ForSome (A.known media.old) (λ bytes. (kind : MediaKind)
+        → (is : IsKind bytes file.now kind) → HasSize definition.now
+        → IsAnswerTo (Then (IsFilmStage bytes is.stage.0)
+        (IsPlannedIn H.digest_of bytes definition.now)) result) }
+    ensures reads { ReadsSource A.len A.known A.faults IsPlanStep media.old media.new result }
+{
+    // Matched and not handed up by `?`, here and below: each way out has clauses of its own.
+    let front = match drafted(alloc, media, file, definition) {
+        Ok(front) => front,
+        Err(error) => return Err(error),
+    };
+    let Ok(mut buf) = vec![in alloc; 0u8; PIECE_LEN] else {
+        return Err(BuildError::NoMemory);
+    };
+    let parts = match parts_over(alloc, hashing, media, &front, definition, &mut buf) {
+        Ok(parts) => parts,
+        Err(error) => return Err(error),
+    };
+    match signed_over(alloc, definition, parts.claim.as_slice()) {
+        Ok(tbs) => Ok(tbs),
+        Err(NoMemory) => Err(BuildError::NoMemory),
+    }
+}
+
+// What is to be signed, where this was found of a media file, of a definition file.
+fn plan_in<A: Source, B: Source, H: Hashing>(
+    alloc: Global,
+    hashing: &H,
+    media: &mut A,
+    file: &MediaFile,
+    definition: &mut B,
+) -> Result<Blob, BuildError>
+    requires inside { HasRootsInside (A.len media.old) file.now.container }
+    requires found { ForSome (A.known media.old) (λ bytes. IsFoundIn bytes file.now) }
+    ensures planned { ForSome (A.known media.old) (λ file. (bytes : List ℕ)
+        → IsDefinitionTold file (B.known definition.old) bytes
+        → IsAnswerTo (IsFrontPlanned H.digest_of file bytes) result) }
+    ensures not_due { ForSome (A.known media.old) (λ file.
+        IsMediaRefused file → definition.new ≡ definition.old) }
+    ensures media { ReadsSource A.len A.known A.faults
+        (IsPlanCause (Rose (B.faults definition.old) (B.faults definition.new)))
+        media.old media.new result }
+    ensures definition { ReadsSource B.len B.known B.faults
+        (IsPlanCause (Rose (A.faults media.old) (A.faults media.new)))
+        definition.old definition.new result }
+{
+    // Only the prover needs these laws.
+    one_opening();
+    each_definition_is_read_one_way();
+    the_length_of_a_new_store_fits();
+    let read = match read_media(alloc, file) {
+        Ok(read) => read,
+        Err(error) => return Err(error),
+    };
+    let definition = match read_definition_file(alloc, definition) {
+        Ok(definition) => definition,
+        Err(error) => return Err(error),
+    };
+    plan_over(alloc, hashing, media, &read, &definition)
+}
+
+/// The bytes that are to be signed for the manifest that `embed_front` writes: the Sig_structure of its claim, with the protected header of
+/// the definition (RFC 9052, section 4.4).
+///
+/// The media is refused by `MediaRefused`, then the definition by `BadDefinition`. Then come `NotBmff` for a JPEG file, `HasStore` for a file
+/// that has a store, `OpenBox` where the first root box says no size, `RedactionRefused` for each redaction, as there is no older store;
+/// `OffsetTable`, `BadTree` or `BadTable` for the first thing that stands in the way of moving chunk offsets; `StoreTooLarge` of the new
+/// store, `MediaRefused` where the new file would be too long or have too many root boxes, and `Overflow` for the first chunk offset that
+/// doesn't fit into its field once it is moved. Over known bytes the error is the first of these whose condition holds. `ReadFault` comes
+/// only where one of the two sources counted a fault in this call, and `NoMemory` where memory ran out; no other error comes.
+///
+/// The definition isn't read where the media is refused. The media is opened once, and read in pieces.
+pub fn plan_front<A: Source, B: Source, H: Hashing>(
+    alloc: Global,
+    hashing: &H,
+    media: &mut A,
+    definition: &mut B,
+) -> Result<Blob, BuildError>
+    // Where the bytes that are due are known: this is what they come to.
+    ensures planned { ForSome (A.known media.old) (λ file. (bytes : List ℕ)
+        → IsDefinitionTold file (B.known definition.old) bytes
+        → IsAnswerTo (IsFrontPlanned H.digest_of file bytes) result) }
+    ensures not_due { ForSome (A.known media.old) (λ file.
+        IsMediaRefused file → definition.new ≡ definition.old) }
+
+    // These hold of every source.
+    ensures media { ReadsSource A.len A.known A.faults
+        (IsPlanCause (Rose (B.faults definition.old) (B.faults definition.new)))
+        media.old media.new result }
+    ensures definition { ReadsSource B.len B.known B.faults
+        (IsPlanCause (Rose (A.faults media.old) (A.faults media.new)))
+        definition.old definition.new result }
+{
+    // Only the prover needs this law.
+    one_opening();
+    let file = match open_media(alloc, media) {
+        Ok(file) => file,
+        Err(error) => return Err(error),
+    };
+    plan_in(alloc, hashing, media, &file, definition)
+}

@@ -1,0 +1,249 @@
+// What is ready to be written in front of a film, before anything is.
+ghost use Rattle.std.specs.Prelude.{◌≡◌, ◌⊎◌, IfErr, IfOk, ℕ, List, length};
+ghost use Rattle.std.specs.Option.{ForSome};
+ghost use Rattle.c2_base.specs.Causes.{Rose};
+ghost use Rattle.c2_base.specs.Source.{ReadsSource};
+ghost use Rattle.c2_built.specs.Store.{new_alg};
+ghost use Rattle.c2_container.specs.Contained.{HasRootsInside};
+ghost use Rattle.c2_definition.specs.DefinitionFile.{IsWellFormed};
+ghost use Rattle.c2_front_hash.specs.Putting.{FitsIn};
+ghost use Rattle.c2_fronts.specs.Outcomes.{IsFilmStage, IsMadeIn, Then, new_file};
+ghost use Rattle.c2_ground.specs.Grounds.{IsFoundIn, IsKind, IsReadIn};
+ghost use Rattle.c2_message.specs.Signed.{IsSigned};
+ghost use Rattle.c2_refusals.specs.Kinds.{SaysNothing, WithoutFault};
+ghost use Rattle.c2_refusals.specs.Stages.{LeavesUndue, MediaKind};
+ghost use Rattle.c2_spec.specs.C2pa.Message.{CanBePadded};
+ghost use Rattle.c2_spec.specs.C2pa.Sign1.{parts_of};
+ghost use Rattle.c2_spec.specs.Cbor.Item.{Pairs};
+ghost use Rattle.c2_spec.specs.Jumbf.Tree.{Tree};
+ghost use Rattle.c2_spec.specs.Located.{Opening};
+ghost use Rattle.c2_build_front.specs.Answers.{IsPrepareCause};
+ghost use Rattle.c2_build_front.specs.Steps.{CanWrite, HasSize, IsDraftedOver, IsPlanStep, IsPrepareStep, IsPrepared, IsReady, IsReadyFor, IsReserveRefusal, store_size};
+
+use crate::drafting::drafted;
+use crate::parts::parts_over;
+use c2_base::limits::PIECE_LEN;
+use c2_base::{Blob, NoMemory, Source};
+use c2_cbor::one_item;
+use c2_definition::{Definition, each_definition_is_read_one_way};
+use c2_films::a_new_film_store_has_one_length;
+use c2_front_hash::Front;
+use c2_ground::{MediaFile, MediaRead, open_media, read_media};
+use c2_hash::Hashing;
+use c2_layout::{Carried, new_store};
+use c2_lengths::the_length_of_a_new_store_fits;
+use c2_message::{
+    MessageError, a_message_fills_its_reserve_or_needs_more,
+    each_message_is_accepted_or_refused_for_one_test, padded_message,
+};
+use c2_refusals::{BuildError, read_definition_file, read_message_file};
+use c2_sigstruct::Sign1;
+use c2_validate::one_opening;
+use std::alloc::Global;
+
+/// All that is needed to write a new file; no memory is taken from here on.
+#[derive(Drop)]
+pub(crate) struct Ready {
+    /// The new store.
+    pub(crate) store: Blob,
+
+    /// How it is put into the media.
+    pub(crate) front: Front,
+
+    /// What the media is copied through.
+    pub(crate) buffer: Vec<u8>,
+}
+
+// The message, padded to what a definition reserves.
+fn padded(alloc: Global, sign: &Sign1, definition: &Definition) -> Result<Blob, BuildError>
+    requires can { (entries : Pairs) × CanBePadded (parts_of sign.now) entries }
+    requires formed { IsWellFormed definition.now }
+    ensures signed { IfOk result (IsSigned (parts_of sign.now) definition.now.reserve) }
+    ensures refused { IfErr result (λ e. WithoutFault e
+        (IsReserveRefusal definition.now (parts_of sign.now) e)) }
+    ensures cause { (count : ℕ) → IfErr result (IsPrepareStep count count) }
+{
+    match padded_message(alloc, sign, definition.reserve) {
+        Ok(message) => Ok(message),
+        Err(MessageError::ReserveTooSmall(needed)) => Err(BuildError::ReserveTooSmall(needed)),
+        Err(MessageError::NoMemory) => Err(BuildError::NoMemory),
+        // A message that is padded was read before.
+        Err(MessageError::BadSignature(_)) => unreachable!(),
+    }
+}
+
+// What is to be written, of what was drafted over a media file, with a message.
+fn ready_with<A: Source, H: Hashing>(
+    alloc: Global,
+    hashing: &H,
+    media: &mut A,
+    front: Front,
+    definition: &Definition,
+    message: &[u8],
+) -> Result<Ready, BuildError>
+    requires formed { IsWellFormed definition.now }
+    requires fits { FitsIn (A.len media.old) front }
+    requires store { front.store_len ≡ store_size definition.now }
+    requires filled { length message.now ≡ definition.now.reserve }
+    ensures ready { IfOk result (λ r. ForSome (A.known media.old) (λ file. (what : Opening Tree)
+        → (k : IsDraftedOver file what definition.now front)
+        → IsReady file r (new_file H.digest_of file k.roots definition.now message.now))) }
+    ensures nothing { IfErr result (λ e. ForSome (A.known media.old) (λ file.
+        (what : Opening Tree) → IsDraftedOver file what definition.now front → SaysNothing e)) }
+    ensures can_write { IfOk result (CanWrite (A.len media.old)) }
+    ensures reads { ReadsSource A.len A.known A.faults IsPlanStep media.old media.new result }
+{
+    // Only the prover needs this law.
+    a_new_film_store_has_one_length();
+    let Ok(mut buffer) = vec![in alloc; 0u8; PIECE_LEN] else {
+        return Err(BuildError::NoMemory);
+    };
+    // Matched and not handed up by `?`, here and below: each way out has clauses of its own.
+    let parts = match parts_over(alloc, hashing, media, &front, definition, &mut buffer) {
+        Ok(parts) => parts,
+        Err(error) => return Err(error),
+    };
+    let nothing = Carried::nothing(alloc);
+    match new_store(alloc, definition, &nothing, &parts, message) {
+        Ok(store) => Ok(Ready {
+            store,
+            front,
+            buffer,
+        }),
+        Err(NoMemory) => Err(BuildError::NoMemory),
+    }
+}
+
+// What builds are made with.
+#[derive(Drop)]
+struct Builder<'h, H> {
+    alloc: Global,
+    hashing: &'h H,
+}
+
+impl<'h, H: Hashing> Builder<'h, H> {
+    // What is to be written, where this was read of a media file, with a definition and a message.
+    fn ready_over<A: Source>(
+        &self,
+        media: &mut A,
+        file: &MediaRead<'_>,
+        definition: &Definition,
+        sign: &Sign1,
+    ) -> Result<Ready, BuildError>
+        requires formed { IsWellFormed definition.now }
+        requires can { (entries : Pairs) × CanBePadded (parts_of sign.now) entries }
+        requires read { IsReadIn (A.len media.old) file.now }
+        ensures ready { ForSome (A.known media.old) (λ bytes. (kind : MediaKind)
+            → (is : IsKind bytes file.now kind) → HasSize definition.now
+            → IsReadyFor bytes (Then (IsFilmStage bytes is.stage.0)
+            (IsMadeIn H.digest_of bytes definition.now (parts_of sign.now))) result) }
+        ensures can_write { IfOk result (CanWrite (A.len media.old)) }
+        ensures reads { ReadsSource A.len A.known A.faults IsPrepareStep
+            media.old media.new result }
+    {
+        // Only the prover needs this law.
+        a_message_fills_its_reserve_or_needs_more();
+        let front = match drafted(self.alloc, media, file, definition) {
+            Ok(front) => front,
+            Err(error) => return Err(error),
+        };
+        let message = match padded(self.alloc, sign, definition) {
+            Ok(message) => message,
+            Err(error) => return Err(error),
+        };
+        match ready_with(
+            self.alloc,
+            self.hashing,
+            media,
+            front,
+            definition,
+            message.as_slice(),
+        ) {
+            Ok(ready) => Ok(ready),
+            Err(error) => Err(error),
+        }
+    }
+
+    // What is to be written, where this was found of a media file, with a definition file and a message file.
+    fn ready_in<A: Source, B: Source, C: Source>(
+        &self,
+        media: &mut A,
+        file: &MediaFile,
+        definition: &mut B,
+        signature: &mut C,
+    ) -> Result<Ready, BuildError>
+        requires inside { HasRootsInside (A.len media.old) file.now.container }
+        requires found { ForSome (A.known media.old) (λ bytes. IsFoundIn bytes file.now) }
+        ensures prepared { IsPrepared H.digest_of (A.known media.old) (B.known definition.old)
+            (C.known signature.old) (A.len media.old) result }
+        ensures not_due { LeavesUndue (A.known media.old) (B.known definition.old)
+            definition.old definition.new signature.old signature.new }
+        ensures media { ReadsSource A.len A.known A.faults (IsPrepareCause
+            (Rose (B.faults definition.old) (B.faults definition.new)
+            ⊎ Rose (C.faults signature.old) (C.faults signature.new)))
+            media.old media.new result }
+        ensures definition { ReadsSource B.len B.known B.faults (IsPrepareCause
+            (Rose (A.faults media.old) (A.faults media.new)
+            ⊎ Rose (C.faults signature.old) (C.faults signature.new)))
+            definition.old definition.new result }
+        ensures message { ReadsSource C.len C.known C.faults (IsPrepareCause
+            (Rose (A.faults media.old) (A.faults media.new)
+            ⊎ Rose (B.faults definition.old) (B.faults definition.new)))
+            signature.old signature.new result }
+    {
+        // Only the prover needs these laws.
+        one_opening();
+        each_definition_is_read_one_way();
+        one_item();
+        each_message_is_accepted_or_refused_for_one_test();
+        the_length_of_a_new_store_fits();
+        let read = match read_media(self.alloc, file) {
+            Ok(read) => read,
+            Err(error) => return Err(error),
+        };
+        let definition = match read_definition_file(self.alloc, definition) {
+            Ok(definition) => definition,
+            Err(error) => return Err(error),
+        };
+        let sign = match read_message_file(self.alloc, definition.protected.as_slice(), signature) {
+            Ok(sign) => sign,
+            Err(error) => return Err(error),
+        };
+        self.ready_over(media, &read, &definition, &sign)
+    }
+}
+
+/// What is to be written, made from the three sources.
+pub(crate) fn prepare<A: Source, B: Source, C: Source, H: Hashing>(
+    alloc: Global,
+    hashing: &H,
+    media: &mut A,
+    definition: &mut B,
+    signature: &mut C,
+) -> Result<Ready, BuildError>
+    ensures prepared { IsPrepared H.digest_of (A.known media.old) (B.known definition.old)
+        (C.known signature.old) (A.len media.old) result }
+    ensures not_due { LeavesUndue (A.known media.old) (B.known definition.old)
+        definition.old definition.new signature.old signature.new }
+    ensures media { ReadsSource A.len A.known A.faults (IsPrepareCause
+        (Rose (B.faults definition.old) (B.faults definition.new)
+        ⊎ Rose (C.faults signature.old) (C.faults signature.new)))
+        media.old media.new result }
+    ensures definition { ReadsSource B.len B.known B.faults (IsPrepareCause
+        (Rose (A.faults media.old) (A.faults media.new)
+        ⊎ Rose (C.faults signature.old) (C.faults signature.new)))
+        definition.old definition.new result }
+    ensures message { ReadsSource C.len C.known C.faults (IsPrepareCause
+        (Rose (A.faults media.old) (A.faults media.new)
+        ⊎ Rose (B.faults definition.old) (B.faults definition.new)))
+        signature.old signature.new result }
+{
+    // Only the prover needs this law.
+    one_opening();
+    let builder = Builder { alloc, hashing };
+    let file = match open_media(alloc, media) {
+        Ok(file) => file,
+        Err(error) => return Err(error),
+    };
+    builder.ready_in(media, &file, definition, signature)
+}
