@@ -4,10 +4,13 @@ use Rattle.std.specs.declared.option.Option.{Option}
 use Rattle.c2_spec.specs.Container.{IsLocated}
 use Rattle.c2_spec.specs.Located.{Located, refused, absent, here}
 use Rattle.c2_sidecar.specs.Extracting.{extracted_of}
+use Rattle.c2_sidecar.specs.Extracts.{IsAnswerOf}
 use Rattle.c2_sidecar.specs.declared.error.Extracted.{Extracted}
 use Rattle.c2_sidecar.specs.declared.error.Extracted.TheVariants.{Done, NoStore, Refused}
 use Rattle.c2_texts.specs.Texts.{none_line, refused_line}
 use Rattle.c2_outcome.specs.Outcome.{Outcome, reports}
+use Rattle.c2_outcome.specs.Reply.{outcome_of}
+use Rattle.c2_outcome.specs.declared.reply.Reply.{Reply}
 use Rattle.c2_outcome.specs.declared.types.Answer.TheVariants as answer
 use Rattle.c2_written.specs.Written.{with_file}
 use Rattle.c2_extract_command.specs.Lines.{extracted_line}
@@ -28,3 +31,8 @@ extract_file (here start len store) = Some store
 abbrev pub IsExtractOutcome : List ℕ → Outcome → Type 0
 IsExtractOutcome file expected =
     (l : Located) × IsLocated file l × (expected ≡ with_file (extract_file l) (extract_report (extracted_of l)))
+
+-- A reply over a media file of so many bytes, also of one whose bytes are unknown, reports an answer that such a file can have: a store is no
+-- longer than one may be, and a refusal is one of the container's.
+abbrev pub IsExtractReply : ℕ → Reply → Type 0
+IsExtractReply len reply = (a : Extracted) × IsAnswerOf len a × (outcome_of reply ≡ extract_report a)

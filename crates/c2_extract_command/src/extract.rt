@@ -4,9 +4,9 @@ ghost use Rattle.std.specs.Option.{ForSome};
 ghost use Rattle.c2_base.specs.Sink.{WritesSink, unsaid};
 ghost use Rattle.c2_base.specs.Source.{ReadsSource};
 ghost use Rattle.c2_outcome.specs.Left.{state_of};
-ghost use Rattle.c2_outcome.specs.Reply.{EndsFile, IsCopyingCause, IsOutputCause, MakesFile, outcome_of};
-ghost use Rattle.c2_extract_command.specs.Faults.{extract_fault};
-ghost use Rattle.c2_extract_command.specs.Outcomes.{IsExtractOutcome, extract_report};
+ghost use Rattle.c2_outcome.specs.Reply.{EndsFile, IsCopyingCause, IsFaultOf, IsOutputCause, IsReplyTo, MakesFile, outcome_of};
+ghost use Rattle.c2_extract_command.specs.Faults.{extract_says};
+ghost use Rattle.c2_extract_command.specs.Outcomes.{IsExtractOutcome, IsExtractReply, extract_report};
 
 use crate::lines::extracted_line;
 use c2_base::{Sink, Source};
@@ -18,7 +18,7 @@ use std::alloc::Global;
 /// The reply to `extract`: how many bytes the store has, once the new file has them all and is finished.
 ///
 /// `Input` and `Output` come only where the media or the new file failed in this call, and leave a prefix that isn't finished. Where memory
-/// runs out, the new file is as it was, or whole and finished; every other answer leaves it as it was.
+/// runs out, the new file is as it was, or whole and finished; every answer but `Done` leaves it as it was.
 pub fn reply_to_extract<S: Source, K: Sink>(
     alloc: Global,
     media: &mut S,
@@ -31,27 +31,27 @@ pub fn reply_to_extract<S: Source, K: Sink>(
 
     // Whatever the file holds.
     ensures words { IfOk result (λ reply. reply.answer ≢ Answer.Usage) }
+    ensures within { IfOk result (IsExtractReply (S.len media.old)) }
     ensures media { ReadsSource S.len S.known S.faults IsCopyingCause media.old media.new result }
     ensures writes { WritesSink K.written unsaid K.faults IsOutputCause out.old out.new result }
     ensures ends { EndsFile K.finished K.faults out.old out.new result }
 {
     // Only the prover needs this law.
     each_file_is_extracted();
-    // Matched and not handed up by `?`: each way out has clauses of its own.
-    match extract(alloc, media, out) {
-        Ok(answer) => extracted_reply(alloc, answer),
-        Err(error) => Err(fault(error)),
-    }
+    let extracted = extract(alloc, media, out);
+    reply_to_call(alloc, extracted)
 }
 
-// The fault that an error of the call stands for.
-fn fault(error: ExtractError) -> Fault
-    ensures { result ≡ extract_fault error }
+// The reply to what the call came to.
+fn reply_to_call(alloc: Global, extracted: Result<Extracted, ExtractError>) -> Result<Reply, Fault>
+    ensures reply { IfOk result (IsReplyTo (extract_says extracted)) }
+    ensures fault { IfErr result (IsFaultOf (extract_says extracted)) }
 {
-    match error {
-        ExtractError::ReadFault => Fault::Input,
-        ExtractError::WriteFault => Fault::Output,
-        ExtractError::NoMemory => Fault::Memory,
+    match extracted {
+        Ok(answer) => extracted_reply(alloc, answer),
+        Err(ExtractError::ReadFault) => Err(Fault::Input),
+        Err(ExtractError::WriteFault) => Err(Fault::Output),
+        Err(ExtractError::NoMemory) => Err(Fault::Memory),
     }
 }
 

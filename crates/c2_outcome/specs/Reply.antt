@@ -87,6 +87,16 @@ IsPanelCause before now = CausedBy (Rose before now) ⊥ ⊤
 abbrev pub IsCopyingCause : ℕ → ℕ → Fault → Type 0
 IsCopyingCause before now = CausedBy (Rose before now) ⊤ ⊥
 
+-- The cause of a fault of a call that reads several sources and uses no other object, by the counts of one source, and by whether another
+-- failed.
+abbrev pub IsSourcesCause : (OtherFailed : Type 0) → ℕ → ℕ → Fault → Type 0
+IsSourcesCause OtherFailed before now = CausedBy (Rose before now ⊎ OtherFailed) ⊥ ⊥
+
+-- The cause of a fault of a call that reads several sources and writes to a sink, by the counts of one source, and by whether another
+-- failed. The sink may fail too: its cause stands with what is said of the sink.
+abbrev pub IsWritingCause : (OtherFailed : Type 0) → ℕ → ℕ → Fault → Type 0
+IsWritingCause OtherFailed before now = CausedBy (Rose before now ⊎ OtherFailed) ⊤ ⊥
+
 -- The cause of a fault of a call that reads several sources and asks judges, by the counts of one source, and by whether another failed. A
 -- judge may fail too: its cause stands with what is said of the judges.
 abbrev pub IsReadingCause : (OtherFailed : Type 0) → ℕ → ℕ → Fault → Type 0
@@ -118,6 +128,19 @@ end_of (Err Input) = status.InputFault
 end_of (Err Output) = status.OutputFault
 end_of (Err Judge) = status.JudgeFault
 end_of (Err Memory) = status.NoMemory
+
+-- ---- what a call came to
+
+-- The reply to what the call below a command came to, which the command says as an outcome or as a fault: it reports the outcome, and to a
+-- fault there is none.
+abbrev pub IsReplyTo : Result Outcome Fault → Reply → Type 0
+IsReplyTo (Ok o) reply = outcome_of reply ≡ o
+IsReplyTo (Err f) reply = ⊥
+
+-- why there is no reply to what the call came to: its fault, or memory ran out under the reply to an outcome
+abbrev pub IsFaultOf : Result Outcome Fault → Fault → Type 0
+IsFaultOf (Ok o) e = e ≡ Memory
+IsFaultOf (Err f) e = e ≡ f
 
 -- ---- a call that writes a new file
 

@@ -5,11 +5,14 @@ use Rattle.std.specs.declared.option.Option.{Option}
 use Rattle.c2_base.specs.declared.media.MediaError.{MediaError}
 use Rattle.c2_spec.specs.Reason.{media_refusal}
 use Rattle.c2_spec.specs.declared.reason.Refusal.{Refusal}
+use Rattle.c2_strip.specs.Answers.{IsAnswerOf}
 use Rattle.c2_strip.specs.Stripping.{StripsTo, stripped}
 use Rattle.c2_strip.specs.declared.error.Stripped.{Stripped}
 use Rattle.c2_strip.specs.declared.error.Stripped.TheVariants.{Done, NoStore, Refused, Middle}
 use Rattle.c2_texts.specs.Texts.{none_line, refused_line}
 use Rattle.c2_outcome.specs.Outcome.{Outcome, reports}
+use Rattle.c2_outcome.specs.Reply.{outcome_of}
+use Rattle.c2_outcome.specs.declared.reply.Reply.{Reply}
 use Rattle.c2_outcome.specs.declared.types.Answer.TheVariants as answer
 use Rattle.c2_written.specs.Written.{with_file}
 use Rattle.c2_strip_command.specs.Lines.{middle_line, stripped_line}
@@ -36,3 +39,8 @@ strip_file file a = None
 abbrev pub IsStripOutcome : List ℕ → Outcome → Type 0
 IsStripOutcome file expected =
     (a : Stripped) × StripsTo file a × (expected ≡ with_file (strip_file file a) (strip_report a))
+
+-- A reply over a media file of so many bytes, also of one whose bytes are unknown, reports an answer that such a file can have: a range and a
+-- place lie in it, and a refusal is one of the container's.
+abbrev pub IsStripReply : ℕ → Reply → Type 0
+IsStripReply len reply = (a : Stripped) × IsAnswerOf len a × (outcome_of reply ≡ strip_report a)

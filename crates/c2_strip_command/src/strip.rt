@@ -4,9 +4,9 @@ ghost use Rattle.std.specs.Option.{ForSome};
 ghost use Rattle.c2_base.specs.Sink.{WritesSink, unsaid};
 ghost use Rattle.c2_base.specs.Source.{ReadsSource};
 ghost use Rattle.c2_outcome.specs.Left.{state_of};
-ghost use Rattle.c2_outcome.specs.Reply.{EndsFile, IsCopyingCause, IsOutputCause, MakesFile, outcome_of};
-ghost use Rattle.c2_strip_command.specs.Faults.{strip_fault};
-ghost use Rattle.c2_strip_command.specs.Outcomes.{IsStripOutcome, refused_outcome, strip_report};
+ghost use Rattle.c2_outcome.specs.Reply.{EndsFile, IsCopyingCause, IsFaultOf, IsOutputCause, IsReplyTo, MakesFile, outcome_of};
+ghost use Rattle.c2_strip_command.specs.Faults.{strip_says};
+ghost use Rattle.c2_strip_command.specs.Outcomes.{IsStripOutcome, IsStripReply, refused_outcome, strip_report};
 
 use crate::lines::{middle_line, stripped_line};
 use c2_base::limits::PIECE_LEN;
@@ -20,7 +20,7 @@ use std::alloc::Global;
 /// The reply to `strip`: the range that was left out of the new file, once this is whole and finished.
 ///
 /// `Input` and `Output` come only where the media or the new file failed in this call, and leave a prefix that isn't finished. Where memory
-/// runs out, the new file is as it was, or whole and finished; every other answer leaves it as it was.
+/// runs out, the new file is as it was, or whole and finished; every answer but `Done` leaves it as it was.
 pub fn reply_to_strip<S: Source, K: Sink>(
     alloc: Global,
     media: &mut S,
@@ -33,31 +33,32 @@ pub fn reply_to_strip<S: Source, K: Sink>(
 
     // Whatever the file holds.
     ensures words { IfOk result (λ reply. reply.answer ≢ Answer.Usage) }
+    ensures within { IfOk result (IsStripReply (S.len media.old)) }
     ensures media { ReadsSource S.len S.known S.faults IsCopyingCause media.old media.new result }
     ensures writes { WritesSink K.written unsaid K.faults IsOutputCause out.old out.new result }
     ensures ends { EndsFile K.finished K.faults out.old out.new result }
 {
     // Only the prover needs this law.
     each_file_is_stripped();
-    // Matched and not handed up by `?`, here and below: each way out has clauses of its own.
+    // Matched and not handed up by `?`: this way out has clauses of its own.
     let mut buf = match vec![in alloc; 0; PIECE_LEN] {
         Ok(buf) => buf,
         Err(_) => return Err(Fault::Memory),
     };
-    match strip(alloc, media, out, &mut buf) {
-        Ok(answer) => stripped_reply(alloc, answer),
-        Err(error) => Err(fault(error)),
-    }
+    let stripped = strip(alloc, media, out, &mut buf);
+    reply_to_call(alloc, stripped)
 }
 
-// The fault that an error of the call stands for.
-fn fault(error: StripError) -> Fault
-    ensures { result ≡ strip_fault error }
+// The reply to what the call came to.
+fn reply_to_call(alloc: Global, stripped: Result<Stripped, StripError>) -> Result<Reply, Fault>
+    ensures reply { IfOk result (IsReplyTo (strip_says stripped)) }
+    ensures fault { IfErr result (IsFaultOf (strip_says stripped)) }
 {
-    match error {
-        StripError::ReadFault => Fault::Input,
-        StripError::WriteFault => Fault::Output,
-        StripError::NoMemory => Fault::Memory,
+    match stripped {
+        Ok(answer) => stripped_reply(alloc, answer),
+        Err(StripError::ReadFault) => Err(Fault::Input),
+        Err(StripError::WriteFault) => Err(Fault::Output),
+        Err(StripError::NoMemory) => Err(Fault::Memory),
     }
 }
 

@@ -5,12 +5,14 @@ use Rattle.hex.specs.Hex.{encode_lower}
 use Rattle.c2_spec.specs.declared.reason.Reason.{Reason}
 use Rattle.c2_spec.specs.Reason.{reason_name}
 use Rattle.c2_rules.specs.Codes.{code_name}
+use Rattle.c2_rules.specs.declared.answer.Answer.{Answer}
 use Rattle.c2_rules.specs.declared.code.Code.{Code}
 use Rattle.c2_binding.specs.EvidenceText.{printed, text_line}
 use Rattle.c2_definition.specs.declared.types.DefinitionField.{DefinitionField}
 use Rattle.c2_definition.specs.declared.types.DefinitionField.TheVariants as field
 use Rattle.c2_message.specs.declared.error.SignaturePart.{SignaturePart}
 use Rattle.c2_message.specs.declared.error.SignaturePart.TheVariants as part
+use Rattle.c2_texts.specs.Texts.{told_line}
 
 -- ---- what is built
 
@@ -99,3 +101,39 @@ store_too_large_line len = build_line (codes "StoreTooLarge") (spaced (decimal l
 -- a reserve for a message that needs so many bytes
 abbrev pub reserve_too_small_line : ℕ → List ℕ
 reserve_too_small_line needed = build_line (codes "ReserveTooSmall") (spaced (decimal needed))
+
+-- ---- what is refused of a store right after the file type box
+
+-- media of another container than BMFF
+abbrev pub not_bmff_line : List ℕ
+not_bmff_line = build_line (codes "NotBmff") []
+
+-- media that have a store
+abbrev pub has_store_line : List ℕ
+has_store_line = build_line (codes "HasStore") []
+
+-- a box there that keeps places of the file which aren't known here
+abbrev pub offset_table_line : ℕ → List ℕ
+offset_table_line place = build_line (codes "OffsetTable") (spaced (decimal place))
+
+-- a box there on the path to the chunk tables whose payload is no list of boxes
+abbrev pub bad_tree_line : ℕ → List ℕ
+bad_tree_line place = build_line (codes "BadTree") (spaced (decimal place))
+
+-- a chunk table there that hasn't its form
+abbrev pub bad_table_line : ℕ → List ℕ
+bad_table_line place = build_line (codes "BadTable") (spaced (decimal place))
+
+-- a field of a chunk table there that can't hold the moved place
+abbrev pub overflow_line : ℕ → List ℕ
+overflow_line place = build_line (codes "Overflow") (spaced (decimal place))
+
+-- ---- what is refused of another media file whose store is taken in
+
+-- the other file, for what its check answers
+abbrev pub other_refused_line : Answer → List ℕ
+other_refused_line a = codes "build OtherRefused " ++ told_line a
+
+-- a label that different manifests of the two files have
+abbrev pub label_clash_line : List ℕ → List ℕ
+label_clash_line label = build_line (codes "LabelClash") (spaced (printed label))

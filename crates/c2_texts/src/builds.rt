@@ -3,10 +3,11 @@ ghost use Rattle.std.specs.Prelude.{◌≡◌, IfOk, string_bytes};
 ghost use Rattle.c2_texts.specs.Builds as form;
 
 use crate::control::printable;
+use crate::lines::told_line;
 use crate::names::{code_name, field_name, part_name, reason_name};
 use c2_definition::DefinitionField;
 use c2_message::SignaturePart;
-use c2_rules::Code;
+use c2_rules::{Answer, Code};
 use c2_spec::Reason;
 use std::alloc::{AllocError, Global};
 
@@ -125,5 +126,69 @@ pub fn reserve_too_small_line(alloc: Global, needed: u64) -> Result<String, Allo
     ensures { IfOk result (λ text. string_bytes text ≡ form.reserve_too_small_line needed) }
 {
     let text = format!(in alloc; "build ReserveTooSmall {needed}\n")?;
+    Ok(text)
+}
+
+/// The line of media of another container than BMFF.
+pub fn not_bmff_line(alloc: Global) -> Result<String, AllocError>
+    ensures { IfOk result (λ text. string_bytes text ≡ form.not_bmff_line) }
+{
+    String::from_str(alloc, "build NotBmff\n")
+}
+
+/// The line of media that have a store.
+pub fn has_store_line(alloc: Global) -> Result<String, AllocError>
+    ensures { IfOk result (λ text. string_bytes text ≡ form.has_store_line) }
+{
+    String::from_str(alloc, "build HasStore\n")
+}
+
+/// The line of a box that keeps places of the file which aren't known here: where it begins.
+pub fn offset_table_line(alloc: Global, place: u64) -> Result<String, AllocError>
+    ensures { IfOk result (λ text. string_bytes text ≡ form.offset_table_line place) }
+{
+    let text = format!(in alloc; "build OffsetTable {place}\n")?;
+    Ok(text)
+}
+
+/// The line of a box on the path to the chunk tables whose payload is no list of boxes: where it begins.
+pub fn bad_tree_line(alloc: Global, place: u64) -> Result<String, AllocError>
+    ensures { IfOk result (λ text. string_bytes text ≡ form.bad_tree_line place) }
+{
+    let text = format!(in alloc; "build BadTree {place}\n")?;
+    Ok(text)
+}
+
+/// The line of a chunk table that hasn't its form: where it begins.
+pub fn bad_table_line(alloc: Global, place: u64) -> Result<String, AllocError>
+    ensures { IfOk result (λ text. string_bytes text ≡ form.bad_table_line place) }
+{
+    let text = format!(in alloc; "build BadTable {place}\n")?;
+    Ok(text)
+}
+
+/// The line of a field of a chunk table that can't hold the moved place: where the field begins.
+pub fn overflow_line(alloc: Global, place: u64) -> Result<String, AllocError>
+    ensures { IfOk result (λ text. string_bytes text ≡ form.overflow_line place) }
+{
+    let text = format!(in alloc; "build Overflow {place}\n")?;
+    Ok(text)
+}
+
+/// The line of another media file that isn't accepted, with what its check answers.
+pub fn other_refused_line(alloc: Global, told: &Answer) -> Result<String, AllocError>
+    ensures { IfOk result (λ text. string_bytes text ≡ form.other_refused_line told.now) }
+{
+    let line = told_line(alloc, told)?;
+    let text = format!(in alloc; "build OtherRefused {line}")?;
+    Ok(text)
+}
+
+/// The line of a label that different manifests of two media files have, with `?` for control bytes.
+pub fn label_clash_line(alloc: Global, label: &str) -> Result<String, AllocError>
+    ensures { IfOk result (λ text. string_bytes text ≡ form.label_clash_line label.now) }
+{
+    let label = printable(alloc, label)?;
+    let text = format!(in alloc; "build LabelClash {label}\n")?;
     Ok(text)
 }

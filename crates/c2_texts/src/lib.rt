@@ -16,9 +16,11 @@ mod stores;
 mod tree;
 
 pub use builds::{
-    bad_definition_line, bad_signature_line, embedded_line, label_taken_line, media_refused_line,
-    no_instance_line, open_box_line, parent_fails_line, redaction_refused_line,
-    reserve_too_small_line, store_too_large_line, tbs_line, too_many_manifests_line,
+    bad_definition_line, bad_signature_line, bad_table_line, bad_tree_line, embedded_line,
+    has_store_line, label_clash_line, label_taken_line, media_refused_line, no_instance_line,
+    not_bmff_line, offset_table_line, open_box_line, other_refused_line, overflow_line,
+    parent_fails_line, redaction_refused_line, reserve_too_small_line, store_too_large_line,
+    tbs_line, too_many_manifests_line,
 };
 pub use lines::{
     different_line, digest_line, failing_line, no_question_line, none_line, not_accepted_line,

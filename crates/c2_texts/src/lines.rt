@@ -76,7 +76,7 @@ pub fn valid_line(alloc: Global, summary: Summary) -> Result<String, AllocError>
 }
 
 /// The line of what the check of a file answers.
-fn told_line(alloc: Global, told: &Answer) -> Result<String, AllocError>
+pub fn told_line(alloc: Global, told: &Answer) -> Result<String, AllocError>
     ensures { IfOk result (λ text. string_bytes text ≡ form.told_line told.now) }
 {
     match told {

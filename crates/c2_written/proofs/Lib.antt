@@ -1,2 +1,3 @@
-pub mod Results
+pub mod Builds
+pub mod Calls
 pub mod Taking

@@ -10,7 +10,7 @@ use Rattle.c2_outcome.specs.Left.{state_of}
 use Rattle.c2_outcome.specs.Outcome.{Outcome}
 use Rattle.c2_outcome.specs.Reply.{FileEnd, StandsFor, TakesFile, outcome_of}
 use Rattle.c2_outcome.specs.declared.reply.Fault.{Fault}
-use Rattle.c2_outcome.specs.declared.reply.Fault.TheVariants.{Input, Output, Memory}
+use Rattle.c2_outcome.specs.declared.reply.Fault.TheVariants.{Input, Output, Judge, Memory}
 use Rattle.c2_outcome.specs.declared.reply.Reply.{Reply}
 use Rattle.c2_outcome.specs.declared.types.Answer.TheVariants as answer
 use Rattle.c2_outcome.proofs.Replying.{each_ok, nothing_written, then_nothing}
@@ -18,12 +18,13 @@ use Rattle.c2_written.specs.Written.{with_file}
 
 -- ---- by the ending of the call
 
--- the reply to a call that ended so: a file that is whole or untouched is followed by a reply, or memory runs out
+-- the reply to a call that ended so: a file that is whole is followed by a reply, or memory runs out; and one that is untouched by a reply,
+-- or by any fault but the sink's
 abbrev pub IsEndOf : Ending → Result Reply Fault → Type 0
 IsEndOf complete r = IfErr r (λ e. e ≡ Memory)
 IsEndOf read_fault r = ◌≡◌ {A = Result Reply Fault} r (Err Input)
 IsEndOf write_fault r = ◌≡◌ {A = Result Reply Fault} r (Err Output)
-IsEndOf untouched r = IfErr r (λ e. (e ≡ Input) ⊎ (e ≡ Memory))
+IsEndOf untouched r = IfErr r (λ e. e ≢ Output)
 
 -- the outcome has a file where the call wrote one, and none where it answered that it didn't
 abbrev pub FitsFile : Ending → Option (List ℕ) → Result Reply Fault → Type 0
@@ -82,6 +83,12 @@ module _ {K : Type 0} (written : K → Option (List ℕ)) (finished : K → Bool
   takes_memory None old new same = still old new same
   takes_memory (Some bytes) old new same = inl (still old new same)
 
+  -- a file of which nothing was written when a judge failed
+  takes_judge : (file : Option (List ℕ)) (old new : K) → new ≡ old
+      → TakesFile file (state_of written finished old) (state_of written finished new) (Err Judge)
+  takes_judge None old new same = still old new same
+  takes_judge (Some bytes) old new same = still old new same
+
   -- a file that is whole, whatever came of the reply
   takes_whole : (bytes : List ℕ) (old new : K) (r : Result Reply Fault) → IfErr r (λ e. e ≡ Memory)
       → copying.Delivers written finished bytes old new
@@ -91,12 +98,12 @@ module _ {K : Type 0} (written : K → Option (List ℕ)) (finished : K → Bool
       subst (λ (f : Fault). TakesFile (Some bytes) (state_of written finished old) (state_of written finished new) (Err f)) (sym memory) (inr (record { written = h.whole; is_finished = h.ends }))
 
   -- an untouched sink under a fault
-  pub takes_none : (file : Option (List ℕ)) (old new : K) (e : Fault) → new ≡ old → (e ≡ Input) ⊎ (e ≡ Memory)
+  pub takes_none : (file : Option (List ℕ)) (old new : K) (e : Fault) → new ≡ old → e ≢ Output
       → TakesFile file (state_of written finished old) (state_of written finished new) (Err e)
-  takes_none file old new e same (inl input) =
-      subst (λ (f : Fault). TakesFile file (state_of written finished old) (state_of written finished new) (Err f)) (sym input) (takes_input file old new (begun_none (unwrap_or file []) old new same))
-  takes_none file old new e same (inr memory) =
-      subst (λ (f : Fault). TakesFile file (state_of written finished old) (state_of written finished new) (Err f)) (sym memory) (takes_memory file old new same)
+  takes_none file old new Input same other = takes_input file old new (begun_none (unwrap_or file []) old new same)
+  takes_none file old new Output same other = absurd (other refl)
+  takes_none file old new Judge same other = takes_judge file old new same
+  takes_none file old new Memory same other = takes_memory file old new same
 
   -- what the sink took of a file, where the call writes just its bytes
   pub takes_file : (Writes : List ℕ → Type 0) (file : Option (List ℕ)) (old new : K) (e : Ending) (r : Result Reply Fault)
@@ -118,10 +125,12 @@ module _ {K : Type 0} (written : K → Option (List ℕ)) (finished : K → Bool
 
 module _ {K : Type 0} (finished : K → Bool) where
   -- an untouched sink under a fault
-  end_none : (old new : K) (e : Fault) → new ≡ old → finished new ≡ finished old → (e ≡ Input) ⊎ (e ≡ Memory)
+  end_none : (old new : K) (e : Fault) → new ≡ old → finished new ≡ finished old → e ≢ Output
       → FileEnd (new ≡ old) (finished old) (finished new) (Err e)
-  end_none old new e same finish (inl input) = subst (λ (f : Fault). FileEnd (new ≡ old) (finished old) (finished new) (Err f)) (sym input) finish
-  end_none old new e same finish (inr memory) = subst (λ (f : Fault). FileEnd (new ≡ old) (finished old) (finished new) (Err f)) (sym memory) (inl same)
+  end_none old new Input same finish other = finish
+  end_none old new Output same finish other = absurd (other refl)
+  end_none old new Judge same finish other = same
+  end_none old new Memory same finish other = inl same
 
   -- by the ending of the call
   pub file_end : (old new : K) (e : Ending) (r : Result Reply Fault) → copying.EndsSink finished old new e → IsEndOf e r

@@ -1,49 +1,40 @@
-use Rattle.c2_calls.proofs.SinkLemmas.{writes_error, writes_then}
-use Rattle.c2_calls.proofs.SourceLemmas.{reads_error, reads_then}
-use Rattle.c2_sidecar.specs.Extracts.{IsReadCause}
+use Rattle.c2_base.specs.Sink.{unsaid}
+use Rattle.c2_sidecar.specs.Extracts as extracts
 use Rattle.c2_outcome.specs.Reply.{IsCopyingCause, IsOutputCause}
-use Rattle.c2_written.proofs.Results.{memory_only}
-use Rattle.c2_extract_command.proofs.Making.{extract_begun, extract_ends, extract_made, extract_read_cause, extract_unended, extract_words, extract_write_cause}
+use Rattle.c2_written.proofs.Calls.{ends_reply, makes_reply, reads_reply, words_reply, writes_reply}
+use Rattle.c2_extract_command.specs.Faults.{extract_says}
+use Rattle.c2_extract_command.specs.Outcomes.{IsExtractOutcome}
+use Rattle.c2_extract_command.proofs.Making.{extract_fits, extract_outcome, extract_reads, extract_within, extract_words, extract_writes}
 use Rattle.c2_extract_command.proofs.extract.reply_to_extract.Goals as goal
 
--- ---- the call answers
+pub returns-clause-made : goal.returns-clause-made
+returns-clause-made g c = λ file known.
+    makes_reply g.K.Sink.written g.K.Sink.finished (extracts.Writes file) (IsExtractOutcome file) c.args.out.now c.extract-extracted.new.out (extracts.ending_of c.extract-extracted.result) (extract_says c.extract-extracted.result) c.reply_to_call.result
+    (extract_fits c.extract-extracted.result) (c.extract-extracted.ensures.written file known).wrote c.extract-extracted.ensures.ends
+    (extract_outcome c.each_file_is_extracted.ensures.text file c.extract-extracted.result (c.extract-extracted.ensures.answer file known))
+    c.reply_to_call.ensures.reply c.reply_to_call.ensures.fault
 
-pub returns-in-Ok-clause-made : goal.returns-in-Ok-clause-made
-returns-in-Ok-clause-made g c = λ file known.
-    extract_made g.K.Sink.written g.K.Sink.spare g.K.Sink.finished c.each_file_is_extracted.ensures.text file c.in-Ok.answer c.args.out.now c.extract.new.out c.extracted_reply.result
-    (c.in-Ok.ensures.answer file known) (c.in-Ok.ensures.written file known) c.in-Ok.ensures.ends c.extracted_reply.ensures.reply c.extracted_reply.ensures.memory
+pub returns-clause-words : goal.returns-clause-words
+returns-clause-words g c = words_reply (extract_says c.extract-extracted.result) c.reply_to_call.result (extract_words c.extract-extracted.result) c.reply_to_call.ensures.reply
 
-pub returns-in-Ok-clause-words : goal.returns-in-Ok-clause-words
-returns-in-Ok-clause-words g c = extract_words c.in-Ok.answer c.extracted_reply.result c.extracted_reply.ensures.reply
+pub returns-clause-within : goal.returns-clause-within
+returns-clause-within g c = extract_within (g.S.Source.len c.args.media.now) c.extract-extracted.result c.reply_to_call.result c.extract-extracted.ensures.within c.reply_to_call.ensures.reply
 
-pub returns-in-Ok-clause-media : goal.returns-in-Ok-clause-media
-returns-in-Ok-clause-media g c =
-    reads_then g.S.Source.len g.S.Source.known g.S.Source.faults IsReadCause IsCopyingCause c.args.media.now c.extract.new.source c.in-Ok.answer c.extracted_reply.result
-    (memory_only (IsCopyingCause (g.S.Source.faults c.args.media.now) (g.S.Source.faults c.extract.new.source)) c.extracted_reply.result tt c.extracted_reply.ensures.memory) c.in-Ok.ensures.reads
+pub returns-clause-media : goal.returns-clause-media
+returns-clause-media g c =
+    reads_reply g.S.Source.len g.S.Source.known g.S.Source.faults IsCopyingCause c.args.media.now c.extract-extracted.new.source (extract_says c.extract-extracted.result) c.reply_to_call.result
+    tt c.extract-extracted.ensures.reads.stays (extract_reads (g.S.Source.faults c.args.media.now) (g.S.Source.faults c.extract-extracted.new.source) c.extract-extracted.result c.extract-extracted.ensures.reads.quiet c.extract-extracted.ensures.reads.cause)
+    c.reply_to_call.ensures.reply c.reply_to_call.ensures.fault
 
-pub returns-in-Ok-clause-writes : goal.returns-in-Ok-clause-writes
-returns-in-Ok-clause-writes g c =
-    writes_then c.args.out.now c.extract.new.out c.in-Ok.answer c.extracted_reply.result
-    (memory_only (IsOutputCause (g.K.Sink.faults c.args.out.now) (g.K.Sink.faults c.extract.new.out)) c.extracted_reply.result tt c.extracted_reply.ensures.memory) c.in-Ok.ensures.writes
+pub returns-clause-writes : goal.returns-clause-writes
+returns-clause-writes g c =
+    writes_reply g.K.Sink.written unsaid g.K.Sink.faults IsOutputCause c.args.out.now c.extract-extracted.new.out (extract_says c.extract-extracted.result) c.reply_to_call.result
+    tt c.extract-extracted.ensures.writes.stays (extract_writes (g.K.Sink.faults c.args.out.now) (g.K.Sink.faults c.extract-extracted.new.out) c.extract-extracted.result c.extract-extracted.ensures.writes.quiet c.extract-extracted.ensures.writes.cause)
+    c.reply_to_call.ensures.reply c.reply_to_call.ensures.fault
 
-pub returns-in-Ok-clause-ends : goal.returns-in-Ok-clause-ends
-returns-in-Ok-clause-ends g c = extract_ends g.K.Sink.finished g.K.Sink.faults c.in-Ok.answer c.args.out.now c.extract.new.out c.extracted_reply.result c.in-Ok.ensures.ends c.in-Ok.ensures.writes.quiet c.extracted_reply.ensures.reply c.extracted_reply.ensures.memory
-
--- ---- it fails
-
-pub returns-in-Err-clause-made : goal.returns-in-Err-clause-made
-returns-in-Err-clause-made g c = λ file known.
-    extract_begun g.K.Sink.written g.K.Sink.spare g.K.Sink.finished c.each_file_is_extracted.ensures.text file c.in-Err.error c.fault.result c.args.out.now c.extract.new.out c.fault.ensures (c.in-Err.ensures.written file known) c.in-Err.ensures.ends
-
-pub returns-in-Err-clause-media : goal.returns-in-Err-clause-media
-returns-in-Err-clause-media g c =
-    reads_error g.S.Source.len g.S.Source.known g.S.Source.faults IsReadCause IsCopyingCause c.args.media.now c.extract.new.source c.in-Err.error c.fault.result
-    (extract_read_cause (g.S.Source.faults c.args.media.now) (g.S.Source.faults c.extract.new.source) c.in-Err.error c.fault.result c.fault.ensures) c.in-Err.ensures.reads
-
-pub returns-in-Err-clause-writes : goal.returns-in-Err-clause-writes
-returns-in-Err-clause-writes g c =
-    writes_error c.args.out.now c.extract.new.out c.in-Err.error c.fault.result
-    (extract_write_cause (g.K.Sink.faults c.args.out.now) (g.K.Sink.faults c.extract.new.out) c.in-Err.error c.fault.result c.fault.ensures) c.in-Err.ensures.writes
-
-pub returns-in-Err-clause-ends : goal.returns-in-Err-clause-ends
-returns-in-Err-clause-ends g c = extract_unended g.K.Sink.finished g.K.Sink.faults c.in-Err.error c.fault.result c.args.out.now c.extract.new.out c.fault.ensures c.in-Err.ensures.ends
+pub returns-clause-ends : goal.returns-clause-ends
+returns-clause-ends g c =
+    ends_reply g.K.Sink.finished g.K.Sink.faults c.args.out.now c.extract-extracted.new.out (extracts.ending_of c.extract-extracted.result) (extract_says c.extract-extracted.result) c.reply_to_call.result
+    (extract_fits c.extract-extracted.result) c.extract-extracted.ensures.ends
+    (extract_writes (g.K.Sink.faults c.args.out.now) (g.K.Sink.faults c.extract-extracted.new.out) c.extract-extracted.result c.extract-extracted.ensures.writes.quiet c.extract-extracted.ensures.writes.cause)
+    c.reply_to_call.ensures.reply c.reply_to_call.ensures.fault
