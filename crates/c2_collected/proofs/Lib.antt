@@ -10,6 +10,11 @@ pub mod Order
 pub mod Approved
 pub mod Sizes
 pub mod Whole
+pub mod Stages
+pub mod Clashes
+pub mod OneOutcome
+pub mod SomeOutcome
+pub mod Made
 pub mod Worked
 pub mod WorkedPair
 mod Rows

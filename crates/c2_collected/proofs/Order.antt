@@ -47,16 +47,16 @@ use Rattle.c2_collected.proofs.Stores.{accepted_rooted, none_rooted}
 -- ---- lists of refusals
 
 -- two lists that are none together
-both_none : (xs ys : List CollectRefusal) → xs ++ ys ≡ [] → (xs ≡ []) × (ys ≡ [])
+pub both_none : (xs ys : List CollectRefusal) → xs ++ ys ≡ [] → (xs ≡ []) × (ys ≡ [])
 both_none [] ys e = (refl, e)
 both_none (x ∷ xs) ys e = absurd (cc (e))
 
 -- none and none
-none_both : (xs ys : List CollectRefusal) → xs ≡ [] → ys ≡ [] → xs ++ ys ≡ []
+pub none_both : (xs ys : List CollectRefusal) → xs ≡ [] → ys ≡ [] → xs ++ ys ≡ []
 none_both xs ys e h = ap₂ (λ (a b : List CollectRefusal). a ++ b) e h
 
 -- nothing comes of nothing alone
-none_told : {A : Type 0} (f : A → CollectRefusal) (o : Option A) → option_to_list (option_map f o) ≡ [] → o ≡ None
+pub none_told : {A : Type 0} (f : A → CollectRefusal) (o : Option A) → option_to_list (option_map f o) ≡ [] → o ≡ None
 none_told f None e = refl
 none_told f (Some a) e = absurd (cc (e))
 
@@ -76,7 +76,7 @@ test_none b r e = ap (λ (t : Bool). cond t (r ∷ []) []) e
 -- ---- the other file
 
 -- the other file is valid where nothing of it is refused
-valid_answer : (a : Answer) → other_refusals a ≡ [] → IsValidAnswer a
+pub valid_answer : (a : Answer) → other_refusals a ≡ [] → IsValidAnswer a
 valid_answer (answers.Valid summary) e = (summary, refl)
 valid_answer (answers.Failing failing) e = absurd (cc (e))
 valid_answer (answers.Refused reason number) e = absurd (cc (e))
@@ -87,17 +87,17 @@ answer_none : (a : Answer) → IsValidAnswer a → other_refusals a ≡ []
 answer_none a h = ap other_refusals h.1
 
 -- no condition fails where the answer is that the file is valid
-none_failing : (summary s : Summary) (o : Option Failing) → answer_of summary o ≡ answers.Valid s → o ≡ None
+pub none_failing : (summary s : Summary) (o : Option Failing) → answer_of summary o ≡ answers.Valid s → o ≡ None
 none_failing summary s None e = refl
 none_failing summary s (Some failing) e = absurd (cc (e))
 
 -- what is known of the other file, where it is valid
-record IsOtherStore (hash : Alg → List ℕ → List ℕ) (o : OtherFile) : Type 0 where
-  rooted : IsRootedStore hash o.boxes o.readings (last_roots o.readings)
-  some : 0 < length o.readings
+pub record IsOtherStore (hash : Alg → List ℕ → List ℕ) (o : OtherFile) : Type 0 where
+  pub rooted : IsRootedStore hash o.boxes o.readings (last_roots o.readings)
+  pub some : 0 < length o.readings
 
 -- its store can be joined
-other_store : StoreIsRooted → (hash : Alg → List ℕ → List ℕ) (said : Question → Verdict) (file : List ℕ) (what : Opening Tree) (o : OtherFile)
+pub other_store : StoreIsRooted → (hash : Alg → List ℕ → List ℕ) (said : Question → Verdict) (file : List ℕ) (what : Opening Tree) (o : OtherFile)
     → IsOpened file what → IsOtherFile hash said file what o → IsValidAnswer o.answer → IsOtherStore hash o
 other_store law hash said file (refused reason number) o opened is valid =
     let bad : answers.Refused reason number ≡ answers.Valid valid.0 = sym (ap (λ (x : OtherFile). x.answer) is) ∙ valid.1 in absurd (cc (bad))
@@ -117,7 +117,7 @@ other_store law hash said file (here start len t) o opened is valid =
 -- ---- the media file
 
 -- the media's store can be joined, where no rule of it fails; where there is none, no boxes can
-media_store : StoreIsRooted → (hash : Alg → List ℕ → List ℕ) (said : Question → Verdict) (file : List ℕ) (what : Opening Tree) (m : MediaFile)
+pub media_store : StoreIsRooted → (hash : Alg → List ℕ → List ℕ) (said : Question → Verdict) (file : List ℕ) (what : Opening Tree) (m : MediaFile)
     → IsOpened file what → IsMediaFile hash said file what m → m.failing ≡ None
     → IsRootedStore hash m.boxes m.readings (last_roots m.readings)
 media_store law hash said file (refused reason number) m opened is none = absurd is
@@ -190,11 +190,11 @@ pair_unrefused hash said d media other p is h =
 -- ---- the new file
 
 -- What is known of a new file of which nothing is refused.
-record Fits (base : List ℕ) (c : Content) (reserve manifests : ℕ) (p : Place) : Type 0 where
-  room : HasRoom p
-  few : manifests ≤ MAX_MANIFESTS
-  small : store_len p c reserve ≤ MAX_STORE_LEN
-  fits : length base + range_len p c reserve < FILE_LEN_LIMIT
+pub record Fits (base : List ℕ) (c : Content) (reserve manifests : ℕ) (p : Place) : Type 0 where
+  pub room : HasRoom p
+  pub few : manifests ≤ MAX_MANIFESTS
+  pub small : store_len p c reserve ≤ MAX_STORE_LEN
+  pub fits : length base + range_len p c reserve < FILE_LEN_LIMIT
 
 -- a place has room where neither test on it alone fails
 has_room : (p : Place) → place_refusals p ≡ [] → box_refusals p ≡ [] → HasRoom p
@@ -215,7 +215,7 @@ box_none (in_boxes roots) h =
     test_none (nat_le MAX_ROOT_BOXES (length roots)) (media_refused TooManyBoxes MAX_ROOT_BOXES) (lt-leb MAX_ROOT_BOXES (length roots) h.1)
 
 -- a new file fits where nothing of it is refused
-file_fits : (base : List ℕ) (c : Content) (reserve manifests : ℕ) (p : Place) → file_refusals base c reserve manifests p ≡ []
+pub file_fits : (base : List ℕ) (c : Content) (reserve manifests : ℕ) (p : Place) → file_refusals base c reserve manifests p ≡ []
     → Fits base c reserve manifests p
 file_fits base c reserve manifests p e =
     let store : ℕ = store_len p c reserve in
@@ -244,7 +244,7 @@ file_none base c reserve manifests p h =
     none_both (place_refusals p) _ (place_none p h.room) (none_both (size_refusals manifests store file) (box_refusals p) sizes (box_none p h.room))
 
 -- something is put in where there is room
-some_bytes : (p : Place) → HasRoom p → (store : List ℕ) → (bytes : List ℕ) × (put_bytes p store ≡ Some bytes)
+pub some_bytes : (p : Place) → HasRoom p → (store : List ℕ) → (bytes : List ℕ) × (put_bytes p store ≡ Some bytes)
 some_bytes (in_segments segments None) h store = absurd (cc (h.1))
 some_bytes (in_segments segments (Some en)) h store = (_, refl)
 some_bytes (in_boxes roots) h store = (_, refl)
@@ -294,6 +294,7 @@ nothing_refused law fills hash said media other d parts i h e =
         let bytes = some_bytes i.place f.room (tree_bytes (place_store (hash (new_alg d)) x s.0 base i.place)) in (
           place_file base i.place bytes.0,
           record {
+            own = h.own;
             collects = k;
             content = i.content;
             collected = record { can = k.can; few = omega (arith, count); written = h.written; content = h.content };

@@ -113,7 +113,7 @@ from_not true e = absurd (true≢false (sym e))
 from_not false e = refl
 
 -- a manifest has a label
-label_there : (t : Tree) → IsStoreBox t → (l : List ℕ) × (tree_label t ≡ Some l)
+pub label_there : (t : Tree) → IsStoreBox t → (l : List ℕ) × (tree_label t ≡ Some l)
 label_there (leaf b) h = absurd (cc (h.label))
 label_there (super wide d us) h = (unwrap_or d.label [], label_some d.label h.label)
 

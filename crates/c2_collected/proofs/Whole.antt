@@ -1,9 +1,10 @@
 -- The file that is built whose new store collects from two files meets all that is said of it.
-use Rattle.std.proofs.Common.{◌≡◌, ℕ, List, ◌∷◌, length, Some, sym, subst}
+use Rattle.std.proofs.Common.{◌≡◌, ℕ, List, ◌∷◌, length, Some, sym, ap, ◌∙◌, subst}
 use Rattle.c2_base.specs.declared.values.Question.{Question}
 use Rattle.c2_spec.specs.C2pa.Manifest.{manifests_of}
 use Rattle.c2_spec.specs.C2pa.Message.{padded_read}
-use Rattle.c2_spec.specs.C2pa.Sign1.{SignParts}
+use Rattle.c2_spec.specs.C2pa.Sign1.{SignParts, sig_structure}
+use Rattle.c2_spec.specs.Cbor.Deterministic.{deterministic}
 use Rattle.c2_spec.specs.Jumbf.Tree.{Tree, tree_bytes}
 use Rattle.c2_spec.specs.PutIn.{taken_out}
 use Rattle.c2_spec.specs.declared.digest.Alg.{Alg}
@@ -12,9 +13,9 @@ use Rattle.c2_rules.specs.CheckList.{StoreReading}
 use Rattle.c2_pad.specs.Fill.{fill_pairs}
 use Rattle.c2_definition.specs.declared.types.Definition.{Definition}
 use Rattle.c2_built.specs.Fresh.{Meets}
-use Rattle.c2_built.specs.Store.{Content, new_alg}
+use Rattle.c2_built.specs.Store.{Content, new_alg, new_claim}
 use Rattle.c2_places.specs.Meeting.{BaseStays}
-use Rattle.c2_places.specs.Places.{place_question, place_start, place_store, put_bytes, range_len}
+use Rattle.c2_places.specs.Places.{place_binding, place_question, place_start, place_store, put_bytes, range_len}
 use Rattle.c2_collected.specs.Collected.{AreApproved, QuestionsAreOfEither}
 use Rattle.c2_collected.specs.Files.{CollectedFileMeets, CollectedFileReaches, collected_content}
 use Rattle.c2_collected.specs.Stores.{IsAcceptedFile}
@@ -46,9 +47,11 @@ meeting_accepted asks hash file start len t qs m said all = (
 pub each_meets : WholeLaws → EachCollectedFileMeets
 each_meets laws hash d pair parts p file digests b = record {
   len = len;
+  range = ap (λ n. range_len p x n) b.signed.filled;
   store = t;
   question = q;
   meets = met;
+  signed = signed;
   either = laws.either hash pair.media.boxes pair.other.boxes pair.media.readings pair.other.readings b.collected.can.joins;
   reaches = λ s reads. laws.reaches hash d pair.media.boxes pair.other.boxes pair.media.readings pair.other.readings b.content b.message base file p own s digests b.collected b.can b.signed.spelled reads;
   base = subst (λ (f : List ℕ). taken_out (place_start p) len f ≡ base) (sym b.is)
@@ -81,3 +84,12 @@ each_meets laws hash d pair parts p file digests b = record {
     met : Meets hash file (place_start p) len t (q ∷ pair_questions pair)
     met = subst (λ (f : List ℕ). Meets hash f (place_start p) len t (q ∷ pair_questions pair)) (sym b.is)
         (laws.meets hash d pair.media.boxes pair.other.boxes pair.media.readings pair.other.readings b.content b.message base b.bytes p own digests b.collected b.can b.signed.spelled put)
+
+    -- what is signed of a definition, with this protected header and so many bytes for the message
+    signed_with : Definition → List ℕ → ℕ → List ℕ
+    signed_with e protected n = deterministic (sig_structure protected (new_claim (hash (new_alg e)) x (place_binding (hash (new_alg e)) x n base p)))
+
+    signed : signed_with b.content.definition own.protected (length b.message) ≡ signed_with d d.protected d.reserve
+    signed = ap (λ (h : List ℕ). signed_with b.content.definition h (length b.message)) b.own
+        ∙ ap (λ n. signed_with b.content.definition d.protected n) b.signed.filled
+        ∙ ap (λ (e : Definition). signed_with e d.protected d.reserve) b.collected.content.definition

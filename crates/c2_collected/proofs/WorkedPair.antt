@@ -319,6 +319,7 @@ builds hash pair c filled base collects is s can =
     let bytes : List ℕ = packets_bytes (tree_bytes (place_store (hash Sha256) (collected_content hash c) filled pair.media.base place)) 0x0211 in (
       place_file pair.media.base place bytes,
       record {
+        own = refl;
         collects = collects;
         content = c;
         collected = is;

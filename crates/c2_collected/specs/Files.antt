@@ -1,6 +1,7 @@
 -- What a file meets whose new store collects from two stores, whichever its container is.
 use Rattle.std.specs.Prelude.{◌≡◌, ℕ, List, ◌∷◌, length, Some}
-use Rattle.c2_spec.specs.C2pa.Sign1.{SignParts, SpellsMessage}
+use Rattle.c2_spec.specs.C2pa.Sign1.{SignParts, SpellsMessage, sig_structure}
+use Rattle.c2_spec.specs.Cbor.Deterministic.{deterministic}
 use Rattle.c2_spec.specs.Jumbf.Tree.{Trees, tree_bytes}
 use Rattle.c2_spec.specs.declared.digest.Alg.{Alg}
 use Rattle.c2_rules.specs.Readings.{Reading}
@@ -8,15 +9,22 @@ use Rattle.c2_rules.specs.CheckList.{StoreReading}
 use Rattle.c2_rules.specs.Validated.{IsFileReading}
 use Rattle.c2_definition.specs.declared.types.Definition.{Definition}
 use Rattle.c2_built.specs.Fresh.{GivesDigests, Meets}
-use Rattle.c2_built.specs.Store.{Content, new_alg}
+use Rattle.c2_built.specs.Store.{Content, new_alg, new_claim}
 use Rattle.c2_gathered.specs.Gathered.{Gathered, content_of}
 use Rattle.c2_gathered.specs.Taken.{questions_from}
-use Rattle.c2_places.specs.Places.{CanPut, Place, place_file, place_question, place_start, place_store, put_bytes, range_len}
+use Rattle.c2_places.specs.Places.{CanPut, Place, place_binding, place_file, place_question, place_start, place_store, put_bytes, range_len}
 use Rattle.c2_collected.specs.Collected.{IsCollected, ReachesCollected, collected_readings, collected_roots}
 
 -- what is collected, as what goes into a new file: its ingredients are further assertions of its definition
 abbrev pub collected_content : (Alg → List ℕ → List ℕ) → Gathered → Content
 collected_content hash c = content_of (hash (new_alg c.definition)) c
+
+-- what is signed (RFC 9052, section 4.4): the definition's protected header and the new claim, which binds what the new file has outside
+-- its new range, over this base and at this place
+abbrev pub collected_signed : (Alg → List ℕ → List ℕ) → Definition → Gathered → List ℕ → Place → List ℕ
+collected_signed hash d c base p =
+    deterministic (sig_structure d.protected (new_claim (hash (new_alg d)) (collected_content hash c)
+    (place_binding (hash (new_alg d)) (collected_content hash c) d.reserve base p)))
 
 -- A file that is built in its place, over a base without a store, and whose new store collects from two stores, has the new store,
 -- meets every rule but the verdict on its message, and asks the new question and then those of what is reached from the roots of the

@@ -5,3 +5,5 @@ pub mod Collected
 pub mod Files
 pub mod Order
 pub mod Whole
+pub mod Outcomes
+pub mod Made

@@ -124,11 +124,13 @@ pair_roots p = collected_roots p.media.readings p.other.readings
 
 -- ---- what is refused
 
--- Why no new file is built that collects: the media file is refused for this reason with this number, where the new file would be refused
--- so too; the definition file is, or the signed message; a rule fails of the media's store; the check of the other file answers this, and
--- not that the file is valid; the two stores clash at the manifest with this label; a joined manifest has the new label; a redaction
--- can't be made; the last root box, at this place, says no size; no box instance number is free; the new store would have so many
--- manifests, or so many bytes; or its message needs so many bytes, more than are reserved.
+-- Why no new file is built that collects, or planned so. A variant further up is tested earlier, but for the length of the new file and
+-- its number of root boxes, which refuse it as `media_refused` and are tested after `store_too_large`, in this order. In order: the media
+-- file is refused for this reason, with its number; this of the definition file is refused first; the signed message fails this test
+-- first; this rule fails of the media's store; the check of the other file answers this, and not that the file is valid; the two stores
+-- clash first at the manifest with this label; a joined manifest has the new label; this redaction can't be made; the last root box, at
+-- this place, says no size; no box instance number is free; the new store would have so many manifests, which are too many; it would
+-- have so many bytes, which are too many; the message needs so many bytes, more than are reserved.
 pub data CollectRefusal : Type 0 where
   media_refused : Reason → ℕ → CollectRefusal
   bad_definition : DefinitionField → CollectRefusal
@@ -184,14 +186,20 @@ abbrev pub redaction_refusals : Definition → List Reading → List ℕ → Lis
 redaction_refusals d rs roots =
     option_to_list (option_map redaction_refused (redaction_refusal_by (is_reached_from rs roots) d.label rs d.redact))
 
--- all that is refused, in order, of two files that a new store of a definition collects from: a rule of the media's store, the other
--- file, a clash, and over the joined manifests the new label and a redaction
+-- that a rule fails of the media's store
+abbrev pub parent_refusals : MediaFile → List CollectRefusal
+parent_refusals m = option_to_list (option_map parent_fails m.failing)
+
+-- what is refused of both stores together: a clash, and over the joined manifests the new label and a redaction
+abbrev pub joined_refusals : Definition → FilePair → List CollectRefusal
+joined_refusals d p =
+    option_to_list (option_map label_clash p.clash)
+    ++ (label_refusals d.label (pair_readings p) ++ redaction_refusals d (pair_readings p) (pair_roots p))
+
+-- all that is refused, in order, of two files that a new store of a definition collects from: of the media's store, of the other file,
+-- and of both stores together
 abbrev pub pair_refusals : Definition → FilePair → List CollectRefusal
-pair_refusals d p =
-    option_to_list (option_map parent_fails p.media.failing)
-    ++ (other_refusals p.other.answer
-    ++ (option_to_list (option_map label_clash p.clash)
-    ++ (label_refusals d.label (pair_readings p) ++ redaction_refusals d (pair_readings p) (pair_roots p))))
+pair_refusals d p = parent_refusals p.media ++ (other_refusals p.other.answer ++ joined_refusals d p)
 
 -- ---- of the new file
 
@@ -285,8 +293,10 @@ CollectablePairIsUnrefused = (hash : Alg → List ℕ → List ℕ) (said : Ques
     → IsFilePair hash said media other p → CanCollectPair hash d p → pair_refusals d p ≡ []
 
 -- The file of a new store of this definition that collects from these two files: it is built over what is left of the media, in its place,
--- with a message that has these parts and fills what is reserved for it, and no limit is passed.
+-- with a message that has these parts, the definition's protected header among them, and fills what is reserved for it, and no limit is
+-- passed.
 pub record IsCollectedFile (hash : Alg → List ℕ → List ℕ) (d : Definition) (pair : FilePair) (parts : SignParts) (p : Place) (file : List ℕ) : Type 0 where
+  pub own : parts.protected ≡ d.protected
   pub collects : CanCollectPair hash d pair
   pub content : Gathered
   pub collected : IsCollected hash d pair.media.boxes pair.other.boxes pair.media.readings pair.other.readings content
@@ -298,13 +308,14 @@ pub record IsCollectedFile (hash : Alg → List ℕ → List ℕ) (d : Definitio
   pub is : file ≡ place_file pair.media.base p bytes
 
 -- What a build that collects is given, where none of its inputs is refused alone: two files, a definition that can be written, a message
--- that can be padded, what goes into the new store, and a free place for it in what is left of the media.
+-- with its protected header that can be padded, what goes into the new store, and a free place for it in what is left of the media.
 pub record HasCollectInputs (hash : Alg → List ℕ → List ℕ) (said : Question → Verdict) (media other : List ℕ) (d : Definition) (parts : SignParts) (i : CollectInputs) : Type 0 where
   pub pair : IsFilePair hash said media other i.pair
   pub opened : i.opened ≡ pair.opened
   pub definition : i.definition ≡ Ok d
   pub written : CanBeWritten d
   pub message : i.message ≡ Ok parts
+  pub own : parts.protected ≡ d.protected
   pub bytes : List ℕ
   pub paddable : IsPaddable bytes parts d.reserve
   pub content : CollectsFrom d i.pair.media.boxes i.pair.other.boxes i.pair.media.readings i.pair.other.readings i.content

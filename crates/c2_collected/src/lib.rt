@@ -2,10 +2,12 @@
 //!
 //! Which boxes are joined, and where two stores clash, stands in `Sides`; what is asked of each store in `Stores`; which redactions
 //! are refused in `Refusals`; what goes into the new store, and what it meets, in `Collected`; what its file meets in `Files`; what
-//! is refused of a build, over both files and in its order, in `Order`; and what the file of both meets as a whole in `Whole`.
+//! is refused of a build, over both files and in its order, in `Order`; what the file of both meets as a whole in `Whole`; what a plan and a
+//! build come to over their inputs in `Outcomes`; and what such a file meets in `Made`.
 #![tactic(auto)]
 
 mod laws;
+mod outcomes;
 
 pub use laws::{
     a_collected_file_is_refused_or_built, a_collected_file_meets_the_rules,
@@ -13,4 +15,8 @@ pub use laws::{
     each_collected_file_meets_the_rules, redactions_of_a_chain_may_be_made, some_file_is_collected,
     stores_join, two_files_are_refused_or_collected, what_is_collected_is_one,
     what_is_joined_is_reached,
+};
+pub use outcomes::{
+    a_collected_build_comes_to_one_thing, a_made_collected_file_meets_the_rules,
+    each_collected_build_comes_to_something,
 };
