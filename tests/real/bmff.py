@@ -66,21 +66,23 @@ def root_boxes(data):
     return boxes
 
 
+def boxes_between(data, start, end):
+    """The boxes that fill a part of a file, one behind the other; None where no such boxes do, or one of them runs to the end."""
+    boxes, at = [], start
+    while at < end:
+        try:
+            boxes.append(box_at(data, at, end))
+        except Refused:
+            return None
+        if data[at : at + 4] == bytes(4):
+            return None
+        at = boxes[-1].end
+    return boxes
+
+
 def children_of(data, box):
     """The boxes that fill the payload of a box; none where it isn't filled by boxes, or is of a type that no path enters."""
-    if box.kind not in ENTERED:
-        return []
-    children, at = [], box.inside
-    while at < box.end:
-        try:
-            child = box_at(data, at, box.end)
-        except Refused:
-            return []
-        if data[at : at + 4] == bytes(4):
-            return []
-        children.append(child)
-        at = child.end
-    return children
+    return boxes_between(data, box.inside, box.end) or [] if box.kind in ENTERED else []
 
 
 # The store

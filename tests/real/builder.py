@@ -9,8 +9,10 @@ from c2's own code. The built file is made of whole lists: the media less its ol
 length depends neither on digests nor on the numbers of a range, then both together.
 """
 
+import os
 import sys
 from collections import namedtuple
+from functools import partial
 
 import bmff
 import cbor
@@ -25,9 +27,11 @@ from make_store import assertions, box, claim_box, item, jpeg, manifest, signatu
 from manifests import MOST_MANIFESTS, read_sign1, read_uri
 from media import LARGEST_FILE, media_of
 from rules import CheckList, is_assertion, redaction_codes
-from store import DONE, INPUT_FAULT, JUDGE_FAULT, JudgeFault, printable, read_verdicts, verdict_of
+from store import DONE, INPUT_FAULT, JUDGE_FAULT, OUTPUT_FAULT, USAGE, JudgeFault, end_with, printable, read_verdicts, verdict_of
 
 BUILD_REFUSED = 11
+# How many files a command names before its judges, and how many judges it takes.
+NAMES, MOST_JUDGES = {"plan": 2, "embed": 4}, 64
 LARGEST_MESSAGE = 1_048_576
 MOST_ENTRIES = 20
 NUMBERS = range(0x0211, 0x10000)
@@ -44,31 +48,44 @@ class BuildRefused(Exception):
 
 
 def plan(media, definition, judges=()):
+    """What is planned of bytes, as `planned` has it."""
+    return planned(lambda: read_media(media, judges), lambda: definition)
+
+
+def embed(media, definition, signature, judges=()):
+    """What is built of bytes, as `built` has it."""
+    return built(lambda: read_media(media, judges), lambda: definition, lambda: signature)
+
+
+def planned(*calls):
     """`tbs` and the bytes to be signed, or `build` with the name of the refusal and what it keeps."""
     try:
-        return "tbs", Build(media, definition, None, judges).tbs
+        return "tbs", Build(*calls).tbs
     except BuildRefused as refused:
         return "build", *refused.args
 
 
-def embed(media, definition, signature, judges=()):
-    """The new file, and start and length of what was put in; or a refusal as `plan` has it."""
+def built(*calls):
+    """The new file, and start and length of what was put in; or a refusal as `planned` has it."""
     try:
-        return Build(media, definition, signature, judges).file()
+        return Build(*calls).file()
     except BuildRefused as refused:
         return "build", *refused.args
 
 
 class Build:
-    """A file that is built from a media file, a definition file and a message (None for `plan`); refusals come in their order."""
+    """A file that is built. Calls give what it is built from, each where that is due: the old store of a media file and what the new one is put into,
+    the bytes of a definition file, and those of a message, which a plan hasn't. Refusals come in their order."""
 
-    def __init__(self, media, definition, signature, judges):
-        old, self.base = read_media(media, judges)
-        self.definition = read_definition(definition)
-        self.message = None if signature is None else read_message(signature, self.definition)
+    def __init__(self, base, definition, message=None):
+        old, self.base = base()
+        self.definition = read_definition(definition())
+        self.message = None if message is None else read_message(message(), self.definition)
+        self.base.check()
         self.carried = carry(old, self.definition)
         self.base.find_place()
         self.length = self.check_sizes()
+        self.base.make_room(self.length)
         payload = bytes(self.definition.reserve)
         if self.message is not None:
             payload = padded(self.message, self.definition.reserve)
@@ -333,10 +350,20 @@ def number_bytes(number):
     return len(cbor.head(0, number))
 
 
-class JpegBase:
-    """A JPEG less the packets of its store."""
+class Base:
+    """What a new store is put into: its length, and how many root boxes it has. What isn't refused here is left as it is."""
 
-    root_boxes = 0
+    size = root_boxes = 0
+
+    def check(self):
+        """Refuses what is refused before redactions."""
+
+    def make_room(self, length):
+        """Makes room for so many bytes, once nothing else than the reserve may be refused."""
+
+
+class JpegBase(Base):
+    """A JPEG less the packets of its store."""
 
     def __init__(self, contents, media):
         self.contents = contents
@@ -392,7 +419,34 @@ class JpegBase:
         )
 
 
-class FilmBase:
+class BmffBase(Base):
+    """A BMFF file that a C2PA box is put into."""
+
+    def length_of(self, size):
+        """The length of the C2PA box around a store."""
+        return 45 + size
+
+    def put(self, contents):
+        return provenance_box(b"manifest\0" + bytes(8) + contents)
+
+    def covering(self, alg, kept, roots):
+        """The hash of a new file by what is kept, and by its root boxes with the place that each has in the new file. The new box is covered by no
+        digest."""
+        covered = hashing.begin(name=alg)
+        for box, place in roots:
+            contents = kept[box.start : box.end]
+            is_provenance = box.kind == b"uuid" and contents[8:24] == PROVENANCE
+            if box.kind not in (b"ftyp", b"mfra") and not is_provenance:
+                covered.update(place.to_bytes(8, "big") + contents)
+        return self.binding_of(None, None, alg, covered.digest())
+
+    def binding_of(self, _start, _length, alg, digest):
+        own = mapping(value=data(PROVENANCE), offset=("uint", 8))
+        exclusions = mapping(data=array(own), xpath=text("/uuid")), mapping(xpath=text("/ftyp")), mapping(xpath=text("/mfra"))
+        return "c2pa.hash.bmff.v2", mapping(alg=text(alg), hash=data(digest), exclusions=array(*exclusions))
+
+
+class FilmBase(BmffBase):
     """A BMFF file less the C2PA box with its store, or with that box freed where other boxes stand behind it."""
 
     def __init__(self, contents, media):
@@ -423,28 +477,10 @@ class FilmBase:
         header = self.contents[box.start : box.inside]
         return header[:4] + b"free" + header[8:] + bytes(box.end - box.inside)
 
-    def length_of(self, size):
-        """The length of the C2PA box around a store."""
-        return 45 + size
-
-    def put(self, contents):
-        return provenance_box(b"manifest\0" + bytes(8) + contents)
-
     def binding(self, _, alg):
-        """The new box is covered by no digest, and stands behind all that is."""
+        """The new box stands behind all that is covered, but for a last index, which isn't."""
         kept = self.kept()
-        covered = hashing.begin(name=alg)
-        for box in bmff.root_boxes(kept):
-            contents = kept[box.start : box.end]
-            is_provenance = box.kind == b"uuid" and contents[8:24] == PROVENANCE
-            if box.kind not in (b"ftyp", b"mfra") and not is_provenance:
-                covered.update(box.start.to_bytes(8, "big") + contents)
-        return self.binding_of(None, None, alg, covered.digest())
-
-    def binding_of(self, _start, _length, alg, digest):
-        own = mapping(value=data(PROVENANCE), offset=("uint", 8))
-        exclusions = mapping(data=array(own), xpath=text("/uuid")), mapping(xpath=text("/ftyp")), mapping(xpath=text("/mfra"))
-        return "c2pa.hash.bmff.v2", mapping(alg=text(alg), hash=data(digest), exclusions=array(*exclusions))
+        return self.covering(alg, kept, ((box, box.start) for box in bmff.root_boxes(kept)))
 
 
 # Reports
@@ -461,9 +497,9 @@ def line_of(told):
 
 def answer(command, names, judges):
     """The line that words must print, the status, and the new file or None."""
+    media, *more = (partial(contents_of, name) for name in names)
     try:
-        files = [contents_of(name) for name in names]
-        told = (plan if command == "plan" else embed)(*files, judges)
+        told = (planned if command == "plan" else built)(lambda: read_media(media(), judges), *more)
     except OSError:
         return "", INPUT_FAULT, None
     except JudgeFault:
@@ -476,19 +512,20 @@ def contents_of(name):
         return file.read()
 
 
-def main():
-    command, *names = sys.argv[1:]
-    count = {"plan": 2, "embed": 3}[command]
-    behind = names[count:]
-    out = behind.pop(0) if command == "embed" else None
-    line, status, contents = answer(command, names[:count], [read_verdicts(name) for name in behind])
+def told(command="", *names):
+    """The bytes that words must print (none of a usage line), and the status; a new file is written."""
+    count = NAMES.get(command, 0)
+    if not 0 < count <= len(names) <= count + MOST_JUDGES or any(name == "" or name.startswith("-") for name in names):
+        return b"", USAGE
+    files, judges = names[:count], [read_verdicts(name) for name in names[count:]]
+    line, status, contents = answer(command, files[:3], judges)
     if contents is not None:
-        with open(out, "xb") as file:
+        if os.path.lexists(files[3]):
+            return b"", OUTPUT_FAULT
+        with open(files[3], "xb") as file:
             file.write(contents)
-    if line:
-        print(line)
-    sys.exit(status)
+    return line.encode() + b"\n" if line else b"", status
 
 
 if __name__ == "__main__":
-    main()
+    end_with(*told(*sys.argv[1:]))
