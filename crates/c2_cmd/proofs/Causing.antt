@@ -7,7 +7,7 @@ use Rattle.c2_rules.specs.Asking.{IsJudgeCause}
 use Rattle.c2_words.specs.CommandLine.{has_word, is_media, is_out, is_second, is_third, lets_ask}
 use Rattle.c2_words.specs.declared.types.Command.{Command}
 use Rattle.c2_words.specs.declared.types.Roles.{Roles}
-use Rattle.c2_outcome.specs.Reply.{CausedBy, IsCopyingCause, IsInputCause, IsMediaCause, IsOutputCause, IsPanelCause, IsReadingCause, end_of, fault_heard}
+use Rattle.c2_outcome.specs.Reply.{CausedBy, IsCopyingCause, IsInputCause, IsMediaCause, IsOutputCause, IsPanelCause, IsReadingCause, IsSourcesCause, IsWritingCause, end_of, fault_heard}
 use Rattle.c2_outcome.specs.Status.{HasNoReply, status_of}
 use Rattle.c2_outcome.specs.declared.reply.Fault.{Fault}
 use Rattle.c2_outcome.specs.declared.reply.Fault.TheVariants.{Input, Output, Judge, Memory}
@@ -174,7 +174,19 @@ caused_reading {roles} {f} r found c gives named has other asks words cause pane
     (λ e. absurd (sink_end _ _ _ r cause e))
     (λ e. (named_by lets_ask roles found c gives named asks, judged_end _ _ r panel e))
 
--- by one that writes to the report besides
+-- by one that reads both and asks nobody
+pub caused_sources : {roles : Option Roles} {f : Faults} (r : Result Reply Fault) (found : Roles)
+    (c : Command)
+    → roles ≡ Some found → found.command ≡ c → has_word is_media c ≡ true → has_word is_second c ≡ true
+    → IfOk r (λ reply. reply.answer ≢ answer.Usage)
+    → IfErr r (IsSourcesCause (Rose f.sources.second.0 f.sources.second.1) f.sources.media.0 f.sources.media.1)
+    → IsCaused roles f (end_of r)
+caused_sources {roles} {f} r found c gives named has other words cause =
+    words_caused roles f r words
+    (λ e. two_failed roles f found c gives named has other (source_end _ _ _ r cause e))
+    (λ e. absurd (sink_end _ _ _ r cause e)) (λ e. unjudged_end _ _ _ r cause e)
+
+-- by one that reads both, asks judges and writes to the report
 pub caused_compare : {roles : Option Roles} {f : Faults} (r : Result Reply Fault) (found : Roles)
     (c : Command)
     → roles ≡ Some found → found.command ≡ c → has_word is_media c ≡ true → has_word is_second c ≡ true
@@ -214,6 +226,19 @@ caused_embed {roles} {f} r found c gives named has other more writes asks words 
     (λ e. three_failed roles f found c gives named has other more (source_end _ _ _ r cause e))
     (λ e. inr (named_by is_out roles found c gives named writes, sink_end _ _ _ r out e))
     (λ e. (named_by lets_ask roles found c gives named asks, judged_end _ _ r panel e))
+
+-- by one that reads three, writes to the new file and asks nobody
+pub caused_writing : {roles : Option Roles} {f : Faults} (r : Result Reply Fault) (found : Roles)
+    (c : Command)
+    → roles ≡ Some found → found.command ≡ c → has_word is_media c ≡ true → has_word is_second c ≡ true
+    → has_word is_third c ≡ true → has_word is_out c ≡ true → IfOk r (λ reply. reply.answer ≢ answer.Usage)
+    → IfErr r (IsWritingCause (Rose f.sources.second.0 f.sources.second.1 ⊎ Rose f.sources.third.0 f.sources.third.1)
+    f.sources.media.0 f.sources.media.1) → IfErr r (IsOutputCause f.out.0 f.out.1) → IsCaused roles f (end_of r)
+caused_writing {roles} {f} r found c gives named has other more writes words cause out =
+    words_caused roles f r words
+    (λ e. three_failed roles f found c gives named has other more (source_end _ _ _ r cause e))
+    (λ e. inr (named_by is_out roles found c gives named writes, sink_end _ _ _ r out e))
+    (λ e. unjudged_end _ _ _ r cause e)
 
 -- ---- words of no command
 

@@ -7,7 +7,6 @@ use Rattle.std.specs.declared.vec.Vec.{Vec}
 use Rattle.std.proofs.lemmas.Bool.{false≢true}
 use Rattle.c2_base.specs.Source.{IsKnownWhereDue}
 use Rattle.c2_base.specs.declared.values.Question.{Question}
-use Rattle.c2_build.specs.Building.{IsDefinitionRefused, IsMediaRefused}
 use Rattle.c2_calls.specs.Asks.{AsksKnown}
 use Rattle.c2_calls.proofs.PanelLemmas.{asked_none}
 use Rattle.c2_spec.specs.Judges.Panel.{Judges, judges_of, panel_says}
@@ -127,18 +126,16 @@ pub left_where_known : (P : List ℕ → Type 0) (known : Option (List ℕ)) (Sa
 left_where_known P known Same h k = h k.file k.is_known k.holds
 
 -- a message isn't due by what is known of its media or of its definition
-pub message_due : (known other : Option (List ℕ))
-    → IsKnownAs IsMediaRefused known ⊎ IsKnownAs IsDefinitionRefused other
-    → IsMediaRefused (unwrap_or known []) ⊎ IsDefinitionRefused (unwrap_or other [])
-message_due known other (inl k) = inl (held IsMediaRefused known k)
-message_due known other (inr k) = inr (held IsDefinitionRefused other k)
+pub message_due : (P Q : List ℕ → Type 0) (known other : Option (List ℕ)) → IsKnownAs P known ⊎ IsKnownAs Q other
+    → P (unwrap_or known []) ⊎ Q (unwrap_or other [])
+message_due P Q known other (inl k) = inl (held P known k)
+message_due P Q known other (inr k) = inr (held Q other k)
 
 -- and is left as it was then
-pub message_left : (known other : Option (List ℕ)) (Same : Type 0) → ForSome known (λ a. IsMediaRefused a → Same)
-    → ForSome other (λ b. IsDefinitionRefused b → Same)
-    → IsKnownAs IsMediaRefused known ⊎ IsKnownAs IsDefinitionRefused other → Same
-message_left known other Same first second (inl k) = left_where_known IsMediaRefused known Same first k
-message_left known other Same first second (inr k) = left_where_known IsDefinitionRefused other Same second k
+pub message_left : (P Q : List ℕ → Type 0) (known other : Option (List ℕ)) (Same : Type 0)
+    → ForSome known (λ a. P a → Same) → ForSome other (λ b. Q b → Same) → IsKnownAs P known ⊎ IsKnownAs Q other → Same
+message_left P Q known other Same first second (inl k) = left_where_known P known Same first k
+message_left P Q known other Same first second (inr k) = left_where_known Q other Same second k
 
 -- ---- replies
 
@@ -174,7 +171,22 @@ heard_none source sink js qs (Err Output) cause none = asked_none js.said qs js.
 heard_none source sink js qs (Err Judge) cause none = absurd cause
 heard_none source sink js qs (Err Memory) cause none = record { prefix = []; rest = qs; split = refl; asked = refl }
 
--- a command that reads the media and asks nobody
+-- a command that writes no file and asks nobody
+pub replies_unheard : (P : Outcome → Type 0) (source sink : Type 0) {IsMet : Type 0} {w k : SinkState} {js : Judges}
+    {Same : Type 0} {r : Result Reply Fault} → IsOneOutcome P → ((e : Outcome) → P e → e.file ≡ None) → IsMet
+    → Same → IfErr r (CausedBy source sink ⊥) → IfOk r (λ reply. P (outcome_of reply))
+    → RepliesBy P (λ qs. qs ≡ []) IsMet
+    (record { report = w; file = k; judges = js })
+    (record { report = w; file = k; judges = js }) Same r
+replies_unheard P source sink {w} {k} {js} {r} one unfiled met same cause h = record {
+  reply = begins_alone P w.written r one h;
+  file = takes_none P k r unfiled;
+  met = λ whole. met;
+  asked = λ qs none. heard_none source sink js qs r cause none;
+  unasked = λ none. same;
+}
+
+-- such a command over the media alone
 pub replies_silent : (P : List ℕ → Outcome → Type 0) (known : Option (List ℕ)) (source sink : Type 0) {IsMet : Type 0}
     {w k : SinkState} {js : Judges} {Same : Type 0} {r : Result Reply Fault} → IsSome known
     → ((file : List ℕ) → IsOneOutcome (P file))
@@ -183,13 +195,9 @@ pub replies_silent : (P : List ℕ → Outcome → Type 0) (known : Option (List
     → RepliesBy (P (unwrap_or known [])) (λ qs. qs ≡ []) IsMet
     (record { report = w; file = k; judges = js })
     (record { report = w; file = k; judges = js }) Same r
-replies_silent P known source sink {w} {k} {js} {r} some one unfiled met same cause h = record {
-  reply = begins_alone (P (unwrap_or known [])) w.written r (one (unwrap_or known [])) (told_reply P known r some h);
-  file = takes_none (P (unwrap_or known [])) k r (unfiled (unwrap_or known []));
-  met = λ whole. met;
-  asked = λ qs none. heard_none source sink js qs r cause none;
-  unasked = λ none. same;
-}
+replies_silent P known source sink {r} some one unfiled met same cause h =
+    replies_unheard (P (unwrap_or known [])) source sink (one (unwrap_or known [])) (unfiled (unwrap_or known [])) met
+    same cause (told_reply P known r some h)
 
 -- a command that asks judges, by its reply over the bytes of its sources
 pub replies_heard : {J : Type 0} {says : J → Question → Verdict} {times faults : J → ℕ} (P : Outcome → Type 0)
@@ -212,7 +220,7 @@ replies_heard {says} P AreAsked {w} {k} {old} {r} one unfiled met h panel asks =
   unasked = λ none. panel.unasked (asks [] none);
 }
 
--- such a command over the media alone
+-- one that asks judges, over the media alone
 pub replies_media : {J : Type 0} {says : J → Question → Verdict} {times faults : J → ℕ}
     (P : List ℕ → Outcome → Type 0) (Asks : List ℕ → (Question → Verdict) → List Question → Type 0)
     (known : Option (List ℕ)) {IsMet : Type 0} {w k : SinkState} {old new : Vec J Global}
@@ -227,21 +235,30 @@ replies_media {says} P Asks known {old} {r} some one unfiled met h panel =
     (one (unwrap_or known [])) (unfiled (unwrap_or known [])) met (told_reply P known r some h) panel
     (λ qs are. (unwrap_or known [], told known some, are))
 
--- a command that copies a part of the media and asks nobody
+-- a command that writes a file and asks nobody
+pub replies_filed : (P : Outcome → Type 0) (source sink : Type 0) {IsMet : Type 0} {w k l : SinkState} {js : Judges}
+    {Same : Type 0} {r : Result Reply Fault} → MakesFile P k l r → (HasWhole k l r → IsMet) → Same
+    → IfErr r (CausedBy source sink ⊥) → RepliesBy P (λ qs. qs ≡ []) IsMet
+    (record { report = w; file = k; judges = js })
+    (record { report = w; file = l; judges = js }) Same r
+replies_filed P source sink {w} {js} {r} made met same cause = record {
+  reply = begins_filed P w.written r made.stands;
+  file = made.takes;
+  met = met;
+  asked = λ qs none. heard_none source sink js qs r cause none;
+  unasked = λ none. same;
+}
+
+-- one that copies a part of the media
 pub replies_copied : (P : List ℕ → Outcome → Type 0) (known : Option (List ℕ)) (source sink : Type 0) {IsMet : Type 0}
     {w k l : SinkState} {js : Judges} {Same : Type 0} {r : Result Reply Fault} → IsSome known → IsMet
     → Same → IfErr r (CausedBy source sink ⊥)
     → ForSome known (λ file. MakesFile (P file) k l r) → RepliesBy (P (unwrap_or known [])) (λ qs. qs ≡ []) IsMet
     (record { report = w; file = k; judges = js })
     (record { report = w; file = l; judges = js }) Same r
-replies_copied P known source sink {w} {js} {r} some met same cause h =
-    let made = h (unwrap_or known []) (told known some) in record {
-      reply = begins_filed (P (unwrap_or known [])) w.written r made.stands;
-      file = made.takes;
-      met = λ whole. met;
-      asked = λ qs none. heard_none source sink js qs r cause none;
-      unasked = λ none. same;
-    }
+replies_copied P known source sink some met same cause h =
+    replies_filed (P (unwrap_or known [])) source sink (h (unwrap_or known []) (told known some)) (λ whole. met) same
+    cause
 
 -- ---- calls of no command
 

@@ -5,9 +5,11 @@ use Rattle.c2_base.specs.declared.values.Question.{Question}
 use Rattle.c2_building_commands.specs.Laws.{EachBuildingOutcome, EachBuildingQuestions}
 use Rattle.c2_built.specs.Fresh.{GivesDigests}
 use Rattle.c2_extract_command.specs.Outcomes.{IsExtractOutcome}
+use Rattle.c2_front_commands.specs.Outcomes.{IsEmbedFrontOutcome, IsPlanFrontOutcome}
 use Rattle.c2_outcome.specs.Outcome.{Outcome, reports}
 use Rattle.c2_outcome.specs.declared.types.Answer.TheVariants as answer
 use Rattle.c2_reading_commands.specs.Laws.{EachReadingOutcome, EachReadingQuestions}
+use Rattle.c2_spec.specs.declared.digest.Alg.{Alg}
 use Rattle.c2_strip_command.specs.Outcomes.{IsStripOutcome}
 use Rattle.c2_texts.specs.Texts.{usage_line}
 use Rattle.c2_words.specs.CommandLine.{makes_media}
@@ -23,6 +25,10 @@ pub record Laws : Type 0 where
   pub builds : EachBuildingOutcome
   pub strips : (file : List ℕ) → All (λ b. b < 2 ^ 8) file → (expected : Outcome) × IsStripOutcome file expected
   pub extracts : (file : List ℕ) → All (λ b. b < 2 ^ 8) file → (expected : Outcome) × IsExtractOutcome file expected
+  pub plans_front : (hash : Alg → List ℕ → List ℕ) (media definition : List ℕ) → All (λ b. b < 2 ^ 8) media
+      → (expected : Outcome) × IsPlanFrontOutcome hash media definition expected
+  pub embeds_front : (hash : Alg → List ℕ → List ℕ) (media definition message : List ℕ) → All (λ b. b < 2 ^ 8) media
+      → All (λ b. b < 2 ^ 8) message → (expected : Outcome) × IsEmbedFrontOutcome hash media definition message expected
 
 -- every command has an outcome where its files are bytes
 each_command : Laws → (c : Command) (roles : Roles) (i : Inputs)
@@ -44,6 +50,10 @@ each_command laws command.Strip roles i held gives = laws.strips i.files.media (
 each_command laws command.Extract roles i held gives = laws.extracts i.files.media (held the_media)
 each_command laws command.ValidateExternal roles i held gives =
     laws.reads.external i.hash i.said i.files.media i.files.second (held the_media) (held the_second)
+each_command laws command.PlanFront roles i held gives =
+    laws.plans_front i.hash i.files.media i.files.second (held the_media)
+each_command laws command.EmbedFront roles i held gives =
+    laws.embeds_front i.hash i.files.media i.files.second i.files.third (held the_media) (held the_third)
 
 -- a call whose files are bytes has an outcome, whether its words fit a command or none
 pub each_outcome : Laws → (roles : Option Roles) (i : Inputs)
@@ -71,6 +81,8 @@ each_asks reads builds command.Strip roles i held gives = ([], refl)
 each_asks reads builds command.Extract roles i held gives = ([], refl)
 each_asks reads builds command.ValidateExternal roles i held gives =
     reads.external i.hash i.said i.files.media i.files.second (held the_media) (held the_second)
+each_asks reads builds command.PlanFront roles i held gives = ([], refl)
+each_asks reads builds command.EmbedFront roles i held gives = ([], refl)
 
 -- a call whose files are bytes has a list of questions: an empty one where its words fit no command
 pub each_list : EachReadingQuestions → EachBuildingQuestions → (roles : Option Roles) (i : Inputs)

@@ -3,8 +3,10 @@ use Rattle.std.proofs.Common.{◌≡◌, sym, ◌∙◌, ℕ, List, Option, Some
 use Rattle.c2_base.specs.declared.values.Question.{Question}
 use Rattle.c2_building_commands.specs.Laws.{OneBuildingOutcome, OneBuildingQuestions}
 use Rattle.c2_extract_command.specs.Outcomes.{IsExtractOutcome}
+use Rattle.c2_front_commands.specs.Outcomes.{IsEmbedFrontOutcome, IsPlanFrontOutcome}
 use Rattle.c2_outcome.specs.Outcome.{IsOneOutcome, Outcome}
 use Rattle.c2_reading_commands.specs.Laws.{OneReadingOutcome, OneReadingQuestions}
+use Rattle.c2_spec.specs.declared.digest.Alg.{Alg}
 use Rattle.c2_strip_command.specs.Outcomes.{IsStripOutcome}
 use Rattle.c2_words.specs.declared.types.Command.{Command}
 use Rattle.c2_words.specs.declared.types.Command.TheVariants as command
@@ -17,6 +19,10 @@ pub record Laws : Type 0 where
   pub builds : OneBuildingOutcome
   pub strips : (file : List ℕ) → IsOneOutcome (IsStripOutcome file)
   pub extracts : (file : List ℕ) → IsOneOutcome (IsExtractOutcome file)
+  pub plans_front : (hash : Alg → List ℕ → List ℕ) (media definition : List ℕ)
+      → IsOneOutcome (IsPlanFrontOutcome hash media definition)
+  pub embeds_front : (hash : Alg → List ℕ → List ℕ) (media definition message : List ℕ)
+      → IsOneOutcome (IsEmbedFrontOutcome hash media definition message)
 
 -- a command has one outcome at most for what it is handed
 one_command : Laws → (c : Command) (roles : Roles) (i : Inputs) (x y : Outcome)
@@ -34,6 +40,9 @@ one_command laws command.Strip roles i x y h k = laws.strips i.files.media x y h
 one_command laws command.Extract roles i x y h k = laws.extracts i.files.media x y h k
 one_command laws command.ValidateExternal roles i x y h k =
     laws.reads.external i.hash i.said i.files.media i.files.second x y h k
+one_command laws command.PlanFront roles i x y h k = laws.plans_front i.hash i.files.media i.files.second x y h k
+one_command laws command.EmbedFront roles i x y h k =
+    laws.embeds_front i.hash i.files.media i.files.second i.files.third x y h k
 
 -- a call has one outcome at most, whether its words fit a command or none
 pub one_outcome : Laws → (roles : Option Roles) (i : Inputs) (x y : Outcome)
@@ -57,6 +66,8 @@ one_asks reads builds command.Strip roles i ps qs h k = h ∙ sym k
 one_asks reads builds command.Extract roles i ps qs h k = h ∙ sym k
 one_asks reads builds command.ValidateExternal roles i ps qs h k =
     reads.external i.hash i.said i.files.media i.files.second ps qs h k
+one_asks reads builds command.PlanFront roles i ps qs h k = h ∙ sym k
+one_asks reads builds command.EmbedFront roles i ps qs h k = h ∙ sym k
 
 -- a call has one list of questions at most, whether its words fit a command or none
 pub one_list : OneReadingQuestions → OneBuildingQuestions

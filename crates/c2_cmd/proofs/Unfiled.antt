@@ -6,6 +6,8 @@ use Rattle.c2_base.specs.declared.values.Question.{Question}
 use Rattle.c2_binding.specs.declared.compared.Compared.{Compared}
 use Rattle.c2_binding.specs.declared.compared.Compared.TheVariants as compared
 use Rattle.c2_build.specs.declared.error.BuildError.{BuildError}
+use Rattle.c2_front_commands.specs.Outcomes.{IsPlanFrontOutcome, plan_outcome as plan_front_outcome}
+use Rattle.c2_fronts.specs.Order.{FrontRefusal}
 use Rattle.c2_rules.specs.declared.answer.Answer.{Answer as Checked}
 use Rattle.c2_rules.specs.declared.answer.Answer.TheVariants as checked
 use Rattle.c2_spec.specs.Located.{Opening, refused, absent, here}
@@ -45,6 +47,11 @@ unfiled_comparison (compared.Same summary) text = refl
 unfiled_plan : (r : Result (List ℕ) BuildError) → (plan_outcome r).file ≡ None
 unfiled_plan (Ok bytes) = refl
 unfiled_plan (Err e) = refl
+
+-- nor what is to be signed of a file with its store in front
+unfiled_plan_front : (r : Result (List ℕ) FrontRefusal) → (plan_front_outcome r).file ≡ None
+unfiled_plan_front (Ok bytes) = refl
+unfiled_plan_front (Err refusal) = refl
 
 -- nor a sample
 unfiled_sample : (n : ℕ) (s : Sampled) → (sample_outcome n s).file ≡ None
@@ -95,6 +102,11 @@ compare_unfiled hash said first second e h = ap (λ (o : Outcome). o.file) h.3 �
 pub plan_unfiled : (hash : Alg → List ℕ → List ℕ) (said : Question → Verdict) (media definition : List ℕ)
     (e : Outcome) → IsPlanOutcome hash said media definition e → e.file ≡ None
 plan_unfiled hash said media definition e h = ap (λ (o : Outcome). o.file) h.2 ∙ unfiled_plan h.0
+
+-- `plan-front`
+pub plan_front_unfiled : (hash : Alg → List ℕ → List ℕ) (media definition : List ℕ) (e : Outcome)
+    → IsPlanFrontOutcome hash media definition e → e.file ≡ None
+plan_front_unfiled hash media definition e h = ap (λ (o : Outcome). o.file) h.2 ∙ unfiled_plan_front h.0
 
 -- `sample`
 pub sample_unfiled : (hash : Alg → List ℕ → List ℕ) (said : Question → Verdict) (n : ℕ) (e : Outcome)

@@ -13,6 +13,8 @@ use Rattle.c2_binding.specs.Comparison.{CompareAsks}
 use Rattle.c2_build.specs.Building.{Built, EmbedAsks, IsEmbedded, PlanAsks}
 use Rattle.c2_build.specs.Meeting.{BuiltMeets}
 use Rattle.c2_built.specs.Fresh.{GivesDigests}
+use Rattle.c2_fronts.specs.Made.{FrontMeets}
+use Rattle.c2_fronts.specs.Outcomes.{IsFrontMade, NewFile}
 use Rattle.c2_restored.specs.Restored.{Restores}
 use Rattle.c2_sample.specs.Sample.{SampleAsks}
 use Rattle.c2_texts.specs.Texts.{usage_line}
@@ -22,6 +24,7 @@ use Rattle.c2_outcome.specs.declared.types.Answer.TheVariants as answer
 use Rattle.c2_reading_commands.specs.Outcomes.{IsCompareOutcome, IsDigestOutcome, IsExternalOutcome, IsListOutcome, IsMediaOutcome, IsQuestioned, IsShown, IsValidated}
 use Rattle.c2_building_commands.specs.Outcomes.{IsEmbedOutcome, IsPlanOutcome, IsSampleOutcome}
 use Rattle.c2_extract_command.specs.Outcomes.{IsExtractOutcome}
+use Rattle.c2_front_commands.specs.Outcomes.{IsEmbedFrontOutcome, IsPlanFrontOutcome}
 use Rattle.c2_strip_command.specs.Outcomes.{IsStripOutcome}
 use Rattle.c2_words.specs.declared.types.Command.{Command}
 use Rattle.c2_words.specs.declared.types.Command.TheVariants as command
@@ -67,6 +70,8 @@ IsCommandOutcome command.Sample roles i expected = IsSampleOutcome i.hash i.said
 IsCommandOutcome command.Strip roles i expected = IsStripOutcome i.files.media expected
 IsCommandOutcome command.Extract roles i expected = IsExtractOutcome i.files.media expected
 IsCommandOutcome command.ValidateExternal roles i expected = IsExternalOutcome i.hash i.said i.files.media i.files.second expected
+IsCommandOutcome command.PlanFront roles i expected = IsPlanFrontOutcome i.hash i.files.media i.files.second expected
+IsCommandOutcome command.EmbedFront roles i expected = IsEmbedFrontOutcome i.hash i.files.media i.files.second i.files.third expected
 
 -- the outcome of words with these roles, or with none
 abbrev pub IsOutcome : Option Roles → Inputs → Outcome → Type 0
@@ -102,22 +107,27 @@ CommandAsks command.Sample roles i qs = SampleAsks i.hash i.said (pieces_in role
 CommandAsks command.Strip roles i qs = qs ≡ []
 CommandAsks command.Extract roles i qs = qs ≡ []
 CommandAsks command.ValidateExternal roles i qs = ExternalAsks i.hash i.files.second i.files.media i.said qs
+CommandAsks command.PlanFront roles i qs = qs ≡ []
+CommandAsks command.EmbedFront roles i qs = qs ≡ []
 
 -- the judges are asked these questions, in order, by words with these roles; words without roles ask none
 abbrev pub Asks : Option Roles → Inputs → List Question → Type 0
 Asks None i qs = qs ≡ []
 Asks (Some roles) i qs = CommandAsks roles.command roles i qs
 
--- A file that is built meets what is promised of it. All rules hold but for the verdict on it, and it asks over what `plan` gives to be
+-- A file that `embed` builds meets what is promised of it. All rules hold but for the verdict on it, and it asks over what `plan` gives to be
 -- signed and then what the media's store asks. What the media holds outside its embedded range is kept byte by byte in the same order,
 -- around the new range and an older box that is freed. Where the media has no store, `strip` of the new file is the media.
 pub record HasBuilt (i : Inputs) (b : Built) : Type 0 where
   pub meets : BuiltMeets i.hash i.said i.files.media i.files.second i.files.third b
   pub restores : IsLocated i.files.media absent → Restores b i.files.media
 
--- the new file of a command meets what is promised of it, where it is built
+-- The new file of a command meets what is promised of it, where it is built. One with its store in front meets all rules but for the verdict
+-- on it, and each chunk offset that told a place of the media from the store's on tells where the same byte is, unless that byte is in such an
+-- offset itself.
 abbrev pub CommandMeets : Command → Inputs → Type 0
 CommandMeets command.Embed i = (b : Built) → IsEmbedded i.hash i.said i.files.media i.files.second i.files.third (Ok b) → HasBuilt i b
+CommandMeets command.EmbedFront i = (b : NewFile) → IsFrontMade i.hash i.files.media i.files.second i.files.third (Ok b) → FrontMeets i.hash i.files.media i.files.second i.files.third b
 CommandMeets c i = ⊤
 
 -- the new file of words with these roles meets what is promised of it, where it is built

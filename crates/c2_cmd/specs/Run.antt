@@ -12,6 +12,7 @@ use Rattle.c2_rules.specs.Asking.{HaveAsked, HaveAskedPrefix, HaveFailed, HasHea
 use Rattle.c2_compare.specs.Comparing.{IsNotAccepted}
 use Rattle.c2_sidecar.specs.Checking.{IsRefusedFile}
 use Rattle.c2_build.specs.Building.{IsDefinitionRefused, IsMediaRefused}
+use Rattle.c2_refusals.specs.Stages as stages
 use Rattle.c2_words.specs.CommandLine.{is_out, lets_ask, roles_of}
 use Rattle.c2_outcome.specs.Left.{Delivers, Finishes, Leaves, SinkState}
 use Rattle.c2_outcome.specs.Outcome.{Outcome}
@@ -75,15 +76,18 @@ IsOfCommand Holds None = ⊥
 IsOfCommand Holds (Some roles) = Holds roles.command
 
 -- What is known of a call of a command tells that a source isn't due. The media always is; `compare` reads its second file only where the
--- media is accepted, `plan` and `embed` only where it isn't refused, and `validate-external` only where its container isn't; `embed` reads
--- its third file only where neither the media nor the definition is refused.
+-- media is accepted, a command that builds only where it isn't refused, and `validate-external` only where its container isn't; a command that
+-- embeds reads its third file only where neither the media nor the definition is refused.
 abbrev pub HasNotDue : Call → SourceName → Command → Type 0
 HasNotDue c the_media k = ⊥
 HasNotDue c the_second command.Compare = IsKnownAs (IsNotAccepted c.hash (panel_says c.said)) c.known.media
 HasNotDue c the_second command.Plan = IsKnownAs IsMediaRefused c.known.media
 HasNotDue c the_second command.Embed = IsKnownAs IsMediaRefused c.known.media
 HasNotDue c the_second command.ValidateExternal = IsKnownAs IsRefusedFile c.known.media
+HasNotDue c the_second command.PlanFront = IsKnownAs stages.IsMediaRefused c.known.media
+HasNotDue c the_second command.EmbedFront = IsKnownAs stages.IsMediaRefused c.known.media
 HasNotDue c the_third command.Embed = IsKnownAs IsMediaRefused c.known.media ⊎ IsKnownAs IsDefinitionRefused c.known.second
+HasNotDue c the_third command.EmbedFront = IsKnownAs stages.IsMediaRefused c.known.media ⊎ IsKnownAs stages.IsDefinitionRefused c.known.second
 HasNotDue c s k = ⊥
 
 -- a source of a call isn't due

@@ -15,6 +15,7 @@ use crate::laws::each_run_has_an_outcome;
 use c2_base::{Failed, Sink, Source, write_all};
 use c2_building_commands::{one_building_outcome, reply_to_embed, reply_to_plan, reply_to_sample};
 use c2_extract_command::reply_to_extract;
+use c2_front_commands::{one_front_outcome, reply_to_embed_front, reply_to_plan_front};
 use c2_hash::{Alg, Hashing};
 use c2_judge::Judge;
 use c2_outcome::types::Status;
@@ -30,8 +31,8 @@ use c2_words::types::{Command, Roles, RolesError};
 use std::alloc::Global;
 
 /// Runs the command that the words spell, over the files, the sinks and the judges that it is handed: `second` is the other file of
-/// `compare`, the definition of `plan` and `embed`, and the store that `validate-external` checks the media with, `third` the signed
-/// message of `embed`, and `out` takes the file that `embed`, `strip` or `extract` writes.
+/// `compare`, the definition of a command that builds, and the store that `validate-external` checks the media with, `third` the signed
+/// message of `embed` and `embed-front`, and `out` takes the file that one of these, `strip` or `extract` writes.
 ///
 /// Where the bytes of the files that the command reads are known, the report holds the outcome's text and is finished; after a fault or
 /// out of memory it holds a prefix of it. `Usage` comes exactly where the words fit no command, unless the report fails or memory
@@ -47,10 +48,12 @@ use std::alloc::Global;
 /// Where these bytes are known and the new file of `embed` is whole, it meets every rule but the verdict on its own message, and asks over
 /// what `plan` gives and then what the media's store asks. What the media holds outside its embedded range is kept byte by byte in the same
 /// order, around the new range and an older box that is freed; and where the media had no store, `strip` makes of the new file the media
-/// again, byte for byte.
+/// again, byte for byte. That of `embed-front` meets every rule but that too, and asks over what `plan-front` gives. Each chunk offset that told
+/// a place of the media from the store's on tells where the same byte is, unless that byte is in such an offset itself; and each byte of the media
+/// outside of moved offsets is kept, in the same order around the new range.
 ///
 /// A file that isn't due is left as it was, where the bytes that tell so are known: `second` under `compare` where the media isn't
-/// accepted, under `plan` and `embed` where it is refused, and under `validate-external` where its container is; and `third` where the
+/// accepted, under a command that builds where it is refused, and under `validate-external` where its container is; and `third` where the
 /// media or the definition is refused.
 // The condition always holds. A public function without one that changes boxed judges can't be called from another crate
 // under a contract.
@@ -146,7 +149,7 @@ pub fn run<H: Hashing, A: Source, B: Source, C: Source, K: Sink, W: Sink>(
     }
 }
 
-// The reply to a command line. `compare` alone writes to the report; `embed`, `strip` and `extract` alone write to the new file.
+// The reply to a command line. `compare` alone writes to the report; only a command that embeds, `strip` and `extract` write to the new file.
 #[tactic(auto, using(crate::proofs::Keeping::idle_source, crate::proofs::Keeping::idle_report, crate::proofs::Keeping::idle_panel))]
 fn reply_to<H: Hashing, A: Source, B: Source, C: Source, K: Sink, W: Sink>(
     alloc: Global,
@@ -218,6 +221,7 @@ fn reply_to<H: Hashing, A: Source, B: Source, C: Source, K: Sink, W: Sink>(
     // Only the prover needs these laws.
     one_reading_outcome();
     one_building_outcome();
+    one_front_outcome();
     a_built_file_is_restored();
     let found = match roles(alloc, words) {
         Ok(found) => found,
@@ -239,6 +243,8 @@ fn reply_to<H: Hashing, A: Source, B: Source, C: Source, K: Sink, W: Sink>(
         Command::ValidateExternal => {
             reply_to_validate_external(alloc, hashing, media, second, judges)
         }
+        Command::PlanFront => reply_to_plan_front(alloc, hashing, media, second),
+        Command::EmbedFront => reply_to_embed_front(alloc, hashing, media, second, third, out),
     }
 }
 

@@ -116,6 +116,22 @@ new_taken name (m ∷ []) e = no_words e
 new_taken name (m ∷ (o ∷ [])) e = (refl, refl)
 new_taken name (m ∷ (o ∷ (x ∷ xs))) e = no_words e
 
+-- a media file and a definition
+planned_taken : TakesFit (Media ∷ Definition ∷ [])
+planned_taken name [] e = no_words e
+planned_taken name (m ∷ []) e = no_words e
+planned_taken name (m ∷ (d ∷ [])) e = (refl, refl)
+planned_taken name (m ∷ (d ∷ (x ∷ xs))) e = no_words e
+
+-- a media file, a definition, a signed message and a new file
+built_taken : TakesFit (Media ∷ Definition ∷ Signature ∷ Out ∷ [])
+built_taken name [] e = no_words e
+built_taken name (m ∷ []) e = no_words e
+built_taken name (m ∷ (d ∷ [])) e = no_words e
+built_taken name (m ∷ (d ∷ (s ∷ []))) e = no_words e
+built_taken name (m ∷ (d ∷ (s ∷ (o ∷ [])))) e = (refl, refl)
+built_taken name (m ∷ (d ∷ (s ∷ (o ∷ (x ∷ xs))))) e = no_words e
+
 -- words that fit a command are those that it takes
 taken : (c : Command) → TakesFit (words_of c)
 taken command.Digest = algorithm_taken
@@ -130,6 +146,8 @@ taken command.Sample = count_taken
 taken command.Strip = new_taken
 taken command.Extract = new_taken
 taken command.ValidateExternal = second_taken
+taken command.PlanFront = planned_taken
+taken command.EmbedFront = built_taken
 
 -- where there are roles, the words fit
 with_roles : (c : Command) (words : List Text) (roles : Roles) → roles_with c words ≡ Some roles → fit (words_of c) words ≡ true
@@ -196,6 +214,8 @@ met command.Sample = record { stops = refl; turned = refl; found = refl }
 met command.Strip = record { stops = refl; turned = refl; found = refl }
 met command.Extract = record { stops = refl; turned = refl; found = refl }
 met command.ValidateExternal = record { stops = refl; turned = refl; found = refl }
+met command.PlanFront = record { stops = refl; turned = refl; found = refl }
+met command.EmbedFront = record { stops = refl; turned = refl; found = refl }
 
 -- what is tested of a walk over the first level
 abbrev stopped_passes : Walk → Bool → Bool

@@ -9,7 +9,7 @@ use Rattle.std.specs.declared.result.Result.{Result}
 use Rattle.c2_base.specs.declared.limits.TheConstants.{MAX_JUDGE_NAMES}
 use Rattle.c2_spec.specs.Digest.{alg_named}
 use Rattle.c2_words.specs.declared.types.Command.{Command}
-use Rattle.c2_words.specs.declared.types.Command.TheVariants.{Digest, List as ListBoxes, Show, Questions, Validate, Compare, Plan, Embed, Sample, Strip, Extract, ValidateExternal}
+use Rattle.c2_words.specs.declared.types.Command.TheVariants.{Digest, List as ListBoxes, Show, Questions, Validate, Compare, Plan, Embed, Sample, Strip, Extract, ValidateExternal, PlanFront, EmbedFront}
 use Rattle.c2_words.specs.declared.types.Role.{Role}
 use Rattle.c2_words.specs.declared.types.Role.TheVariants.{Media, Other, Definition, Signature, Store, Out, Count, Algorithm, Judges}
 use Rattle.c2_words.specs.declared.types.Roles.{Roles}
@@ -31,6 +31,8 @@ usage_parts =
     ∷ (Sample ∷ [])
     ∷ (Strip ∷ Extract ∷ [])
     ∷ (ValidateExternal ∷ [])
+    ∷ (PlanFront ∷ [])
+    ∷ (EmbedFront ∷ [])
     ∷ []
 
 -- the word of a command
@@ -47,6 +49,8 @@ name_of Sample = codes "sample"
 name_of Strip = codes "strip"
 name_of Extract = codes "extract"
 name_of ValidateExternal = codes "validate-external"
+name_of PlanFront = codes "plan-front"
+name_of EmbedFront = codes "embed-front"
 
 -- what each word behind a command's own is, in order
 abbrev pub words_of : Command → List Role
@@ -62,6 +66,8 @@ words_of Sample = Count ∷ []
 words_of Strip = Media ∷ Out ∷ []
 words_of Extract = Media ∷ Out ∷ []
 words_of ValidateExternal = Media ∷ Store ∷ Judges ∷ []
+words_of PlanFront = Media ∷ Definition ∷ []
+words_of EmbedFront = Media ∷ Definition ∷ Signature ∷ Out ∷ []
 
 -- all commands
 abbrev pub commands : List Command

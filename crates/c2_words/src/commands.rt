@@ -23,6 +23,8 @@ pub fn commands() -> &'static [Command]
         Command::Strip,
         Command::Extract,
         Command::ValidateExternal,
+        Command::PlanFront,
+        Command::EmbedFront,
     ]
 }
 
@@ -43,6 +45,8 @@ pub fn name_of<'a>(command: Command) -> &'a str
         Command::Strip => "strip",
         Command::Extract => "extract",
         Command::ValidateExternal => "validate-external",
+        Command::PlanFront => "plan-front",
+        Command::EmbedFront => "embed-front",
     }
 }
 
@@ -67,6 +71,8 @@ pub fn words_of(command: Command) -> &'static [Role]
         Command::Sample => &[Role::Count],
         Command::Strip | Command::Extract => &[Role::Media, Role::Out],
         Command::ValidateExternal => &[Role::Media, Role::Store, Role::Judges],
+        Command::PlanFront => &[Role::Media, Role::Definition],
+        Command::EmbedFront => &[Role::Media, Role::Definition, Role::Signature, Role::Out],
     }
 }
 
@@ -75,7 +81,7 @@ pub fn usage() -> &'static str
     ensures text { result.now ≡ usage_text }
     ensures parts { EachHasSameWords usage_parts }
 {
-    "usage: c2 digest MEDIA [ALG]; list|show MEDIA; questions|validate MEDIA [JUDGE..]; compare MEDIA OTHER [JUDGE..]; plan MEDIA DEFINITION [JUDGE..]; embed MEDIA DEFINITION SIGNATURE OUT [JUDGE..]; sample N; strip|extract MEDIA OUT; validate-external MEDIA STORE [JUDGE..]"
+    "usage: c2 digest MEDIA [ALG]; list|show MEDIA; questions|validate MEDIA [JUDGE..]; compare MEDIA OTHER [JUDGE..]; plan MEDIA DEFINITION [JUDGE..]; embed MEDIA DEFINITION SIGNATURE OUT [JUDGE..]; sample N; strip|extract MEDIA OUT; validate-external MEDIA STORE [JUDGE..]; plan-front MEDIA DEFINITION; embed-front MEDIA DEFINITION SIGNATURE OUT"
 }
 
 /// The command of a word.

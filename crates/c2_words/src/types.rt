@@ -43,6 +43,12 @@ pub enum Command {
 
     /// Whether every rule of the check list holds of the media with an external store.
     ValidateExternal,
+
+    /// What is to be signed where a store is to stand right behind the file type box of a film.
+    PlanFront,
+
+    /// The film with a new store right behind its file type box, as a new file.
+    EmbedFront,
 }
 
 /// What a word behind a command's own is.

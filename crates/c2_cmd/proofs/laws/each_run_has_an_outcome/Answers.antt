@@ -8,6 +8,8 @@ returns-clause-outcome c = each_outcome (record {
   builds = c.each_building_outcome.ensures.outcome;
   strips = c.a_strip_comes_to_one_outcome.ensures.each;
   extracts = c.an_extract_comes_to_one_outcome.ensures.each;
+  plans_front = c.each_front_outcome.ensures.plan;
+  embeds_front = c.each_front_outcome.ensures.embed;
 })
 
 -- every call whose files are bytes has a list of questions for its judges

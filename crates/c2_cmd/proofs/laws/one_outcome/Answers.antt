@@ -8,6 +8,8 @@ returns-clause-outcome c = one_outcome (record {
   builds = c.one_building_outcome.ensures.outcome;
   strips = c.a_strip_comes_to_one_outcome.ensures.once;
   extracts = c.an_extract_comes_to_one_outcome.ensures.once;
+  plans_front = c.one_front_outcome.ensures.plan;
+  embeds_front = c.one_front_outcome.ensures.embed;
 })
 
 -- two lists of questions of the same call are the same

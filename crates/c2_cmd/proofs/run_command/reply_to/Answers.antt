@@ -1,12 +1,14 @@
 use Rattle.std.proofs.Common.{map, ℕ, [], refl, sym, ap, subst, inl, inr}
 use Rattle.std.specs.Prelude.{IfOk, unwrap_or}
 use Rattle.std.proofs.lemmas.Bool.{false≢true}
-use Rattle.c2_build.specs.Building.{IsMediaRefused, PlanAsks}
+use Rattle.c2_build.specs.Building.{IsDefinitionRefused, IsMediaRefused, PlanAsks}
 use Rattle.c2_building_commands.specs.Outcomes.{IsEmbedOutcome, IsPlanOutcome, IsSampleOutcome}
 use Rattle.c2_compare.specs.Comparing.{IsNotAccepted}
 use Rattle.c2_extract_command.specs.Outcomes.{IsExtractOutcome}
+use Rattle.c2_front_commands.specs.Outcomes.{IsEmbedFrontOutcome, IsPlanFrontOutcome}
 use Rattle.c2_outcome.specs.Reply.{Replies, outcome_of}
 use Rattle.c2_reading_commands.specs.Outcomes.{IsCompareOutcome, IsDigestOutcome, IsExternalOutcome, IsListOutcome, IsMediaOutcome, IsQuestioned, IsShown, IsValidated}
+use Rattle.c2_refusals.specs.Stages as stages
 use Rattle.c2_rules.specs.Validated.{AreQuestions, CheckAsks}
 use Rattle.c2_sample.specs.Sample.{SampleAsks}
 use Rattle.c2_sidecar.specs.Checking.{IsRefusedFile}
@@ -17,11 +19,11 @@ use Rattle.c2_words.specs.CommandLine.{is_out}
 use Rattle.c2_words.specs.declared.types.Command.TheVariants as command
 use Rattle.c2_cmd.specs.Outcome.{digest_alg, names, pieces_in}
 use Rattle.c2_cmd.specs.Sources.{the_second, the_third}
-use Rattle.c2_cmd.proofs.Causing.{caused_compare, caused_copying, caused_embed, caused_media, caused_memory, caused_panel, caused_reading, caused_sample, caused_usage}
-use Rattle.c2_cmd.proofs.Commands.{begins_filed, early_by, held, left_where_known, media_told, message_due, message_left, replies_copied, replies_heard}
-use Rattle.c2_cmd.proofs.Commands.{replies_media, replies_memory, replies_silent, replies_to, replies_usage, source_told, takes_none, told, unnamed_by}
+use Rattle.c2_cmd.proofs.Causing.{caused_compare, caused_copying, caused_embed, caused_media, caused_memory, caused_panel, caused_reading, caused_sample, caused_sources, caused_usage, caused_writing}
+use Rattle.c2_cmd.proofs.Commands.{begins_filed, early_by, held, left_where_known, media_told, message_due, message_left, replies_copied, replies_filed, replies_heard}
+use Rattle.c2_cmd.proofs.Commands.{replies_media, replies_memory, replies_silent, replies_to, replies_unheard, replies_usage, source_told, takes_none, told, unnamed_by}
 use Rattle.c2_cmd.proofs.Keeping.{begun_report, idle_memory, idle_out, undue, unused_by, unused_idle, written_out}
-use Rattle.c2_cmd.proofs.Unfiled.{compare_unfiled, digest_unfiled, external_unfiled, list_unfiled, plan_unfiled, questions_unfiled, sample_unfiled, show_unfiled, validate_unfiled}
+use Rattle.c2_cmd.proofs.Unfiled.{compare_unfiled, digest_unfiled, external_unfiled, list_unfiled, plan_front_unfiled, plan_unfiled, questions_unfiled, sample_unfiled, show_unfiled, validate_unfiled}
 use Rattle.c2_cmd.proofs.run_command.reply_to.Goals as goal
 
 -- ---- where the sources are known
@@ -132,7 +134,7 @@ returns-in-Embed-clause-known g c known =
     let due = source_told the_second c.in-Ok.found command.Embed c.in-Ok.ensures c.in-Embed.is refl known
     (λ n. held IsMediaRefused (g.A.Source.known c.args.media.now) n) in
     let due_too = source_told the_third c.in-Ok.found command.Embed c.in-Ok.ensures c.in-Embed.is refl known
-    (λ n. message_due (g.A.Source.known c.args.media.now) (g.B.Source.known c.args.second.now) n) in
+    (λ n. message_due IsMediaRefused IsDefinitionRefused (g.A.Source.known c.args.media.now) (g.B.Source.known c.args.second.now) n) in
     let a = unwrap_or (g.A.Source.known c.args.media.now) [] in
     let b = unwrap_or (g.B.Source.known c.args.second.now) [] in
     let m = unwrap_or (g.C.Source.known c.args.third.now) [] in
@@ -194,6 +196,36 @@ returns-in-Extract-clause-known g c known =
     replies_to c.in-Ok.found command.Extract c.in-Ok.ensures c.in-Extract.is
     (replies_copied IsExtractOutcome (g.A.Source.known c.args.media.now) _ _ (media_told c.in-Ok.found command.Extract c.in-Ok.ensures c.in-Extract.is refl known) tt refl
     c.reply_to_extract.ensures.media.cause c.reply_to_extract.ensures.made)
+
+-- the reply to `plan-front` is
+pub returns-in-PlanFront-clause-known : goal.returns-in-PlanFront-clause-known
+returns-in-PlanFront-clause-known g c known =
+    let some = media_told c.in-Ok.found command.PlanFront c.in-Ok.ensures c.in-PlanFront.is refl known in
+    let due = source_told the_second c.in-Ok.found command.PlanFront c.in-Ok.ensures c.in-PlanFront.is refl known
+    (λ n. held stages.IsMediaRefused (g.A.Source.known c.args.media.now) n) in
+    let a = unwrap_or (g.A.Source.known c.args.media.now) [] in
+    let b = unwrap_or (g.B.Source.known c.args.second.now) [] in
+    replies_to c.in-Ok.found command.PlanFront c.in-Ok.ensures c.in-PlanFront.is
+    (replies_unheard (IsPlanFrontOutcome g.H.Hashing.digest_of a b) _ _
+    (c.one_front_outcome.ensures.plan g.H.Hashing.digest_of a b) (plan_front_unfiled g.H.Hashing.digest_of a b) tt refl
+    c.reply_to_plan_front.ensures.media.cause
+    (c.reply_to_plan_front.ensures.reply a (told (g.A.Source.known c.args.media.now) some) b due))
+
+-- the reply to `embed-front` is, its file is the outcome's, and meets what is promised of it
+pub returns-in-EmbedFront-clause-known : goal.returns-in-EmbedFront-clause-known
+returns-in-EmbedFront-clause-known g c known =
+    let some = media_told c.in-Ok.found command.EmbedFront c.in-Ok.ensures c.in-EmbedFront.is refl known in
+    let due = source_told the_second c.in-Ok.found command.EmbedFront c.in-Ok.ensures c.in-EmbedFront.is refl known
+    (λ n. held stages.IsMediaRefused (g.A.Source.known c.args.media.now) n) in
+    let due_too = source_told the_third c.in-Ok.found command.EmbedFront c.in-Ok.ensures c.in-EmbedFront.is refl known
+    (λ n. message_due stages.IsMediaRefused stages.IsDefinitionRefused (g.A.Source.known c.args.media.now) (g.B.Source.known c.args.second.now) n) in
+    let a = unwrap_or (g.A.Source.known c.args.media.now) [] in
+    let b = unwrap_or (g.B.Source.known c.args.second.now) [] in
+    let m = unwrap_or (g.C.Source.known c.args.third.now) [] in
+    let made = c.reply_to_embed_front.ensures.made a (told (g.A.Source.known c.args.media.now) some) b due m due_too in
+    replies_to c.in-Ok.found command.EmbedFront c.in-Ok.ensures c.in-EmbedFront.is
+    (replies_filed (IsEmbedFrontOutcome g.H.Hashing.digest_of a b m) _ _ made.made made.meets refl
+    c.reply_to_embed_front.ensures.media.cause)
 
 -- the reply to words that fit no command is the usage line
 pub returns-in-Err-Usage-clause-known : goal.returns-in-Err-Usage-clause-known
@@ -291,6 +323,20 @@ returns-in-Extract-clause-cause g c =
     refl refl
     c.reply_to_extract.ensures.words c.reply_to_extract.ensures.media.cause c.reply_to_extract.ensures.writes.cause
 
+-- `plan-front`
+pub returns-in-PlanFront-clause-cause : goal.returns-in-PlanFront-clause-cause
+returns-in-PlanFront-clause-cause g c =
+    caused_sources c.reply_to_plan_front.result c.in-Ok.found command.PlanFront c.in-Ok.ensures c.in-PlanFront.is
+    refl refl
+    c.reply_to_plan_front.ensures.words c.reply_to_plan_front.ensures.media.cause
+
+-- `embed-front`
+pub returns-in-EmbedFront-clause-cause : goal.returns-in-EmbedFront-clause-cause
+returns-in-EmbedFront-clause-cause g c =
+    caused_writing c.reply_to_embed_front.result c.in-Ok.found command.EmbedFront c.in-Ok.ensures c.in-EmbedFront.is
+    refl refl refl refl
+    c.reply_to_embed_front.ensures.words c.reply_to_embed_front.ensures.media.cause c.reply_to_embed_front.ensures.out.writes.cause
+
 -- words that fit no command
 pub returns-in-Err-Usage-clause-cause : goal.returns-in-Err-Usage-clause-cause
 returns-in-Err-Usage-clause-cause g c =
@@ -358,7 +404,7 @@ returns-in-Embed-clause-unused g c =
     unused_by c.in-Ok.found command.Embed c.in-Ok.ensures c.in-Embed.is (inl refl)
     (record {
       second = undue (left_where_known IsMediaRefused (g.A.Source.known c.args.media.now) _ c.reply_to_embed.ensures.not_due.definition_unread);
-      third = undue (message_left (g.A.Source.known c.args.media.now) (g.B.Source.known c.args.second.now) _
+      third = undue (message_left IsMediaRefused IsDefinitionRefused (g.A.Source.known c.args.media.now) (g.B.Source.known c.args.second.now) _
           c.reply_to_embed.ensures.not_due.message_unread_first c.reply_to_embed.ensures.not_due.message_unread);
       out = λ none. absurd (false≢true (sym none));
       judges = λ none. absurd (false≢true (sym none));
@@ -382,6 +428,24 @@ returns-in-Extract-clause-unused g c =
     unused_by c.in-Ok.found command.Extract c.in-Ok.ensures c.in-Extract.is (inl refl)
     (record { second = λ un. refl; third = λ un. refl; out = λ none. absurd (false≢true (sym none)); judges = λ un. refl })
 
+-- `plan-front`
+pub returns-in-PlanFront-clause-unused : goal.returns-in-PlanFront-clause-unused
+returns-in-PlanFront-clause-unused g c =
+    unused_by c.in-Ok.found command.PlanFront c.in-Ok.ensures c.in-PlanFront.is (inl refl)
+    (record { second = undue (left_where_known stages.IsMediaRefused (g.A.Source.known c.args.media.now) _ c.reply_to_plan_front.ensures.not_due); third = λ un. refl; out = λ un. refl; judges = λ un. refl })
+
+-- `embed-front`
+pub returns-in-EmbedFront-clause-unused : goal.returns-in-EmbedFront-clause-unused
+returns-in-EmbedFront-clause-unused g c =
+    unused_by c.in-Ok.found command.EmbedFront c.in-Ok.ensures c.in-EmbedFront.is (inl refl)
+    (record {
+      second = undue (left_where_known stages.IsMediaRefused (g.A.Source.known c.args.media.now) _ c.reply_to_embed_front.ensures.not_due.definition_unread);
+      third = undue (message_left stages.IsMediaRefused stages.IsDefinitionRefused (g.A.Source.known c.args.media.now) (g.B.Source.known c.args.second.now) _
+          c.reply_to_embed_front.ensures.not_due.message_unread_first c.reply_to_embed_front.ensures.not_due.message_unread);
+      out = λ none. absurd (false≢true (sym none));
+      judges = λ un. refl;
+    })
+
 -- words that fit no command
 pub returns-in-Err-Usage-clause-unused : goal.returns-in-Err-Usage-clause-unused
 returns-in-Err-Usage-clause-unused g c = unused_idle refl refl refl refl refl
@@ -403,6 +467,11 @@ returns-in-Strip-clause-out g c = written_out c.reply_to_strip.ensures.writes c.
 -- the new file of `extract`
 pub returns-in-Extract-clause-out : goal.returns-in-Extract-clause-out
 returns-in-Extract-clause-out g c = written_out c.reply_to_extract.ensures.writes c.reply_to_extract.ensures.ends
+
+-- the new file of `embed-front`
+pub returns-in-EmbedFront-clause-out : goal.returns-in-EmbedFront-clause-out
+returns-in-EmbedFront-clause-out g c =
+    written_out c.reply_to_embed_front.ensures.out.writes c.reply_to_embed_front.ensures.out.ends
 
 -- the report of `compare`
 pub returns-in-Compare-clause-report : goal.returns-in-Compare-clause-report
@@ -445,6 +514,10 @@ returns-in-ValidateExternal-clause-out g c = idle_out _ _ _ _ _ _ (unnamed_by is
 -- `sample` writes no file
 pub returns-in-Sample-clause-out : goal.returns-in-Sample-clause-out
 returns-in-Sample-clause-out g c = idle_out _ _ _ _ _ _ (unnamed_by is_out _ c.in-Ok.found command.Sample c.in-Ok.ensures c.in-Sample.is refl)
+
+-- `plan-front` writes no file
+pub returns-in-PlanFront-clause-out : goal.returns-in-PlanFront-clause-out
+returns-in-PlanFront-clause-out g c = idle_out _ _ _ _ _ _ (unnamed_by is_out _ c.in-Ok.found command.PlanFront c.in-Ok.ensures c.in-PlanFront.is refl)
 
 -- nor do words that fit no command
 pub returns-in-Err-Usage-clause-out : goal.returns-in-Err-Usage-clause-out
