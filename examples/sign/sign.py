@@ -6,7 +6,8 @@
 MEDIA is a JPEG or a BMFF file (HEIC, AVIF, MP4, MOV), and OUT the copy that is made of it. Each step is printed as the command that
 it is, so it can be typed by hand, or the one with the key on another machine. What the steps write is kept in the folder OUT.steps.
 Media that is signed already wants the verdicts on its signatures: --anchors asks the judge of examples/judge for them, and --verdicts
-names files that have them. With --anchors the copy is judged and validated at the end.
+names files that have them. With --anchors the copy is judged and validated at the end. With --front MEDIA is a film without a store,
+and that of the copy stands in front, where a reader that takes the film from its beginning finds it.
 """
 
 import argparse
@@ -27,7 +28,7 @@ MEANINGS = {
     6: "a file can't be written: the new one must not be there yet, and the disk not be full",
     7: "a verdict file isn't one",
     8: "out of memory",
-    11: 'nothing is built: the line above says why (docs/RULES.md, "What `plan` and `embed` refuse")',
+    11: 'nothing is built: the line above says why (docs/RULES.md, "What `plan` and `embed` refuse", and behind it what --front refuses)',
 }
 
 
@@ -85,18 +86,22 @@ class Steps:
         self.python("define.py", "--chain", self.given.chain, *content_words(self.given), *words, into=into)
         return self.path(into)
 
+    def named(self, command):
+        """The command of c2 that puts the store where it is wanted."""
+        return f"{command}-front" if self.given.front else command
+
     def plan(self, definition, into="plan"):
-        self.c2("plan", self.given.media, definition, *self.verdicts, into=into)
+        self.c2(self.named("plan"), self.given.media, definition, *self.verdicts, into=into)
         return self.path(into)
 
     def sign(self):
         if not os.path.isdir(self.folder):
             os.mkdir(self.folder)
-        is_signed = self.c2("list", self.given.media, into="boxes", allowed=(DONE, NO_STORE)) == DONE
+        is_signed = not self.given.front and self.c2("list", self.given.media, into="boxes", allowed=(DONE, NO_STORE)) == DONE
         definition = self.define_over_parent() if is_signed else self.define()
         plan = self.plan(definition)
         self.python("message.py", "--key", self.given.key, plan, into="message")
-        self.c2("embed", self.given.media, definition, self.path("message"), self.given.out, *self.verdicts)
+        self.c2(self.named("embed"), self.given.media, definition, self.path("message"), self.given.out, *self.verdicts)
         if self.given.anchors:
             self.c2("validate", self.given.out, self.judge(self.given.out, "new-verdicts"))
 
@@ -128,10 +133,13 @@ def words():
     parser.add_argument("--key", required=True, metavar="KEY.pem", help="the signer's private key")
     parser.add_argument("--anchors", metavar="ANCHORS.pem", help="the certificates that are trusted, for the judge")
     parser.add_argument("--verdicts", action="append", default=[], metavar="FILE", help="a verdict file on the media; any number")
+    parser.add_argument("--front", action="store_true", help="put the store in front of the film, which has none yet")
     parser.add_argument("--c2", default=typed(os.path.join(HERE, "..", "..", "c2")), help="the program c2 (the repository's)")
     parser.add_argument("media", metavar="MEDIA")
     parser.add_argument("out", metavar="OUT")
     given = parser.parse_args()
+    if given.front and given.verdicts:
+        parser.error("with --front the media has no store, so there are no verdicts on it")
     for name in (given.key, given.chain, given.media, *filter(None, [given.anchors]), *given.verdicts):
         if not os.path.isfile(name):
             parser.error(f"there is no file {name}")

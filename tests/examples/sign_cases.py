@@ -33,6 +33,9 @@ SIGNER = (
 )
 PICTURE = b"\xff\xd8\xff\xe0\0\x10JFIF\0\1\2\0\0\1\0\1\0\0\xff\xfe\0\x08a tree\xff\xd9"
 FILM = bytes.fromhex("00000010 66747970 69736f6d 00000000 0000000e 6d646174") + b"a tree"
+# A chunk table with one place, that of the film's bytes, and the boxes around it.
+TABLE = bytes.fromhex("0000003c 6d6f6f76 00000034 7472616b 0000002c 6d646961 00000024 6d696e66 0000001c 7374626c 00000014 7374636f 00000000 00000001 00000054")
+INDEXED = FILM[:16] + TABLE + FILM[16:]
 PARENT = "self#jumbf=c2pa.assertions/c2pa.ingredient.v3"
 
 
@@ -148,6 +151,17 @@ class Signing(unittest.TestCase):
         self.assertNotIn(b'"a street"', self.contents(self.folder, "3.mp4"))
         self.assertEqual(self.shown("3.mp4")["manifests"][-1]["claim"]["redacted"], [uri])
 
+    def test_a_film_with_its_store_in_front(self):
+        self.write("indexed.mp4", INDEXED)
+        line = self.signed("indexed.mp4", "1.mp4", "--front", "--assertion", "org.example.place=place.json", "--alg", "sha512")
+        self.assertEqual(line, f"valid manifests=1 assertions=3 covered={len(INDEXED) - 16} outside=16")
+        made, start = self.contents(self.folder, "1.mp4"), 16
+        length = int.from_bytes(made[start : start + 4], "big")
+        place = int.from_bytes(made[start + length + len(TABLE) - 4 :][:4], "big")
+        self.assertEqual((place, made[place:]), (INDEXED.index(b"a tree") + length, b"a tree"))
+        self.assertEqual(made[start + length :].replace(place.to_bytes(4, "big"), b"\0\0\0\x54"), INDEXED[16:])
+        self.assertEqual(self.signed("1.mp4", "2.mp4")[:18], "valid manifests=2 ")
+
     def test_the_action_refers_to_the_parent(self):
         self.signed("photo.jpg", "1.jpg")
         self.assert_refers("1.jpg", 32)
@@ -174,16 +188,21 @@ class Signing(unittest.TestCase):
         self.assertEqual((cbor.field(reference, "url")[1], cbor.field(reference, "hash")[1].hex()), (PARENT, hashed))
 
     def test_the_printed_steps_can_be_typed(self):
-        printed = self.sign("photo.jpg", "a signed one.jpg", "--title", "A 'quoted' title; $HOME").stdout
+        commands = self.typed_again("photo.jpg", "a signed one.jpg", "--title", "A 'quoted' title; $HOME", covered=len(PICTURE), outside=0)
+        self.assertEqual(commands, ["list", "plan", "embed", "validate"])
+        commands = self.typed_again("film.mp4", "a signed one.mp4", "--front", covered=14, outside=16)
+        self.assertEqual(commands, ["plan-front", "embed-front", "validate"])
+
+    def typed_again(self, media, out, *options, covered, outside):
+        """The commands of c2 among the printed steps, which come to the same when they are typed again."""
+        printed = self.sign(media, out, *options).stdout
         typed = [line[2:] for line in printed.splitlines() if line.startswith("+ ")]
-        first = self.contents(self.folder, "a signed one.jpg")
-        os.remove(os.path.join(self.folder, "a signed one.jpg"))
-        self.assertEqual(
-            [shlex.split(line)[1] for line in typed if shlex.split(line)[0] == C2], ["list", "plan", "embed", "validate"]
-        )
+        first = self.contents(self.folder, out)
+        os.remove(os.path.join(self.folder, out))
         done = self.run_in("sh", "-c", "\n".join(typed))
-        self.assertEqual(done.stdout.splitlines()[-1], f"valid manifests=1 assertions=2 covered={len(PICTURE)} outside=0")
-        self.assertEqual(len(self.contents(self.folder, "a signed one.jpg")), len(first))
+        self.assertEqual(done.stdout.splitlines()[-1], f"valid manifests=1 assertions=2 covered={covered} outside={outside}")
+        self.assertEqual(len(self.contents(self.folder, out)), len(first))
+        return [shlex.split(line)[1] for line in typed if shlex.split(line)[0] == C2]
 
     def test_what_is_refused(self):
         self.refused("the key isn't that of the signer's certificate", "photo.jpg", "no.jpg", "--key", "ES384.key")
@@ -191,11 +210,17 @@ class Signing(unittest.TestCase):
         self.refused("LABEL=FILE is wanted", "photo.jpg", "no.jpg", "--assertion", "org.example.place")
         self.refused("there is no file absent.jpg", "absent.jpg", "no.jpg")
         self.refused("build BadDefinition label", "photo.jpg", "no.jpg", "--label", "a")
+        self.refused("build NotBmff", "photo.jpg", "no.jpg", "--front")
+        self.refused("there are no verdicts on it", "film.mp4", "no.mp4", "--front", "--verdicts", "place.json")
+        self.write("fragments.mp4", FILM + bytes.fromhex("00000008 6d667261"))
+        self.refused(f"build OffsetTable {len(FILM)}", "fragments.mp4", "no.mp4", "--front")
         self.signed("photo.jpg", "1.jpg")
         self.refused("--anchors or --verdicts is wanted", "1.jpg", "no.jpg", anchors=())
         self.refused("build RedactionRefused x profile.redaction.uri", "1.jpg", "no.jpg", "--redact", "x")
         self.write("changed.jpg", self.contents(self.folder, "1.jpg").replace(b"a tree\xff", b"a free\xff"))
         self.refused("build ParentFails assertion.dataHash.mismatch", "changed.jpg", "no.jpg")
+        self.signed("film.mp4", "1.mp4")
+        self.refused("build HasStore", "1.mp4", "no.mp4", "--front")
         before = self.contents(self.folder, "1.jpg")
         self.assertIn("is there already", self.sign("photo.jpg", "1.jpg").stderr)
         self.assertEqual(self.contents(self.folder, "1.jpg"), before)

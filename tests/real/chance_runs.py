@@ -5,12 +5,13 @@ ingredients and the three algorithms mixed.
     chance_runs.py C2 COUNT [SEED [KIND]]      draws COUNT stores, the same ones for the same seed; KIND is jpeg, bmff, or both by turns (the default)
 
 Over each store `digest`, `list`, `show`, `questions` and `validate` are run beside store.py, `compare` with a second file beside pairs.py,
-`plan` and `embed` beside builder.py, and `strip`, `extract` and `validate-external` beside external.py: over the file with its own store or the second
-file's beside it, and `strip` over what `embed` made of it. The second file is the first one, or differs from it in what no claim binds, in what only a signature
+`plan` and `embed` beside builder.py, `plan-front` and `embed-front` beside front.py, over what is left of a film without its store, over a drawn film in
+the place of a JPEG, or over the file itself, and `strip`, `extract` and `validate-external` beside external.py: over the file with its own store or the second file's beside it, and `strip`
+over what `embed` made of it. The second file is the first one, or differs from it in what no claim binds, in what only a signature
 vouches for, in a version, or in anything. Prints how often each answer came, how many stores had which versions and how many algorithms, and each
 difference, whose files are kept in the current directory: differs-N and differs-N.verdicts-M of what is read, pair-N.first, pair-N.second and
-pair-N.verdicts-M of `compare`, differs-N.media, differs-N.definition and differs-N.signature of builds, external-N.media, external-N.store and
-external-N.verdicts-M of the last three. The status is 1 where there is a difference.
+pair-N.verdicts-M of `compare`, differs-N.media, differs-N.definition and differs-N.signature of builds, front-N.media, front-N.definition and
+front-N.signature of those in front, external-N.media, external-N.store and external-N.verdicts-M of the last three. The status is 1 where there is a difference.
 Without C2 (a word `-` in its place) only the answers are counted.
 """
 
@@ -25,12 +26,15 @@ import hashing
 import pairs
 from chance_builds import Builds, drawn_definition, drawn_message, manifests_in
 from chance_external import Externals, questions_of, taken
+from chance_fronts import Fronts, drawn_media
 from chance_pairs import changed
 from chance_pairs import kind_of_answer as kind_of_pair
 from chance_stores import Drawn, changed_file, questions_in, verdict_files
 from drafts import relabelled
+from locate import Refused
 from make_store import data
 from manifests import CLAIM_LABELS, INGREDIENT_LABELS, base_of, read_uri, version_of
+from media import media_of
 from store import JUDGE_FAULT, JudgeFault, verdicts_in
 from told import tell, write
 from validate import Comparison
@@ -39,6 +43,8 @@ KINDS = "jpeg", "bmff"
 MEANT = {"jpeg": KINDS[:1], "bmff": KINDS[1:]}
 # The bytes of a field in which two claims differ; with more or fewer of them its head has two bytes too.
 FIELD = 120
+# About how long the box of a new store is, for places near the most that a field takes.
+LENGTHS = 1_220, 1_268, 1_316
 
 
 # Second files, of drafts whose first file is written
@@ -181,6 +187,19 @@ class Pairs:
             print(f"  pairs.py {expected[1]} {expected[0][:300]}")
 
 
+def film_for(chance, contents):
+    """What a store is put in front of: a film without its store, or one that is drawn in the place of a JPEG; now and then the file itself."""
+    try:
+        media = media_of(contents)
+    except Refused:
+        return contents
+    if chance.random() < 0.15:
+        return contents
+    if contents[:2] == b"\xff\xd8":
+        return drawn_media(chance, chance.choice(LENGTHS))
+    return contents if media is None else contents[: media.start] + contents[media.start + media.length :]
+
+
 def put(folder, contents):
     """Writes files by their names; where there is nothing to write no file is left."""
     for name, rows in contents.items():
@@ -222,11 +241,11 @@ class Runs:
     """Runs of all commands over the same stores."""
 
     def __init__(self, program, folder):
-        folders = [os.path.join(folder, name) for name in ("read", "pairs", "builds", "external")]
+        folders = [os.path.join(folder, name) for name in ("read", "pairs", "builds", "external", "fronts")]
         for each in folders:
             os.mkdir(each)
         self.read, self.pairs, self.builds = Comparison(program, folders[0]), Pairs(program, folders[1]), Builds(program, folders[2])
-        self.external = Externals(program, folders[3])
+        self.external, self.fronts = Externals(program, folders[3]), Fronts(program, folders[4])
         self.mixture = Mixture()
 
     def run(self, chance, is_bmff):
@@ -238,22 +257,25 @@ class Runs:
         message, said = drawn_message(chance)
         definition = drawn_definition(chance, manifests_in(first), said)
         built = self.builds.compare(first, definition, message, verdict_files(chance, questions_in(first)))
+        self.fronts.compare(film_for(chance, first), definition, message)
         store = taken("extract", first if second is None or chance.random() < 0.5 else second) or b""
         self.external.compare(chance, first, store, verdict_files(chance, questions_of(store)))
         if isinstance(built[0], bytes):
             self.external.compare_built(first, built[0])
 
     def answers(self):
-        named = {"validate": self.read.answers, "compare": self.pairs.answers, "embed": self.builds.answers}
+        named = {"validate": self.read.answers, "compare": self.pairs.answers, "embed": self.builds.answers, "embed-front": self.fronts.answers}
         told = Counter({f"{command}: {answer}": times for command, each in named.items() for answer, times in each.items()})
         return told + self.external.answers + self.mixture.counts
 
     def counts(self):
         """How often each command was run, by name."""
-        return {**self.read.runs, "compare": sum(self.pairs.answers.values()), **dict.fromkeys(("plan", "embed"), sum(self.builds.answers.values())), **self.external.runs}
+        built = sum(self.builds.answers.values())
+        counted = Counter({"compare": sum(self.pairs.answers.values()), "plan": built, "embed": built})
+        return Counter(self.read.runs) + counted + self.external.runs + self.fronts.runs
 
     def differences(self):
-        return self.read.differences + self.pairs.differences + self.builds.differences + self.external.differences
+        return sum(each.differences for each in (self.read, self.pairs, self.builds, self.external, self.fronts))
 
 
 def main():

@@ -2,14 +2,15 @@
 
 `faults` lets each source, the new file and the report of each command fail at each of its calls in turn, `judge_faults` each ask of a judge;
 `jpeg_prefixes` and `film_prefixes` have what `validate` says of each prefix of a small built file, and `changed_bytes` its status for each byte
-of a store that is one more. What the runs come to is computed by store.py, pairs.py, builder.py and external.py; rows.py writes the tables and checks
-them.
+of a store that is one more. What the runs come to is computed by store.py, pairs.py, builder.py, front.py and external.py; rows.py writes the tables and
+checks them.
 """
 
 from itertools import chain, count, product
 
 import compare_rows
 import external
+import front
 import hashing
 import pairs
 import samples
@@ -18,6 +19,9 @@ from build_tables import EMBED, PLAN, Lines, definition_text, new_file, told
 from builder import embed, line_of, plan
 from built_films import film_in_front
 from drafts import Jpeg
+from front_rows import OVERFLOWING, QUESTIONED
+from front_tables import EMBED as EMBED_FRONT
+from front_tables import PLAN as PLAN_FRONT
 from media import media_of
 from rule_rows import shared_rows
 from store import DONE, JUDGE_FAULT, JudgeFault, report
@@ -46,7 +50,7 @@ no store
 USAGE = (
     "usage: c2 digest MEDIA [ALG]; list|show MEDIA; questions|validate MEDIA [JUDGE..]; compare MEDIA OTHER [JUDGE..]; "
     "plan MEDIA DEFINITION [JUDGE..]; embed MEDIA DEFINITION SIGNATURE OUT [JUDGE..]; sample N; "
-    "strip|extract MEDIA OUT; validate-external MEDIA STORE [JUDGE..]"
+    "strip|extract MEDIA OUT; validate-external MEDIA STORE [JUDGE..]; plan-front MEDIA DEFINITION; embed-front MEDIA DEFINITION SIGNATURE OUT"
 )
 
 
@@ -122,7 +126,7 @@ class Run:
 
 def faults():
     lines = lines_of("Each source, the new file and the report of each command fail at each call in turn.", view="each call")
-    for run in chain(read_runs(), compare_runs(), every_build(), other_runs(), sidecar_runs()):
+    for run in chain(read_runs(), compare_runs(), every_build(), every_front(), other_runs(), sidecar_runs()):
         run.put(lines)
     single_faults(lines)
     return lines.text
@@ -188,6 +192,27 @@ def build_runs(into, each):
         what = words.split()[0] + into
         run = Run(what, words + " V" * is_judged, used, status, text, contents if words == EMBED else None, asked if is_judged else None)
         yield run.reads([0, 1], **(dict(list(lengths.items())[: len(used)]) if status == DONE else {"media": 1}))
+
+
+def every_front():
+    yield from front_runs(" into a film", QUESTIONED)
+    yield from front_runs(" into a film whose place doesn't fit", OVERFLOWING)
+    yield from front_runs(" into a JPEG", SMALL)
+    yield from front_runs(" into a film with a store", built_file(FILM))
+    yield from front_runs(" into no media", SMALL[:-1])
+
+
+def front_runs(into, media):
+    """The runs of `embed-front` and of `plan-front`. Of a media that isn't one nothing else is read; of one that is refused behind that definition and
+    message are."""
+    files = [folded(media), definition_text(DEFINITION), folded(MESSAGE)]
+    lengths = {"second": len(DEFINITION), "third": len(MESSAGE)}
+    for words, made in (EMBED_FRONT, front.embed(media, DEFINITION, MESSAGE)), (PLAN_FRONT, front.plan(media, DEFINITION)):
+        text, status = line_of(made)
+        used = 3 if words == EMBED_FRONT else 2
+        run = Run(words.split()[0] + into, words, files[:used], status, text, made[0] if isinstance(made[0], bytes) else None)
+        read = {} if "MediaRefused" in text else dict(list(lengths.items())[: used - 1])
+        yield run.reads([0], media=len(media) if status == DONE else 1, **read)
 
 
 def other_runs():

@@ -2,16 +2,18 @@
 """Refuses memory to c2 at each of its requests in turn.
 
     memory.py C2 FILE [VERDICTS]    each command over the file (`compare` over the file and itself, `plan` and `embed` also over a
-                                    small JPEG without a store, with a label that the file hasn't)
-    memory.py C2                    `validate`, `compare`, `plan`, `embed`, `strip`, `extract` and `validate-external` over small files that are
-                                    made here: built once and twice, and pairs of different files, of which one is evidence
+                                    small JPEG without a store, with a label that the file hasn't, `plan-front` and `embed-front`
+                                    over small films alone)
+    memory.py C2                    `validate`, `compare`, `plan`, `embed`, `strip`, `extract`, `validate-external`, `plan-front` and
+                                    `embed-front` over small files that are made here: built once and twice, and pairs of different
+                                    files, of which one is evidence
     memory.py --rows C2_ROWS        `compare` over pairs that differ under the sum of their bytes, by the program of crates/c2_rows
 
 Each is run first with all the memory that it asks for, then with its first request refused, its second, and so on until a run ends as
 the first did. A run to which memory was refused says so by its status, 8, and has printed nothing or the begin of its report; or it
-prints the whole report, where it could go on. The new file of `embed`, `strip` and `extract` isn't there then or is empty, since memory is taken
+prints the whole report, where it could go on. The new file of `embed`, `embed-front`, `strip` and `extract` isn't there then or is empty, since memory is taken
 before it is begun; or it is whole, where the line of the report alone had no memory. The requests are those to malloc, calloc and realloc of the C
-library. What the whole runs over the files that are made here come to is that of store.py, pairs.py and builder.py.
+library. What the whole runs over the files that are made here come to is that of store.py, pairs.py, builder.py, external.py and front.py.
 """
 import os
 import re
@@ -22,9 +24,11 @@ import tempfile
 import builder
 import compare_rows
 import external
+import front
 import pairs
 import store
 import tables
+from front_rows import QUESTIONED, co64, film, stco
 from rule_rows import verdicts_on
 from told import write
 from worked_builds import DEFINITION, FILM, LATER_DEFINITION, MESSAGE, SMALL
@@ -145,8 +149,29 @@ def commands(file, verdicts, directory):
     yield "embed over the file", ["embed", file, *names[1:], out, *verdicts], out, None
     for command in external.WRITERS:
         yield command, [command, file, out], out, None
+    yield from in_front(directory, OTHER)
     beside = written(directory, "store", external.answer("extract", contents_of(file))[2] or b"")
     yield "validate-external", ["validate-external", file, beside, *verdicts], None, None
+
+
+# Films with one chunk table, with two of which one is wide, and with one whose place can't be moved.
+FILMS = {"a film": QUESTIONED, "a film of two tables": film(stco(16, 24, 2**31), co64(2**32)), "a film that is refused": film(stco(2**32 - 1))}
+
+
+def in_front(directory, definition):
+    """The two commands that put a store in front, over films: each with what it comes to."""
+    out = os.path.join(directory, "out")
+    for what, media in FILMS.items():
+        files = media, definition, MESSAGE
+        names = [written(directory, f"{what}-{name}", each) for name, each in zip(("media", "definition", "message"), files)]
+        yield f"plan-front, {what}", ["plan-front", *names[:2]], None, known_of(front.plan(*files[:2]))
+        yield f"embed-front, {what}", ["embed-front", *names, out], out, known_of(front.embed(*files))
+
+
+def known_of(made):
+    """Report, status and new file of what an independent program made."""
+    line, status = builder.line_of(made)
+    return line + "\n", status, made[0] if isinstance(made[0], bytes) else b""
 
 
 def written(directory, name, contents):
@@ -183,6 +208,7 @@ class Small:
         for what, contents in {"a built file": self.first, "a built film": self.film}.items():
             yield from self.taken(what, contents)
             yield self.validated_externally(what, contents)
+        yield from in_front(self.directory, DEFINITION)
 
     def validated(self, what, contents):
         known, verdicts = self.judge(contents)

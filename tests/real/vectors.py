@@ -4,8 +4,8 @@
     vectors.py write [FOLDER]      writes the vectors into a folder, vectors/ where none is named
     vectors.py check [FOLDER]      fails where a file there isn't the one that would be written, or is missing, or is there besides
 
-The answers are those of store.py, pairs.py and builder.py, beside those that are written by hand where the files are made
-(vector_files.py, vector_builds.py, and the rows that these take), which must be the same. Nothing is asked of c2.
+The answers are those of store.py, pairs.py, builder.py, front.py and external.py, beside those that are written by hand where the files are made
+(vector_files.py, vector_builds.py, vector_fronts.py, vector_external.py, and the rows that these take), which must be the same. Nothing is asked of c2.
 """
 
 import functools
@@ -18,6 +18,7 @@ import sys
 import bmff
 import builder
 import external
+import front
 import jumbf
 import pairs
 import rule_rows
@@ -26,7 +27,9 @@ import tables
 import vector_builds
 import vector_external
 import vector_files
+import vector_fronts
 from build_rows import Vast
+from front_rows import wrong_in
 from locate import LARGEST_STORE, Refused
 from manifests import Manifest as Read
 from manifests import manifests_of
@@ -51,6 +54,10 @@ BROKEN = "verdicts/no-verdict-file"
 ALGORITHMS = "sha256", "sha384", "sha512"
 WORDS = "mismatch", "untrusted", "invalid"
 ODD_FILES = "the-first-row-holds", "upper-case-digits", "no-line-feed-at-the-end"
+# The folder of the new files, by that of the media.
+BUILT = {"build": "built", "front": "built-front"}
+# The files that are run under judges of each kind.
+JUDGED = "a data hash alone", "an ingredient"
 USUAL = {DEFINITION: "plain", LATER_DEFINITION: "later", MESSAGE: "plain"}
 # Files whose stores are kept in files of their own, one of each form: what is left of them, and the store.
 TAKEN_OUT = {
@@ -131,7 +138,7 @@ class Vectors:
     def __init__(self):
         self.files, self.runs = Files(), []
         # what each shows: the names of its files, and what else it takes
-        self.media, self.pairs, self.builds, self.externals = [], [], [], []
+        self.media, self.pairs, self.builds, self.fronts, self.externals = [], [], [], [], []
         # the verdicts on all questions that any file puts: the judge's, by signature, and those of one who approves
         self.verdicts = {"judge": {}, "approving": {}}
         self.collect()
@@ -141,6 +148,7 @@ class Vectors:
         self.read_digests()
         self.compare()
         self.build()
+        self.build_in_front()
         self.take_out()
         self.validate_external()
         self.run_words()
@@ -157,6 +165,8 @@ class Vectors:
                 self.ask(contents)
         for each in vector_builds.rows():
             self.add_build(each)
+        for each in vector_fronts.rows():
+            self.add_front(each)
         for what, known, media, contents in vector_external.rows():
             kept = self.files.put("external", what, "jpg" if ending(media) == "jpg" else "mp4", media)
             store_name = self.files.put("external", what, "c2pa", contents)
@@ -190,14 +200,31 @@ class Vectors:
             _, _, new = answered(builder.embed, data, each.definition, each.message, [tables.Approving()])
         if new is not None and len(new) > LONGEST:
             return
-        names = [self.files.put("build", each.what, ending(data), each.media)]
-        for folder, contents, kind in ("definitions", each.definition, "json"), ("messages", each.message, "cose"):
-            names.append(self.files.put(folder, USUAL.get(contents, each.what), kind, contents))
-        name = None
-        if new is not None:
-            self.ask(new)
-            name = self.files.put("built", each.what, ending(new), new)
-        self.builds.append((each, names, name))
+        self.builds.append((each, *self.put_build("build", each, data, new)))
+
+    def add_front(self, each):
+        """A build whose store stands in front, and what the independent program says of it: lines, statuses and the new file. A film of too many
+        boxes takes that program long: what is written by hand stands."""
+        data = whole(each.media)
+        if isinstance(data, bytes) and len(data) > MOST_ASKED:
+            told, new = [(each.known, builder.BUILD_REFUSED)], None
+        else:
+            made = front.plan(data, each.definition), front.embed(data, each.definition, each.message)
+            told, new = [builder.line_of(one) for one in made], made[1][0] if isinstance(made[1][0], bytes) else None
+            assert new is None or not list(wrong_in(data, made[1], made[0])), each.what
+        assert told[-1] == (each.known, told[-1][1]), (each.what, told[-1], each.known)
+        names, built = self.put_build("front", each, data, new)
+        self.fronts.append((each.what, told, names, built))
+
+    def put_build(self, folder, each, data, new):
+        """The names of a build's media, definition and message, and of its new file, whose questions are approved."""
+        names = [self.files.put(folder, each.what, ending(data), each.media)]
+        for kept, contents, kind in ("definitions", each.definition, "json"), ("messages", each.message, "cose"):
+            names.append(self.files.put(kept, USUAL.get(contents, each.what), kind, contents))
+        if new is None:
+            return names, None
+        self.ask(new)
+        return names, self.files.put(BUILT[folder], each.what, ending(new), new)
 
     def ask(self, contents):
         """The verdicts on the questions of a file, by its signatures, which are kept."""
@@ -217,7 +244,7 @@ class Vectors:
         lines = lambda rows: "".join(f"{identity} {word}\n" for identity, word in sorted(rows.items())).encode()
         files = {name: lines(rows) for name, rows in self.verdicts.items()}
         for word in WORDS:
-            files[f"all-{word}"] = lines(dict.fromkeys(self.verdicts["approving"], word))
+            files[f"all-{word}"] = lines(dict.fromkeys(self.questions_under(f"verdicts/all-{word}"), word))
         first, *_ = self.media[0]
         (identity,) = rule_rows.verdicts_on(self.files.contents[first])
         files |= {
@@ -228,6 +255,12 @@ class Vectors:
             "the-first-row-holds": f"{identity} untrusted\n{identity} approved\n".encode(),
         }
         self.files.contents |= {f"verdicts/{name}": contents for name, contents in files.items()}
+
+    def questions_under(self, judge):
+        """The questions of the files that are run under a judge of one word: those of `read_judged`, and media of builds."""
+        given = [data for _, _, what, _, data in self.media if what in JUDGED]
+        given += [whole(each.media) for each, _, _ in self.builds if judge in each.judges]
+        return [identity for data in given for identity, _, _ in questions_of(data)]
 
     # What is said of it
 
@@ -265,7 +298,7 @@ class Vectors:
         files = {what: (name, data) for name, _, what, _, data in self.media}
         alone = [f"verdicts/{name}" for name in ("empty", *(f"all-{word}" for word in WORDS), *ODD_FILES)]
         several = ["verdicts/empty", APPROVING], ["verdicts/all-untrusted", APPROVING], [APPROVING, BROKEN], ["verdicts/empty", BROKEN]
-        for name, data in files["a data hash alone"], files["an ingredient"]:
+        for name, data in map(files.get, JUDGED):
             for judges in [*([each] for each in alone), *several, [BROKEN], ["verdicts/not-there"]]:
                 self.judged(data, name, *judges)
 
@@ -304,6 +337,38 @@ class Vectors:
                 self.judged(contents, name, commands=READERS)
                 self.judged(contents, name, APPROVING)
                 assert self.runs[-1]["status"] == DONE, name
+
+    def build_in_front(self):
+        """`plan-front`, `embed-front`, and what is said of the new files; all that is said of the first of them, which isn't built into again."""
+        for _, told, (media, definition, message), built in self.fronts:
+            if len(told) > 1:
+                self.run(told[0], "plan-front", media, definition)
+            self.run(told[-1], "embed-front", media, definition, message, "OUT", new=built)
+        built = [name for name in self.files.contents if name.startswith("built-front/")]
+        for number, name in enumerate(built):
+            contents = self.files.contents[name]
+            self.judged(contents, name, commands=READERS if number == 0 else READERS[:1])
+            self.judged(contents, name, APPROVING, commands=("questions", "validate") if number == 0 else ("validate",))
+            assert self.runs[-1]["status"] == DONE, name
+        self.run(external.answer("strip", self.files.contents[built[0]])[:2], "strip", built[0], "OUT")
+        self.read_in_turn(built[0])
+
+    def read_in_turn(self, built):
+        """Files of a build in front whose turn doesn't come needn't be there; those whose turn comes are read."""
+        _, told, names, _ = self.fronts[0]
+        missing = "front/not-there.mp4", "definitions/not-there.json", "messages/not-there.cose"
+        for number, name in enumerate(missing):
+            given = [*names[:number], name, *missing[number + 1 :]]
+            self.run(("", INPUT_FAULT), "embed-front", *given, "OUT")
+            if number < 2:
+                self.run(("", INPUT_FAULT), "plan-front", *given[:2])
+        self.run(("build HasStore", builder.BUILD_REFUSED), "plan-front", built, names[1])
+        by_answer = {told[-1][0]: given for _, told, given, _ in reversed(self.fronts)}
+        refused = "build MediaRefused NotMedia 0"
+        self.run((refused, builder.BUILD_REFUSED), "plan-front", by_answer[refused][0], missing[1])
+        self.run((refused, builder.BUILD_REFUSED), "embed-front", by_answer[refused][0], *missing[1:], "OUT")
+        refused = "build BadDefinition label"
+        self.run((refused, builder.BUILD_REFUSED), "embed-front", *by_answer[refused][:2], missing[2], "OUT")
 
     def take_out(self):
         """`strip` and `extract`: of built files what was built into is left; of some files the store is kept; and one file for each refusal of a
@@ -353,6 +418,10 @@ class Vectors:
             self.run(("", INPUT_FAULT), command, "valid/not-there.jpg", "OUT")
         for more in [valid], [valid, valid, *(["verdicts/empty"] * 65)]:
             self.run((None, USAGE), "validate-external", *more)
+        _, _, names, _ = self.fronts[0]
+        for command, given in ("plan-front", names[:2]), ("embed-front", [*names, "OUT"]):
+            for more in [], given[:-1], [*given, APPROVING], ["", *given[1:]], [f"-{given[0]}", *given[1:]]:
+                self.run((None, USAGE), command, *more)
         for command in (*READERS, "questions", "validate"):
             self.run(("", INPUT_FAULT), command, "valid/not-there.jpg")
 
@@ -398,6 +467,8 @@ def page(vectors):
     lines += table("Pairs", ("Files", "Show", "`compare` under `verdicts/approving`"), rows)
     rows = [("`" + "` `".join((*names, *each.judges)) + "`", each.what, told("embed", *names, "OUT", *each.judges)) for each, names, _ in vectors.builds]
     lines += table("Builds", ("Media, definition, message, judges", "Show", "`embed`"), rows)
+    rows = [("`" + "` `".join(names) + "`", what, said[-1][0]) for what, said, names, _ in vectors.fronts]
+    lines += table("Builds with the store in front", ("Media, definition, message", "Show", "`embed-front`"), rows)
     return "\n".join(lines) + "\n"
 
 
@@ -461,7 +532,7 @@ def unshown(files):
     checks = (TOP / "docs" / "CHECKS.md").read_text()
     codes = {code for row in re.findall(r"^\|.*\|$", checks, re.MULTILINE) for code in re.findall(r"`([a-zA-Z]+(?:\.[a-zA-Z]+)+)`", row)}
     codes = {code for code in codes if not code.startswith("c2pa.")}
-    reasons = vector_builds.REASONS | {f"build {name}" for name in vector_builds.REFUSALS}
+    reasons = vector_builds.REASONS | {f"build {name}" for name in (*vector_builds.REFUSALS, *vector_fronts.REFUSALS)}
     for code in codes:
         if f"failing {code} " not in reports:
             yield code
