@@ -1,34 +1,18 @@
 -- Which test of a build fails first.
-use Rattle.std.proofs.Common.{◌≡◌, ℕ, ◌+◌, ◌<◌, ◌≤◌, Bool, true, false, cond, List, [], ◌∷◌, ◌++◌, Option, Some, None, refl, ap, ◌∙◌}
+use Rattle.std.proofs.Common.{◌≡◌, ℕ, ◌+◌, ◌<◌, ◌≤◌, Bool, false, cond, Option, Some, None, refl, ap, ◌∙◌}
 use Rattle.std.specs.Prelude.{nat_lt, nat_le}
 use Rattle.std.proofs.lemmas.Bool.{lt-ltb, le-ltb, le-leb, lt-leb}
-use Rattle.std.specs.Option.{option_or}
 use Rattle.c2_base.specs.declared.limits.TheConstants.{MAX_MANIFESTS, MAX_STORE_LEN, FILE_LEN_LIMIT}
 use Rattle.c2_spec.specs.declared.reason.Reason.TheVariants.{FileTooLarge}
 use Rattle.c2_built.specs.Store.{Content}
 use Rattle.c2_places.specs.Places.{Place, in_boxes, in_segments}
-use Rattle.c2_build.specs.Refusals.{BuildTest, box_tests, first_refusal, new_range_len, new_store_len, number_tests, place_tests}
-use Rattle.c2_build.specs.Steps.{IsSeat, seat_range_len, seat_store_len}
-use Rattle.c2_build.specs.declared.error.BuildError.{BuildError}
-use Rattle.c2_build.specs.declared.error.BuildError.TheVariants.{MediaRefused, TooManyManifests, StoreTooLarge}
-use Rattle.c2_build.specs.declared.place.Seat.{Seat}
-
--- of two lists of tests the first refusal is that of the first list, else that of the second
-pub first_of_both : (xs ys : List BuildTest) → first_refusal (xs ++ ys) ≡ option_or (first_refusal xs) (first_refusal ys)
-first_of_both [] ys = refl
-first_of_both (t ∷ ts) ys = by t.fails (first_of_both ts ys)
-  where
-    by : (b : Bool) → first_refusal (ts ++ ys) ≡ option_or (first_refusal ts) (first_refusal ys) → cond b (Some t.refusal) (first_refusal (ts ++ ys)) ≡ option_or (cond b (Some t.refusal) (first_refusal ts)) (first_refusal ys)
-    by true h = refl
-    by false h = h
-
--- a test of the first list fails
-pub first_fails : (xs ys : List BuildTest) (e : BuildError) → first_refusal xs ≡ Some e → first_refusal (xs ++ ys) ≡ Some e
-first_fails xs ys e h = first_of_both xs ys ∙ ap (λ (o : Option BuildError). option_or o (first_refusal ys)) h
-
--- none of the first list does
-pub first_passes : (xs ys : List BuildTest) (o : Option BuildError) → first_refusal xs ≡ None → first_refusal ys ≡ o → first_refusal (xs ++ ys) ≡ o
-first_passes xs ys o h k = first_of_both xs ys ∙ ap (λ (p : Option BuildError). option_or p (first_refusal ys)) h ∙ k
+use Rattle.c2_refusals.specs.Refusals.{box_tests, first_refusal, new_range_len, new_store_len, number_tests, place_tests}
+use Rattle.c2_bound_parts.specs.Bound.{seat_range_len, seat_store_len}
+use Rattle.c2_refusals.specs.Seats.{IsSeat}
+use Rattle.c2_refusals.specs.declared.error.BuildError.{BuildError}
+use Rattle.c2_refusals.specs.declared.error.BuildError.TheVariants.{MediaRefused, TooManyManifests, StoreTooLarge}
+use Rattle.c2_refusals.specs.declared.types.Seat.{Seat}
+use Rattle.c2_refusals.proofs.Stages.{first_fails, first_passes}
 
 -- ---- numbers
 

@@ -26,12 +26,11 @@ use Rattle.c2_rules.specs.Tests.{first_failing}
 use Rattle.c2_definition.specs.declared.types.Definition.{Definition}
 use Rattle.c2_boxed.specs.Laws.{EndIsCutOut}
 use Rattle.c2_places.specs.Bases.{IsLeft, IsLeftOfBoxes}
-use Rattle.c2_build.specs.Building.{IsGroundOver, IsGroundStage, IsMediaStage, MediaKind, fresh, fresh_ground, stored}
+use Rattle.c2_refusals.specs.Stages.{IsGroundOver, IsGroundStage, IsMediaStage, MediaKind, fresh, fresh_ground, stored}
 use Rattle.c2_build.specs.Meeting.{IsFreedIn, IsLessStore, KeepsBytes, cut_out, made_free}
-use Rattle.c2_build.specs.Refusals.{Ground, first_refusal, older_tests, redaction_tests}
-use Rattle.c2_build.proofs.OneBuild.{ground_of}
-use Rattle.c2_build.proofs.SomeBuild.{opened_here}
-use Rattle.c2_build.proofs.Stages.{unless_passed}
+use Rattle.c2_refusals.specs.Refusals.{Ground, first_refusal, older_tests, redaction_tests}
+use Rattle.c2_refusals.proofs.Passing.{ground_of, opened_here}
+use Rattle.c2_refusals.proofs.Stages.{unless_passed}
 
 -- ---- one box among boxes
 

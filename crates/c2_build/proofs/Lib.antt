@@ -1,5 +1,3 @@
-mod FirstRefusal
-mod Stages
 mod OneBuild
 mod Rooms
 mod SomeBuild
@@ -11,19 +9,12 @@ mod Worked
 mod WorkedFilm
 mod WorkedOver
 mod WorkedAgain
-mod Walked
-mod Outside
 mod Drafted
-mod Inputs
-mod Written
 mod Drawn
 mod Placed
 mod Seated
-mod Filled
 mod NewStores
+mod Causes
 mod Ended
-mod Seen
-mod Judged
-mod Grounds
 mod Questioned
 mod Unasked

@@ -1,6 +1,6 @@
 -- What a new file meets.
 use Rattle.std.proofs.Common.{◌≡◌, ℕ, ◌+◌, ◌<◌, ◌≤◌, List, [], ◌∷◌, length, true, Option, Some, None, refl, sym, ap, ◌∙◌, subst, arith}
-use Rattle.std.specs.Prelude.{Result, Ok, Err}
+use Rattle.std.specs.Prelude.{Err, Ok, Result, option_map}
 use Rattle.c2_base.specs.declared.limits.TheConstants.{FILE_LEN_LIMIT, MAX_MANIFESTS, MAX_STORE_LEN}
 use Rattle.c2_base.specs.declared.values.Question.{Question}
 use Rattle.c2_spec.specs.C2pa.Manifest.{manifests_of}
@@ -37,19 +37,19 @@ use Rattle.c2_places.specs.Bases.{IsLeft}
 use Rattle.c2_places.specs.Laws.{OnePlace}
 use Rattle.c2_places.specs.Meeting.{BaseStays, CanSucceedAt, FreshPlaceMeets, OverPlaceMeets}
 use Rattle.c2_places.specs.Places.{CanPut, IsFreePlace, IsPlace, Place, place_binding, place_file, place_question, place_start, place_store, put_bytes, range_len, store_len}
-use Rattle.c2_build.specs.Building.{Built, IsBuilt, IsDefinitionStage, IsEmbedded, IsEmbeddedOn, IsGroundOver, IsGroundStage, IsMediaStage, IsMessageStage, IsPlaceStage, IsPlanned, IsPlannedOn, MediaKind, built_of, definition_stage, fresh, fresh_ground, signed_bytes, stored}
-use Rattle.c2_build.specs.Meeting.{ApprovedIsValid, AreApproved, BuiltFileMeets, BuiltMeets, HasTextsIn, KeepsBytes}
-use Rattle.c2_build.specs.Refusals.{Ground, first_refusal, ground_tests, late_tests, new_range_len, older_tests, redaction_tests, refuse_if, reserve_tests}
-use Rattle.c2_build.specs.declared.error.BuildError.{BuildError}
-use Rattle.c2_build.specs.declared.error.BuildError.TheVariants.{RedactionRefused}
-use Rattle.c2_build.proofs.Drawn.{then_next, unless_passes}
+use Rattle.c2_build.specs.Building.{Built, IsBuilt, IsEmbedded, IsEmbeddedOn, IsPlanned, IsPlannedOn, built_of, signed_bytes}
+use Rattle.c2_refusals.specs.Stages.{HasTextsIn, IsDefinitionStage, IsGroundOver, IsGroundStage, IsMediaStage, IsMessageStage, IsPlaceStage, MediaKind, definition_stage, fresh, fresh_ground, stored}
+use Rattle.c2_build.specs.Meeting.{ApprovedIsValid, AreApproved, BuiltFileMeets, BuiltMeets, KeepsBytes}
+use Rattle.c2_refusals.specs.Refusals.{Ground, first_refusal, ground_tests, late_tests, new_range_len, older_tests, redaction_tests, refuse_if, reserve_tests}
+use Rattle.c2_refusals.specs.declared.error.BuildError.{BuildError}
+use Rattle.c2_refusals.specs.declared.error.BuildError.TheVariants.{RedactionRefused}
+use Rattle.c2_refusals.proofs.Stages.{none_of_both, passed, then_next, unless_passed, unless_passes}
 use Rattle.c2_build.proofs.Kept.{ground_keeps}
-use Rattle.c2_build.proofs.OneBuild.{ground_of}
+use Rattle.c2_refusals.proofs.Passing.{ground_of, is_passable, opened_absent, opened_here}
 use Rattle.c2_build.proofs.Rooms.{pass_numbers}
-use Rattle.c2_build.proofs.SomeBuild.{AreWellFormed, PlaceLaws, free_place, ground_definition, is_passable, opened_absent, opened_here, read_formed, read_taken}
-use Rattle.c2_build.proofs.Stages.{none_of_both, passed, unless_passed}
+use Rattle.c2_build.proofs.SomeBuild.{PlaceLaws, free_place, ground_definition}
+use Rattle.c2_refusals.proofs.Inputs.{AreWellFormed, read_formed, read_taken}
 use Rattle.std.specs.Option.{option_to_list}
-use Rattle.std.specs.Prelude.{option_map}
 
 -- ---- what passed
 

@@ -1,18 +1,13 @@
 -- What is signed and what is written of the parts of a new store.
-use Rattle.std.proofs.lemmas.List.{length-replicate}
-use Rattle.std.proofs.Common.{◌≡◌, inl, inr, ℕ, ◌+◌, ◌≤◌, replicate, true, List, ◌++◌, length, Option, option_map, Some, None, refl, sym, ap, ◌∙◌, subst, arith, codes, length-append}
+use Rattle.std.proofs.Common.{◌≡◌, ℕ, true, List, length, Option, option_map, Some, None, refl, sym, ap, ◌∙◌, subst, arith}
 use Rattle.std.specs.Prelude.{Result, Ok, Err, IfErr, IfOk}
-use Rattle.std.specs.Int.{w32, to_be_bytes}
 use Rattle.std.specs.Option.{option_to_list}
-use Rattle.c2_base.specs.declared.limits.TheConstants.{MAX_STORE_LEN}
 use Rattle.c2_base.specs.declared.values.Question.{Question}
-use Rattle.c2_spec.specs.C2pa.Manifest.{type_uuid}
 use Rattle.c2_spec.specs.C2pa.Message.{bare_bytes}
 use Rattle.c2_spec.specs.C2pa.Sign1.{SignParts, sig_structure}
 use Rattle.c2_spec.specs.Cbor.Deterministic.{deterministic}
 use Rattle.c2_spec.specs.Jpeg.Writing.{IsPacketStore, packets_bytes}
-use Rattle.c2_spec.specs.Jumbf.Tree.{Tree, Trees, description_bytes, tree_bytes, trees_bytes}
-use Rattle.c2_spec.specs.Jumbf.Writing.{fresh_description}
+use Rattle.c2_spec.specs.Jumbf.Tree.{tree_bytes}
 use Rattle.c2_spec.specs.Digest.{digest_len}
 use Rattle.c2_spec.specs.PutIn.{put_in}
 use Rattle.c2_spec.specs.declared.digest.Alg.{Alg}
@@ -21,32 +16,36 @@ use Rattle.c2_definition.specs.declared.types.Definition.{Definition}
 use Rattle.c2_definition.specs.declared.types.NewAssertion.{NewAssertion}
 use Rattle.c2_message.specs.Refusals.{reserve_needed}
 use Rattle.c2_message.specs.Signed.{FillsOrNeedsMore, IsSigned}
-use Rattle.c2_built.specs.Built.{HasDigestLen, StoreSizeIsFixed, bound_len, no_digest, store_size}
-use Rattle.c2_built.specs.FreshBoxes.{store_box, trees_then}
+use Rattle.c2_built.specs.Built.{HasDigestLen, StoreSizeIsFixed}
 use Rattle.c2_layout.specs.Parts.{AreParts, IsContent}
 use Rattle.c2_built.specs.Store.{Content, data_binding, new_claim, new_manifest, new_store, new_alg}
-use Rattle.c2_built.specs.Unbound.{IsKnownBinding}
 use Rattle.c2_layout.specs.declared.carried.Carried.{Carried}
 use Rattle.c2_layout.specs.declared.parts.NewParts.{NewParts}
 use Rattle.c2_cleared.specs.Clears.{cleared}
 use Rattle.c2_cleared.specs.declared.clearing.Clearing.{Clearing}
-use Rattle.c2_films.specs.Films.{FilmSizeIsFixed, film_store_size}
+use Rattle.c2_films.specs.Films.{FilmSizeIsFixed}
 use Rattle.c2_places.specs.Places.{IsPlace, Place, binding_with, bound_text, in_boxes, in_segments, place_binding, place_start, place_store, put_bytes}
-use Rattle.c2_build.specs.Answers.{WithoutFault}
-use Rattle.c2_build.specs.Building.{IsBuilt, IsEmbeddedOn, IsEmbeddedOver, IsGroundStage, IsPlaceStage, MediaKind, built_of, signed_bytes}
-use Rattle.c2_build.specs.Refusals.{Ground, first_refusal, ground_tests, late_tests, new_range_len, refuse_if, reserve_tests}
-use Rattle.c2_build.specs.Steps.{AreNewParts, ComesAs, IsDrafted, IsGround, IsNumbered, IsPassed, IsPut, IsPutReady, IsReady, IsReserveRefusal, IsSeat, IsSmall, SaysNothing, put_of, seat_binding, seat_store_len}
-use Rattle.c2_build.specs.declared.draft.Draft.{Draft}
-use Rattle.c2_build.specs.declared.draft.Drafted.{Drafted}
-use Rattle.c2_build.specs.declared.draft.Put.{Put}
-use Rattle.c2_build.specs.declared.place.Seat.{Seat}
+use Rattle.c2_refusals.specs.Kinds.{ComesAs, SaysNothing}
+use Rattle.c2_build.specs.Building.{IsBuilt, IsEmbeddedOn, IsEmbeddedOver, built_of, signed_bytes}
+use Rattle.c2_refusals.specs.Stages.{IsGroundStage, IsPlaceStage, MediaKind}
+use Rattle.c2_refusals.specs.Refusals.{Ground, first_refusal, ground_tests, late_tests, new_range_len, refuse_if, reserve_tests}
+use Rattle.c2_bound_parts.specs.Bound.{AreNewParts, IsSmall, seat_binding, seat_store_len}
+use Rattle.c2_build_front.specs.Steps.{IsReserveRefusal}
+use Rattle.c2_build.specs.Steps.{IsDrafted, IsNumbered, IsPassed, IsPut, IsPutReady, IsReady}
+use Rattle.c2_ground.specs.Grounds.{IsGround}
+use Rattle.c2_putting.specs.Puts.{put_of}
+use Rattle.c2_refusals.specs.Seats.{IsSeat}
+use Rattle.c2_refusals.specs.declared.types.Draft.{Draft}
+use Rattle.c2_refusals.specs.declared.types.Drafted.{Drafted}
+use Rattle.c2_refusals.specs.declared.types.Put.{Put}
+use Rattle.c2_refusals.specs.declared.types.Seat.{Seat}
 use Rattle.c2_build.specs.declared.ready.Ready.{Ready}
-use Rattle.c2_build.specs.declared.error.BuildError.{BuildError}
-use Rattle.c2_build.specs.declared.error.BuildError.TheVariants as build
-use Rattle.c2_build.proofs.Drafted.{first_passes}
-use Rattle.c2_build.proofs.Outside.{nothing_said}
-use Rattle.c2_build.proofs.Drawn.{then_next, unless_fails, unless_passes}
-use Rattle.c2_spec.proofs.Digests.{zero_len}
+use Rattle.c2_refusals.specs.declared.error.BuildError.{BuildError}
+use Rattle.c2_refusals.specs.declared.error.BuildError.TheVariants as build
+use Rattle.c2_refusals.proofs.Stages.{first_passes, then_next, unless_fails, unless_passes}
+use Rattle.c2_refusals.proofs.Outside.{nothing_said}
+use Rattle.c2_built.proofs.BuiltLemmas.{packet_store}
+use Rattle.c2_bound_parts.proofs.NewParts.{seat_fixed, seat_size, seat_size_is}
 
 -- ---- what is signed
 
@@ -96,24 +95,10 @@ refused_by hash said media kind d parts g p n h own r =
     then_next (IsGroundStage hash said media d kind) (IsEmbeddedOn hash parts) g (Err (build.ReserveTooSmall n)) h.ground
     (then_next (IsPlaceStage g.base) _ p (Err (build.ReserveTooSmall n)) h.stage (unless_fails (first_refusal (late_tests g parts p)) _ (build.ReserveTooSmall n) first))
 
--- so it is for each error
+-- so it is with its error
 pub reserve_outside : (hash : Alg → List ℕ → List ℕ) (said : Question → Verdict) (media : List ℕ) (kind : MediaKind) (d : Definition) (parts : SignParts) (g : Ground) (p : Place) (e : BuildError) → IsPassed hash said media d kind g p → g.content.definition ≡ d → IsReserveRefusal d parts e
-    → WithoutFault e (IsEmbeddedOver hash said media kind d parts (Err e))
-reserve_outside hash said media kind d parts g p (build.MediaRefused reason number) h own r = absurd r
-reserve_outside hash said media kind d parts g p (build.BadDefinition field) h own r = absurd r
-reserve_outside hash said media kind d parts g p (build.BadSignature part) h own r = absurd r
-reserve_outside hash said media kind d parts g p (build.ParentFails code uri) h own r = absurd r
-reserve_outside hash said media kind d parts g p (build.LabelTaken label) h own r = absurd r
-reserve_outside hash said media kind d parts g p (build.RedactionRefused text code) h own r = absurd r
-reserve_outside hash said media kind d parts g p (build.OpenBox at) h own r = absurd r
-reserve_outside hash said media kind d parts g p build.NoInstance h own r = absurd r
-reserve_outside hash said media kind d parts g p (build.TooManyManifests n) h own r = absurd r
-reserve_outside hash said media kind d parts g p (build.StoreTooLarge n) h own r = absurd r
-reserve_outside hash said media kind d parts g p (build.ReserveTooSmall n) h own r = refused_by hash said media kind d parts g p n h own r
-reserve_outside hash said media kind d parts g p build.ReadFault h own r = tt
-reserve_outside hash said media kind d parts g p build.JudgeFault h own r = tt
-reserve_outside hash said media kind d parts g p build.WriteFault h own r = tt
-reserve_outside hash said media kind d parts g p build.NoMemory h own r = tt
+    → IsEmbeddedOver hash said media kind d parts (Err e)
+reserve_outside hash said media kind d parts g p e h own r = subst (λ (x : BuildError). IsEmbeddedOver hash said media kind d parts (Err x)) (sym r.2) (refused_by hash said media kind d parts g p r.0 h own r.1)
 
 -- ---- what is written
 
@@ -165,51 +150,7 @@ ready_is hash media d w parts known message r draft clearing new is filled store
       };
     }
 
--- a new store can go into packets
-packet_store : (carried : Trees) (m : Tree) → length (tree_bytes (store_box carried m)) ≤ MAX_STORE_LEN → IsPacketStore (tree_bytes (store_box carried m))
-packet_store carried m small =
-    let front : List ℕ = description_bytes (fresh_description (type_uuid (codes "c2pa")) (codes "c2pa")) in
-    let body : List ℕ = front ++ trees_bytes (trees_then carried m) in
-    let size : length (tree_bytes (store_box carried m)) ≡ 8 + length body = omega arith in
-    let long : length front ≡ 30 = refl in
-    record {
-      sized = record { least = omega (arith, size, long, length-append front (trees_bytes (trees_then carried m))); most = small };
-      lbox = ap (to_be_bytes w32) (sym size);
-      tbox = refl;
-      described = refl;
-      of_c2pa = refl;
-    }
-
--- how long a new store is in a seat, with so many bytes for its message
-abbrev pub seat_size : Seat → Content → ℕ → ℕ
-seat_size (Seat.Segments start number) c reserve = store_size c reserve
-seat_size (Seat.Boxes rows) c reserve = film_store_size c reserve
-
--- so long it is with what is reserved
-pub seat_size_is : (s : Seat) (c : Content) → seat_size s c c.definition.reserve ≡ seat_store_len s c
-seat_size_is (Seat.Segments start number) c = refl
-seat_size_is (Seat.Boxes rows) c = refl
-
--- it is so long whatever its range and its digests
-pub seat_fixed : StoreSizeIsFixed → FilmSizeIsFixed → (hash : List ℕ → List ℕ) (c : Content) (s : Seat) (start len : ℕ) (digest message : List ℕ) → HasDigestLen (new_alg c.definition) hash → length digest ≡ digest_len (new_alg c.definition)
-    → length (tree_bytes (new_store hash c (seat_binding (new_alg c.definition) s start len digest) message)) ≡ seat_size s c (length message)
-seat_fixed law film hash c (Seat.Segments at number) start len digest message digests sized = law hash c start len digest message digests sized
-seat_fixed law film hash c (Seat.Boxes rows) start len digest message digests sized = film hash c digest message digests sized
-
--- and so with no digest beside the binding's
-pub seat_bound : StoreSizeIsFixed → FilmSizeIsFixed → (c : Content) (d : Definition) → c.definition ≡ d → (s : Seat) (start len : ℕ) (digest : List ℕ) (reserve : ℕ) → length digest ≡ digest_len (new_alg d)
-    → bound_len c (seat_binding (new_alg d) s start len digest) reserve ≡ seat_size s c reserve
-seat_bound law film c d is s start len digest reserve sized =
-    subst (λ (x : Definition). length digest ≡ digest_len (new_alg x) → bound_len c (seat_binding (new_alg x) s start len digest) reserve ≡ seat_size s c reserve) is
-    (λ (n : length digest ≡ digest_len (new_alg c.definition)).
-    seat_fixed law film (no_digest (new_alg c.definition)) c s start len digest (replicate reserve 0) (λ text. zero_len (new_alg c.definition)) n ∙ ap (seat_size s c) (length-replicate {A = ℕ} reserve 0)) sized
-
--- its binding is of a kind that is known
-pub seat_known : (alg : Alg) (s : Seat) (start len : ℕ) (digest : List ℕ) → IsKnownBinding (seat_binding alg s start len digest)
-seat_known alg (Seat.Segments at number) start len digest = record { label = inl refl; item = refl }
-seat_known alg (Seat.Boxes rows) start len digest = record { label = inr refl; item = refl }
-
--- and so can that of a draft
+-- the store of a draft can go into packets
 pub store_packs : StoreSizeIsFixed → FilmSizeIsFixed → (hash : List ℕ → List ℕ) (known : Option (List ℕ)) (len : ℕ) (d : Definition) (w : Drafted) (parts : NewParts) (message store : List ℕ) → HasDigestLen (new_alg d) hash → AreNewParts
     hash known d w parts → length message ≡ d.reserve → IsSmall hash len d w
     → IsMade d w.ground.carried parts message store → IsPacketStore store

@@ -1,53 +1,36 @@
 -- Told inputs come to one plan and to one new file.
-use Rattle.std.proofs.Common.{◌≡◌, ◌⊎◌, inl, inr, ℕ, ◌+◌, Bool, true, false, not, ◌&&◌, List, [], length, refl, sym, ap, ◌∙◌, subst}
-use Rattle.std.specs.Prelude.{Result, Ok, Err}
+use Rattle.std.proofs.Common.{◌≡◌, ℕ, ◌+◌, Bool, true, false, not, ◌&&◌, List, [], length, refl, sym, ap, ◌∙◌, subst}
+use Rattle.std.specs.Prelude.{Ok}
 use Rattle.std.proofs.lemmas.Option.{same_Some}
 use Rattle.c2_base.specs.declared.values.Question.{Question}
 use Rattle.c2_spec.specs.Bmff.Boxes.{Box, HasRoots, begins_bmff}
 use Rattle.c2_spec.specs.C2pa.Manifest.{Manifest, manifests_of}
-use Rattle.c2_spec.specs.C2pa.Sign1.{SignParts, SpellsMessage, message_list}
-use Rattle.c2_spec.specs.Cbor.Item.{Item, tag}
-use Rattle.c2_spec.specs.Cbor.Spelling.{Spells}
+use Rattle.c2_spec.specs.C2pa.Sign1.{SignParts}
 use Rattle.c2_spec.specs.Container.{Container, IsContainer, begins_jpeg, bmff, is_bmff, jpeg}
 use Rattle.c2_spec.specs.Jumbf.Tree.{Tree, tree_bytes}
-use Rattle.c2_spec.specs.Located.{Opening}
 use Rattle.c2_spec.specs.declared.digest.Alg.{Alg}
 use Rattle.c2_spec.specs.declared.panel.Verdict.{Verdict}
 use Rattle.c2_rules.specs.Binding.{IsMedia, Media}
 use Rattle.c2_rules.specs.CheckList.{IsStoreReading, StoreReading, check_list}
-use Rattle.c2_rules.specs.Opened.{IsOpened}
 use Rattle.c2_rules.specs.Readings.{Reading}
 use Rattle.c2_rules.specs.Tests.{first_failing}
 use Rattle.c2_rules.specs.Validated.{IsFileReading}
-use Rattle.c2_definition.specs.DefinitionFile.{IsDefinition}
 use Rattle.c2_definition.specs.declared.types.Definition.{Definition}
-use Rattle.c2_definition.specs.declared.types.DefinitionField.{DefinitionField}
 use Rattle.c2_message.specs.Message.{RefusedForOne}
 use Rattle.c2_message.specs.Signed.{FillsOrNeedsMore}
-use Rattle.c2_message.specs.declared.error.SignaturePart.{SignaturePart}
 use Rattle.c2_built.specs.Store.{Content, new_alg}
 use Rattle.c2_carried.specs.Carrying.{ContentIsOne}
 use Rattle.c2_places.specs.Laws.{OneLeft, OnePlace}
 use Rattle.c2_places.specs.Places.{Place, place_store, put_bytes}
-use Rattle.c2_build.specs.Building.{IsBuilt, IsDefinitionRefused, IsDefinitionStage, IsEmbeddedOn, IsGroundOver, IsGroundStage, IsMediaRefused, IsMediaStage, IsMessageRead, IsMessageStage, IsPlaceStage}
-use Rattle.c2_build.specs.Building.{IsPlannedOn, MediaKind, Unless, built_of, definition_stage, fresh, fresh_ground, media_stage, message_stage, signed_bytes, stored}
+use Rattle.c2_build.specs.Building.{IsBuilt, IsEmbeddedOn, IsPlannedOn, built_of, signed_bytes}
+use Rattle.c2_refusals.specs.Stages.{IsDefinitionStage, IsGroundOver, IsGroundStage, IsMediaStage, IsMessageStage, IsPlaceStage, MediaKind, Unless, fresh, fresh_ground, stored}
 use Rattle.c2_build.specs.Meeting.{OneEmbedding, OnePlan}
-use Rattle.c2_build.specs.Refusals.{Ground, first_refusal, ground_tests, late_tests, older_tests, redaction_tests}
-use Rattle.c2_build.proofs.Stages.{IsOne, one_then, one_unless}
+use Rattle.c2_refusals.specs.Refusals.{Ground, first_refusal, ground_tests, late_tests, older_tests, redaction_tests}
+use Rattle.c2_refusals.proofs.Stages.{IsOne, one_then, one_unless}
+use Rattle.c2_refusals.proofs.Inputs.{OneDefinition, OneItem, OneOpened, one_definition, one_media, one_message}
+use Rattle.c2_refusals.proofs.Passing.{ground_of}
 
 -- ---- what laws of other crates say
-
--- a file is opened as one thing
-abbrev pub OneOpened : Type 0
-OneOpened = (file : List ℕ) (a b : Opening Tree) → IsOpened file a → IsOpened file b → a ≡ b
-
--- a file is one definition, or one thing of it is refused first
-abbrev pub OneDefinition : Type 0
-OneDefinition = (file : List ℕ) (r s : Result Definition DefinitionField) → IsDefinition file r → IsDefinition file s → r ≡ s
-
--- bytes spell one item
-abbrev pub OneItem : Type 0
-OneItem = (v w : Item) (s : List ℕ) → Spells v s → Spells w s → v ≡ w
 
 -- the store of a file is read in one way
 abbrev pub OneStoreReading : Type 0
@@ -99,62 +82,7 @@ pub one_store_reading : OneRoots → OneReadingIn → OneStoreReading
 one_store_reading roots one file t a b h k =
     one h.media (manifests_of t) a b h.reads (subst (λ (m : Media). IsStoreReading m (manifests_of t) b) (one_file_media roots file k.media h.media k.is_media h.is_media) k.reads)
 
--- ---- a message has one list of parts
-
--- parts of a message, written short
-abbrev parts : List ℕ → Item → List ℕ → SignParts
-parts protected unprotected signature = record { protected = protected; unprotected = unprotected; signature = signature }
-
--- equal lists of members have equal parts
-same_parts : (p q : SignParts) → message_list p ≡ message_list q → p ≡ q
-same_parts p q e =
-    let protected : p.protected ≡ q.protected = cc (e) in
-    let unprotected : p.unprotected ≡ q.unprotected = cc (e) in
-    let signature : p.signature ≡ q.signature = cc (e) in
-    ap (λ (x : List ℕ). parts x p.unprotected p.signature) protected ∙ ap (λ (x : Item). parts q.protected x p.signature) unprotected
-    ∙ ap (λ (x : List ℕ). parts q.protected q.unprotected x) signature
-
--- an item is the message of one list of parts, with its tag or without
-same_form : (v : Item) (p q : SignParts) → (v ≡ message_list p) ⊎ (v ≡ tag 18 (message_list p)) → (v ≡ message_list q) ⊎ (v ≡ tag 18 (message_list q)) → p ≡ q
-same_form v p q (inl a) (inl b) = same_parts p q (sym a ∙ b)
-same_form v p q (inl a) (inr b) = absurd (let bad = sym a ∙ b in cc (bad))
-same_form v p q (inr a) (inl b) = absurd (let bad = sym a ∙ b in cc (bad))
-same_form v p q (inr a) (inr b) = same_parts p q (let both = sym a ∙ b in cc (both))
-
--- bytes are one message
-pub same_message : OneItem → (s : List ℕ) (p q : SignParts) → SpellsMessage s p → SpellsMessage s q → p ≡ q
-same_message one s p q a b =
-    let item : b.message ≡ a.message = one b.message a.message s b.spelled a.spelled in
-    same_form a.message p q a.is.form (subst (λ (v : Item). (v ≡ message_list q) ⊎ (v ≡ tag 18 (message_list q))) item b.is.form)
-
 -- ---- stages
-
--- a media file is one thing to a build
-pub one_media : OneOpened → (media : List ℕ) → IsOne (IsMediaStage media)
-one_media one media r s h k = h.2 ∙ ap media_stage (one media h.0 k.0 h.1 k.1) ∙ sym k.2
-
--- so is a definition file
-pub one_definition : OneDefinition → (file : List ℕ) → IsOne (IsDefinitionStage file)
-one_definition one file r s h k = h.2 ∙ ap definition_stage (one file h.0 k.0 h.1 k.1) ∙ sym k.2
-
--- a media file that is refused isn't one that isn't
-pub not_both_media : OneOpened → (media : List ℕ) (kind : MediaKind) {P : Type 0} → IsMediaStage media (Ok kind) → IsMediaRefused media → P
-not_both_media one media kind {P} h refused = absurd (let bad = one_media one media (Ok kind) (Err refused.0) h refused.1 in cc (bad))
-
--- and so is a definition file
-pub not_both_definitions : OneDefinition → (file : List ℕ) (d : Definition) {P : Type 0} → IsDefinitionStage file (Ok d) → IsDefinitionRefused file → P
-not_both_definitions one file d {P} h refused = absurd (let bad = one_definition one file (Ok d) (Err refused.0) h refused.1 in cc (bad))
-
--- a message is read as one thing
-one_read : OneItem → RefusedForOne → (protected bytes : List ℕ) (m n : Result SignParts SignaturePart) → IsMessageRead protected bytes m → IsMessageRead protected bytes n → m ≡ n
-one_read one refused protected bytes (Ok p) (Ok q) h k = ap (λ (x : SignParts). Ok x) (same_message one bytes p q h.1 k.1)
-one_read one refused protected bytes (Ok p) (Err t) h k = absurd (refused.none protected bytes t k h.0)
-one_read one refused protected bytes (Err t) (Ok q) h k = absurd (refused.none protected bytes t h k.0)
-one_read one refused protected bytes (Err t) (Err u) h k = ap (λ (x : SignaturePart). Err x) (refused.one protected bytes t u h k)
-
--- and is one thing to a build
-pub one_message : OneItem → RefusedForOne → (protected bytes : List ℕ) → IsOne (IsMessageStage protected bytes)
-one_message one refused protected bytes r s h k = h.2 ∙ ap message_stage (one_read one refused protected bytes h.0 k.0 h.1 k.1) ∙ sym k.2
 
 -- a place is one
 one_place : OnePlace → (base : List ℕ) → IsOne (IsPlaceStage base)
@@ -169,10 +97,6 @@ one_built fills hash g p m r s h k =
     h.2.2 ∙ ap (λ (b : List ℕ). Ok (built_of g p b)) bytes ∙ sym k.2.2
 
 -- ---- the ground
-
--- a ground of these
-abbrev pub ground_of : List ℕ → Content → ℕ → Ground
-ground_of base content manifests = record { base = base; content = content; manifests = manifests }
 
 -- over an older store, what is built over is one
 one_over : OneLeft → ContentIsOne → (media : List ℕ) (d : Definition) (start len : ℕ) (t : Tree) (rs : List Reading) → IsOne (IsGroundOver media d start len t rs)

@@ -13,20 +13,22 @@ use Rattle.c2_cleared.specs.Lengths.{cleared_size}
 use Rattle.c2_cleared.specs.declared.clearing.Clearing.{Clearing}
 use Rattle.c2_places.specs.Laws.{LeftHasContainer}
 use Rattle.c2_places.specs.Places.{IsPlace, Place}
-use Rattle.c2_build.specs.Answers.{WithoutFault}
-use Rattle.c2_build.specs.Building.{IsGroundOver, IsGroundStage, IsMediaStage, MediaKind, fresh, fresh_ground, stored}
-use Rattle.c2_build.specs.Refusals.{Ground, first_refusal, ground_tests, number_tests, older_tests, redaction_tests}
-use Rattle.c2_build.specs.Steps.{HasSeat, IsDraft, IsDrafted, IsForm, IsGround, IsRefusedPlace, IsSeat}
-use Rattle.c2_build.specs.declared.draft.Draft.{Draft}
-use Rattle.c2_build.specs.declared.error.BuildError.{BuildError}
-use Rattle.c2_build.specs.declared.ground.KeptGround.{KeptGround}
-use Rattle.c2_build.specs.declared.media.FileForm.{FileForm}
-use Rattle.c2_build.specs.declared.place.Seat.{Seat}
+use Rattle.c2_refusals.specs.Kinds.{WithoutFault}
+use Rattle.c2_refusals.specs.Stages.{IsGroundOver, IsGroundStage, IsMediaStage, MediaKind, fresh, fresh_ground, stored}
+use Rattle.c2_refusals.specs.Refusals.{Ground, first_refusal, ground_tests, number_tests, older_tests, redaction_tests}
+use Rattle.c2_build.specs.Steps.{IsDraft, IsDrafted, IsRefusedPlace}
+use Rattle.c2_ground.specs.Grounds.{IsGround}
+use Rattle.c2_place.specs.Spots.{HasSeat}
+use Rattle.c2_refusals.specs.Seats.{IsForm, IsSeat}
+use Rattle.c2_refusals.specs.declared.types.Draft.{Draft}
+use Rattle.c2_refusals.specs.declared.error.BuildError.{BuildError}
+use Rattle.c2_refusals.specs.declared.types.KeptGround.{KeptGround}
+use Rattle.c2_refusals.specs.declared.types.FileForm.{FileForm}
+use Rattle.c2_refusals.specs.declared.types.Seat.{Seat}
 use Rattle.c2_build.proofs.Drafted.{seat_range}
-use Rattle.c2_build.proofs.OneBuild.{ground_of}
-use Rattle.c2_build.proofs.Outside.{outside_map}
-use Rattle.c2_build.proofs.SomeBuild.{opened_here}
-use Rattle.c2_build.proofs.Stages.{unless_passed}
+use Rattle.c2_refusals.proofs.Passing.{ground_of, opened_here}
+use Rattle.c2_refusals.proofs.Outside.{outside_map}
+use Rattle.c2_refusals.proofs.Stages.{unless_passed}
 use Rattle.c2_built.specs.Store.{new_alg}
 
 -- what is built over has the form of the media

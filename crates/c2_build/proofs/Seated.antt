@@ -18,11 +18,13 @@ use Rattle.c2_built.specs.Built.{bound_len}
 use Rattle.c2_built.specs.Store.{Content, new_alg}
 use Rattle.c2_box_rows.specs.declared.row.RootBox.{RootBox}
 use Rattle.c2_places.specs.Places.{IsPlace, Place, in_boxes, in_segments}
-use Rattle.c2_build.specs.Refusals.{box_tests, first_refusal, place_tests, refuse_if}
-use Rattle.c2_build.specs.Steps.{IsFitted, IsSeat, seat_binding, seat_store_len}
-use Rattle.c2_build.specs.declared.draft.Put.TheVariants as Put
-use Rattle.c2_build.specs.declared.error.BuildError.TheVariants.{MediaRefused, OpenBox}
-use Rattle.c2_build.specs.declared.place.Seat.{Seat}
+use Rattle.c2_refusals.specs.Refusals.{box_tests, first_refusal, place_tests, refuse_if}
+use Rattle.c2_bound_parts.specs.Bound.{seat_binding, seat_store_len}
+use Rattle.c2_build.specs.Steps.{IsFitted}
+use Rattle.c2_refusals.specs.Seats.{IsSeat}
+use Rattle.c2_refusals.specs.declared.types.Put.TheVariants as Put
+use Rattle.c2_refusals.specs.declared.error.BuildError.TheVariants.{MediaRefused, OpenBox}
+use Rattle.c2_refusals.specs.declared.types.Seat.{Seat}
 use Rattle.c2_spec.specs.Digest.{zero_digest}
 
 -- where a box goes, by whether the last root box is open
@@ -94,5 +96,3 @@ boxes_pass rows (in_boxes roots) h few =
 pub blank_len : (s : Seat) (c : Content) → bound_len c (seat_binding (new_alg c.definition) s 0 0 (zero_digest (new_alg c.definition))) c.definition.reserve ≡ seat_store_len s c
 blank_len (Seat.Segments start number) c = refl
 blank_len (Seat.Boxes rows) c = refl
-
--- ---- what is digested

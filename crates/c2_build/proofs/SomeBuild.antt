@@ -1,41 +1,35 @@
 -- Told inputs come to some plan and to some new file, or to what refuses them.
-use Rattle.std.proofs.Common.{◌≡◌, ◌⊎◌, inl, inr, ℕ, ◌+◌, ◌^◌, ◌<◌, true, false, List, [], ◌++◌, length, All, Option, Some, None, refl, sym, ap, ◌∙◌, subst, option_map}
-use Rattle.std.specs.Prelude.{Result, Ok, Err}
+use Rattle.std.proofs.Common.{◌≡◌, ◌⊎◌, inl, inr, ℕ, ◌+◌, ◌^◌, ◌<◌, true, List, [], length, All, Option, Some, None, refl, sym, ap, ◌∙◌, subst, option_map}
+use Rattle.std.specs.Prelude.{Ok}
 use Rattle.c2_base.specs.declared.values.Question.{Question}
 use Rattle.c2_spec.specs.C2pa.Message.{bare_bytes}
-use Rattle.c2_spec.specs.C2pa.Sign1.{SignParts, SpellsMessage}
-use Rattle.c2_spec.specs.C2pa.Manifest.{store_refusal}
-use Rattle.c2_spec.specs.Jumbf.Tree.{IsLegalTree, Tree, tree_bytes}
-use Rattle.c2_spec.specs.Located.{Located, Opening, absent, here, refused}
+use Rattle.c2_spec.specs.C2pa.Sign1.{SignParts}
+use Rattle.c2_spec.specs.Jumbf.Tree.{Tree, tree_bytes}
+use Rattle.c2_spec.specs.Located.{Opening, here}
 use Rattle.c2_spec.specs.declared.digest.Alg.{Alg}
 use Rattle.c2_spec.specs.declared.panel.Verdict.{Verdict}
 use Rattle.c2_spec.specs.declared.panel.Verdict.TheVariants.{Approved}
-use Rattle.c2_rules.specs.Opened.{IsBoxTree, IsManifestStore, IsManifestTree, IsOpened, Opens}
-use Rattle.c2_rules.specs.CheckList.{IsValid, StoreReading, check_list}
+use Rattle.c2_rules.specs.CheckList.{StoreReading, check_list}
 use Rattle.c2_rules.specs.Tests.{first_failing}
-use Rattle.c2_rules.specs.Validated.{IsAnswer, IsFileReading, IsOpenedAnswer}
-use Rattle.c2_rules.specs.declared.answer.Failing.{Failing}
-use Rattle.c2_rules.proofs.FirstLemmas.{all_hold}
+use Rattle.c2_rules.specs.Validated.{IsAnswer, IsOpenedAnswer}
 use Rattle.c2_rules.specs.declared.answer.Answer.{Answer}
-use Rattle.c2_definition.specs.DefinitionFile.{IsDefinition, IsWellFormed}
+use Rattle.c2_definition.specs.DefinitionFile.{IsWellFormed}
 use Rattle.c2_definition.specs.declared.types.Definition.{Definition}
-use Rattle.c2_definition.specs.declared.types.DefinitionField.{DefinitionField}
-use Rattle.c2_message.specs.Message.{IsAccepted, IsRefused, RefusedForOne}
+use Rattle.c2_message.specs.Message.{RefusedForOne}
 use Rattle.c2_message.specs.Refusals.{reserve_needed}
 use Rattle.c2_message.specs.Signed.{FillsOrNeedsMore, IsPaddable, IsSigned, NeedsMore}
-use Rattle.c2_message.specs.declared.error.SignaturePart.{SignaturePart}
-use Rattle.c2_carried.specs.Carrying.{CanStandOver, SomeContentOver}
-use Rattle.c2_carried.specs.Refusing.{has_manifest, redaction_refusal}
-use Rattle.c2_carried.specs.declared.refused.RefusedRedaction.{RefusedRedaction}
+use Rattle.c2_carried.specs.Carrying.{SomeContentOver}
 use Rattle.c2_places.specs.Laws.{FreshHasPlace, LeftHasPlace, SomeLeft}
 use Rattle.c2_places.specs.Places.{IsFreePlace, Place, place_store}
-use Rattle.c2_build.specs.Building.{IsBuilt, IsDefinitionStage, IsEmbeddedOn, IsGroundOver, IsGroundStage, IsMediaStage, IsMessageRead, IsMessageStage, IsPlaceStage, IsPlannedOn, MediaKind, built_of, definition_stage, fresh, fresh_ground, media_stage, message_stage, signed_bytes, stored}
+use Rattle.c2_build.specs.Building.{IsBuilt, IsEmbeddedOn, IsPlannedOn, built_of, signed_bytes}
+use Rattle.c2_refusals.specs.Stages.{IsDefinitionStage, IsGroundOver, IsGroundStage, IsMediaStage, IsMessageStage, IsPlaceStage, MediaKind, fresh, fresh_ground, media_stage, stored}
 use Rattle.c2_build.specs.Meeting.{SomeEmbedding, SomePlan}
-use Rattle.c2_build.specs.Refusals.{Ground, first_refusal, ground_tests, label_tests, late_tests, older_tests, parent_tests, redaction_tests, reserve_tests, refuse_if}
-use Rattle.c2_build.proofs.OneBuild.{OneOpened, ground_of}
+use Rattle.c2_refusals.specs.Refusals.{Ground, first_refusal, ground_tests, late_tests, older_tests, redaction_tests, reserve_tests, refuse_if}
+use Rattle.c2_refusals.proofs.Inputs.{AreWellFormed, EachDefinition, IsTaken, OneOpened, read_formed, read_taken, some_definition, some_message}
+use Rattle.c2_refusals.proofs.Passing.{ground_of, is_passable, opened_absent, opened_here, stands_over}
 use Rattle.c2_build.proofs.Rooms.{pass_numbers, some_bytes}
-use Rattle.c2_build.proofs.Stages.{Something, none_fails, none_of_both, some_then, some_unless, unless_passed}
-use Rattle.c2_build.specs.declared.error.BuildError.TheVariants.{LabelTaken, RedactionRefused, ReserveTooSmall}
+use Rattle.c2_refusals.proofs.Stages.{Something, none_of_both, some_then, some_unless, unless_passed}
+use Rattle.c2_refusals.specs.declared.error.BuildError.TheVariants.{ReserveTooSmall}
 use Rattle.std.specs.Option.{option_to_list}
 use Rattle.c2_built.specs.Store.{new_alg}
 
@@ -45,22 +39,10 @@ use Rattle.c2_built.specs.Store.{new_alg}
 abbrev pub EachAnswer : Type 0
 EachAnswer = (hash : Alg → List ℕ → List ℕ) (said : Question → Verdict) (file : List ℕ) → All (λ b. b < 2 ^ 8) file → (a : Answer) × IsAnswer hash said file a
 
--- each file is a definition, or one thing of it is refused first
-abbrev pub EachDefinition : Type 0
-EachDefinition = (file : List ℕ) → (r : Result Definition DefinitionField) × IsDefinition file r
-
--- a definition that a file is is well formed
-abbrev pub AreWellFormed : Type 0
-AreWellFormed = (file : List ℕ) (d : Definition) → IsDefinition file (Ok d) → IsWellFormed d
-
 -- a media file without a store has a free place, and so has what is left of one with a store
 pub record PlaceLaws : Type 0 where
   pub fresh : FreshHasPlace
   pub left : LeftHasPlace
-
--- two stores that are opened are one tree
-same_here : (a n b m : ℕ) (t u : Tree) → ◌≡◌ {A = Opening Tree} (here a n t) (here b m u) → t ≡ u
-same_here a n b m t u e = cc (e)
 
 -- all of them
 pub record SomeLaws : Type 0 where
@@ -82,49 +64,6 @@ some_media law hash media bytes =
     let a = law hash (λ q. Approved) media bytes in
     (media_stage a.1.0, (a.1.0, a.1.1, refl))
 
--- a media file that is fresh is opened as one without a store
-pub opened_absent : (media : List ℕ) → IsMediaStage media (Ok fresh) → IsOpened media absent
-opened_absent media h = by h.0 h.1 h.2
-  where
-    by : (what : Opening Tree) → IsOpened media what → Ok fresh ≡ media_stage what → IsOpened media absent
-    by (refused reason number) o e = absurd (cc (e))
-    by absent o e = o
-    by (here start len t) o e = absurd (cc (e))
-
--- and one that has this store in this range is opened so
-pub opened_here : (media : List ℕ) (start len : ℕ) (t : Tree) → IsMediaStage media (Ok (stored start len t)) → IsOpened media (here start len t)
-opened_here media start len t h = by h.0 h.1 h.2
-  where
-    by : (what : Opening Tree) → IsOpened media what → Ok (stored start len t) ≡ media_stage what → IsOpened media (here start len t)
-    by (refused reason number) o e = absurd (cc (e))
-    by absent o e = absurd (cc (e))
-    by (here at n u) o e =
-        let place : at ≡ start = cc (e) in
-        let count : n ≡ len = cc (e) in
-        let tree : u ≡ t = cc (e) in
-        subst (λ (x : Tree). IsOpened media (here start len x)) tree (subst (λ (k : ℕ). IsOpened media (here start k u)) count (subst (λ (k : ℕ). IsOpened media (here k n u)) place o))
-
--- The store that a file is opened as.
-pub record IsOldStore (old : Tree) : Type 0 where
-  pub legal : IsLegalTree 1 old
-  pub accepted : store_refusal old ≡ None
-
--- it is legal and a store
-pub old_store : (media : List ℕ) (start len : ℕ) (old : Tree) → IsOpened media (here start len old) → IsOldStore old
-old_store media start len old h = by_place h.0 h.2
-  where
-    by_tree : (at n : ℕ) (store : List ℕ) (what : Opening Tree) → IsBoxTree at n store what → Opens IsManifestTree what (here start len old) → IsOldStore old
-    by_tree at n store (refused reason number) g e = absurd (cc (e))
-    by_tree at n store absent g e = absurd g
-    by_tree at n store (here b m t) g e =
-        let same : old ≡ t = same_here start len b m old t e.1 in
-        record { legal = subst (IsLegalTree 1) (sym same) g.0.legal; accepted = ap store_refusal same ∙ e.0 }
-
-    by_place : (l : Located) → Opens IsManifestStore l (here start len old) → IsOldStore old
-    by_place (refused reason number) e = absurd (cc (e))
-    by_place absent e = absurd (cc (e))
-    by_place (here at n store) e = by_tree at n store e.0 e.1 e.2
-
 -- ---- the place
 
 -- what is built over has a free place
@@ -143,38 +82,6 @@ some_place : (base : List ℕ) → (p : Place) × IsFreePlace base p → Somethi
 some_place base h = (Ok h.0, (h.0, h.1.is, refl))
 
 -- ---- the ground
-
--- What is known of an older store that passed its tests.
-pub record IsPassable (hash : Alg → List ℕ → List ℕ) (said : Question → Verdict) (d : Definition) (s : StoreReading) : Type 0 where
-  pub valid : IsValid hash said s
-  pub label : has_manifest s.readings d.label ≡ false
-  pub redactions : redaction_refusal d.label s.readings d.redact ≡ None
-
--- where no test fails
-pub is_passable : (hash : Alg → List ℕ → List ℕ) (said : Question → Verdict) (d : Definition) (s : StoreReading) → first_refusal (older_tests d s.readings (first_failing (check_list hash said s))) ≡ None → IsPassable hash said d s
-is_passable hash said d s h =
-    let found : Option Failing = first_failing (check_list hash said s) in
-    let one = none_of_both (parent_tests found) (label_tests d s.readings ++ redaction_tests d s.readings) h in
-    let two = none_of_both (label_tests d s.readings) (redaction_tests d s.readings) one.1 in
-    record {
-      valid = all_hold (check_list hash said s) (no_parent found one.0);
-      label = (none_fails (has_manifest s.readings d.label) (LabelTaken d.label) None two.0).0;
-      redactions = no_redaction (redaction_refusal d.label s.readings d.redact) two.1;
-    }
-  where
-    no_parent : (o : Option Failing) → first_refusal (parent_tests o) ≡ None → o ≡ None
-    no_parent None e = refl
-    no_parent (Some f) e = absurd (cc (e))
-
-    no_redaction : (o : Option RefusedRedaction) → first_refusal (option_to_list (option_map (λ (r : RefusedRedaction). refuse_if true (RedactionRefused r.text r.code)) o)) ≡ None → o ≡ None
-    no_redaction None e = refl
-    no_redaction (Some r) e = absurd (cc (e))
-
--- a store that passed may be stood over
-pub stands_over : (hash : Alg → List ℕ → List ℕ) (said : Question → Verdict) (media : List ℕ) (d : Definition) (start len : ℕ) (t : Tree) (s : StoreReading) → IsOpened media (here start len t) → IsFileReading media t s → IsPassable hash said d s → CanStandOver hash said d t s
-stands_over hash said media d start len t s opened reads h =
-    let o = old_store media start len t opened in
-    record { legal = o.legal; store = o.accepted; reads = reads.reads.each; valid = h.valid; label = h.label; redactions = h.redactions }
 
 -- something is built over, or something is refused
 some_ground : SomeLaws → (hash : Alg → List ℕ → List ℕ) (said : Question → Verdict) (media : List ℕ) (d : Definition) (kind : MediaKind) → All (λ b. b < 2 ^ 8) media → IsMediaStage media (Ok kind) → Something (IsGroundStage hash said media d kind)
@@ -202,39 +109,6 @@ ground_definition hash said media d (stored start len t) g h =
     ap (λ (x : Ground). x.content.definition) (sym same) ∙ is.1.1.definition
 
 -- ---- the definition and the message
-
--- each definition file comes to something
-some_definition : EachDefinition → (file : List ℕ) → Something (IsDefinitionStage file)
-some_definition law file = let d = law file in (definition_stage d.0, (d.0, d.1, refl))
-
--- a definition that was read is well formed
-pub read_formed : AreWellFormed → (file : List ℕ) (d : Definition) → IsDefinitionStage file (Ok d) → IsWellFormed d
-read_formed law file d h = by h.0 h.1 h.2
-  where
-    by : (r : Result Definition DefinitionField) → IsDefinition file r → Ok d ≡ definition_stage r → IsWellFormed d
-    by (Ok x) is e = let same : x ≡ d = cc (e) in subst IsWellFormed same (law file x is)
-    by (Err f) is e = absurd (cc (e))
-
--- each message comes to something
-some_message : RefusedForOne → (protected bytes : List ℕ) → All (λ b. b < 2 ^ 8) bytes → Something (IsMessageStage protected bytes)
-some_message law protected bytes are = by (law.either protected bytes are)
-  where
-    by : IsAccepted protected bytes ⊎ ((test : SignaturePart) × IsRefused protected bytes test) → Something (IsMessageStage protected bytes)
-    by (inl a) = let form = a.1.0 in (Ok form.0, (Ok form.0, (a, form.1), refl))
-    by (inr r) = (message_stage (Err r.0), (Err r.0, r.1, refl))
-
--- what was read of a message that is accepted
-pub record IsTaken (protected bytes : List ℕ) (p : SignParts) : Type 0 where
-  pub accepted : IsAccepted protected bytes
-  pub spelled : SpellsMessage bytes p
-
--- a message that was passed was accepted
-pub read_taken : (protected bytes : List ℕ) (p : SignParts) → IsMessageStage protected bytes (Ok p) → IsTaken protected bytes p
-read_taken protected bytes p h = by h.0 h.1 h.2
-  where
-    by : (m : Result SignParts SignaturePart) → IsMessageRead protected bytes m → Ok p ≡ message_stage m → IsTaken protected bytes p
-    by (Ok q) is e = let same : q ≡ p = cc (e) in record { accepted = is.0; spelled = subst (SpellsMessage bytes) same is.1 }
-    by (Err t) is e = absurd (cc (e))
 
 -- it can be padded to what a definition reserves
 paddable : (protected bytes : List ℕ) (p : SignParts) (d : Definition) → IsTaken protected bytes p → IsWellFormed d → IsPaddable bytes p d.reserve

@@ -9,10 +9,10 @@ use Rattle.c2_rules.specs.Opened.{IsOpened}
 use Rattle.c2_message.specs.Signed.{FillsOrNeedsMore}
 use Rattle.c2_films.specs.Films.{AreOthers}
 use Rattle.c2_places.specs.Places.{IsPlace, in_boxes}
-use Rattle.c2_build.specs.Building.{fresh_ground}
+use Rattle.c2_refusals.specs.Stages.{fresh_ground}
 use Rattle.c2_build.specs.Meeting.{SomeFilmSucceeds}
-use Rattle.c2_build.specs.Refusals.{first_refusal, late_tests}
-use Rattle.c2_build.proofs.OneBuild.{OneDefinition, OneItem}
+use Rattle.c2_refusals.specs.Refusals.{first_refusal, late_tests}
+use Rattle.c2_refusals.proofs.Inputs.{OneDefinition, OneItem}
 use Rattle.c2_build.proofs.Worked.{defined, definition_file, message, parts, texts_in, worked_in}
 
 -- the file type box

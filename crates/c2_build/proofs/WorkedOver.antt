@@ -50,16 +50,16 @@ use Rattle.c2_places.specs.Bases.{IsLeft}
 use Rattle.c2_places.specs.Laws.{PlaceSizeIsFixed}
 use Rattle.c2_places.specs.Meeting.{FreshPlaceMeets}
 use Rattle.c2_places.specs.Places.{CanPut, HasRoom, IsFreePlace, Place, bound_text, in_boxes, in_segments, place_binding, place_file, place_question, place_start, place_store, put_bytes, range_len, store_len}
-use Rattle.c2_build.specs.Building.{Built, IsBuilt, IsDefinitionStage, IsEmbedded, IsEmbeddedOn, IsGroundOver, IsGroundStage, IsMediaStage, IsMessageStage, IsPlaceStage, MediaKind, built_of, fresh_ground, stored}
-use Rattle.c2_build.specs.Meeting.{ApprovedIsValid, AreApproved, HasTextsIn}
-use Rattle.c2_build.specs.Refusals.{Ground, box_tests, first_refusal, ground_tests, late_tests, older_tests, place_tests, refuse_if, reserve_tests}
-use Rattle.c2_build.specs.declared.error.BuildError.{BuildError}
-use Rattle.c2_build.specs.declared.error.BuildError.TheVariants.{LabelTaken, MediaRefused, StoreTooLarge, TooManyManifests}
-use Rattle.c2_build.proofs.Drawn.{then_next, unless_passes}
-use Rattle.c2_build.proofs.OneBuild.{OneDefinition, OneItem, ground_of}
+use Rattle.c2_build.specs.Building.{Built, IsBuilt, IsEmbedded, IsEmbeddedOn, built_of}
+use Rattle.c2_refusals.specs.Stages.{HasTextsIn, IsDefinitionStage, IsGroundOver, IsGroundStage, IsMediaStage, IsMessageStage, IsPlaceStage, MediaKind, fresh_ground, stored}
+use Rattle.c2_build.specs.Meeting.{ApprovedIsValid, AreApproved}
+use Rattle.c2_refusals.specs.Refusals.{Ground, box_tests, first_refusal, ground_tests, late_tests, older_tests, place_tests, refuse_if, reserve_tests}
+use Rattle.c2_refusals.specs.declared.error.BuildError.{BuildError}
+use Rattle.c2_refusals.specs.declared.error.BuildError.TheVariants.{LabelTaken, MediaRefused, StoreTooLarge, TooManyManifests}
+use Rattle.c2_refusals.proofs.Stages.{none_of_both, then_next, unless_passes}
+use Rattle.c2_refusals.proofs.Inputs.{AreWellFormed, OneDefinition, OneItem}
+use Rattle.c2_refusals.proofs.Passing.{ground_of}
 use Rattle.c2_build.proofs.Rooms.{PassNumbers, pass_numbers, some_bytes}
-use Rattle.c2_build.proofs.SomeBuild.{AreWellFormed}
-use Rattle.c2_build.proofs.Stages.{none_of_both}
 use Rattle.c2_build.proofs.Worked.{accepted, defined, definition_file, is_defined, message, parts, signed, spelled, texts}
 use Rattle.c2_spec.specs.Digest.{zero_digest}
 

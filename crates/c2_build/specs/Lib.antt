@@ -1,4 +1,3 @@
-pub mod Refusals
 pub mod Building
 pub mod Answers
 pub mod Asked

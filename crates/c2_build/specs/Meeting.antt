@@ -24,14 +24,12 @@ use Rattle.c2_definition.specs.DefinitionFile.{IsDefinition}
 use Rattle.c2_definition.specs.declared.types.Definition.{Definition}
 use Rattle.c2_message.specs.Signed.{IsSigned}
 use Rattle.c2_built.specs.Fresh.{GivesDigests, Meets}
-use Rattle.c2_built.specs.Written.{HasTexts}
 use Rattle.c2_places.specs.Places.{IsPlace, Place, place_start, place_store}
-use Rattle.c2_build.specs.Building.{Built, IsEmbedded, IsPlanned, MediaKind, fresh, stored}
-use Rattle.c2_build.specs.Building.{IsDefinitionRefused, IsDefinitionStage, IsGroundStage, IsMediaRefused, IsMediaStage}
-use Rattle.c2_build.specs.Building.{IsMessageRefused, IsMessageStage}
-use Rattle.c2_build.specs.Refusals.{AllPass, Ground, ground_tests, older_tests, redaction_tests, reserve_tests}
-use Rattle.c2_build.specs.declared.error.BuildError.{BuildError}
-use Rattle.c2_build.specs.declared.types.Embedded.{Embedded}
+use Rattle.c2_build.specs.Building.{Built, IsEmbedded, IsPlanned}
+use Rattle.c2_refusals.specs.Stages.{HasTextsIn, IsDefinitionRefused, IsDefinitionStage, IsGroundStage, IsMediaRefused, IsMediaStage, IsMessageRefused, IsMessageStage, MediaKind, fresh, stored}
+use Rattle.c2_refusals.specs.Refusals.{AllPass, Ground, ground_tests, older_tests, redaction_tests, reserve_tests}
+use Rattle.c2_refusals.specs.declared.error.BuildError.{BuildError}
+use Rattle.c2_refusals.specs.declared.types.Embedded.{Embedded}
 use Rattle.c2_built.specs.Store.{new_alg}
 
 -- ---- one outcome
@@ -131,11 +129,6 @@ KeepsBytes media fresh base = base ≡ media
 KeepsBytes media (stored start len t) base = IsLessStore media start len base
 
 -- ---- the new file
-
--- If a file is a definition, its texts are UTF-8 and shorter than 2^64 bytes. No definition says so of a JSON file: a program sees it
--- of the texts that it holds.
-abbrev pub HasTextsIn : List ℕ → Type 0
-HasTextsIn file = (d : Definition) → IsDefinition file (Ok d) → HasTexts d
 
 -- The store is the new one of the definition that a file is, over the ground that this media file gives, in the place of that.
 -- Its message is the signed one, padded to the bytes that the definition reserves.

@@ -13,25 +13,27 @@ ghost use Rattle.c2_definition.specs.DefinitionFile.{IsWellFormed};
 ghost use Rattle.c2_layout.specs.Parts.{IsContent};
 ghost use Rattle.c2_built.specs.Store.{Content, new_alg};
 ghost use Rattle.c2_places.specs.Places.{IsPlace, Place};
-ghost use Rattle.c2_build.specs.Answers.{WithoutFault, build_heard};
-ghost use Rattle.c2_build.specs.Building.{MediaKind};
-ghost use Rattle.c2_build.specs.Refusals.{box_tests, first_refusal, number_tests, place_tests};
-ghost use Rattle.c2_build.specs.Steps.{IsAskCause, IsDraft, IsDrafted, IsFitted, IsKind, IsQuiet, IsReadIn, IsRefusedPlace, IsSeat, IsSeatIn, IsSmall, IsStoreRefusal, KindHears, seat_binding, seat_range_len, seat_store_len};
+ghost use Rattle.c2_refusals.specs.Kinds.{IsAskCause, IsQuiet, WithoutFault, build_heard};
+ghost use Rattle.c2_refusals.specs.Stages.{MediaKind};
+ghost use Rattle.c2_refusals.specs.Refusals.{box_tests, first_refusal, number_tests, place_tests};
+ghost use Rattle.c2_bound_parts.specs.Bound.{IsSmall, seat_binding, seat_range_len, seat_store_len};
+ghost use Rattle.c2_build.specs.Steps.{IsDraft, IsDrafted, IsFitted, IsRefusedPlace, IsStoreRefusal};
+ghost use Rattle.c2_ground.specs.Grounds.{IsKind, IsReadIn, KindHears};
+ghost use Rattle.c2_refusals.specs.Seats.{IsSeat, IsSeatIn};
 
-use crate::BuildError;
-use crate::ground::{KeptGround, grounded};
-use crate::media::{MediaRead, form_of};
-use crate::place::{Seat, find_spot};
 use c2_base::limits::{FILE_LEN_LIMIT, MAX_MANIFESTS, MAX_ROOT_BOXES, MAX_STORE_LEN};
 use c2_base::{MediaError, NoMemory, Range, Source};
 use c2_boxes::insert_place;
 use c2_definition::{Definition, NewAssertion};
 use c2_film_binding::film_binding;
+use c2_ground::{MediaRead, form_of, grounded};
 use c2_hash::{Alg, Digest, Hashing};
 use c2_jpegseg::segments_len;
 use c2_judge::Judge;
 use c2_layout::{Carried, bound_size, data_binding};
+use c2_place::find_spot;
 use c2_places::each_media_has_a_place;
+use c2_refusals::{BuildError, Draft, Drafted, KeptGround, Put, Seat};
 use c2_spec::Reason;
 use std::alloc::Global;
 
@@ -43,45 +45,6 @@ const NO_RANGE: Range = Range {
 
 // How many bytes the C2PA box of a store has before the store.
 const BOX_FRAME_LEN: u64 = 45;
-
-/// What is put in of a new store.
-#[derive(Clone, Copy, Debug, PartialEq, Eq)]
-pub enum Put {
-    /// Its packets, under this number.
-    Packets(u16),
-
-    /// Its box.
-    Box,
-}
-
-/// The numbers of what is to be built.
-#[derive(Clone, Copy, Debug)]
-pub struct Draft {
-    /// The place of the first byte that is put in.
-    pub start: u64,
-
-    /// How many bytes are put in.
-    pub length: u64,
-
-    /// How many bytes the new file has beside them.
-    pub size: u64,
-
-    /// What is put in.
-    pub put: Put,
-}
-
-/// What is to be built, and over what.
-#[derive(Debug, Drop)]
-pub struct Drafted {
-    /// What it is built over.
-    pub ground: KeptGround,
-
-    /// The place in that.
-    pub seat: Seat,
-
-    /// Its numbers.
-    pub draft: Draft,
-}
 
 // The place of the first byte that is put in, and what is put in, where something can be put in at this place.
 fn put_at(seat: &Seat) -> Result<(u64, Put), BuildError>
@@ -148,7 +111,7 @@ fn small_store_len(
     ensures is_len { IfOk result (λ n. jpeg.IsStoreLen n) }
     ensures refused { IfErr result (λ e. (hash : List ℕ → List ℕ) (c : Content)
         → IsContent hash definition.now carried.now c
-        → IsStoreRefusal (seat_store_len seat.now c) e) }
+        → WithoutFault e (IsStoreRefusal (seat_store_len seat.now c) e)) }
     ensures quiet { IfErr result IsQuiet }
 {
     let len = match store_len(alloc, definition, carried, seat) {

@@ -1,108 +1,33 @@
 // Writing a new file.
-ghost use Rattle.std.specs.Prelude.{◌≡◌, ◌⊎◌, IfErr, OnErr, OnOk, map, true, ℕ, List};
+ghost use Rattle.std.specs.Prelude.{◌≡◌, ◌⊎◌, map, ℕ, List};
 ghost use Rattle.std.specs.Option.{ForSome};
 ghost use Rattle.c2_base.specs.Causes.{Rose};
 ghost use Rattle.c2_base.specs.Sink.{WritesSink, unsaid};
 ghost use Rattle.c2_base.specs.Source.{ReadsSource};
-ghost use Rattle.c2_copying.specs.Writing.{IsReadCause, IsStep, IsWhole, IsWriteCause};
-ghost use Rattle.c2_copying.specs.declared.copying.CopyError.TheVariants as copying;
-ghost use Rattle.c2_cleared.specs.Clears.{cleared};
-ghost use Rattle.c2_spec.specs.Bmff.Boxes.{box_bytes};
-ghost use Rattle.c2_spec.specs.Bmff.Writing.{c2pa_box};
-ghost use Rattle.c2_spec.specs.Jpeg.Writing.{IsPacketStore, packets_bytes};
+ghost use Rattle.c2_copying.specs.Writing.{IsReadCause, IsWriteCause};
 ghost use Rattle.c2_spec.specs.Judges.Panel.{panel_says};
 ghost use Rattle.c2_rules.specs.Asking.{HearsPanel};
-ghost use Rattle.c2_build.specs.Answers.{AsksEmbedded, EmbedsFile, EndsOut, IsEmbedCause, IsOutCause, LeavesUndue, build_heard};
-ghost use Rattle.c2_build.specs.Building.{IsDefinitionTold, IsMessageTold};
-ghost use Rattle.c2_build.specs.Steps.{CanWrite, CanWriteOver, copy_fault_of, put_of, ready_file};
+ghost use Rattle.c2_putting.specs.Puts.{WritesOver};
+ghost use Rattle.c2_refusals.specs.Kinds.{build_heard};
+ghost use Rattle.c2_refusals.specs.Sinks.{EndsOut, IsOutCause};
+ghost use Rattle.c2_refusals.specs.Stages.{IsDefinitionTold, IsMessageTold, LeavesUndue};
+ghost use Rattle.c2_build.specs.Answers.{AsksEmbedded, EmbedsFile, IsEmbedCause};
+ghost use Rattle.c2_build.specs.Steps.{CanWrite, ready_file};
 
-use crate::draft::Put;
 use crate::laws::{a_build_comes_to_one_thing, a_new_file_meets_the_rules};
 use crate::ready::{Ready, prepare};
-use crate::{BuildError, Embedded};
-use c2_base::{Failed, Sink, Source};
-use c2_boxes::write_box;
+use c2_base::{Sink, Source};
 use c2_cleared::{Cleared, Named};
-use c2_copying::{CopyError, copy, steps_follow};
+use c2_copying::CopyError;
 use c2_hash::Hashing;
-use c2_jpegseg::{packets_hold_the_store, write_segments};
 use c2_judge::Judge;
+use c2_putting::{copy_fault, write_whole};
+use c2_refusals::{BuildError, Embedded};
 use std::alloc::Global;
 use std::marker::Brand;
 
-// Appends the packets of a store under this number.
-fn write_packets<K: Sink>(store: &[u8], number: u16, out: &mut K) -> Result<(), CopyError>
-    requires { IsPacketStore store.now }
-    ensures step { IsStep K.written K.spare K.finished (packets_bytes store.now number)
-        out.old out.new result }
-    ensures fault { IfErr result (λ e. e ≡ copying.WriteFault) }
-    ensures writes { WritesSink K.written K.finished K.faults IsWriteCause out.old out.new result }
-{
-    // Only the prover needs this law.
-    packets_hold_the_store();
-    match write_segments(store, number, out) {
-        Ok(()) => Ok(()),
-        Err(Failed) => Err(CopyError::WriteFault),
-    }
-}
-
-// Appends the box of a store.
-fn write_boxed<K: Sink>(store: &[u8], out: &mut K) -> Result<(), CopyError>
-    requires { IsPacketStore store.now }
-    ensures step { IsStep K.written K.spare K.finished (box_bytes (c2pa_box store.now))
-        out.old out.new result }
-    ensures fault { IfErr result (λ e. e ≡ copying.WriteFault) }
-    ensures writes { WritesSink K.written K.finished K.faults IsWriteCause out.old out.new result }
-{
-    match write_box(store, out) {
-        Ok(()) => Ok(()),
-        Err(Failed) => Err(CopyError::WriteFault),
-    }
-}
-
-// Appends what is put in of a store.
-fn put_store<K: Sink>(store: &[u8], put: Put, out: &mut K) -> Result<(), CopyError>
-    requires { IsPacketStore store.now }
-    ensures step { IsStep K.written K.spare K.finished (put_of put store.now)
-        out.old out.new result }
-    ensures fault { IfErr result (λ e. e ≡ copying.WriteFault) }
-    ensures writes { WritesSink K.written K.finished K.faults IsWriteCause out.old out.new result }
-{
-    match put {
-        Put::Packets(number) => write_packets(store, number, out),
-        Put::Box => write_boxed(store, out),
-    }
-}
-
-// Appends the new file over a base.
-fn write_over<B: Source, K: Sink>(
-    base: &mut B,
-    mut ready: Ready,
-    out: &mut K,
-) -> Result<(), CopyError>
-    requires { CanWriteOver (B.len base.old) ready }
-    ensures step { ForSome (B.known base.old) (λ file. IsStep K.written K.spare K.finished
-        (ready_file ready file)
-        out.old out.new result) }
-    ensures reads { ReadsSource B.len B.known B.faults IsReadCause base.old base.new result }
-    ensures writes { WritesSink K.written K.finished K.faults IsWriteCause out.old out.new result }
-{
-    // Only the prover needs this law.
-    steps_follow::<K>();
-    let draft = ready.draft;
-    // Matched and not handed up by `?`, here and below: each way out has clauses of its own.
-    match copy(base, out, 0, draft.start, &mut ready.buffer) {
-        Ok(()) => {}
-        Err(error) => return Err(error),
-    }
-    match put_store(ready.store.as_slice(), draft.put, out) {
-        Ok(()) => {}
-        Err(error) => return Err(error),
-    }
-    copy(base, out, draft.start, draft.size, &mut ready.buffer)
-}
-
-// Appends the new file over what is left of a media file of which this is known, puts the answer into `done`, and gives the file back.
+// Writes the new file over what is left of a media file of which this is known, and says that nothing follows. Puts the answer into `done`,
+// and gives the file back.
 fn write_left<'m, A: Source, L: Named, K: Sink>(
     media: &'m mut A,
     ready: Ready,
@@ -114,67 +39,33 @@ fn write_left<'m, A: Source, L: Named, K: Sink>(
     requires known { A.known media.old ≡ L.known }
     requires can { CanWrite (A.len media.old) ready }
     ensures same { result.ghost_name ≡ media.entry.ghost_name }
-    ensures step { ForSome (A.known media.old) (λ file. IsStep K.written K.spare K.finished
-        (ready_file ready (cleared ready.clearing file))
-        out.old out.new done.new) }
+    ensures written { WritesOver K.written K.spare K.finished (ready_file ready)
+        (A.known media.old) out.old out.new done.new }
     ensures reads { ReadsSource A.len A.known A.faults IsReadCause media.old result.now done.new }
-    ensures writes { WritesSink K.written K.finished K.faults IsWriteCause
-        out.old out.new done.new }
+    ensures writes { WritesSink K.written unsaid K.faults IsWriteCause out.old out.new done.new }
 {
-    let mut base = Cleared::<A, L>::new(media, ready.clearing);
-    *done = write_over(&mut base, ready, out);
+    let Ready {
+        store,
+        draft,
+        clearing,
+        mut buffer,
+    } = ready;
+    let mut base = Cleared::<A, L>::new(media, clearing);
+    *done = write_whole(&mut base, store.as_slice(), draft, &mut buffer, out);
     base.into_media()
 }
 
-// Appends the new file over what is left of a media file.
-fn write_bytes<A: Source, K: Sink>(
-    media: &mut A,
-    ready: Ready,
-    out: &mut K,
-) -> Result<(), CopyError>
+// Writes the new file over what is left of a media file, and says that nothing follows.
+fn write_file<A: Source, K: Sink>(media: &mut A, ready: Ready, out: &mut K) -> Result<(), CopyError>
     requires { CanWrite (A.len media.old) ready }
-    ensures step { ForSome (A.known media.old) (λ file. IsStep K.written K.spare K.finished
-        (ready_file ready (cleared ready.clearing file))
-        out.old out.new result) }
+    ensures written { WritesOver K.written K.spare K.finished (ready_file ready)
+        (A.known media.old) out.old out.new result }
     ensures reads { ReadsSource A.len A.known A.faults IsReadCause media.old media.new result }
-    ensures writes { WritesSink K.written K.finished K.faults IsWriteCause out.old out.new result }
+    ensures writes { WritesSink K.written unsaid K.faults IsWriteCause out.old out.new result }
 {
     let mut done = Ok(());
     let _media = write_left::<A, Brand, K>(media, ready, out, &mut done);
     done
-}
-
-// Appends the new file, and says that nothing follows.
-fn write_file<A: Source, K: Sink>(media: &mut A, ready: Ready, out: &mut K) -> Result<(), CopyError>
-    requires { CanWrite (A.len media.old) ready }
-    ensures whole { ForSome (A.known media.old) (λ file. IsWhole K.written K.spare K.finished
-        (ready_file ready (cleared ready.clearing file))
-        out.old out.new result) }
-    ensures finished { OnOk result (K.finished out.new ≡ true) }
-    ensures unfinished { OnErr result (K.finished out.new ≡ K.finished out.old) }
-    ensures reads { ReadsSource A.len A.known A.faults IsReadCause media.old media.new result }
-    ensures writes { WritesSink K.written unsaid K.faults IsWriteCause out.old out.new result }
-{
-    // Only the prover needs this law.
-    steps_follow::<K>();
-    match write_bytes(media, ready, out) {
-        Ok(()) => {}
-        Err(error) => return Err(error),
-    }
-    match out.finish() {
-        Ok(()) => Ok(()),
-        Err(Failed) => Err(CopyError::WriteFault),
-    }
-}
-
-// The fault of a build that a fault of a copy is.
-fn copy_fault(error: CopyError) -> BuildError
-    ensures { result ≡ copy_fault_of error }
-{
-    match error {
-        CopyError::ReadFault => BuildError::ReadFault,
-        CopyError::WriteFault => BuildError::WriteFault,
-    }
 }
 
 /// Writes the new file: the media with a new store, of a definition and of a signed message, in its place. That is behind the APP0

@@ -3,7 +3,6 @@ ghost use Rattle.c2_build.specs.Meeting.{ApprovedIsValid, BuiltFileMeets};
 ghost use Rattle.c2_build.specs.Meeting.{SomeBuildOverStoreSucceeds, SomeBuildSucceeds, SomeFilmSucceeds};
 ghost use Rattle.c2_build.specs.Meeting.{OneEmbedding, OnePlan, SomeEmbedding, SomePlan};
 ghost use Rattle.c2_build.specs.Meeting.{UnrefusedIsEmbedded, UnrefusedIsPlanned};
-ghost use Rattle.c2_build.specs.Refusals.{FirstRefusalIsLeast};
 
 use c2_boxed::a_base_has_no_store;
 use c2_boxes::a_file_has_one_list_of_roots;
@@ -13,23 +12,18 @@ use c2_carried::{
 use c2_cbor::one_item;
 use c2_chain::one_reading;
 use c2_definition::{definitions_are_well_formed, each_definition_is_read_one_way};
-use c2_films::a_built_film_has_its_store;
+use c2_films::a_built_film_has_its_base;
 use c2_message::{
     a_message_fills_its_reserve_or_needs_more, each_message_is_accepted_or_refused_for_one_test,
 };
 use c2_places::{
-    a_base_stays, a_file_built_in_its_place_meets_the_rules,
     a_new_store_has_one_length_in_its_place, a_place_is_one, each_media_has_a_place,
     what_is_left_is_one,
 };
 use c2_rules::a_question_where_the_claim_rules_hold;
-use c2_succeeding::a_file_over_a_store_meets_the_rules;
+use c2_splits::{a_base_stays, a_file_built_in_its_place_meets_the_rules};
+use c2_succeeding::a_valid_store_is_approved;
 use c2_validate::{each_file_has_a_check, one_opening};
-
-/// What a list of tests answers is the refusal of the first test that fails, and there is none where every test passes.
-pub fn the_first_refusal_is_the_least()
-    ensures { FirstRefusalIsLeast }
-{}
 
 /// The same inputs come to one thing: the bytes that are to be signed, the new file, or what is refused first.
 pub fn a_build_comes_to_one_thing()
@@ -94,7 +88,7 @@ pub fn a_new_file_meets_the_rules()
     a_place_is_one();
     each_media_has_a_place();
     a_file_built_in_its_place_meets_the_rules();
-    a_file_over_a_store_meets_the_rules();
+    a_valid_store_is_approved();
     redactions_that_pass_may_be_made();
     a_base_stays();
     a_base_has_no_store();
@@ -133,7 +127,7 @@ pub fn some_build_over_a_store_succeeds()
     a_message_fills_its_reserve_or_needs_more();
     a_file_built_in_its_place_meets_the_rules();
     a_base_stays();
-    a_built_film_has_its_store();
+    a_built_film_has_its_base();
     a_new_store_has_one_length_in_its_place();
     approval_of_each_question_is_enough();
 }

@@ -1,5 +1,5 @@
 // What is ready to be written, before anything is.
-ghost use Rattle.std.specs.Prelude.{◌≡◌, ◌⊎◌, IfErr, IfOk, length, map};
+ghost use Rattle.std.specs.Prelude.{◌≡◌, ◌⊎◌, ℕ, IfErr, IfOk, length, map};
 ghost use Rattle.std.specs.Option.{ForSome};
 ghost use Rattle.c2_base.specs.Causes.{Rose};
 ghost use Rattle.c2_base.specs.Source.{ReadsSource};
@@ -14,23 +14,27 @@ ghost use Rattle.c2_container.specs.Contained.{HasRootsInside};
 ghost use Rattle.c2_definition.specs.DefinitionFile.{IsWellFormed};
 ghost use Rattle.c2_message.specs.Signed.{IsSigned};
 ghost use Rattle.c2_places.specs.Places.{IsPlace, Place};
-ghost use Rattle.c2_build.specs.Answers.{AsksEmbedded, LeavesUndue, build_heard};
-ghost use Rattle.c2_build.specs.Building.{IsEmbeddedOver, MediaKind};
-ghost use Rattle.c2_build.specs.Refusals.{Ground};
-ghost use Rattle.c2_build.specs.Steps.{CanWrite, ComesAs, IsFoundIn, IsGround, IsKind, IsNumbered, IsPrepareCause, IsPrepared, IsPutReady, IsReadCause, IsReadIn, IsReady, IsReadyCause, IsReserveRefusal, IsSeat, IsSmall, KindHears, SaysNothing};
+ghost use Rattle.c2_build_front.specs.Steps.{IsReserveRefusal};
+ghost use Rattle.c2_build.specs.Answers.{AsksEmbedded};
+ghost use Rattle.c2_refusals.specs.Kinds.{ComesAs, IsMessageCause, IsReadCause, SaysNothing, WithoutFault, build_heard};
+ghost use Rattle.c2_refusals.specs.Stages.{LeavesUndue, MediaKind};
+ghost use Rattle.c2_build.specs.Building.{IsEmbeddedOver};
+ghost use Rattle.c2_refusals.specs.Refusals.{Ground};
+ghost use Rattle.c2_bound_parts.specs.Bound.{IsSmall};
+ghost use Rattle.c2_build.specs.Steps.{CanWrite, IsNumbered, IsPrepareCause, IsPrepared, IsPutReady, IsReady, IsReadyCause};
+ghost use Rattle.c2_ground.specs.Grounds.{IsFoundIn, IsGround, IsKind, IsReadIn, KindHears};
+ghost use Rattle.c2_refusals.specs.Seats.{IsSeat};
 
-use crate::BuildError;
-use crate::draft::{Draft, Drafted, draft_over};
-use crate::media::{MediaFile, MediaRead, open_media, read_media};
-use crate::parts::parts_for;
-use crate::reading::{read_definition_file, read_message_file};
+use crate::draft::draft_over;
 use c2_base::limits::PIECE_LEN;
 use c2_base::{Blob, NoMemory, Source};
+use c2_bound_parts::parts_for;
 use c2_built::a_new_store_has_one_length;
 use c2_cbor::one_item;
 use c2_cleared::Clearing;
 use c2_definition::{Definition, each_definition_is_read_one_way};
 use c2_films::a_new_film_store_has_one_length;
+use c2_ground::{MediaFile, MediaRead, open_media, read_media};
 use c2_hash::Hashing;
 use c2_judge::Judge;
 use c2_layout::new_store;
@@ -38,6 +42,7 @@ use c2_message::{
     MessageError, a_message_fills_its_reserve_or_needs_more,
     each_message_is_accepted_or_refused_for_one_test, padded_message,
 };
+use c2_refusals::{BuildError, Draft, Drafted, read_definition_file, read_message_file};
 use c2_sigstruct::Sign1;
 use c2_validate::one_opening;
 use std::alloc::Global;
@@ -63,7 +68,9 @@ fn padded(alloc: Global, sign: &Sign1, definition: &Definition) -> Result<Blob, 
     requires can { (entries : Pairs) × CanBePadded (parts_of sign.now) entries }
     requires formed { IsWellFormed definition.now }
     ensures signed { IfOk result (IsSigned (parts_of sign.now) definition.now.reserve) }
-    ensures refused { IfErr result (IsReserveRefusal definition.now (parts_of sign.now)) }
+    ensures refused { IfErr result (λ e. WithoutFault e
+        (IsReserveRefusal definition.now (parts_of sign.now) e)) }
+    ensures cause { (count : ℕ) → IfErr result (IsMessageCause count count) }
 {
     match padded_message(alloc, sign, definition.reserve) {
         Ok(message) => Ok(message),

@@ -1,3 +1,2 @@
-mod Embedding
-mod Faults
+mod Making
 mod Sampling

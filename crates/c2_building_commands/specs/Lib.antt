@@ -1,4 +1,3 @@
-pub mod Errors
 pub mod Laws
 pub mod Outcomes
 pub mod Writing

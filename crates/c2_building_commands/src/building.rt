@@ -3,19 +3,19 @@ ghost use Rattle.std.specs.Prelude.{◌≡◌, ◌≢◌, ◌⊎◌, ℕ, List, 
 ghost use Rattle.std.specs.Option.{ForSome};
 ghost use Rattle.c2_base.specs.Causes.{Rose};
 ghost use Rattle.c2_base.specs.Source.{ReadsSource};
-ghost use Rattle.c2_build.specs.Answers.{AsksEmbedded, AsksPlanned, LeavesUndue};
-ghost use Rattle.c2_build.specs.Building.{IsDefinitionTold, IsMediaRefused, IsMessageTold};
+ghost use Rattle.c2_build.specs.Answers.{AsksEmbedded, AsksPlanned};
+ghost use Rattle.c2_refusals.specs.Stages.{IsDefinitionTold, IsMediaRefused, IsMessageTold, LeavesUndue};
 ghost use Rattle.c2_rules.specs.Asking.{HearsPanel};
 ghost use Rattle.c2_spec.specs.Judges.Panel.{panel_says};
 ghost use Rattle.c2_outcome.specs.Left.{state_of};
 ghost use Rattle.c2_outcome.specs.Reply.{IsInputCause, IsReadingCause, fault_heard, outcome_of};
 ghost use Rattle.c2_building_commands.specs.Outcomes.{IsPlanOutcome};
-ghost use Rattle.c2_building_commands.specs.Writing.{BuildsFile, WritesOut};
+ghost use Rattle.c2_written.specs.Written.{WritesOut};
+ghost use Rattle.c2_building_commands.specs.Writing.{BuildsFile};
 
-use crate::errors::refusal_reply;
-use crate::replies::{embedded_reply, tbs_reply};
 use c2_base::{Sink, Source};
 use c2_build::{a_build_comes_to_one_thing, embed, plan};
+use c2_build_replies::{embedded_reply, planned_reply};
 use c2_hash::Hashing;
 use c2_judge::Judge;
 use c2_outcome::types::Answer;
@@ -53,11 +53,8 @@ pub fn reply_to_plan<H: Hashing, A: Source, B: Source>(
         (AsksPlanned H.digest_of (A.known media.old) (B.known definition.old))
         judges.old judges.new result }
 {
-    // Matched and not handed up by `?`, here and below: who was asked depends on which fault it is.
-    match plan(alloc, hashing, media, definition, judges) {
-        Ok(bytes) => tbs_reply(alloc, bytes.as_slice()),
-        Err(error) => refusal_reply(alloc, &error),
-    }
+    let planned = plan(alloc, hashing, media, definition, judges);
+    planned_reply(alloc, planned)
 }
 
 /// The reply to `embed`: the range of the new store in the new file, once this is whole and finished.
@@ -106,8 +103,6 @@ pub fn reply_to_embed<H: Hashing, A: Source, B: Source, C: Source, K: Sink>(
 {
     // Only the prover needs this law.
     a_build_comes_to_one_thing();
-    match embed(alloc, hashing, media, definition, message, judges, out) {
-        Ok(range) => embedded_reply(alloc, range.start, range.length),
-        Err(error) => refusal_reply(alloc, &error),
-    }
+    let embedded = embed(alloc, hashing, media, definition, message, judges, out);
+    embedded_reply(alloc, embedded)
 }

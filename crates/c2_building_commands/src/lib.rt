@@ -4,9 +4,7 @@
 #![tactic(auto)]
 
 mod building;
-mod errors;
 mod laws;
-mod replies;
 mod sample;
 
 pub use building::{reply_to_embed, reply_to_plan};

@@ -6,7 +6,7 @@ ghost use Rattle.c2_spec.specs.Judges.Panel.{panel_says};
 ghost use Rattle.c2_outcome.specs.Reply.{CausedBy, fault_heard, outcome_of};
 ghost use Rattle.c2_building_commands.specs.Outcomes.{IsSampleOutcome, sample_outcome};
 
-use crate::errors::refusal_line;
+use c2_build_replies::refusal_line;
 use c2_hash::Hashing;
 use c2_judge::Judge;
 use c2_outcome::types::Answer;

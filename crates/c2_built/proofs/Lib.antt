@@ -13,5 +13,4 @@ pub mod Uris
 pub mod WrittenItems
 pub mod NewRules
 pub mod Unbound
-pub mod FreshFile
 pub mod BuildRows

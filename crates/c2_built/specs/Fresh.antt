@@ -1,12 +1,7 @@
 -- What a file meets that was built of a JPEG file without a store.
-use Rattle.std.specs.Prelude.{◌≡◌, ℕ, ◌+◌, ◌<◌, List, [], ◌∷◌, length, None}
-use Rattle.c2_base.specs.declared.limits.TheConstants.{FILE_LEN_LIMIT}
+use Rattle.std.specs.Prelude.{◌≡◌, ℕ, List, [], None}
 use Rattle.c2_base.specs.declared.values.Question.{Question}
-use Rattle.c2_spec.specs.C2pa.Sign1.{SignParts, SpellsMessage, question_of}
 use Rattle.c2_spec.specs.Digest.{IsDigest}
-use Rattle.c2_spec.specs.Jpeg.Segments.{Segment}
-use Rattle.c2_spec.specs.Jpeg.Store.{NoneBegins}
-use Rattle.c2_spec.specs.Jpeg.Writing.{insert_place}
 use Rattle.c2_spec.specs.Jumbf.Tree.{Tree, none}
 use Rattle.c2_spec.specs.Located.{here}
 use Rattle.c2_spec.specs.declared.digest.Alg.{Alg}
@@ -15,9 +10,7 @@ use Rattle.c2_rules.specs.Opened.{IsOpened}
 use Rattle.c2_rules.specs.Tests.{AllHold}
 use Rattle.c2_rules.specs.Validated.{IsFileReading}
 use Rattle.c2_definition.specs.declared.types.Definition.{Definition}
-use Rattle.c2_built.specs.Built.{CanBuild, built_file, built_len, built_store}
-use Rattle.c2_built.specs.Store.{Content, data_binding, new_claim, new_alg}
-use Rattle.c2_built.specs.Written.{CanBeWritten}
+use Rattle.c2_built.specs.Store.{Content}
 
 -- what goes into a store of a definition alone: nothing is carried, and there is no parent
 abbrev pub fresh_content : Definition → Content
@@ -40,22 +33,3 @@ pub record Meets (hash : Alg → List ℕ → List ℕ) (file : List ℕ) (start
   pub reads : IsFileReading file t reading
   pub holds : AllHold (unjudged_list hash reading)
   pub asks : questions reading.readings ≡ qs
-
--- a base of which no segment begins a store, and that leaves room for the new range
-pub record IsFreshBase (c : Content) (reserve : ℕ) (base : List ℕ) (segments : List Segment) : Type 0 where
-  pub none : NoneBegins segments
-  pub fits : length base + built_len c reserve < FILE_LEN_LIMIT
-
--- the one question of the new manifest, where its message has these parts
-abbrev pub new_question : (List ℕ → List ℕ) → Content → List ℕ → List ℕ → List Segment → SignParts → Question
-new_question hash c message base segments p =
-    question_of p (new_claim hash c (data_binding (new_alg c.definition) (insert_place segments) (built_len c (length message)) (hash base)))
-
--- The file that is built over a base without a store has the new store, meets every rule but the verdict on its message, and asks one
--- question. The message may be any that spells its parts.
-abbrev pub FreshFileMeets : Type 0
-FreshFileMeets = (hash : Alg → List ℕ → List ℕ) (c : Content) (message base : List ℕ) (segments : List Segment) (en : ℕ) (p : SignParts)
-    → GivesDigests hash → IsFresh c → CanBeWritten c.definition
-    → CanBuild c (length message) base segments en → IsFreshBase c (length message) base segments → SpellsMessage message p
-    → Meets hash (built_file (hash (new_alg c.definition)) c message base segments en) (insert_place segments) (built_len c (length message))
-    (built_store (hash (new_alg c.definition)) c message base (insert_place segments)) (new_question (hash (new_alg c.definition)) c message base segments p ∷ [])

@@ -1,17 +1,13 @@
 //! Laws of what is written.
 
-ghost use Rattle.c2_built.specs.Built.{StoreSizeIsFixed, StoreSizesAreSame, BuiltFileIs, BuiltFileIsOne, BaseIsLeft, BuiltFileHasItsStore};
-ghost use Rattle.c2_built.specs.Fresh.{FreshFileMeets};
+ghost use Rattle.c2_built.specs.Built.{StoreSizeIsFixed, StoreSizesAreSame};
 ghost use Rattle.c2_built.specs.Manifests.{ManifestsAreBoxes};
 ghost use Rattle.c2_built.specs.Unbound.{BoundFileMeets, FreshStoreMeets};
 ghost use Rattle.c2_built.specs.Written.{NewStoreIsRead};
 
-use c2_assertion::{
-    a_written_data_hash_has_one_length, a_written_data_hash_is_read, written_items_are_in_order,
-};
+use c2_assertion::a_written_data_hash_has_one_length;
 use c2_cbor::{round_trip, sorting_keeps_the_length};
 use c2_claim::a_written_claim_is_read;
-use c2_jpegseg::{packets_hold_the_store, place_and_number_are_one, segments_end_or_fail};
 use c2_uri::written_uris_are_read;
 
 /// The manifests of a tree are the same, told by the indices of its boxes or by the boxes themselves.
@@ -41,30 +37,6 @@ pub fn new_stores_have_one_length()
     sorting_keeps_the_length();
 }
 
-/// There is one file whose new store binds all that the file has outside the store's range, and this is it.
-pub fn a_built_file_is_one()
-    ensures is { BuiltFileIs }
-    ensures once { BuiltFileIsOne }
-{
-    // Only the prover needs these laws.
-    sorting_keeps_the_length();
-    a_written_data_hash_has_one_length();
-    packets_hold_the_store();
-    segments_end_or_fail();
-    place_and_number_are_one();
-}
-
-/// The built file has the new store in the new range; without that range it is what it was.
-pub fn a_built_file_has_its_store()
-    ensures store { BuiltFileHasItsStore }
-    ensures base { BaseIsLeft }
-{
-    // Only the prover needs these laws.
-    sorting_keeps_the_length();
-    a_written_data_hash_has_one_length();
-    packets_hold_the_store();
-}
-
 /// A new store of a definition alone meets each rule but the verdict on its message and the one on its binding, whichever the binding
 /// is, and asks one question: that of its message over its claim.
 pub fn a_fresh_store_meets_the_rules()
@@ -81,19 +53,3 @@ pub fn a_fresh_store_meets_the_rules()
 pub fn a_bound_file_meets_the_rules()
     ensures { BoundFileMeets }
 {}
-
-/// A file that is built of a JPEG file without a store has the new store, meets each rule but the verdict on its message, and asks
-/// one question: that of its message over its claim.
-pub fn a_fresh_file_meets_the_rules()
-    ensures { FreshFileMeets }
-{
-    // Only the prover needs these laws.
-    sorting_keeps_the_length();
-    round_trip();
-    a_written_data_hash_has_one_length();
-    a_written_data_hash_is_read();
-    written_items_are_in_order();
-    a_written_claim_is_read();
-    written_uris_are_read();
-    packets_hold_the_store();
-}

@@ -5,7 +5,7 @@ use Rattle.std.specs.declared.result.Result.TheVariants.{Ok, Err}
 use Rattle.c2_base.specs.declared.values.Question.{Question}
 use Rattle.c2_binding.specs.declared.compared.Compared.{Compared}
 use Rattle.c2_binding.specs.declared.compared.Compared.TheVariants as compared
-use Rattle.c2_build.specs.declared.error.BuildError.{BuildError}
+use Rattle.c2_refusals.specs.declared.error.BuildError.{BuildError}
 use Rattle.c2_front_commands.specs.Outcomes.{IsPlanFrontOutcome, plan_outcome as plan_front_outcome}
 use Rattle.c2_fronts.specs.Order.{FrontRefusal}
 use Rattle.c2_rules.specs.declared.answer.Answer.{Answer as Checked}

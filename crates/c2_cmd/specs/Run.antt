@@ -11,8 +11,7 @@ use Rattle.c2_spec.specs.Judges.Panel.{SomeRose, Judges, panel_says}
 use Rattle.c2_rules.specs.Asking.{HaveAsked, HaveAskedPrefix, HaveFailed, HasHeard}
 use Rattle.c2_compare.specs.Comparing.{IsNotAccepted}
 use Rattle.c2_sidecar.specs.Checking.{IsRefusedFile}
-use Rattle.c2_build.specs.Building.{IsDefinitionRefused, IsMediaRefused}
-use Rattle.c2_refusals.specs.Stages as stages
+use Rattle.c2_refusals.specs.Stages.{IsDefinitionRefused, IsMediaRefused}
 use Rattle.c2_words.specs.CommandLine.{is_out, lets_ask, roles_of}
 use Rattle.c2_outcome.specs.Left.{Delivers, Finishes, Leaves, SinkState}
 use Rattle.c2_outcome.specs.Outcome.{Outcome}
@@ -84,10 +83,10 @@ HasNotDue c the_second command.Compare = IsKnownAs (IsNotAccepted c.hash (panel_
 HasNotDue c the_second command.Plan = IsKnownAs IsMediaRefused c.known.media
 HasNotDue c the_second command.Embed = IsKnownAs IsMediaRefused c.known.media
 HasNotDue c the_second command.ValidateExternal = IsKnownAs IsRefusedFile c.known.media
-HasNotDue c the_second command.PlanFront = IsKnownAs stages.IsMediaRefused c.known.media
-HasNotDue c the_second command.EmbedFront = IsKnownAs stages.IsMediaRefused c.known.media
+HasNotDue c the_second command.PlanFront = IsKnownAs IsMediaRefused c.known.media
+HasNotDue c the_second command.EmbedFront = IsKnownAs IsMediaRefused c.known.media
 HasNotDue c the_third command.Embed = IsKnownAs IsMediaRefused c.known.media ⊎ IsKnownAs IsDefinitionRefused c.known.second
-HasNotDue c the_third command.EmbedFront = IsKnownAs stages.IsMediaRefused c.known.media ⊎ IsKnownAs stages.IsDefinitionRefused c.known.second
+HasNotDue c the_third command.EmbedFront = IsKnownAs IsMediaRefused c.known.media ⊎ IsKnownAs IsDefinitionRefused c.known.second
 HasNotDue c s k = ⊥
 
 -- a source of a call isn't due

@@ -8,8 +8,8 @@ use Rattle.std.proofs.lemmas.Option.{slice_get_within}
 use Rattle.c2_spec.specs.Jumbf.Tree.{Tree, Trees, more, none, tree_bytes, trees_bytes}
 use Rattle.c2_joined.specs.Joined.{picked}
 use Rattle.c2_built.specs.Manifests.{supers_in}
-use Rattle.c2_collected.specs.Sides.{ClashFirst, boxes_then, is_carried_box, joined_boxes}
-use Rattle.c2_collect.specs.Carried.{AreCarried, IsFound, StoresClash, is_carried_over, wanted_bytes}
+use Rattle.c2_collected.specs.Sides.{ClashFirst, boxes_then, carried_trees, is_carried_box, joined_boxes}
+use Rattle.c2_collect.specs.Carried.{AreCarried, IsFound, StoresClash, is_carried_over, wanted_bytes, wanted_in}
 use Rattle.c2_collect.specs.Marked.{MarkedStore, flag_at, is_marked, manifests_in}
 
 -- ---- flags
@@ -48,17 +48,23 @@ picked_same p q k (t ∷ ts) same =
     ∙ ap (λ (xs : List Tree). cond (q k t) (t ∷ xs) xs) (picked_same p q (k + 1) ts (λ i u is. let n : k + 1 + i ≡ k + suc i = omega arith in ap (λ m. p m u) n ∙ same (suc i) u is ∙ ap (λ m. q m u) (sym n)))
 
 -- boxes and trees behind them by their bytes
-then_bytes : (boxes : Trees) (xs : List Tree) → trees_bytes (boxes_then boxes xs) ≡ trees_bytes boxes ++ trees_bytes (boxes_then none xs)
+pub then_bytes : (boxes : Trees) (xs : List Tree) → trees_bytes (boxes_then boxes xs) ≡ trees_bytes boxes ++ trees_bytes (boxes_then none xs)
 then_bytes none xs = refl
 then_bytes (more t ts) xs = ap (λ (x : List ℕ). tree_bytes t ++ x) (then_bytes ts xs) ∙ sym (append_assoc (tree_bytes t) (trees_bytes ts) (trees_bytes (boxes_then none xs)))
 
--- the joined boxes by flags that say which manifests are carried
+-- what flags want of the other store, where they say which manifests are carried
+pub carried_by : (old other : Trees) (reached : ℕ → Bool) (flags : List Bool) → ((i : ℕ) (t : Tree) → slice_get (supers_in other) i ≡ Some t → flag_at flags i ≡ is_carried_box (supers_in old) reached i t)
+    → wanted_in flags 0 (supers_in other) ≡ carried_trees (supers_in old) reached (supers_in other)
+carried_by old other reached flags each =
+    picked_same (λ i t. flag_at flags i) (is_carried_box (supers_in old) reached) 0 (supers_in other)
+    (λ i t is. let plain : 0 + i ≡ i = omega arith in ap (flag_at flags) plain ∙ each i t is ∙ ap (λ m. is_carried_box (supers_in old) reached m t) (sym plain))
+
+-- the joined boxes by such flags
 by_flags : (old other : Trees) (reached : ℕ → Bool) (flags : List Bool) → ((i : ℕ) (t : Tree) → slice_get (supers_in other) i ≡ Some t → flag_at flags i ≡ is_carried_box (supers_in old) reached i t)
     → trees_bytes old ++ wanted_bytes flags (supers_in other) ≡ trees_bytes (joined_boxes old reached other)
 by_flags old other reached flags each =
-    ap (λ (xs : List Tree). trees_bytes old ++ trees_bytes (boxes_then none xs)) (picked_same (λ i t. flag_at flags i) (is_carried_box (supers_in old) reached) 0 (supers_in other)
-    (λ i t is. let plain : 0 + i ≡ i = omega arith in ap (flag_at flags) plain ∙ each i t is ∙ ap (λ m. is_carried_box (supers_in old) reached m t) (sym plain)))
-    ∙ sym (then_bytes old (picked (is_carried_box (supers_in old) reached) 0 (supers_in other)))
+    ap (λ (xs : List Tree). trees_bytes old ++ trees_bytes (boxes_then none xs)) (carried_by old other reached flags each)
+    ∙ sym (then_bytes old (carried_trees (supers_in old) reached (supers_in other)))
 
 -- the joined boxes
 joined_bytes : (old other : MarkedStore) (flags : List Bool) → AreCarried old other flags (length (manifests_in other)) → trees_bytes old.boxes ++ wanted_bytes flags (manifests_in other) ≡ trees_bytes (joined_boxes old.boxes (is_marked other) other.boxes)
@@ -70,13 +76,14 @@ pub joined_behind : (old other : MarkedStore) (flags : List Bool) (before front 
 joined_behind old other flags before front after is h e =
     e ∙ append_assoc before front (wanted_bytes flags (manifests_in other)) ∙ ap (λ (x : List ℕ). before ++ x) (ap (λ (x : List ℕ). x ++ wanted_bytes flags (manifests_in other)) is ∙ joined_bytes old other flags h)
 
+-- where there is no other store, all that is reached is carried
+pub all_carried : (b : Bool) → b ≡ (b && true)
+all_carried true = refl
+all_carried false = refl
+
 -- the boxes of no store and of another
 carried_bytes : (other : MarkedStore) → wanted_bytes other.reached (manifests_in other) ≡ trees_bytes (joined_boxes none (is_marked other) other.boxes)
-carried_bytes other = by_flags none other.boxes (is_marked other) other.reached (λ i t is. all (is_marked other i))
-  where
-    all : (b : Bool) → b ≡ (b && true)
-    all true = refl
-    all false = refl
+carried_bytes other = by_flags none other.boxes (is_marked other) other.reached (λ i t is. all_carried (is_marked other i))
 
 -- bytes to which they were appended
 pub carried_behind : (other : MarkedStore) (flags : List Bool) (before after : List ℕ) → flags ≡ other.reached → after ≡ before ++ [] ++ wanted_bytes flags (manifests_in other)

@@ -2,3 +2,4 @@ pub mod Manifests
 pub mod Finding
 pub mod Flags
 pub mod Wanted
+pub mod Less

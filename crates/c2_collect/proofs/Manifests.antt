@@ -104,6 +104,14 @@ seen_bytes t s flags v i w bytes h e lt at is =
     subst (λ (x : MarkedStore). slice_get (box_bytes (manifests_in x)) i ≡ Some bytes) e
     (map_at tree_bytes (supers_in (boxes_in t)) i m.manifest m.is ∙ ap Some (sym (is ∙ ap any_bytes m.box)))
 
+-- the box of a manifest
+pub seen_box : (t : Tree) (s : List ManifestBoxes) (flags : List Bool) (v : MarkedStore) (i w : ℕ) (u : Tree) → IsSide t s flags → marked t flags ≡ v → i < length (manifests_in v)
+    → Some w ≡ option_map (λ (m : ManifestBoxes). m.whole) (slice_get s i) → slice_get (manifests_in v) i ≡ Some u → (box_at t w).box ≡ node u
+seen_box t s flags v i w u h e lt at is =
+    let inside : i < length (supers_in (boxes_in t)) = omega (arith, lt, ap (λ (x : MarkedStore). length (manifests_in x)) e) in
+    let m = whole_is t s i w h.same inside at in
+    m.box ∙ ap node (same_Some m.manifest u (sym m.is ∙ ap (λ (x : MarkedStore). slice_get (manifests_in x) i) e ∙ is))
+
 -- ---- labels that differ
 
 -- a label that is new among boxes is so among the superboxes of them

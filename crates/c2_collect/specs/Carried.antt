@@ -1,11 +1,12 @@
 -- For private clauses: what is found of the manifests of another store, one by one.
-use Rattle.std.specs.Prelude.{◌≡◌, ◌<◌, ◌&&◌, ℕ, Bool, List, bytes_eq, length, slice_get}
+use Rattle.std.specs.Prelude.{◌≡◌, ◌<◌, ◌&&◌, ℕ, Bool, List, bytes_eq, length, map, slice_get}
 use Rattle.std.specs.declared.option.Option.{Option}
 use Rattle.std.specs.declared.option.Option.TheVariants.{None, Some}
 use Rattle.c2_spec.specs.Jumbf.Tree.{AreDistinctLabels, Tree, none, tree_bytes, trees_bytes}
 use Rattle.c2_lookup.specs.Places.{ArePlaces}
 use Rattle.c2_lookup.specs.declared.places.Places.{Places}
 use Rattle.c2_joined.specs.Joined.{picked}
+use Rattle.c2_carried.specs.Redacting.{redacted_box}
 use Rattle.c2_collected.specs.Sides.{ClashesAt, boxes_then, is_carried_box}
 use Rattle.c2_collect.specs.Marked.{MarkedStore, box_labels, flag_at, is_marked, manifests_in}
 
@@ -43,10 +44,18 @@ pub record AreCarried (old other : MarkedStore) (flags : List Bool) (n : ℕ) : 
       → flag_at flags i ≡ is_carried_over old other i t
   pub apart : (i : ℕ) → i < n → StoresClash old other i → ⊥
 
--- the bytes of those of these manifests that the flags want; the first has place `k`
+-- those of these manifests that the flags want; the first has place `k`
+abbrev pub wanted_in : List Bool → ℕ → List Tree → List Tree
+wanted_in flags k ts = picked (λ i t. flag_at flags i) k ts
+
+-- their bytes
 abbrev pub wanted_from : List Bool → ℕ → List Tree → List ℕ
-wanted_from flags k ts = trees_bytes (boxes_then none (picked (λ i t. flag_at flags i) k ts))
+wanted_from flags k ts = trees_bytes (boxes_then none (wanted_in flags k ts))
 
 -- the bytes of those of all these that they want
 abbrev pub wanted_bytes : List Bool → List Tree → List ℕ
 wanted_bytes flags ts = wanted_from flags 0 ts
+
+-- the manifests of a store, each less what redactions take out of it
+abbrev pub less_in : List (List ℕ) → MarkedStore → List Tree
+less_in redacts s = map (redacted_box redacts) (manifests_in s)

@@ -11,5 +11,5 @@ mod joining;
 mod side;
 
 pub use error::JoinError;
-pub use joining::{carry, carry_into, join, join_into};
+pub use joining::{carry, carry_into, carry_less_into, join, join_into, join_less_into};
 pub use side::Side;

@@ -1,10 +1,13 @@
 // One of two stores that are joined.
-ghost use Rattle.std.specs.Prelude.{◌≡◌, ◌<◌, Some, length, slice_get};
+ghost use Rattle.std.specs.Prelude.{◌≡◌, ◌++◌, ◌<◌, OnOk, Some, length, slice_get};
 ghost use Rattle.c2_spec.specs.C2pa.Manifest.{IsStoreOf};
-ghost use Rattle.c2_spec.specs.Jumbf.Tree.{AreDistinctLabels, trees_bytes};
+ghost use Rattle.c2_spec.specs.Jumbf.Tree.{AreDistinctLabels, Tree as AnyTree, tree_bytes, trees_bytes};
+ghost use Rattle.c2_carried.specs.Redacting.{redacted_box, redacted_boxes};
 ghost use Rattle.c2_collect.specs.Marked.{box_bytes, box_labels, is_marked, manifests_in, marked};
 
+use c2_base::NoMemory;
 use c2_jumbf::{Tree, bytes_of, contents, count, total};
+use c2_parent::{Redactions, append_carried, append_less};
 use c2_store::{Store, label, manifest_count, whole};
 use std::marker::Model;
 
@@ -70,8 +73,8 @@ impl<'s, 't> Side<'s, 't> {
         self.reached[i]
     }
 
-    /// A manifest's label.
-    pub(crate) fn label(&self, i: usize) -> &'s str
+    /// The label of the manifest at this place of the store. Takes no memory.
+    pub fn label(&self, i: usize) -> &'s str
         requires { i < length (manifests_in self.now) }
         ensures { slice_get (box_labels (manifests_in self.now)) i ≡ Some (Some result.now) }
     {
@@ -93,5 +96,32 @@ impl<'s, 't> Side<'s, 't> {
         // Only the prover needs this: a tree has a box.
         let _count = count(self.tree);
         contents(self.tree, 0).split_at(total(self.tree, 1)).1
+    }
+
+    /// Appends a manifest's box less what is redacted of it.
+    pub(crate) fn append_less(
+        &self,
+        out: &mut Vec<u8>,
+        i: usize,
+        redactions: &Redactions<'s>,
+    ) -> Result<(), NoMemory>
+        requires { i < length (manifests_in self.now) }
+        ensures { OnOk result ((manifest : AnyTree)
+            → slice_get (manifests_in self.now) i ≡ Some manifest → out.new.items
+            ≡ out.old.items ++ tree_bytes (redacted_box redactions.now manifest)) }
+    {
+        append_less(out, self.tree, whole(self.store, i), redactions)
+    }
+
+    /// Appends all boxes, each manifest less what is redacted of it.
+    pub(crate) fn append_boxes_less(
+        &self,
+        out: &mut Vec<u8>,
+        redactions: &Redactions<'s>,
+    ) -> Result<(), NoMemory>
+        ensures { OnOk result (out.new.items ≡ out.old.items
+            ++ trees_bytes (redacted_boxes redactions.now self.now.boxes)) }
+    {
+        append_carried(out, self.tree, redactions)
     }
 }

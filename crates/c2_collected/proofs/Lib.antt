@@ -4,7 +4,6 @@ pub mod FirstRefused
 pub mod Stores
 pub mod Contents
 pub mod Collecting
-pub mod Films
 pub mod Filed
 pub mod Order
 pub mod Approved

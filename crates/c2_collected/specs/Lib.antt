@@ -3,6 +3,7 @@ pub mod Refusals
 pub mod Stores
 pub mod Collected
 pub mod Files
+pub mod Contents
 pub mod Order
 pub mod Whole
 pub mod Outcomes

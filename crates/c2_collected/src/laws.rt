@@ -1,33 +1,23 @@
 // Laws of stores that are joined, of a new store over them, and of the file that is built with it.
 
 ghost use Rattle.c2_collected.specs.Collected.{CollectedContentIsOne, CollectedStoreMeets, CollectedStoreReaches, JoinedIsReached, QuestionsAreApproved, QuestionsAreOfEither, SomeContentCollects};
+ghost use Rattle.c2_collected.specs.Contents.{CollectedContentMeets};
 ghost use Rattle.c2_collected.specs.Files.{CollectedFileMeets, CollectedFileReaches};
 ghost use Rattle.c2_collected.specs.Order.{CollectablePairIsUnrefused, CollectedIsNotRefused, NothingRefusedIsCollected, SomeFileIsCollected, UnrefusedPairCollects};
 ghost use Rattle.c2_collected.specs.Refusals.{FirstRedactionIsLeastBy, RedactionsAreAcceptedBy, RefusalsAreStanding};
 ghost use Rattle.c2_collected.specs.Whole.{EachCollectedFileMeets};
 ghost use Rattle.c2_collected.specs.Stores.{AcceptedFileIsRooted, NoStoreIsRooted, RootedStoreIsTaken, RootedStoresJoin, ValidStoreIsRooted};
 
-use c2_assertion::{
-    a_written_bmff_hash_is_read, a_written_data_hash_has_one_length, a_written_data_hash_is_read,
-    written_items_are_in_order, written_items_have_plain_keys,
-};
-use c2_boxed::{a_put_store_is_found, a_put_store_is_not_covered};
-use c2_built::{a_bound_file_meets_the_rules, new_stores_have_one_length};
 use c2_carried::a_redacted_store_is_read;
-use c2_cbor::{round_trip, sorting_keeps_the_length};
-use c2_claim::a_written_claim_is_read;
+use c2_cbor::sorting_keeps_the_length;
 use c2_gathered::{a_gathered_store_meets_the_rules, stores_are_gathered};
 use c2_joined::{a_store_is_rooted_at_its_last_manifest, chains_join};
-use c2_jpegseg::packets_hold_the_store;
 use c2_jumbf::each_list_is_a_tree_or_not;
 use c2_message::a_message_fills_its_reserve_or_needs_more;
-use c2_places::{
-    a_base_stays, a_file_built_in_its_place_meets_the_rules,
-    a_new_store_has_one_length_in_its_place, bindings_are_known,
-};
+use c2_places::{a_new_store_has_one_length_in_its_place, bindings_are_known};
 use c2_reading::one_reading;
 use c2_rules::a_question_where_the_claim_rules_hold;
-use c2_uri::written_uris_are_read;
+use c2_splits::{a_base_stays, a_file_built_in_its_place_meets_the_rules, a_place_is_a_split};
 
 /// Redactions of a chain of which none is refused may be made, and the rules on redactions hold of them. What is answered is the first
 /// that is refused. In one store those are refused that are refused of that store.
@@ -102,31 +92,20 @@ pub fn a_collected_store_meets_the_rules()
     one_reading();
 }
 
-/// A file that is built with such a store over a base without one, whichever its container is, has the new store, and meets each rule but
-/// the verdict on its message. What is reached in it is what is reached in that store.
+/// The new store that collects from two stores meets each rule but the verdict on its message and the one on its binding,
+/// whichever the binding is. So a file that is built with it over a base without a store, whichever its container is, has the
+/// new store, and meets each rule but the verdict on its message. What is reached in it is what is reached in that store.
 pub fn a_collected_file_meets_the_rules()
+    ensures content { CollectedContentMeets }
     ensures meets { CollectedFileMeets }
     ensures reaches { CollectedFileReaches }
 {
     // Only the prover needs these laws.
     a_collected_store_meets_the_rules();
     stores_are_gathered();
+    a_place_is_a_split();
     a_new_store_has_one_length_in_its_place();
     bindings_are_known();
-    sorting_keeps_the_length();
-    round_trip();
-    a_written_data_hash_has_one_length();
-    a_written_data_hash_is_read();
-    written_items_are_in_order();
-    a_written_claim_is_read();
-    written_uris_are_read();
-    packets_hold_the_store();
-    new_stores_have_one_length();
-    a_put_store_is_found();
-    a_put_store_is_not_covered();
-    a_written_bmff_hash_is_read();
-    written_items_have_plain_keys();
-    a_bound_file_meets_the_rules();
 }
 
 /// A new store may collect from a media file and another file exactly where the list of what is refused of both is empty.

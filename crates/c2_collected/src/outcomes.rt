@@ -14,7 +14,7 @@ use c2_message::{
 };
 use c2_places::{a_place_is_one, each_media_has_a_place, what_is_left_is_one};
 use c2_reading::one_reading;
-use c2_succeeding::a_file_over_a_store_meets_the_rules;
+use c2_succeeding::a_valid_store_is_approved;
 
 /// Over two files that are opened as one thing each, and the same other inputs, a plan comes to one thing, and so does a build: the bytes
 /// that are to be signed, the new file, or what is refused first.
@@ -60,6 +60,6 @@ pub fn a_made_collected_file_meets_the_rules()
     a_place_is_one();
     a_store_is_rooted_at_its_last_manifest();
     each_collected_file_meets_the_rules();
-    a_file_over_a_store_meets_the_rules();
+    a_valid_store_is_approved();
     what_is_joined_is_reached();
 }

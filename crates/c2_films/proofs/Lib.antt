@@ -1,5 +1,4 @@
 pub mod Items
 pub mod Building
 pub mod Media
-pub mod Meeting
 pub mod Rows

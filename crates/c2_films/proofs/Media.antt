@@ -1,31 +1,15 @@
--- The new film and its base are BMFF files where the film they are made of is one.
-use Rattle.std.proofs.Common.{◌≡◌, ℕ, zero, suc, ◌≤◌, Bool, true, false, cond, not, ◌&&◌, List, [], ◌∷◌, ◌++◌, length, take, refl, sym, ap, ◌∙◌, subst, arith}
+-- The base of a film with a store is a BMFF file.
+use Rattle.std.proofs.Common.{◌≡◌, ℕ, Bool, true, false, cond, not, ◌&&◌, List, [], ◌∷◌, ◌++◌, take, refl, sym, ap, ◌∙◌, subst}
 use Rattle.std.specs.List.{flat_map}
 use Rattle.std.specs.Str.{bytes_eq}
 use Rattle.std.proofs.lemmas.Bool.{and_from, and_parts}
 use Rattle.std.proofs.lemmas.Slice.Eq.{bytes_eq-Decides}
-use Rattle.c2_spec.specs.Bmff.Boxes.{Box, HasRoots, SizeForm, short, long, to_end, begins_bmff, box_bytes, boxes_len, uuid_kind}
+use Rattle.c2_spec.specs.Bmff.Boxes.{Box, HasRoots, SizeForm, short, long, to_end, begins_bmff, box_bytes, uuid_kind}
 use Rattle.c2_spec.specs.Bmff.Store.{is_c2pa_box, is_store_box}
 use Rattle.c2_spec.specs.Container.{begins_jpeg, is_bmff}
-use Rattle.c2_spec.specs.PutIn.{put_in}
-use Rattle.c2_boxed.specs.Laws.{file_with}
-use Rattle.c2_spec.specs.Bmff.Writing.{AreBaseRoots, IsBmffBase, base_roots, before_mfra, c2pa_box, freed, insert_place, is_file_end, last_mfra, same, with_store, without}
+use Rattle.c2_spec.specs.Bmff.Writing.{AreBaseRoots, IsBmffBase, base_roots, freed, is_file_end, same, without}
 
 -- ---- the first two bytes
-
--- two bytes and more
-two_bytes : (file : List ℕ) → begins_bmff file ≡ true → 2 ≤ length file
-two_bytes [] e = absurd (cc (e))
-two_bytes (a ∷ []) e = absurd (cc (e))
-two_bytes (a ∷ b ∷ more) e = omega arith
-
--- what is put in behind them leaves them
-put_behind : (n : ℕ) (piece file : List ℕ) → 2 ≤ n → 2 ≤ length file → take 2 (put_in n piece file) ≡ take 2 file
-put_behind zero piece file h k = absurd (omega (arith, h))
-put_behind (suc zero) piece file h k = absurd (omega (arith, h))
-put_behind (suc (suc n)) piece [] h k = absurd (omega (arith, k))
-put_behind (suc (suc n)) piece (a ∷ []) h k = absurd (omega (arith, k))
-put_behind (suc (suc n)) piece (a ∷ b ∷ more) h k = refl
 
 -- two files that begin alike
 same_media : (f g : List ℕ) → take 2 f ≡ take 2 g → is_bmff g ≡ true → begins_bmff f ≡ true → is_bmff f ≡ true
@@ -41,30 +25,6 @@ box_two b rest more = go b.form b.kind b.payload
     go short kind payload = refl
     go long kind payload = refl
     go to_end kind payload = refl
-
--- and more
-box_long : (b : Box) (rest : List ℕ) → 2 ≤ length (box_bytes b ++ rest)
-box_long b rest = go b.form b.kind b.payload
-  where
-    go : (form : SizeForm) (kind payload : List ℕ) → 2 ≤ length (box_bytes (record { form = form; kind = kind; payload = payload }) ++ rest)
-    go short kind payload = omega arith
-    go long kind payload = omega arith
-    go to_end kind payload = omega arith
-
--- ---- the new film
-
--- its first box isn't the new one
-place_far : (roots : List Box) (store file : List ℕ) → HasRoots file (with_store store roots) → 2 ≤ insert_place roots
-place_far roots store file has = go (before_mfra roots) refl
-  where
-    go : (bs : List Box) → before_mfra roots ≡ bs → 2 ≤ insert_place roots
-    go [] e = absurd (let bad = sym has.begins ∙ ap begins_bmff (has.bytes ∙ ap (λ (bs : List Box). flat_map box_bytes (bs ++ c2pa_box store ∷ last_mfra roots)) e) in cc (bad))
-    go (b ∷ bs) e = subst (λ (xs : List Box). 2 ≤ boxes_len xs) (sym e) (box_long b (flat_map box_bytes bs))
-
--- so the film is one
-pub film_media : (base : List ℕ) (roots : List Box) (store : List ℕ) → HasRoots base roots → HasRoots (file_with base roots store) (with_store store roots) → is_bmff base ≡ true → is_bmff (file_with base roots store) ≡ true
-film_media base roots store was now h =
-    same_media (file_with base roots store) base (put_behind (insert_place roots) (box_bytes (c2pa_box store)) base (place_far roots store (file_with base roots store) now) (two_bytes base was.begins)) h now.begins
 
 -- ---- the base
 

@@ -3,21 +3,19 @@
 use Rattle.std.specs.Prelude.{◌≡◌, ℕ, ◌+◌, ◌<◌, ◌≤◌, true, List, length, replicate, codes, Some, None}
 use Rattle.std.specs.List.{AllByRecursion}
 use Rattle.c2_base.specs.declared.limits.TheConstants.{MAX_STORE_LEN, FILE_LEN_LIMIT}
-use Rattle.c2_spec.specs.Bmff.Boxes.{Box, HasRoots, box_bytes, most_roots}
-use Rattle.c2_spec.specs.Bmff.Cover.{IsBmffCover}
+use Rattle.c2_spec.specs.Bmff.Boxes.{Box, HasRoots, most_roots}
 use Rattle.c2_spec.specs.Bmff.Hash.{BmffHash}
 use Rattle.c2_spec.specs.Bmff.Paths.{placed_from}
-use Rattle.c2_spec.specs.Bmff.Store.{HasBmffStore, is_other_box}
+use Rattle.c2_spec.specs.Bmff.Store.{is_other_box}
 use Rattle.c2_spec.specs.Cbor.Deterministic.{deterministic}
 use Rattle.c2_spec.specs.Digest.{alg_name, digest_len, zero_digest}
 use Rattle.c2_spec.specs.Jumbf.Tree.{Tree, tree_bytes}
-use Rattle.c2_spec.specs.PutIn.{put_in, taken_out}
 use Rattle.c2_boxed.specs.Laws.{file_with}
-use Rattle.c2_spec.specs.Bmff.Writing.{IsBmffBase, built_exclusions, built_text, c2pa_box, c2pa_frame_len, insert_place, open_end}
+use Rattle.c2_spec.specs.Bmff.Writing.{IsBmffBase, built_exclusions, built_text, c2pa_frame_len, open_end}
 use Rattle.c2_assertion.specs.Written.{bmff_hash_item}
 use Rattle.c2_definition.specs.declared.types.NewAssertion.{NewAssertion}
 use Rattle.c2_definition.specs.declared.types.Payload.TheVariants as payload
-use Rattle.c2_built.specs.Built.{HasDigestLen, SameFile, no_digest}
+use Rattle.c2_built.specs.Built.{HasDigestLen, no_digest}
 use Rattle.c2_built.specs.Store.{Content, new_store, new_alg}
 use Rattle.c2_spec.specs.declared.digest.Alg.{Alg}
 
@@ -40,24 +38,6 @@ film_binding alg digest = record {
 -- none of these root boxes has a part in a store
 abbrev pub AreOthers : List Box → Type 0
 AreOthers roots = AllByRecursion (λ (b : Box). is_other_box b ≡ true) roots
-
--- The file is this base, which has no store, with the box of a new one put in, in this range. The binding holds the digest of what its
--- exclusions leave of the file itself.
-pub record IsFilmBuilt (hash : List ℕ → List ℕ) (c : Content) (message base file : List ℕ) (start len : ℕ) : Type 0 where
-  pub roots : List Box
-  pub has_roots : HasRoots base roots
-  pub none : AreOthers roots
-  pub closed : open_end (placed_from 0 roots) ≡ None
-  pub place : start ≡ insert_place roots
-  pub boxes : List Box
-  pub has_boxes : HasRoots file boxes
-  pub excluded : List ℕ
-  pub text : List ℕ
-  pub covers : IsBmffCover boxes (length file) built_exclusions excluded text
-  pub store : Tree
-  pub store_is : store ≡ new_store hash c (film_binding (new_alg c.definition) (hash text)) message
-  pub size : len ≡ length (box_bytes (c2pa_box (tree_bytes store)))
-  pub put : file ≡ put_in start (box_bytes (c2pa_box (tree_bytes store))) base
 
 -- ---- the same without a circle
 
@@ -99,34 +79,9 @@ FilmSizeIsFixed = (hash : List ℕ → List ℕ) (c : Content) (digest message :
     → HasDigestLen (new_alg c.definition) hash → length digest ≡ digest_len (new_alg c.definition)
     → length (tree_bytes (new_store hash c (film_binding (new_alg c.definition) digest) message)) ≡ film_store_size c (length message)
 
--- The built file is this one, where no root box of the base has a part in a store.
-abbrev pub FilmIsBuilt : Type 0
-FilmIsBuilt = (hash : List ℕ → List ℕ) (c : Content) (message base : List ℕ) (roots : List Box)
-    → HasDigestLen (new_alg c.definition) hash → CanBuildFilm c (length message) base roots → AreOthers roots
-    → IsFilmBuilt hash c message base (film_file hash c message base roots) (insert_place roots) (film_len c (length message))
-
--- And no other is.
-abbrev pub FilmIsOne : Type 0
-FilmIsOne = (hash : List ℕ → List ℕ) (c : Content) (message base f : List ℕ) (start len : ℕ) (roots : List Box)
-    → HasDigestLen (new_alg c.definition) hash → CanBuildFilm c (length message) base roots → IsFilmBuilt hash c message base f start len
-    → SameFile f (film_file hash c message base roots) start (insert_place roots) len (film_len c (length message))
-
 -- ---- what a reader finds
 
--- The file has the new store in the new range.
-abbrev pub FilmHasItsStore : Type 0
-FilmHasItsStore = (hash : List ℕ → List ℕ) (c : Content) (message base : List ℕ) (roots : List Box)
-    → HasDigestLen (new_alg c.definition) hash → CanBuildFilm c (length message) base roots → AreOthers roots
-    → HasBmffStore (film_file hash c message base roots) (insert_place roots) (film_len c (length message))
-    (tree_bytes (film_store hash c message roots))
-
--- The file less the new range is the base.
-abbrev pub FilmBaseIsLeft : Type 0
-FilmBaseIsLeft = (hash : List ℕ → List ℕ) (c : Content) (message base : List ℕ) (roots : List Box)
-    → HasDigestLen (new_alg c.definition) hash → CanBuildFilm c (length message) base roots → AreOthers roots
-    → taken_out (insert_place roots) (film_len c (length message)) (film_file hash c message base roots) ≡ base
-
--- And the base is what is built over when another store is put into the file.
+-- The base is what is built over when another store is put into the file that is built over it.
 abbrev pub FilmBaseIsItsBase : Type 0
 FilmBaseIsItsBase = (hash : List ℕ → List ℕ) (c : Content) (message base : List ℕ) (roots : List Box)
     → HasDigestLen (new_alg c.definition) hash → CanBuildFilm c (length message) base roots → AreOthers roots

@@ -1,3 +1,1 @@
 pub mod Films
-pub mod Fresh
-pub mod Over

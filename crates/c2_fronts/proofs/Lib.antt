@@ -1,5 +1,6 @@
 mod InFront
 mod Building
+mod Splits
 mod Meeting
 mod Staying
 pub mod Shifts

@@ -1,47 +1,25 @@
--- The built file meets the rules.
-use Rattle.std.proofs.Common.{◌≡◌, inr, ℕ, ◌≤◌, true, List, [], ◌∷◌, length, take, Some, Ok, refl, sym, ap, ◌∙◌, subst, arith, bytes_eq, codes, not, is_some}
-use Rattle.std.specs.Bool.{MatchBool}
-use Rattle.std.specs.declared.result.Result.{Result}
-use Rattle.std.proofs.lemmas.Bool.{and_from, and_parts, not_from_true}
-use Rattle.c2_base.specs.declared.limits.TheConstants.{MAX_STORE_LEN}
-use Rattle.c2_spec.specs.Bmff.Boxes.{Box, begins_bmff}
-use Rattle.c2_spec.specs.Bmff.Hash.{BmffHash}
-use Rattle.c2_spec.specs.Bmff.Store.{HasBmffStore, IsBmffLocated}
-use Rattle.c2_spec.specs.Bmff.Writing.{built_text}
-use Rattle.c2_spec.specs.Container.{IsLocated, begins_jpeg, bmff, is_bmff}
-use Rattle.c2_spec.specs.Digest.{alg_name, alg_named}
-use Rattle.c2_spec.specs.Jpeg.Store as jpeg
+-- The file with its new store in front meets the rules, by the laws of splits and of contents.
+use Rattle.std.proofs.Common.{◌≡◌, ℕ, true, cond, not, List, [], ◌∷◌, length, map, take, Option, Some, None, refl, ap, ◌∙◌, subst, arith, bytes_eq}
+use Rattle.std.proofs.lemmas.Bool.{and_from, and_parts}
+use Rattle.c2_base.specs.declared.values.Question.{Question}
+use Rattle.c2_spec.specs.Bmff.Boxes.{Box, SizeForm, begins_bmff, box_bytes, is_to_end}
+use Rattle.c2_spec.specs.Bmff.Writing.{c2pa_box}
+use Rattle.c2_spec.specs.C2pa.Sign1.{question_of}
+use Rattle.c2_spec.specs.Container.{begins_jpeg, is_bmff}
 use Rattle.c2_spec.specs.Jumbf.Tree.{Tree, tree_bytes}
-use Rattle.c2_spec.specs.Located as located
-use Rattle.c2_spec.specs.declared.assertion.FieldError.{FieldError}
-use Rattle.c2_spec.specs.declared.assertion.Kind.TheVariants as kinds
+use Rattle.c2_spec.specs.PutIn.{put_in}
 use Rattle.c2_spec.specs.declared.digest.Alg.{Alg}
-use Rattle.c2_spec.proofs.Digests.{named_back}
-use Rattle.c2_rules.specs.Binding.{Binding, IsRead, bound_tests}
-use Rattle.c2_rules.specs.Chains.{label_in}
-use Rattle.c2_rules.specs.Ingredients.{assertion_uri}
-use Rattle.c2_rules.specs.Rules as rule
-use Rattle.c2_rules.specs.Rules.{has_digest_by}
-use Rattle.c2_chunks.specs.Laws.{HasShiftedRoots}
-use Rattle.c2_boxed.specs.Laws.{HasBuiltCover}
-use Rattle.c2_built.specs.Built.{HasDigestLen}
-use Rattle.c2_built.specs.Store.{Content, new_alg}
-use Rattle.c2_built.specs.Unbound.{BoundFileMeets, FreshStoreMeets, IsKnownBinding, IsMet}
-use Rattle.c2_built.proofs.NewRules.{all_hold, same_bytes}
-use Rattle.c2_films.specs.Films.{film_binding, film_hash, film_len}
-use Rattle.c2_films.proofs.Items.{HashLaws, IsFilmHash, hash_read}
-use Rattle.c2_fronts.specs.Fronts.{CanBuildFront, front_covered, front_file, front_store, moved_media, moved_roots}
-use Rattle.c2_fronts.specs.InFront.{front_place, front_with}
+use Rattle.c2_chunks.specs.Laws.{HasShiftedRoots, RootsAreShifted, SomeShifted, TablesStandApart}
+use Rattle.c2_chunks.specs.Shifted.{IsShifted}
+use Rattle.c2_built.specs.Fresh.{Meets}
+use Rattle.c2_built.specs.Store.{new_alg, new_claim, new_store}
+use Rattle.c2_films.specs.Films.{film_binding, film_len, film_store_size}
+use Rattle.c2_fronts.specs.Fronts.{IsMovable, front_file, front_store, moved_media, moved_roots, tables_of}
+use Rattle.c2_fronts.specs.InFront.{front_place, open_first, others_text}
 use Rattle.c2_fronts.specs.Meeting.{FreshFrontMeets, front_question}
-use Rattle.c2_fronts.proofs.Building.{CoverLaws, PutLaws, front_has, front_holds, front_text_is, media_roots, store_size}
-
--- what the laws of other crates say
-pub record RuleLaws : Type 0 where
-  pub covers : CoverLaws
-  pub hashes : HashLaws
-  pub bound : BoundFileMeets
-
--- ---- the file
+use Rattle.c2_splits.specs.Contents.{ContentFileMeets, FreshContentMeets, content_store}
+use Rattle.c2_splits.specs.Splits.{HasRoomFor, split_text}
+use Rattle.c2_fronts.specs.Splits.{FrontIsSplit, IsFrontSplit, front_split}
 
 -- two files that begin alike
 same_media : (f g : List ℕ) → take 2 f ≡ take 2 g → is_bmff g ≡ true → begins_bmff f ≡ true → is_bmff f ≡ true
@@ -49,71 +27,64 @@ same_media f g e h k =
     let no : not (begins_jpeg g) ≡ true = (and_parts (not (begins_jpeg g)) (begins_bmff g) h).0 in
     and_from (not (begins_jpeg f)) (begins_bmff f) (ap (λ (x : List ℕ). not (bytes_eq x (0xFF ∷ 0xD8 ∷ []))) e ∙ no) k
 
--- the new file is a BMFF file
-front_media : PutLaws → (hash : List ℕ → List ℕ) (c : Content) (message media : List ℕ) (roots : List Box)
-    → HasDigestLen (new_alg c.definition) hash → CanBuildFront c (length message) media roots
-    → is_bmff (front_file hash c message media roots) ≡ true
-front_media laws hash c message media roots h can =
-    let held = front_holds laws hash c message media roots h can in
-    let boxes : HasShiftedRoots media (moved_media (film_len c (length message)) media roots) roots = media_roots laws.shifts (film_len c (length message)) media roots can.movable in
-    same_media (front_file hash c message media roots) media (held.starts ∙ boxes.starts) can.movable.film held.has_roots.begins
+-- boxes in the same forms are open alike
+open_by : (xs ys : List Box) → map (λ (b : Box). b.form) xs ≡ map (λ (b : Box). b.form) ys → open_first ys ≡ None
+    → open_first xs ≡ None
+open_by [] ys e h = refl
+open_by (x ∷ xs) [] e h = absurd (cc (e))
+open_by (x ∷ xs) (y ∷ ys) e h =
+    let same : x.form ≡ y.form = heads x.form y.form (map (λ (b : Box). b.form) xs) (map (λ (b : Box). b.form) ys) e in
+    ap (λ (f : SizeForm). cond {A = Option ℕ} (is_to_end f) (Some 0) None) same ∙ h
+  where
+    heads : (a b : SizeForm) (xs ys : List SizeForm) → a ∷ xs ≡ b ∷ ys → a ≡ b
+    heads a b xs ys e = cc (e)
 
--- ---- the binding
+-- what laws of other crates say of the media with moved places
+pub record ShiftLaws : Type 0 where
+  pub some : SomeShifted
+  pub apart : TablesStandApart
+  pub boxes : RootsAreShifted
 
--- it is of a kind that is known
-binding_known : (alg : Alg) (digest : List ℕ) → IsKnownBinding (film_binding alg digest)
-binding_known alg digest = record { label = inr refl; item = refl }
+-- it is the media shifted
+media_shifts : ShiftLaws → (len : ℕ) (media : List ℕ) (roots : List Box) → IsMovable media roots
+    → IsShifted (front_place roots) len (tables_of media roots) media (moved_media len media roots)
+media_shifts laws len media roots m =
+    laws.some (front_place roots) len (tables_of media roots) media m.bytes (laws.apart media roots m.bytes m.has_roots m.unrefused)
 
--- it is met in the new file
-front_met : RuleLaws → (hash : Alg → List ℕ → List ℕ) (c : Content) (message media : List ℕ) (roots : List Box)
-    → HasDigestLen (new_alg c.definition) (hash (new_alg c.definition)) → CanBuildFront c (length message) media roots
-    → IsMet hash (film_binding (new_alg c.definition) (hash (new_alg c.definition) (front_covered (film_len c (length message)) media roots)))
-    (front_file (hash (new_alg c.definition)) c message media roots)
-unfolding rule.label_kind
-front_met laws hash c message media roots g can =
+-- the file is built over it, at the split behind the first root box of that
+pub fresh_front : ShiftLaws → FrontIsSplit → ContentFileMeets → FreshContentMeets → FreshFrontMeets
+fresh_front shifts is files fresh hash c message media roots parts digests is_fresh w can spells =
     let alg : Alg = new_alg c.definition in
     let h : List ℕ → List ℕ = hash alg in
     let len : ℕ = film_len c (length message) in
-    let covered : List ℕ = front_covered len media roots in
-    let store : List ℕ = tree_bytes (front_store h c message media roots) in
-    let boxes : List Box = front_with store (moved_roots len media roots) in
-    let file : List ℕ = front_file h c message media roots in
-    let digest : List ℕ = h covered in
-    let held = front_holds laws.covers.put h c message media roots g can in
-    let cover : HasBuiltCover boxes (length file) = laws.covers.some file boxes (length file) held.has_roots in
-    let is_hash : IsFilmHash (film_binding alg digest).bytes (film_hash alg digest) = hash_read laws.hashes alg digest (g covered) in
-    let comes : Binding = record { alg = Some (alg_name alg); hash = digest; in_order = true; excluded = cover.excluded; text = built_text boxes } in
-    let text : built_text boxes ≡ covered = front_text_is laws.covers.put.shifts laws.covers.front c (length message) media roots store can.movable (store_size laws.covers.put.sizes h c message media roots g) in
-    let same : bytes_eq (h (built_text boxes)) digest ≡ true = ap (λ (x : List ℕ). bytes_eq (h x) digest) text ∙ same_bytes digest in
-    let right : has_digest_by hash (alg_named (alg_name alg)) (built_text boxes) digest ≡ true = ap (λ o. has_digest_by hash o (built_text boxes) digest) (named_back alg) ∙ same in
-    record {
-      media = record { bytes = file; container = bmff boxes };
-      is_media = record { bytes = refl; container = (front_media laws.covers.put h c message media roots g can, held.has_roots) };
-      item = is_hash.item;
-      has = is_hash.has;
-      comes = comes;
-      is = subst (λ (r : Result BmffHash FieldError). IsRead boxes (length file) r (Ok comes)) (sym is_hash.is) (record { alg = refl; hash = refl; in_order = refl; cover = cover.cover });
-      holds = λ r. all_hold (bound_tests hash r (assertion_uri (label_in r) (codes "c2pa.hash.bmff.v2")) kinds.BmffHash (Ok comes)) (ap (λ o. not (is_some o)) (named_back alg), (refl, (not_from_true _ right, tt)));
-    }
-
--- ---- the rules
-
--- the store of a BMFF file is the store of the file
-front_located : (file : List ℕ) (start len : ℕ) (store : List ℕ) → is_bmff file ≡ true → HasBmffStore file start len store → IsLocated file (located.here start len store)
-front_located file start len store e h = subst (λ b. MatchBool b (IsBmffLocated file (located.here start len store)) (jpeg.IsLocated file (located.here start len store))) (sym e) h
-
--- so the file meets all of them but the verdict
-pub fresh_front : RuleLaws → FreshStoreMeets → FreshFrontMeets
-fresh_front laws fresh hash c message media roots p digests is_fresh w can spells =
-    let alg : Alg = new_alg c.definition in
-    let h : List ℕ → List ℕ = hash alg in
-    let len : ℕ = film_len c (length message) in
-    let g : HasDigestLen alg h = λ text. (digests alg text).sized in
-    let digest : List ℕ = h (front_covered len media roots) in
-    let t : Tree = front_store h c message media roots in
-    let file : List ℕ = front_file h c message media roots in
-    let small : length (tree_bytes t) ≤ MAX_STORE_LEN = omega (arith, store_size laws.covers.put.sizes h c message media roots g, can.small) in
-    laws.bound hash file (front_place roots) len t (film_binding alg digest) (front_question h c (length message) media roots p ∷ [])
-    (fresh hash c (film_binding alg digest) message p is_fresh w (binding_known alg digest) small spells)
-    (front_located file (front_place roots) len (tree_bytes t) (front_media laws.covers.put h c message media roots g can) (front_has laws.covers.put h c message media roots g can).store)
-    (front_met laws hash c message media roots g can)
+    let base : List ℕ = moved_media len media roots in
+    let moved : List Box = moved_roots len media roots in
+    let m = can.movable in
+    let shifted : IsShifted (front_place roots) len (tables_of media roots) media base = media_shifts shifts len media roots m in
+    let boxes : HasShiftedRoots media base roots =
+    shifts.boxes (front_place roots) len media base roots m.bytes m.has_roots m.unrefused shifted in
+    let film : is_bmff base ≡ true = same_media base media boxes.starts m.film boxes.has_roots.begins in
+    let at : IsFrontSplit base moved = is base moved film boxes.has_roots (boxes.others m.none) in
+    let room : HasRoomFor base (front_split moved) (film_store_size c (length message)) = record {
+      split = at.split;
+      room = at.room (open_by moved roots boxes.forms m.closed) (omega (arith, can.few, boxes.count));
+      small = can.small;
+      fits = omega (arith, can.fits, shifted.size);
+    } in
+    let text : split_text base (front_split moved) len ≡ others_text len moved = at.text len in
+    let store : Tree = front_store h c message media roots in
+    let met =
+    files hash c message base (box_bytes (c2pa_box (tree_bytes (content_store h c message base (front_split moved))))) (front_split moved) parts [] digests
+    (fresh hash c message parts is_fresh w spells) (record { room = room; free = at.free }) refl in
+    let piece : List ℕ = box_bytes (c2pa_box (tree_bytes store)) in
+    let file : put_in (front_place moved) piece base ≡ front_file h c message media roots = cc (boxes.first) in
+    let qs : List Question = front_question h c (length message) media roots parts ∷ [] in
+    subst (λ n. Meets hash (front_file h c message media roots) n len store qs) boxes.first
+    (subst (λ (f : List ℕ). Meets hash f (front_place moved) len store qs) file
+    (subst
+    (λ (x : List ℕ).
+    Meets hash
+    (put_in (front_place moved) (box_bytes (c2pa_box (tree_bytes (new_store h c (film_binding alg (h x)) message)))) base)
+    (front_place moved) len (new_store h c (film_binding alg (h x)) message)
+    (question_of parts (new_claim h c (film_binding alg (h x))) ∷ []))
+    text met))

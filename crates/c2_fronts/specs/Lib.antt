@@ -1,4 +1,5 @@
 pub mod InFront
+pub mod Splits
 pub mod Fronts
 pub mod Meeting
 pub mod Order

@@ -3,19 +3,16 @@
 ghost use Rattle.c2_fronts.specs.Fronts.{CoveredTextIsKnown, FrontHasItsStore, OneFront, SomeFront};
 ghost use Rattle.c2_fronts.specs.Meeting.{BytesOfFrontStay, ChunksOfFrontStay, FreshFrontMeets};
 ghost use Rattle.c2_fronts.specs.Order.{BuiltIsNotRefused, NothingRefusedIsBuilt, PlannedIsFresh, PlannedIsNotRefused, UnrefusedCanBePlanned};
+ghost use Rattle.c2_fronts.specs.Splits.{FrontIsSplit};
 
 use crate::in_front::a_store_in_front_is_found;
-use c2_assertion::{
-    a_written_bmff_hash_is_read, written_items_are_in_order, written_items_have_plain_keys,
-};
 use c2_boxed::a_put_store_is_not_covered;
-use c2_built::{
-    a_bound_file_meets_the_rules, a_fresh_store_meets_the_rules, new_stores_have_one_length,
-};
+use c2_built::new_stores_have_one_length;
 use c2_carried::redactions_that_pass_may_be_made;
-use c2_cbor::{round_trip, sorting_keeps_the_length};
+use c2_cbor::sorting_keeps_the_length;
 use c2_chunks::{a_shifted_file_has_its_boxes, a_shifted_file_is_one, chunk_places_stay_true};
 use c2_message::a_message_fills_its_reserve_or_needs_more;
+use c2_splits::{a_content_meets_the_rules, the_file_of_a_content_meets_the_rules};
 
 /// There is one file whose new store comes right after the file type box and binds all that its exclusions leave of the file, and in
 /// whose chunk tables the places of the media from there on are moved: the file that the definition `front_file` gives.
@@ -55,23 +52,23 @@ pub fn a_built_front_has_its_store()
     a_shifted_file_has_its_boxes();
 }
 
+/// The place right behind the first root box of a BMFF file without a store is a split of it: there is room where that
+/// box says its size and the file may have one box more, and bound are the boxes behind, at their new places.
+pub fn a_front_is_a_split()
+    ensures { FrontIsSplit }
+{}
+
 /// The file has the new store, meets each rule but the verdict on its message, and asks one question: that of its message over its claim.
+/// It is the media with moved places, with the store put in at that split.
 pub fn a_fresh_front_meets_the_rules()
     ensures { FreshFrontMeets }
 {
     // Only the prover needs these laws.
-    sorting_keeps_the_length();
-    new_stores_have_one_length();
-    round_trip();
-    a_written_bmff_hash_is_read();
-    written_items_are_in_order();
-    written_items_have_plain_keys();
-    a_put_store_is_not_covered();
-    a_store_in_front_is_found();
+    a_front_is_a_split();
     a_shifted_file_is_one();
     a_shifted_file_has_its_boxes();
-    a_fresh_store_meets_the_rules();
-    a_bound_file_meets_the_rules();
+    a_content_meets_the_rules();
+    the_file_of_a_content_meets_the_rules();
 }
 
 /// Each field of a chunk table that told a place of the media after its file type box tells where that byte is in the new file, which

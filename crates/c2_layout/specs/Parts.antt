@@ -1,5 +1,5 @@
 -- The parts of a new store, as they are made one after the other.
-use Rattle.std.specs.Prelude.{◌≡◌, ℕ, ◌+◌, ◌≤◌, ⊤, List, length}
+use Rattle.std.specs.Prelude.{◌≡◌, ℕ, ◌+◌, ◌≤◌, ⊤, List, [], ◌∷◌, ◌++◌, length}
 use Rattle.std.specs.declared.option.Option.{Option}
 use Rattle.std.specs.declared.option.Option.TheVariants.{Some, None}
 use Rattle.c2_base.specs.declared.limits.TheConstants.{MAX_STORE_LEN}
@@ -9,6 +9,7 @@ use Rattle.c2_definition.specs.declared.types.NewAssertion.{NewAssertion}
 use Rattle.c2_definition.specs.declared.types.Definition.{Definition}
 use Rattle.c2_built.specs.Built.{bound_len, store_size}
 use Rattle.c2_built.specs.Store.{Content, Parent, assertion_box, assertion_boxes, new_assertions, new_claim}
+use Rattle.c2_gathered.specs.Gathered.{with_more}
 use Rattle.c2_layout.specs.declared.carried.Carried.{Carried}
 use Rattle.c2_layout.specs.declared.carried.ParentRefs.{ParentRefs}
 use Rattle.c2_layout.specs.declared.parts.NewParts.{NewParts}
@@ -47,6 +48,36 @@ pub record CanBeBound (hash : List ℕ → List ℕ) (d : Definition) (k : Carri
   pub content : Content
   pub is : IsContent hash d k content
   pub small : bound_len content binding d.reserve ≤ MAX_STORE_LEN
+
+-- ---- further assertions
+
+-- A content of a definition with further assertions behind its own, and with no parent beside them. So is one whose ingredients are
+-- assertions of its definition, whatever labels a definition may have.
+pub record HasFurther (d : Definition) (further : List NewAssertion) (c : Content) : Type 0 where
+  pub definition : c.definition ≡ with_more d further
+  pub parent : c.parent ≡ None
+
+-- the label of an assertion may be written
+abbrev pub HasWrittenLabel : NewAssertion → Type 0
+HasWrittenLabel a = IsWrittenLabel a.label
+
+-- A new store of a definition with further assertions and this binding isn't too large with what the definition reserves for its message,
+-- whatever is carried beside it.
+pub record CanBeGathered (d : Definition) (further : List NewAssertion) (binding : NewAssertion) : Type 0 where
+  pub content : Content
+  pub has : HasFurther d further content
+  pub small : bound_len content binding d.reserve ≤ MAX_STORE_LEN
+
+-- A content under the label of a definition, with these carried boxes.
+pub record IsUnderLabel (d : Definition) (carried : List ℕ) (c : Content) : Type 0 where
+  pub label : c.definition.label ≡ d.label
+  pub boxes : carried ≡ trees_bytes c.carried
+
+-- for private clauses: the assertions of a new manifest, those of a definition, further ones and the binding
+abbrev pub all_assertions : Definition → List NewAssertion → NewAssertion → List NewAssertion
+all_assertions d further binding = d.assertions ++ (further ++ binding ∷ [])
+
+-- ---- references to a parent
 
 -- for private clauses: a digest that is told stands for itself
 abbrev pub told : List ℕ → List ℕ

@@ -5,10 +5,10 @@ use c2_base::{Blob, Text};
 use c2_hash::Digest;
 use std::alloc::Global;
 
-/// The parent of a new manifest, as the new manifest refers to it.
+/// A manifest that is an ingredient of a new one, as its parent is: how the new manifest refers to it.
 #[derive(Debug, Drop)]
 pub struct ParentRefs {
-    /// The label of the parent's manifest.
+    /// The label of that manifest.
     pub label: Text,
 
     /// The digest of its contents, as they stand in the new store, by the algorithm of the new manifest.

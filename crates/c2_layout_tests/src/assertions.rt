@@ -1,9 +1,9 @@
 // Boxes of assertions, and the binding. What they are was reckoned by a program of its own.
 use c2_base::{Blob, NoMemory, Range, Text};
 use c2_definition::{NewAssertion, Payload};
-use c2_hash::Alg;
-use c2_layout::{data_binding, own_ref, write_assertion};
-use c2_spec::WriteError;
+use c2_hash::{Alg, Digest};
+use c2_layout::{ParentRefs, data_binding, ingredient, own_ref, write_assertion};
+use c2_spec::{Relationship, WriteError};
 use std::alloc::{AllocError, Global};
 use std::test::Fail;
 
@@ -29,6 +29,11 @@ const BINDING_BY_SHA384: &str =
 // The item that binds a file outside 1,237 bytes from place 20 on, by a digest of 64 bytes 07.
 const BINDING_BY_SHA512: &str =
     "a463616c6766736861353132637061644e000000000000000000000000000064686173685840070707070707070707070707070707070707070707070707070707070707070707070707070707070707070707070707070707070707070707070707070707076a6578636c7573696f6e7381a265737461727414666c656e6774681904d5";
+
+// The item of a component, the manifest `urn:c2pa:a`, whose contents have a digest of 32 bytes 07, and those of its signature box one of
+// 32 bytes 09.
+const COMPONENT: &str =
+    "a36c72656c6174696f6e736869706b636f6d706f6e656e744f666e6163746976654d616e6966657374a26375726c781b73656c66236a756d62663d2f633270612f75726e3a633270613a616468617368582007070707070707070707070707070707070707070707070707070707070707076e636c61696d5369676e6174757265a26375726c782a73656c66236a756d62663d2f633270612f75726e3a633270613a612f633270612e7369676e6174757265646861736858200909090909090909090909090909090909090909090909090909090909090909";
 
 // A digest of 32 bytes 07.
 const DIGEST: &str = "0707070707070707070707070707070707070707070707070707070707070707";
@@ -126,6 +131,36 @@ fn an_entry_names_a_box_of_its_own_manifest(rt: HostRuntime) -> Result<(), Fail>
             let digest = hex::encode(alloc, entry.hash.as_slice())?;
             assert_eq!(rt; digest.as_str(), DIGEST);
             assert!(rt; entry.alg.is_none());
+        }
+        Err(NoMemory) => assert!(rt; false),
+    }
+    Ok(())
+}
+
+// A component of a manifest that has a parent, too.
+fn component(alloc: Global) -> Result<NewAssertion, NoMemory> {
+    let refs = ParentRefs {
+        label: Text::copied(alloc, "urn:c2pa:a")?,
+        contents: Digest::from_slice(&[7; 32]),
+        signed: Digest::from_slice(&[9; 32]),
+    };
+    ingredient(
+        alloc,
+        "c2pa.ingredient.v3__1",
+        Relationship::ComponentOf,
+        &refs,
+    )
+}
+
+#[test]
+fn an_ingredient_names_a_manifest_and_its_signature(rt: HostRuntime) -> Result<(), Fail> {
+    let alloc = rt.alloc();
+    match component(alloc) {
+        Ok(component) => {
+            let item = hex::encode(alloc, component.bytes.as_slice())?;
+            assert_eq!(rt; item.as_str(), COMPONENT);
+            assert_eq!(rt; component.label.as_str(), "c2pa.ingredient.v3__1");
+            assert_eq!(rt; component.kind, Payload::Cbor);
         }
         Err(NoMemory) => assert!(rt; false),
     }

@@ -1,3 +1,4 @@
+pub mod BothLemmas
 pub mod CarriedLemmas
 pub mod Contents
 pub mod NamedLemmas

@@ -155,7 +155,7 @@ or_map f None p = refl
 or_map f (Some x) p = refl
 
 -- the code of two lists of tests is that of the first, else of the second
-code_append : (xs ys : List Test) → code_of (xs ++ ys) ≡ option_or (code_of xs) (code_of ys)
+pub code_append : (xs ys : List Test) → code_of (xs ++ ys) ≡ option_or (code_of xs) (code_of ys)
 code_append xs ys = ap (option_map (λ (f : Failing). f.code)) (first_failing_append xs ys) ∙ or_map (λ (f : Failing). f.code) (first_failing xs) (first_failing ys)
 
 -- a box names a manifest without its signature, told in two ways
@@ -169,11 +169,11 @@ names_eq m l b = go (has_signature b) (named_in b)
     go false (Some x) = and_true (bytes_eq m x)
 
 -- and so does a box of a reached manifest
-unsigned_eq : (rs : List Reading) (m l : List ℕ) → any_so rs m (length rs) ≡ any_reached (λ (r : Reading). list_any (names_unsigned (Some (assertion_of m l))) r.boxes) rs
+pub unsigned_eq : (rs : List Reading) (m l : List ℕ) → any_so rs m (length rs) ≡ any_reached (λ (r : Reading). list_any (names_unsigned (Some (assertion_of m l))) r.boxes) rs
 unsigned_eq rs m l = λ i. any_reached (λ (r : Reading). list_any (λ (b : ReadBox). names_eq m l b i) r.boxes) rs
 
 -- the code of the two tests over the store
-two : (x y : Bool) (text : List ℕ) → code_of (test (not x) ProfileRedactionTarget text ∷ test y ProfileIngredientSignature text ∷ []) ≡ cond (not x) (Some ProfileRedactionTarget) (cond y (Some ProfileIngredientSignature) None)
+pub two : (x y : Bool) (text : List ℕ) → code_of (test (not x) ProfileRedactionTarget text ∷ test y ProfileIngredientSignature text ∷ []) ≡ cond (not x) (Some ProfileRedactionTarget) (cond y (Some ProfileIngredientSignature) None)
 two true true text = refl
 two true false text = refl
 two false y text = refl
@@ -199,7 +199,7 @@ rules_pass own rs before text m l o r e f g = g ∙ sym (assertion_tests own rs 
 -- ---- one redaction after the other
 
 -- a code is that of a failing test
-failing_of : (o : Option Failing) (code : Code) → option_map (λ (f : Failing). f.code) o ≡ Some code → (f : Failing) × (o ≡ Some f) × (f.code ≡ code)
+pub failing_of : (o : Option Failing) (code : Code) → option_map (λ (f : Failing). f.code) o ≡ Some code → (f : Failing) × (o ≡ Some f) × (f.code ≡ code)
 failing_of None code e = absurd (cc (e))
 failing_of (Some f) code e = let same : f.code ≡ code = cc (e) in (f, refl, same)
 

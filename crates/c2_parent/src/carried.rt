@@ -1,8 +1,8 @@
 // The boxes that are carried of an older store.
 ghost use Rattle.std.specs.Prelude.{◌≡◌, ◌++◌, ◌<◌, IfOk, OnOk, length};
-ghost use Rattle.c2_spec.specs.Jumbf.Boxes.{tree_count, box_at, any_bytes, any_contents};
-ghost use Rattle.c2_spec.specs.Jumbf.Tree.{trees_bytes};
-ghost use Rattle.c2_carried.specs.Redacting.{boxes_in, redacted_boxes};
+ghost use Rattle.c2_spec.specs.Jumbf.Boxes.{tree_count, box_at, any_bytes, any_contents, node};
+ghost use Rattle.c2_spec.specs.Jumbf.Tree.{Tree as AnyTree, tree_bytes, trees_bytes};
+ghost use Rattle.c2_carried.specs.Redacting.{boxes_in, redacted_box, redacted_boxes};
 ghost use Rattle.c2_parent.specs.Boxes.{redacted_any};
 ghost use Rattle.c2_parent.specs.Named.{AreNamed};
 
@@ -85,6 +85,20 @@ pub fn append_redacted_contents<'u>(
         ++ any_contents (redacted_any redactions.now (box_at tree.now i).box)) }
 {
     append_contents(out, tree, i, &redactions.named)
+}
+
+/// Appends a manifest of the store with this tree, less what is redacted of it: the box with this index.
+pub fn append_less<'u>(
+    out: &mut Vec<u8>,
+    tree: &'u Tree<'_>,
+    i: usize,
+    redactions: &Redactions<'u>,
+) -> Result<(), NoMemory>
+    requires { i < tree_count tree.now }
+    ensures { OnOk result ((manifest : AnyTree) → (box_at tree.now i).box ≡ node manifest
+        → out.new.items ≡ out.old.items ++ tree_bytes (redacted_box redactions.now manifest)) }
+{
+    append_redacted(out, tree, i, redactions)
 }
 
 /// How many bytes the boxes have that are carried of the store with this tree. Takes no memory.

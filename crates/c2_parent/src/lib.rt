@@ -4,6 +4,7 @@
 //! What they are stands in `c2_carried`.
 #![tactic(auto)]
 
+mod both;
 mod boxes;
 mod carried;
 mod manifests;
@@ -13,6 +14,9 @@ mod refused;
 mod targets;
 mod unsigned;
 
-pub use carried::{Redactions, append_carried, carried_boxes, carried_len, redactions_of};
+pub use both::{has_joined_manifest, has_reached_manifest, refused_in_both, refused_in_carried};
+pub use carried::{
+    Redactions, append_carried, append_less, carried_boxes, carried_len, redactions_of,
+};
 pub use parent::{ParentDigests, parent_digests};
 pub use refused::{has_manifest, refused_redaction, refused_without_store};

@@ -1,12 +1,12 @@
 // Which redaction of a new manifest is refused first.
-ghost use Rattle.std.specs.Prelude.{◌≡◌, ℕ, List, [], IfOk, Some, option_map};
+ghost use Rattle.std.specs.Prelude.{◌≡◌, ℕ, List, [], IfOk, Some, length, option_map};
 ghost use Rattle.c2_spec.specs.C2pa.Uri.{target_view};
 ghost use Rattle.c2_rules.specs.Chains.{LabelsDiffer};
 ghost use Rattle.c2_rules.specs.Rules.{names_own, redacted_tests};
 ghost use Rattle.c2_carried.specs.Refusing as form;
 ghost use Rattle.c2_carried.specs.Refusing.{entry_tests, redaction_refusal};
 ghost use Rattle.c2_parent.specs.Named.{AreNamed};
-ghost use Rattle.c2_parent.specs.Refused.{assertion_of, code_of, later_code, uri_entry_tests};
+ghost use Rattle.c2_parent.specs.Refused.{IsKnown, any_so, assertion_of, code_of, later_code, still_there, uri_entry_tests};
 
 use crate::named::{Named, add_named, no_names};
 use crate::targets::{is_still_there, targets_of};
@@ -31,7 +31,7 @@ pub fn has_manifest(chain: &Chain<'_>, label: &str) -> bool
 
 /// What is known of an older store when redactions are tested.
 #[derive(Drop)]
-struct Known<'k, 'c, 't> {
+pub struct Known<'k, 'c, 't> {
     all: &'k ReadManifests<'t>,
     targets: &'k [Labelled<'c, 't>],
     unsigned: &'k Labels,
@@ -53,8 +53,44 @@ impl<'k, 'c, 't> Model for Known<'k, 'c, 't> {
     ghost invariant = { λ k. IsKnown k.all.now k.targets.now k.unsigned.now };
 }
 
+/// What is known of a store by its manifests, each with its boxes by their labels, and by the labels that are named without a signature.
+pub fn known_of<'k, 'c, 't>(
+    all: &'k ReadManifests<'t>,
+    targets: &'k [Labelled<'c, 't>],
+    unsigned: &'k Labels,
+) -> Known<'k, 'c, 't>
+    requires { IsKnown all.now targets.now unsigned.now }
+    ensures { result ≡ all.now }
+{
+    Known {
+        all,
+        targets,
+        unsigned,
+    }
+}
+
+/// Whether an assertion of a store is there still, in a reached manifest, once those before were redacted.
+pub fn is_target<'u>(
+    known: &Known<'_, '_, '_>,
+    before: &Named<'u>,
+    manifest: &'u str,
+    label: &'u str,
+) -> bool
+    ensures { (redacts : List (List ℕ)) → AreNamed redacts before.now
+        → result ≡ still_there known.now redacts manifest.now label.now }
+{
+    is_still_there(known.all, known.targets, before, manifest, label)
+}
+
+/// Whether an ingredient of a reached manifest of a store names the manifest with this label without its signature.
+pub fn is_unsigned(known: &Known<'_, '_, '_>, manifest: &str) -> bool
+    ensures { result ≡ any_so known.now manifest.now (length known.now) }
+{
+    has_label(known.unsigned, manifest)
+}
+
 /// Why an assertion of this kind can't be redacted, in the own manifest or in another.
-fn kind_code(is_own: bool, what: Kind) -> Option<Code>
+pub fn kind_code(is_own: bool, what: Kind) -> Option<Code>
     ensures { (uri : List ℕ) → result ≡ code_of (redacted_tests is_own what uri) }
 {
     if is_own {
@@ -146,7 +182,7 @@ fn entry_code<'u>(
 }
 
 /// This redaction, which is refused.
-fn refused(alloc: Global, text: &str, code: Code) -> Result<Option<RefusedRedaction>, NoMemory>
+pub fn refused(alloc: Global, text: &str, code: Code) -> Result<Option<RefusedRedaction>, NoMemory>
     ensures { IfOk result (λ found. found ≡ Some (record { text = text.now; code = code })) }
 {
     let text = Text::copied(alloc, text)?;
@@ -202,7 +238,7 @@ pub fn refused_redaction(
 }
 
 /// Whether this manifest, or none, is the one with this label.
-fn is_own(own: &str, manifest: Option<&str>) -> bool
+pub fn is_own(own: &str, manifest: Option<&str>) -> bool
     ensures { result ≡ names_own own.now (option_map (λ x. x.now) manifest.entry) }
 {
     match manifest {

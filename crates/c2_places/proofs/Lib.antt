@@ -1,4 +1,3 @@
-mod Meeting
 mod Ones
 mod Sizes
 mod Somes

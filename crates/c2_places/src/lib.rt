@@ -2,13 +2,12 @@
 //! Specification 2.x, "Embedding manifests into assets").
 //!
 //! The place and what depends on it stand in the module `Places`, what is left in `Bases`, and what a file meets that is built so in
-//! `Meeting`.
+//! `Meeting`; the laws of the latter stand in `c2_splits`.
 #![tactic(auto)]
 
 mod laws;
 
 pub use laws::{
-    a_base_stays, a_file_built_in_its_place_meets_the_rules,
     a_new_store_has_one_length_in_its_place, a_place_is_one, bindings_are_known,
     each_media_has_a_place, what_is_left_is_one,
 };

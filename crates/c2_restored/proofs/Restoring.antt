@@ -1,21 +1,16 @@
 -- A built file without its new store.
 use Rattle.std.proofs.Common.{◌≡◌, ℕ, List, Ok, refl, sym, ap, ◌∙◌, subst}
 use Rattle.c2_spec.specs.Container.{IsLocated}
-use Rattle.c2_spec.specs.Jumbf.Tree.{Tree}
-use Rattle.c2_spec.specs.Located.{Opening, absent}
+use Rattle.c2_spec.specs.Located.{absent}
 use Rattle.c2_spec.specs.PutIn.{taken_out}
-use Rattle.c2_rules.specs.Opened.{IsOpened}
 use Rattle.c2_places.specs.Places.{IsPlace}
-use Rattle.c2_build.specs.Building.{IsMediaStage, MediaKind, fresh, media_stage}
+use Rattle.c2_refusals.specs.Stages.{IsMediaStage, MediaKind, fresh, media_stage}
+use Rattle.c2_refusals.proofs.Inputs.{OneOpened}
 use Rattle.c2_build.specs.Meeting.{KeepsBytes}
 use Rattle.c2_strip.specs.Stripping.{HasEmbedded}
 use Rattle.c2_restored.specs.Restored.{BuiltIsRestored, new_range}
 use Rattle.c2_restored.proofs.Containers.{opened_range}
 use Rattle.c2_restored.proofs.Placing.{OneLocated, not_middle}
-
--- a media file is opened as one thing at most
-abbrev pub OneOpened : Type 0
-OneOpened = (file : List ℕ) (a b : Opening Tree) → IsOpened file a → IsOpened file b → a ≡ b
 
 -- a media file without a store is one to a build
 fresh_kind : OneOpened → (media : List ℕ) (kind : MediaKind) → IsLocated media absent → IsMediaStage media (Ok kind) → kind ≡ fresh

@@ -1,27 +1,27 @@
 -- No error of a call over sources and a sink in memory is a fault of theirs.
-use Rattle.std.proofs.Common.{◌≡◌, ◌∙◌, ◌⊎◌, inl, inr, refl, ap, subst, arith, ℕ, ◌+◌, ◌<◌, ◌≤◌, false, List, [], length, map, All, Some, None}
+use Rattle.std.proofs.Common.{◌≡◌, ◌∙◌, ◌⊎◌, inl, inr, refl, ap, subst, arith, ℕ, ◌+◌, ◌<◌, ◌≤◌, false, List, [], length, map, All, Option, Some, None}
 use Rattle.std.specs.Prelude.{◌-◌, ◌^◌, ◌==◌, take, vec_len, if◌then◌else◌}
-use Rattle.std.specs.declared.result.Result.TheVariants.{Err}
 use Rattle.std.proofs.lemmas.List.{length-take}
 use Rattle.c2_base.specs.Causes.{Rose}
 use Rattle.c2_base.specs.InMemory.{fresh_sink, sink_state}
 use Rattle.c2_base.specs.declared.sinks.MemSink.{MemSink}
-use Rattle.c2_base.specs.declared.values.Question.{Question}
 use Rattle.c2_spec.specs.Container.{is_bmff}
-use Rattle.c2_spec.specs.Judges.Panel.{SomeRose, panel_says}
+use Rattle.c2_spec.specs.Judges.Panel.{SomeRose}
 use Rattle.c2_spec.specs.declared.digest.Alg.{Alg}
-use Rattle.c2_spec.specs.declared.panel.Verdict.{Verdict}
 use Rattle.c2_opening.specs.Opened.{IsCause}
 use Rattle.c2_opening.specs.declared.error.ValidateError.{ValidateError}
 use Rattle.c2_opening.specs.declared.error.ValidateError.TheVariants as check
 use Rattle.c2_validate.specs.Checked.{IsReadCause}
 use Rattle.c2_built.specs.Fresh.{GivesDigests}
-use Rattle.c2_build.specs.Answers.{HasSpare, IsEmbedCause, build_heard}
+use Rattle.c2_copying.specs.Writing.{FitsSpare, write_fault}
 use Rattle.c2_rules.specs.Asking.{IsJudgeCause}
+use Rattle.c2_refusals.specs.Kinds as kind
+use Rattle.c2_refusals.specs.Kinds.{ErrorKind, IsSourceCause, heard_of}
+use Rattle.c2_build_front.specs.Answers.{kind_ending}
+use Rattle.c2_build.specs.Answers.{Writes, embed_effects, file_of}
 use Rattle.c2_build.specs.Meeting.{BuiltFileMeets, SomeEmbedding}
-use Rattle.c2_build.specs.declared.error.BuildError.{BuildError}
-use Rattle.c2_build.specs.declared.error.BuildError.TheVariants.{MediaRefused, BadDefinition, BadSignature, ParentFails, LabelTaken, RedactionRefused, OpenBox, NoInstance, TooManyManifests, StoreTooLarge, ReserveTooSmall, ReadFault, JudgeFault, WriteFault, NoMemory}
-use Rattle.c2_sample.specs.Sample.{IsSureError, IsSureFault, no_judges, sample_definition, sample_message}
+use Rattle.c2_sample.specs.Sample.{IsSureFault, IsSureKind, no_judges, sample_definition, sample_message}
+use Rattle.c2_sample.proofs.Builds.{IsMade}
 use Rattle.c2_sample.proofs.MadeBytes.{message_bytes}
 use Rattle.c2_sample.proofs.Roomy.{most_put, result_len}
 use Rattle.c2_sample.proofs.WorkedDefinition.{texts_in}
@@ -71,35 +71,29 @@ pub record InMemory (hash : Alg → List ℕ → List ℕ) (media : List ℕ) (s
   pub sink_is : sink_state sink ≡ fresh_sink room 0
   pub holds : length media + most_put ≤ room
 
+-- what a sink in memory states as its spare
+abbrev spare_of : MemSink → Option ℕ
+spare_of s = if s.fail_at == 0 then Some (vec_len s.bytes - s.used) else None
+
 -- the sink doesn't fail
-no_write_fault : (hash : Alg → List ℕ → List ℕ) (media : List ℕ) (sink : MemSink) → InMemory hash media sink
-    → HasSpare hash no_judges media sample_definition sample_message (if sink.fail_at == 0 then Some (vec_len sink.bytes - sink.used) else None) (Err WriteFault) → ⊥
+no_write_fault : (hash : Alg → List ℕ → List ℕ) (media : List ℕ) (sink : MemSink) → InMemory hash media sink → FitsSpare (Writes (IsMade hash media)) (spare_of sink) write_fault → ⊥
 no_write_fault hash media sink m spare =
     let r = m.comes hash no_judges media sample_definition sample_message m.bytes message_bytes in
-    let less = spare m.room (room_is_spare sink m.room m.sink_is) r.0 r.1 in
+    let less = spare m.room (room_is_spare sink m.room m.sink_is) (file_of r.0) (r.0, r.1, refl) in
     let most = result_len m.meets hash no_judges media sample_definition sample_message r.0 m.digests texts_in m.jpeg r.1 in
     omega (arith, less, most, m.holds)
 
 -- an error of it is a refusal, or memory ran out
-pub sure_error : {T : Type 0} (says : T → Question → Verdict) (faults : T → ℕ) (judges : List T) (now : List ℕ) (hash : Alg → List ℕ → List ℕ) (media : List ℕ) (sink : MemSink) (e : BuildError) → judges ≡ [] → InMemory hash media sink
-    → IsEmbedCause (Rose 0 0 ⊎ Rose 0 0) 0 0 e → IsJudgeCause (map faults judges) now (build_heard e)
-    → HasSpare hash (panel_says (map says judges)) media sample_definition sample_message (if sink.fail_at == 0 then Some (vec_len sink.bytes - sink.used) else None) (Err e) → IsSureError e
-sure_error {T} says faults judges now hash media sink (MediaRefused reason number) none m c j s = inl refl
-sure_error {T} says faults judges now hash media sink (BadDefinition field) none m c j s = inl refl
-sure_error {T} says faults judges now hash media sink (BadSignature part) none m c j s = inl refl
-sure_error {T} says faults judges now hash media sink (ParentFails code uri) none m c j s = inl refl
-sure_error {T} says faults judges now hash media sink (LabelTaken label) none m c j s = inl refl
-sure_error {T} says faults judges now hash media sink (RedactionRefused text code) none m c j s = inl refl
-sure_error {T} says faults judges now hash media sink (OpenBox n) none m c j s = inl refl
-sure_error {T} says faults judges now hash media sink NoInstance none m c j s = inl refl
-sure_error {T} says faults judges now hash media sink (TooManyManifests count) none m c j s = inl refl
-sure_error {T} says faults judges now hash media sink (StoreTooLarge len) none m c j s = inl refl
-sure_error {T} says faults judges now hash media sink (ReserveTooSmall needed) none m c j s = inl refl
-sure_error {T} says faults judges now hash media sink ReadFault none m c j s = absurd (no_read_fault c)
-sure_error {T} says faults judges now hash media sink JudgeFault none m c j s = absurd (nobody_rose faults judges now none j)
-sure_error {T} says faults judges now hash media sink WriteFault none m c j s =
-    absurd (no_write_fault hash media sink m (subst (λ (js : List T). HasSpare hash (panel_says (map says js)) media sample_definition sample_message (if sink.fail_at == 0 then Some (vec_len sink.bytes - sink.used) else None) (Err WriteFault)) none s))
-sure_error {T} says faults judges now hash media sink NoMemory none m c j s = inr refl
+pub sure_kind : {T : Type 0} (faults : T → ℕ) (judges : List T) (now : List ℕ) (hash : Alg → List ℕ → List ℕ) (media : List ℕ) (sink : MemSink) (k : ErrorKind) → judges ≡ [] → InMemory hash media sink
+    → IsSourceCause embed_effects (Rose 0 0 ⊎ Rose 0 0) 0 0 k → IsJudgeCause (map faults judges) now (heard_of k) → FitsSpare (Writes (IsMade hash media)) (spare_of sink) (kind_ending k) → IsSureKind k
+sure_kind faults judges now hash media sink kind.refusal none m c j s = inl refl
+sure_kind faults judges now hash media sink kind.message_refusal none m c j s = inl refl
+sure_kind faults judges now hash media sink kind.front_refusal none m c j s = inl refl
+sure_kind faults judges now hash media sink kind.other_refusal none m c j s = inl refl
+sure_kind faults judges now hash media sink kind.read_fault none m c j s = absurd (no_read_fault c)
+sure_kind faults judges now hash media sink kind.judge_fault none m c j s = absurd (nobody_rose faults judges now none j)
+sure_kind faults judges now hash media sink kind.write_fault none m c j s = absurd (no_write_fault hash media sink m s)
+sure_kind faults judges now hash media sink kind.no_memory none m c j s = inr refl
 
 -- ---- the check
 

@@ -1,5 +1,5 @@
 -- The sink of a sample has room for each new file.
-use Rattle.std.proofs.Common.{◌≡◌, refl, sym, ap, subst, arith, ℕ, zero, suc, ◌+◌, ◌*◌, Bool, true, false, cond, List, [], ◌∷◌, ◌++◌, length, Option, Some, None}
+use Rattle.std.proofs.Common.{◌≡◌, refl, sym, ap, subst, arith, ℕ, zero, suc, ◌+◌, ◌*◌, Bool, false, List, [], ◌∷◌, length, None}
 use Rattle.std.specs.Prelude.{◌≤◌, nat_lt, take, drop}
 use Rattle.std.specs.Bool.{MatchBool}
 use Rattle.std.specs.declared.result.Result.{Result}
@@ -20,49 +20,18 @@ use Rattle.c2_built.specs.Fresh.{GivesDigests}
 use Rattle.c2_built.specs.Store.{Content}
 use Rattle.c2_places.specs.Bases.{IsLeftOfBoxes}
 use Rattle.c2_places.specs.Places.{Place, in_boxes, in_segments, range_len, store_len}
+use Rattle.c2_refusals.proofs.Passing.{ground_of}
+use Rattle.c2_refusals.proofs.Stages.{none_fails, none_of_both, passed, unless_passed}
 use Rattle.c2_build.specs.Answers.{file_of}
-use Rattle.c2_build.specs.Building.{After, Built, IsBuilt, IsDefinitionStage, IsEmbedded, IsEmbeddedOn, IsGroundOver, IsGroundStage, IsMediaStage, IsMessageStage, IsPlaceStage, MediaKind, Then, Unless, built_of, fresh, fresh_ground, stored}
-use Rattle.c2_build.specs.Meeting.{BuiltFileMeets, HasTextsIn}
-use Rattle.c2_build.specs.Refusals.{BuildTest, Ground, first_refusal, ground_tests, late_tests, new_range_len, new_store_len, older_tests, place_tests, redaction_tests, reserve_tests}
-use Rattle.c2_build.specs.declared.error.BuildError.{BuildError}
+use Rattle.c2_build.specs.Building.{Built, IsBuilt, IsEmbedded, IsEmbeddedOn, built_of}
+use Rattle.c2_refusals.specs.Stages.{HasTextsIn, IsDefinitionStage, IsGroundOver, IsGroundStage, IsMediaStage, IsMessageStage, IsPlaceStage, MediaKind, fresh, fresh_ground, stored}
+use Rattle.c2_build.specs.Meeting.{BuiltFileMeets}
+use Rattle.c2_refusals.specs.Refusals.{Ground, first_refusal, ground_tests, late_tests, new_range_len, new_store_len, older_tests, place_tests, redaction_tests, reserve_tests}
+use Rattle.c2_refusals.specs.declared.error.BuildError.{BuildError}
 use Rattle.c2_sample.specs.Sample.{piece, piece_byte, piece_bytes, pieces, sample_media}
 use Rattle.c2_sample.specs.declared.media.TheConstants.{PIECE_BYTES}
 
--- ---- stages
-
--- the first stage passed, where both did
-record Passed {A B : Type 0} (First : Result A BuildError → Type 0) (Next : A → Result B BuildError → Type 0) (b : B) : Type 0 where
-  value : A
-  first : First (Ok value)
-  next : Next value (Ok b)
-
--- two stages that come to a value both passed
-passed : {A B : Type 0} (First : Result A BuildError → Type 0) (Next : A → Result B BuildError → Type 0) (b : B) → Then First Next (Ok b) → Passed First Next b
-passed {A} {B} First Next b h = by h.first h.is_first h.next
-  where
-    by : (first : Result A BuildError) → First first → After Next first (Ok b) → Passed First Next b
-    by (Ok a) f n = record { value = a; first = f; next = n }
-    by (Err e) f n = absurd (cc (n))
-
--- tests before a value all passed
-unless_passed : {A : Type 0} (o : Option BuildError) (Next : Result A BuildError → Type 0) (a : A) → Unless o Next (Ok a) → (o ≡ None) × Next (Ok a)
-unless_passed None Next a h = (refl, h)
-unless_passed (Some e) Next a h = absurd (cc (h))
-
--- where no test of two lists fails, none of either does
-none_of_both : (xs ys : List BuildTest) → first_refusal (xs ++ ys) ≡ None → (first_refusal xs ≡ None) × (first_refusal ys ≡ None)
-none_of_both [] ys h = (refl, h)
-none_of_both (t ∷ ts) ys h = by t.fails (none_of_both ts ys) h
-  where
-    by : (b : Bool) → (first_refusal (ts ++ ys) ≡ None → (first_refusal ts ≡ None) × (first_refusal ys ≡ None)) → cond b (Some t.refusal) (first_refusal (ts ++ ys)) ≡ None
-        → (cond b (Some t.refusal) (first_refusal ts) ≡ None) × (first_refusal ys ≡ None)
-    by true rest e = absurd (cc (e))
-    by false rest e = rest e
-
--- a test that fails doesn't pass
-none_fails : (b : Bool) (e : BuildError) (rest : Option BuildError) → cond b (Some e) rest ≡ None → (b ≡ false) × (rest ≡ None)
-none_fails true e rest h = absurd (cc (h))
-none_fails false e rest h = (refl, h)
+-- ---- lengths
 
 -- where no test on numbers fails, the store isn't too large
 small_store : (g : Ground) (p : Place) → first_refusal (ground_tests g p) ≡ None → new_store_len p g.content ≤ MAX_STORE_LEN
@@ -71,8 +40,6 @@ small_store g p h =
     let few = none_fails (nat_lt MAX_MANIFESTS g.manifests) _ _ behind.1 in
     let small = none_fails (nat_lt MAX_STORE_LEN (new_store_len p g.content)) _ _ few.1 in
     ltb-false MAX_STORE_LEN (new_store_len p g.content) small.0
-
--- ---- lengths
 
 -- a file less a range isn't longer than it
 short_out : (start len : ℕ) (file : List ℕ) → length (taken_out start len file) ≤ length file
@@ -94,10 +61,6 @@ most_put = segments_len MAX_STORE_LEN
 range_most : (p : Place) (c : Content) (reserve : ℕ) → store_len p c reserve ≤ MAX_STORE_LEN → range_len p c reserve ≤ most_put
 range_most (in_segments segments number) c reserve small = omega (arith, small)
 range_most (in_boxes roots) c reserve small = omega (arith, small)
-
--- what is built over: a base, its content, and a number of manifests
-abbrev ground_of : List ℕ → Content → ℕ → Ground
-ground_of base content manifests = record { base = base; content = content; manifests = manifests }
 
 -- what is built over a JPEG file isn't longer than it
 ground_len : (hash : Alg → List ℕ → List ℕ) (said : Question → Verdict) (media : List ℕ) (d : Definition) (kind : MediaKind) (g : Ground) → is_bmff media ≡ false → IsGroundStage hash said media d kind (Ok g) → length g.base ≤ length media

@@ -12,7 +12,7 @@ use Rattle.c2_definition.specs.declared.types.Definition.{Definition}
 use Rattle.c2_definition.specs.declared.types.DefinitionField.{DefinitionField}
 use Rattle.c2_definition.specs.declared.types.Payload.TheVariants as payload
 use Rattle.c2_built.specs.Written.{HasTexts}
-use Rattle.c2_build.specs.Meeting.{HasTextsIn}
+use Rattle.c2_refusals.specs.Stages.{HasTextsIn}
 use Rattle.c2_sample.specs.Sample.{sample_definition}
 
 -- the item of the one assertion: {"actions": [{"action": "c2pa.created"}]}

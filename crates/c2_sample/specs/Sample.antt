@@ -12,9 +12,9 @@ use Rattle.c2_rules.specs.Asking.{Heard, broken, part}
 use Rattle.c2_rules.specs.Validated.{CheckAsks, IsAnswer}
 use Rattle.c2_rules.specs.declared.answer.Answer.{Answer}
 use Rattle.c2_built.specs.Fresh.{GivesDigests}
+use Rattle.c2_refusals.specs.Kinds.{ErrorKind, judge_fault, no_memory, read_fault, write_fault}
+use Rattle.c2_refusals.specs.declared.error.BuildError.{BuildError}
 use Rattle.c2_build.specs.Building.{Built, IsEmbedded}
-use Rattle.c2_build.specs.declared.error.BuildError.{BuildError}
-use Rattle.c2_build.specs.declared.error.BuildError.TheVariants as build
 use Rattle.c2_opening.specs.declared.error.ValidateError.{ValidateError}
 use Rattle.c2_opening.specs.declared.error.ValidateError.TheVariants as check
 use Rattle.c2_sample.specs.declared.building.NewFile.{NewFile}
@@ -142,17 +142,17 @@ EachSampleAsks = (hash : Alg → List ℕ → List ℕ) (said : Question → Ver
 
 -- ---- for private clauses
 
--- whether an error is a refusal of what is built
-abbrev pub is_refusal : BuildError → Bool
-is_refusal build.ReadFault = false
-is_refusal build.JudgeFault = false
-is_refusal build.WriteFault = false
-is_refusal build.NoMemory = false
-is_refusal e = true
+-- whether an error of this kind is a refusal of what is built
+abbrev pub is_refusal : ErrorKind → Bool
+is_refusal read_fault = false
+is_refusal judge_fault = false
+is_refusal write_fault = false
+is_refusal no_memory = false
+is_refusal k = true
 
--- an error of a build in memory: a refusal, or that memory ran out
-abbrev pub IsSureError : BuildError → Type 0
-IsSureError e = (is_refusal e ≡ true) ⊎ (e ≡ build.NoMemory)
+-- the kind of an error of a build in memory: a refusal, or that memory ran out
+abbrev pub IsSureKind : ErrorKind → Type 0
+IsSureKind k = (is_refusal k ≡ true) ⊎ (k ≡ no_memory)
 
 -- what is built of this media, or what is refused
 abbrev pub IsNewFile : (Alg → List ℕ → List ℕ) → List ℕ → NewFile → Type 0

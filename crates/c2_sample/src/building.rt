@@ -1,13 +1,16 @@
 // The build of a media file in memory.
 ghost use Rattle.std.specs.Prelude.{◌≡◌, ◌<◌, ◌^◌, IfOk, OnErr, false, length, true};
 ghost use Rattle.c2_spec.specs.Container.{is_bmff};
-ghost use Rattle.c2_build.specs.declared.error.BuildError.TheVariants as build;
-ghost use Rattle.c2_sample.specs.Sample.{IsNewFile, IsSureError, is_refusal};
+ghost use Rattle.c2_refusals.specs.Kinds.{kind_of, no_memory};
+ghost use Rattle.c2_sample.specs.Sample.{IsNewFile, IsSureKind, is_refusal};
 
 use crate::inputs::{sample_definition, sample_message};
 use c2_base::limits::MAX_STORE_LEN;
 use c2_base::{Blob, MemSink, NoMemory, SureSource};
-use c2_build::{BuildError, a_new_file_meets_the_rules, each_build_comes_to_something, embed};
+use c2_build::{
+    BuildError, a_build_comes_to_one_thing, a_new_file_meets_the_rules,
+    each_build_comes_to_something, embed,
+};
 use c2_hash::Hashing;
 use c2_jpegseg::segments_len;
 use c2_judge::Judge;
@@ -31,6 +34,7 @@ pub fn build<H: Hashing>(alloc: Global, hashing: &H, media: Blob) -> Result<NewF
     ensures { IfOk result (IsNewFile H.digest_of media) }
 {
     // Only the prover needs these laws.
+    a_build_comes_to_one_thing();
     each_build_comes_to_something();
     a_new_file_meets_the_rules();
     let room = media
@@ -58,10 +62,10 @@ pub fn build<H: Hashing>(alloc: Global, hashing: &H, media: Blob) -> Result<NewF
 
 // What is refused, or that memory ran out: a source or a sink in memory doesn't fail, and there is no judge.
 fn refused(error: BuildError) -> Result<NewFile, NoMemory>
-    requires { IsSureError error }
-    ensures refusal { IfOk result (λ file. (is_refusal error ≡ true)
+    requires { IsSureKind (kind_of error) }
+    ensures refusal { IfOk result (λ file. (is_refusal (kind_of error) ≡ true)
         × (file ≡ NewFile.Refused error)) }
-    ensures memory { OnErr result (error ≡ build.NoMemory) }
+    ensures memory { OnErr result (kind_of error ≡ no_memory) }
 {
     if is_refusal(&error) {
         return Ok(NewFile::Refused(error));
@@ -71,7 +75,7 @@ fn refused(error: BuildError) -> Result<NewFile, NoMemory>
 
 // Whether an error is a refusal of what is built.
 fn is_refusal(error: &BuildError) -> bool
-    ensures { result ≡ is_refusal error.now }
+    ensures { result ≡ is_refusal (kind_of error.now) }
 {
     match error {
         BuildError::ReadFault
@@ -81,13 +85,21 @@ fn is_refusal(error: &BuildError) -> bool
         BuildError::MediaRefused(_, _)
         | BuildError::BadDefinition(_)
         | BuildError::BadSignature(_)
+        | BuildError::NotBmff
+        | BuildError::HasStore
         | BuildError::ParentFails(_, _)
+        | BuildError::OtherRefused(_)
+        | BuildError::LabelClash(_)
         | BuildError::LabelTaken(_)
         | BuildError::RedactionRefused(_, _)
         | BuildError::OpenBox(_)
         | BuildError::NoInstance
+        | BuildError::OffsetTable(_)
+        | BuildError::BadTree(_)
+        | BuildError::BadTable(_)
         | BuildError::TooManyManifests(_)
         | BuildError::StoreTooLarge(_)
+        | BuildError::Overflow(_)
         | BuildError::ReserveTooSmall(_) => true,
     }
 }

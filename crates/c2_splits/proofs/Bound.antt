@@ -10,7 +10,8 @@ use Rattle.c2_spec.specs.Bmff.Hash.{BmffHash}
 use Rattle.c2_spec.specs.Bmff.Writing.{built_text, c2pa_box, c2pa_frame_len}
 use Rattle.c2_spec.specs.Container.{bmff}
 use Rattle.c2_spec.specs.Cover.{bad_range, data_text, excluded_positions}
-use Rattle.c2_spec.specs.Digest.{alg_name, alg_named}
+use Rattle.c2_spec.specs.Cbor.Deterministic.{deterministic}
+use Rattle.c2_spec.specs.Digest.{alg_name, alg_named, digest_len}
 use Rattle.c2_spec.specs.Jpeg.Segments.{Segment, place_after}
 use Rattle.c2_spec.specs.Jpeg.Writing.{packets_bytes, segments_len}
 use Rattle.c2_spec.specs.PutIn.{put_in}
@@ -25,13 +26,12 @@ use Rattle.c2_rules.specs.Ingredients.{assertion_uri}
 use Rattle.c2_rules.specs.Rules as rule
 use Rattle.c2_rules.specs.Rules.{has_digest_by}
 use Rattle.c2_rules.proofs.JpegMedia.{begins, is_jpeg_media, jpeg_media}
-use Rattle.c2_assertion.specs.Written.{one_exclusion}
+use Rattle.c2_assertion.specs.Written.{data_hash_item, one_exclusion}
 use Rattle.c2_jpegseg.specs.Laws.{PacketsHoldTheStore}
 use Rattle.c2_boxed.specs.Laws.{BuiltTextIsCovered, HasBuiltCover}
 use Rattle.c2_built.specs.Built.{HasDigestLen}
 use Rattle.c2_built.specs.Store.{data_binding, range_at}
 use Rattle.c2_built.specs.Unbound.{IsMet}
-use Rattle.c2_built.proofs.FreshFile.{KnownLength}
 use Rattle.c2_built.proofs.GoodItems.{RoundTrip}
 use Rattle.c2_built.proofs.NewRules.{all_hold, same_bytes}
 use Rattle.c2_built.proofs.StoreSize.{KeepsLength}
@@ -47,6 +47,10 @@ use Rattle.c2_splits.proofs.Texts.{text_at}
 use Rattle.c2_built.proofs.Put.{put_len}
 
 -- ---- between segments
+
+-- the item of a data hash with one range has one length for each algorithm
+abbrev pub KnownLength : Type 0
+KnownLength = (alg : Alg) (hash : List ℕ) (r : Range) → length hash ≡ digest_len alg → length (deterministic (data_hash_item (one_exclusion (Some (alg_name alg)) hash r))) ≡ 68 + digest_len alg
 
 -- what the laws of other crates say of a data hash
 pub record DataLaws : Type 0 where

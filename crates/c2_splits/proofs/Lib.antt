@@ -10,5 +10,5 @@ mod Contents
 mod Built
 mod Kept
 mod Places
-mod Following
+mod InPlace
 mod Refusals

@@ -1,9 +1,8 @@
 //! Laws of files that a store is put into at a split.
 
 ghost use Rattle.c2_splits.specs.Built.{FileAtSplitIsOne, FileIsBuiltAt};
-ghost use Rattle.c2_splits.specs.Contents.{ContentFileMeets, ContentSizeIsFixed, FreshContentMeets, GatheredContentMeets, OverContentMeets, PlaceFileMeets};
+ghost use Rattle.c2_splits.specs.Contents.{ContentFileMeets, ContentSizeIsFixed, FreshContentMeets, GatheredContentMeets, OverContentMeets};
 ghost use Rattle.c2_splits.specs.Holding.{BoxIsAtSplit, BoxesTextIsTold, PieceIsThere, StoreIsAtSplit, TextIsCovered, TextIsOne};
-ghost use Rattle.c2_splits.specs.Instances.{PlaceIsSplit};
 ghost use Rattle.c2_splits.specs.Kept.{LeftKeeps, PieceIsTakenOut, SplitFileKeeps};
 ghost use Rattle.c2_splits.specs.Meeting.{SplitFileMeets};
 ghost use Rattle.c2_splits.specs.Refusals.{RoomIsUnrefused, UnrefusedHasRoom, UnrefusedIsBuilt};
@@ -122,16 +121,6 @@ pub fn a_file_at_a_split_keeps_its_bytes()
 {
     // Only the prover needs this law.
     a_base_has_no_store();
-}
-
-/// The place of a file without a store is a split of it, where the same bytes are put in of each store, and the same
-/// text is bound. So the law of files at a split holds of files in their places.
-pub fn a_place_is_a_split()
-    ensures split { PlaceIsSplit }
-    ensures file { PlaceFileMeets }
-{
-    // Only the prover needs this law.
-    the_file_of_a_content_meets_the_rules();
 }
 
 /// Something is refused of a store at a split exactly where there is no room for it. Where nothing is refused there is

@@ -6,16 +6,13 @@
 //! store; that it is one file is in `Built`. Which bytes it keeps is in `Kept`, and what is refused in `Refusals`.
 #![tactic(auto)]
 
+mod in_place;
 mod laws;
-mod standing;
 
+pub use in_place::{a_base_stays, a_file_built_in_its_place_meets_the_rules, a_place_is_a_split};
 pub use laws::{
     a_content_meets_the_rules, a_file_at_a_split_keeps_its_bytes,
     a_file_at_a_split_meets_the_rules, a_file_built_at_a_split_is_one,
-    a_new_store_has_one_length_at_its_split, a_place_is_a_split, a_split_is_refused_or_built,
-    a_store_is_at_its_split, the_covered_text_depends_on_a_length,
-    the_file_of_a_content_meets_the_rules,
-};
-pub use standing::{
-    a_file_in_its_place_is_at_a_split, a_film_is_at_a_split, a_jpeg_file_is_at_a_split,
+    a_new_store_has_one_length_at_its_split, a_split_is_refused_or_built, a_store_is_at_its_split,
+    the_covered_text_depends_on_a_length, the_file_of_a_content_meets_the_rules,
 };

@@ -1,3 +1,3 @@
 pub mod Whole
-pub mod Composed
+pub mod Approved
 mod SecondRows

@@ -7,7 +7,6 @@ use Rattle.std.proofs.lemmas.Option.{same_Some, slice_get_within}
 use Rattle.c2_base.specs.declared.limits.TheConstants.{MAX_STORE_LEN}
 use Rattle.c2_base.specs.declared.values.Question.{Question}
 use Rattle.c2_spec.specs.C2pa.Sign1.{question_of}
-use Rattle.c2_spec.specs.Jpeg.Writing.{insert_place}
 use Rattle.c2_spec.specs.Jumbf.Tree.{tree_bytes}
 use Rattle.c2_spec.specs.declared.digest.Alg.{Alg}
 use Rattle.c2_rules.specs.Chains.{LabelsDiffer, label_in}
@@ -17,19 +16,15 @@ use Rattle.c2_rules.specs.Tests.{downward}
 use Rattle.c2_joined.specs.Rooted.{ReadsKinds, StoreIsRooted, last_roots}
 use Rattle.c2_joined.proofs.Places.{contains_at, member_of}
 use Rattle.c2_joined.proofs.Rooting.{last_active}
-use Rattle.c2_definition.specs.declared.types.NewAssertion.{NewAssertion}
-use Rattle.c2_built.specs.Built.{built_len}
-use Rattle.c2_built.specs.Fresh.{new_question}
-use Rattle.c2_built.specs.Store.{Content, Parent, data_binding, new_alg, new_claim, new_store}
+use Rattle.c2_built.specs.Store.{Content, Parent, new_alg, new_claim, new_store}
 use Rattle.c2_built.specs.Unbound.{MeetsUnbound}
-use Rattle.c2_built.proofs.FreshFile.{Laws, built_meets, data_known, small_store}
 use Rattle.c2_carried.specs.Carrying.{IsLast, IsTakenOver}
 use Rattle.c2_carried.specs.Less.{AreLess, CanRedactBy}
 use Rattle.c2_carried.proofs.Places.{LessAt, less_at, less_label}
 use Rattle.c2_carried.proofs.Stores.{store_differs}
 use Rattle.c2_gathered.specs.Gathered.{AreIngredients, GatheredStoreMeets, IsOverRoots, NewIngredient, gathered_of, parent_ingredients}
 use Rattle.c2_gathered.specs.Taken.{IsRoot, IsTakenFrom, questions_from}
-use Rattle.c2_succeeding.specs.Over.{SucceedingFileMeets, SucceedingStoreMeets}
+use Rattle.c2_succeeding.specs.Over.{SucceedingStoreMeets}
 
 -- ---- what is taken over
 
@@ -104,13 +99,3 @@ over_last gathers roots hash c parent binding message p rs ss has w known small 
     (gathers hash (gathered_of x) binding message p (last_roots rs) rs ss over_roots))
 
 -- ---- the file
-
--- the file over a base
-pub succeeding_meets : SucceedingStoreMeets → Laws → SucceedingFileMeets
-succeeding_meets stores laws hash c parent message base segments en sp rs ss digests has w can fb spells over last =
-    let start : ℕ = insert_place segments in
-    let len : ℕ = built_len c (length message) in
-    let binding : NewAssertion = data_binding (new_alg c.definition) start len (hash (new_alg c.definition) base) in
-    built_meets laws hash c message base segments en
-    (new_question (hash (new_alg c.definition)) c message base segments sp ∷ questions rs) digests can fb
-    (stores hash c parent binding message sp rs ss has w (data_known (new_alg c.definition) start len (hash (new_alg c.definition) base)) (small_store laws hash c message base segments en digests can) spells over last)

@@ -4,7 +4,7 @@ use Rattle.c2_definition.specs.declared.types.NewAssertion.{NewAssertion}
 use Rattle.c2_spec.specs.Digest.{zero_digest}
 use Rattle.c2_built.specs.Store.{data_binding}
 use Rattle.c2_films.specs.Films.{film_binding}
-use Rattle.c2_build.specs.Steps.{seat_binding}
+use Rattle.c2_bound_parts.specs.Bound.{seat_binding}
 use Rattle.c2_build.proofs.draft.blank_binding.Goals as goal
 
 -- a range is bound in a JPEG file

@@ -1,5 +1,5 @@
 use Rattle.std.proofs.Common.{◌≡◌, ap, arith, length, subst}
-use Rattle.c2_build.specs.Steps.{IsSeat}
+use Rattle.c2_refusals.specs.Seats.{IsSeat}
 use Rattle.c2_build.proofs.Seated.{boxes_pass, boxes_refused}
 use Rattle.c2_build.proofs.draft.check_boxes.Goals as goal
 

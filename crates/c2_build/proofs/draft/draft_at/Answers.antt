@@ -1,10 +1,9 @@
 use Rattle.std.proofs.Common.{◌≡◌, ◌+◌, ℕ, None, Some, refl, sym, ap, ◌∙◌, arith}
 use Rattle.c2_spec.specs.declared.reason.Reason.TheVariants.{FileTooLarge}
-use Rattle.c2_build.specs.Refusals.{first_refusal, new_range_len, new_store_len, number_tests}
-use Rattle.c2_build.specs.declared.error.BuildError.TheVariants.{MediaRefused, StoreTooLarge}
-use Rattle.c2_build.specs.Steps.{seat_store_len}
+use Rattle.c2_refusals.specs.Refusals.{new_range_len, new_store_len}
+use Rattle.c2_refusals.specs.declared.error.BuildError.TheVariants.{MediaRefused, StoreTooLarge}
 use Rattle.c2_build.proofs.Drafted.{large_store, long_file, no_place, numbers_pass, seat_range, seat_store, too_many}
-use Rattle.c2_build.proofs.Outside.{outside_all, store_outside}
+use Rattle.c2_refusals.proofs.Outside.{outside_all, outside_map}
 use Rattle.c2_build.proofs.draft.draft_at.Goals as goal
 
 -- nothing can be put in at the place
@@ -19,8 +18,9 @@ returns-then-ground-clause-refused c = λ hash content base p is at seat. too_ma
 pub returns-in-Err-small_store_len-clause-refused : goal.returns-in-Err-small_store_len-clause-refused
 returns-in-Err-small_store_len-clause-refused c = λ hash content base p is at seat.
     let same = seat_store c.args.seat.now p content seat in
-    store_outside (seat_store_len c.args.seat.now content) c.in-Err-small_store_len.error (first_refusal (number_tests c.args.size c.args.ground.now.manifests content p)) (c.in-Err-small_store_len.ensures.refused hash content is)
-    (λ large. large_store c.args.size c.args.ground.now.manifests content p (c.in-Ok.ensures.passed base p at seat).passed (omega (arith, c.if-ground.false)) (omega (arith, same, large)) ∙ ap (λ (n : ℕ). Some (StoreTooLarge n)) same)
+    outside_map c.in-Err-small_store_len.error
+    (λ large. large_store c.args.size c.args.ground.now.manifests content p (c.in-Ok.ensures.passed base p at seat).passed (omega (arith, c.if-ground.false)) (omega (arith, same, large.0)) ∙ ap (λ (n : ℕ). Some (StoreTooLarge n)) same ∙ ap Some (sym large.1))
+    (c.in-Err-small_store_len.ensures.refused hash content is)
 
 -- the file is too long
 pub returns-then-file_len-ge-FILE_LEN_LIMIT-clause-refused : goal.returns-then-file_len-ge-FILE_LEN_LIMIT-clause-refused

@@ -1,14 +1,15 @@
-use Rattle.std.proofs.Common.{◌≤◌, ap, false, inl, map, sym, ◌∙◌, subst, true}
+use Rattle.std.proofs.Common.{◌≤◌, ap, inl, map, sym, ◌∙◌, subst}
 use Rattle.std.specs.Prelude.{Err}
 use Rattle.c2_spec.specs.Judges.Panel.{panel_says}
 use Rattle.c2_cleared.specs.Clears.{cleared_len}
 use Rattle.c2_places.specs.Places.{IsFreePlace}
-use Rattle.c2_build.specs.Steps.{IsForm, IsSeatIn}
-use Rattle.c2_build.specs.declared.draft.Drafted.{Drafted}
-use Rattle.c2_build.proofs.Judged.{hears_behind, hears_failed, quiet_result, read_result}
-use Rattle.c2_build.proofs.Outside.{nothing_said, outside_map, reads_behind, reads_quietly}
+use Rattle.c2_refusals.specs.Seats.{IsForm, IsSeatIn}
+use Rattle.c2_refusals.specs.declared.types.Drafted.{Drafted}
+use Rattle.c2_refusals.proofs.Judged.{hears_behind, hears_failed, quiet_result, read_result}
+use Rattle.c2_refusals.proofs.Outside.{nothing_said, outside_map, reads_behind, reads_quietly}
 use Rattle.c2_build.proofs.Placed.{cleared_length, ground_form, place_passed, place_refused, placed}
 use Rattle.c2_build.proofs.SomeBuild.{PlaceLaws, free_place}
+use Rattle.c2_refusals.specs.Kinds.{judge_effects, no_effects}
 use Rattle.c2_build.proofs.draft.draft_over.Goals as goal
 use Rattle.c2_built.specs.Store.{new_alg}
 
@@ -35,10 +36,10 @@ returns-in-Err-find_spot-clause-refused g c = λ bytes known kind is.
 
 pub returns-in-Err-find_spot-clause-reads : goal.returns-in-Err-find_spot-clause-reads
 returns-in-Err-find_spot-clause-reads g c =
-    reads_behind false true false c.args.media.now c.grounded.new.media c.find_spot.new.media c.in-Ok.ground (Err c.in-Err-find_spot.error) c.in-Ok.ensures.reads c.in-Err-find_spot.ensures.reads.stays tt c.in-Err-find_spot.ensures.reads.cause
+    reads_behind judge_effects c.args.media.now c.grounded.new.media c.find_spot.new.media c.in-Ok.ground (Err c.in-Err-find_spot.error) c.in-Ok.ensures.reads c.in-Err-find_spot.ensures.reads.stays tt c.in-Err-find_spot.ensures.reads.cause
 
 pub returns-in-Err-find_spot-clause-panel : goal.returns-in-Err-find_spot-clause-panel
-returns-in-Err-find_spot-clause-panel g c = hears_behind c.args.judges.now c.grounded.new.judges c.in-Ok.ground _ (read_result {T = Drafted} false _ _ (Err c.in-Err-find_spot.error) c.in-Err-find_spot.ensures.reads.cause) (λ qs asks. asks) c.in-Ok.ensures.panel
+returns-in-Err-find_spot-clause-panel g c = hears_behind c.args.judges.now c.grounded.new.judges c.in-Ok.ground _ (read_result {T = Drafted} no_effects _ _ (Err c.in-Err-find_spot.error) c.in-Err-find_spot.ensures.reads.cause) (λ qs asks. asks) c.in-Ok.ensures.panel
 
 -- a test at the place fails
 pub returns-in-Err-draft_at-clause-refused : goal.returns-in-Err-draft_at-clause-refused
@@ -57,7 +58,7 @@ returns-in-Err-draft_at-clause-refused g c = λ bytes known kind is.
 
 pub returns-in-Err-draft_at-clause-reads : goal.returns-in-Err-draft_at-clause-reads
 returns-in-Err-draft_at-clause-reads g c =
-    reads_quietly false true false c.args.media.now c.grounded.new.media c.find_spot.new.media c.in-Ok.ground (Err c.in-Err-draft_at.error) c.in-Ok.ensures.reads c.in-Ok-find_spot.ensures.reads.stays c.in-Ok-find_spot.ensures.reads.quiet c.in-Err-draft_at.ensures.quiet
+    reads_quietly judge_effects c.args.media.now c.grounded.new.media c.find_spot.new.media c.in-Ok.ground (Err c.in-Err-draft_at.error) c.in-Ok.ensures.reads c.in-Ok-find_spot.ensures.reads.stays c.in-Ok-find_spot.ensures.reads.quiet c.in-Err-draft_at.ensures.quiet
 
 pub returns-in-Err-draft_at-clause-panel : goal.returns-in-Err-draft_at-clause-panel
 returns-in-Err-draft_at-clause-panel g c = hears_behind c.args.judges.now c.grounded.new.judges c.in-Ok.ground _ (quiet_result {T = Drafted} (Err c.in-Err-draft_at.error) c.in-Err-draft_at.ensures.quiet) (λ qs asks. asks) c.in-Ok.ensures.panel
@@ -94,7 +95,7 @@ returns-in-Ok-draft_at-clause-small g c =
 
 pub returns-in-Ok-draft_at-clause-reads : goal.returns-in-Ok-draft_at-clause-reads
 returns-in-Ok-draft_at-clause-reads g c =
-    reads_quietly false true false c.args.media.now c.grounded.new.media c.find_spot.new.media c.in-Ok.ground _ c.in-Ok.ensures.reads c.in-Ok-find_spot.ensures.reads.stays c.in-Ok-find_spot.ensures.reads.quiet tt
+    reads_quietly judge_effects c.args.media.now c.grounded.new.media c.find_spot.new.media c.in-Ok.ground _ c.in-Ok.ensures.reads c.in-Ok-find_spot.ensures.reads.stays c.in-Ok-find_spot.ensures.reads.quiet tt
 
 pub returns-in-Ok-draft_at-clause-panel : goal.returns-in-Ok-draft_at-clause-panel
 returns-in-Ok-draft_at-clause-panel g c = hears_behind c.args.judges.now c.grounded.new.judges c.in-Ok.ground _ tt (λ qs asks. asks) c.in-Ok.ensures.panel

@@ -1,7 +1,7 @@
 use Rattle.std.proofs.Common.{None, ap, sym, ◌∙◌, subst}
 use Rattle.std.specs.Prelude.{Err}
 use Rattle.c2_base.specs.declared.media.MediaError.{MediaError}
-use Rattle.c2_build.specs.Steps.{IsSeat}
+use Rattle.c2_refusals.specs.Seats.{IsSeat}
 use Rattle.c2_build.proofs.Seated.{box_fitted, box_refused, refused_less}
 use Rattle.c2_build.proofs.draft.put_at.Goals as goal
 

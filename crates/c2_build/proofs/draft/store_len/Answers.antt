@@ -3,7 +3,7 @@ use Rattle.std.proofs.lemmas.Result.{IfOk-weaker}
 use Rattle.c2_definition.specs.declared.types.Definition.{Definition}
 use Rattle.c2_definition.specs.declared.types.NewAssertion.{NewAssertion}
 use Rattle.c2_built.specs.Built.{bound_len}
-use Rattle.c2_build.specs.Steps.{seat_binding}
+use Rattle.c2_bound_parts.specs.Bound.{seat_binding}
 use Rattle.c2_build.proofs.Seated.{blank_len}
 use Rattle.c2_build.proofs.draft.store_len.Goals as goal
 use Rattle.c2_spec.specs.Digest.{zero_digest}

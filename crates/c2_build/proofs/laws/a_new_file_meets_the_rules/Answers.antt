@@ -10,7 +10,7 @@ returns c =
       places = record { fresh = c.each_media_has_a_place.ensures.fresh; left = c.each_media_has_a_place.ensures.place };
       fresh = c.a_file_built_in_its_place_meets_the_rules.ensures.fresh;
       over = c.a_file_built_in_its_place_meets_the_rules.ensures.over;
-      approved = c.a_file_over_a_store_meets_the_rules.ensures.approved;
+      approved = c.a_valid_store_is_approved.ensures;
       first = c.redactions_that_pass_may_be_made.ensures.none;
       base = c.a_base_stays.ensures;
       cut = c.a_base_has_no_store.ensures.cut;

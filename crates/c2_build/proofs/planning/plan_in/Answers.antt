@@ -1,13 +1,14 @@
-use Rattle.std.proofs.Common.{false, map, refl, true}
+use Rattle.std.proofs.Common.{map, refl}
 use Rattle.std.specs.Prelude.{Err}
 use Rattle.c2_spec.specs.Judges.Panel.{panel_says}
 use Rattle.c2_calls.proofs.SourceLemmas.{reads_nothing, stays_as_it_was}
-use Rattle.c2_build.specs.Building.{IsDefinitionStage, IsMediaStage}
-use Rattle.c2_build.proofs.Drawn.{comes_first, comes_next}
-use Rattle.c2_build.proofs.Judged.{hears_as, hears_none, quiet_unheard, read_unheard}
-use Rattle.c2_build.proofs.OneBuild.{not_both_media}
-use Rattle.c2_build.proofs.Outside.{alone, quiet_cause, read_cause, reads_among, reads_earlier}
-use Rattle.c2_build.proofs.Unasked.{planned_asks, refused_plan, told_where_due, undefined_plan}
+use Rattle.c2_refusals.specs.Stages.{IsDefinitionStage, IsMediaStage}
+use Rattle.c2_refusals.proofs.Stages.{comes_first, comes_next}
+use Rattle.c2_refusals.proofs.Judged.{hears_as, hears_none, quiet_unheard, read_unheard}
+use Rattle.c2_refusals.proofs.Inputs.{not_both_media, told_where_due}
+use Rattle.c2_refusals.proofs.Outside.{alone, plain_cause, quiet_cause, reads_among, reads_earlier}
+use Rattle.c2_build.proofs.Unasked.{planned_asks, refused_plan, undefined_plan}
+use Rattle.c2_refusals.specs.Kinds.{judge_effects, no_effects}
 use Rattle.c2_build.proofs.planning.plan_in.Goals as goal
 
 -- ---- the store is refused
@@ -16,10 +17,10 @@ pub returns-in-Err-clause-planned : goal.returns-in-Err-clause-planned
 returns-in-Err-clause-planned g c = λ file known bytes told. comes_first (IsMediaStage file) _ c.in-Err.error (c.in-Err.ensures.stage file (c.requires.found file known))
 
 pub returns-in-Err-clause-media : goal.returns-in-Err-clause-media
-returns-in-Err-clause-media g c = reads_nothing _ _ _ _ c.args.media.now _ (quiet_cause _ false true false _ _ _ refl c.in-Err.ensures.quiet)
+returns-in-Err-clause-media g c = reads_nothing _ _ _ _ c.args.media.now _ (quiet_cause _ judge_effects _ _ _ refl c.in-Err.ensures.quiet)
 
 pub returns-in-Err-clause-definition : goal.returns-in-Err-clause-definition
-returns-in-Err-clause-definition g c = reads_nothing _ _ _ _ c.args.definition.now _ (quiet_cause _ false true false _ _ _ refl c.in-Err.ensures.quiet)
+returns-in-Err-clause-definition g c = reads_nothing _ _ _ _ c.args.definition.now _ (quiet_cause _ judge_effects _ _ _ refl c.in-Err.ensures.quiet)
 
 pub returns-in-Err-clause-panel : goal.returns-in-Err-clause-panel
 returns-in-Err-clause-panel g c =
@@ -43,19 +44,19 @@ returns-in-Err-read_definition_file-clause-not_due g c = λ file known refused.
 
 pub returns-in-Err-read_definition_file-clause-media : goal.returns-in-Err-read_definition_file-clause-media
 returns-in-Err-read_definition_file-clause-media g c =
-    reads_earlier false true false c.args.media.now c.args.media.now _ _ (Err c.in-Err-read_definition_file.error) (stays_as_it_was _ _ _ c.args.media.now) refl (alone (λ rose. rose)) (read_cause _ false true false _ _ _ c.in-Err-read_definition_file.ensures.cause)
+    reads_earlier judge_effects c.args.media.now c.args.media.now _ _ (Err c.in-Err-read_definition_file.error) (stays_as_it_was _ _ _ c.args.media.now) refl (alone (λ rose. rose)) (plain_cause _ judge_effects _ _ _ c.in-Err-read_definition_file.ensures.cause)
 
 pub returns-in-Err-read_definition_file-clause-definition : goal.returns-in-Err-read_definition_file-clause-definition
 returns-in-Err-read_definition_file-clause-definition g c = record {
   stays = c.in-Err-read_definition_file.ensures.stays;
   quiet = tt;
-  cause = read_cause _ false true false _ _ _ c.in-Err-read_definition_file.ensures.cause;
+  cause = plain_cause _ judge_effects _ _ _ c.in-Err-read_definition_file.ensures.cause;
 }
 
 pub returns-in-Err-read_definition_file-clause-panel : goal.returns-in-Err-read_definition_file-clause-panel
 returns-in-Err-read_definition_file-clause-panel g c =
     let said = panel_says (map (λ j. (goal.Judge-dyn g (j.vtable, j.value)).says j.value) c.args.judges.now.items) in
-    hears_none c.args.judges.now c.in-Err-read_definition_file.error (read_unheard false _ _ _ c.in-Err-read_definition_file.ensures.cause)
+    hears_none c.args.judges.now c.in-Err-read_definition_file.error (read_unheard no_effects _ _ _ c.in-Err-read_definition_file.ensures.cause)
     (undefined_plan c.one_opening.ensures.file g.H.Hashing.digest_of said (g.A.Source.known c.args.media.now) (g.B.Source.known c.args.definition.now) c.each_definition_is_read_one_way.ensures.one c.in-Ok.read
     (λ file known. let media = c.in-Ok.ensures.stage file (c.requires.found file known) in (media.0, media.2)) c.in-Err-read_definition_file.error (λ bytes known. c.in-Err-read_definition_file.ensures.stage bytes known))
 
@@ -78,11 +79,11 @@ returns-clause-not_due g c = λ file known refused.
     not_both_media c.one_opening.ensures.file file media.0 media.1 refused
 
 pub returns-clause-media : goal.returns-clause-media
-returns-clause-media g c = reads_among false true false c.args.media.now c.plan_over.new.media c.plan_over.result (λ none. absurd none) c.plan_over.ensures.reads
+returns-clause-media g c = reads_among judge_effects c.args.media.now c.plan_over.new.media c.plan_over.result (λ none. absurd none) c.plan_over.ensures.reads
 
 pub returns-clause-definition : goal.returns-clause-definition
 returns-clause-definition g c =
-    reads_earlier false true false c.args.definition.now c.read_definition_file.new.file _ _ c.plan_over.result c.in-Ok-read_definition_file.ensures.stays c.in-Ok-read_definition_file.ensures.count (alone (λ rose. rose)) c.plan_over.ensures.reads.cause
+    reads_earlier judge_effects c.args.definition.now c.read_definition_file.new.file _ _ c.plan_over.result c.in-Ok-read_definition_file.ensures.stays c.in-Ok-read_definition_file.ensures.count (alone (λ rose. rose)) c.plan_over.ensures.reads.cause
 
 pub returns-clause-panel : goal.returns-clause-panel
 returns-clause-panel g c =

@@ -1,13 +1,14 @@
-use Rattle.std.proofs.Common.{List, ap, false, map, option_map, subst, sym, true, ℕ, ◌∙◌}
+use Rattle.std.proofs.Common.{List, ap, map, option_map, subst, sym, ℕ, ◌∙◌}
 use Rattle.std.specs.Prelude.{Err, Ok}
 use Rattle.c2_spec.specs.Judges.Panel.{panel_says}
 use Rattle.c2_calls.proofs.SourceLemmas.{reads_then}
 use Rattle.c2_cleared.specs.Clears.{cleared}
 use Rattle.c2_build.specs.Building.{IsPlannedOver}
 use Rattle.c2_build.proofs.Drawn.{passed_plan, place_at, refused_plan}
-use Rattle.c2_build.proofs.Judged.{hears_behind, hears_failed, read_result}
+use Rattle.c2_refusals.proofs.Judged.{hears_behind, hears_failed, read_result}
 use Rattle.c2_build.proofs.NewStores.{signed_is}
-use Rattle.c2_build.proofs.Outside.{nothing_said, outside_map, reads_behind, reads_quietly}
+use Rattle.c2_refusals.proofs.Outside.{nothing_said, outside_map, reads_behind, reads_quietly}
+use Rattle.c2_refusals.specs.Kinds.{judge_effects, no_effects}
 use Rattle.c2_build.proofs.planning.plan_over.Goals as goal
 
 -- the place is refused
@@ -48,20 +49,20 @@ returns-in_default-clause-panel g c = hears_behind c.args.judges.now c.draft_ove
 
 pub returns-in-Err-parts_for-clause-reads : goal.returns-in-Err-parts_for-clause-reads
 returns-in-Err-parts_for-clause-reads g c =
-    reads_behind false true false c.args.media.now c.draft_over.new.media c.parts_for.new.media c.in-Ok.drafted (Err c.in-Err-parts_for.error) c.in-Ok.ensures.reads c.in-Err-parts_for.ensures.reads.stays tt c.in-Err-parts_for.ensures.reads.cause
+    reads_behind judge_effects c.args.media.now c.draft_over.new.media c.parts_for.new.media c.in-Ok.drafted (Err c.in-Err-parts_for.error) c.in-Ok.ensures.reads c.in-Err-parts_for.ensures.reads.stays tt c.in-Err-parts_for.ensures.reads.cause
 
 pub returns-in-Err-parts_for-clause-panel : goal.returns-in-Err-parts_for-clause-panel
-returns-in-Err-parts_for-clause-panel g c = hears_behind c.args.judges.now c.draft_over.new.judges c.in-Ok.drafted _ (read_result {T = List ℕ} false _ _ (Err c.in-Err-parts_for.error) c.in-Err-parts_for.ensures.reads.cause) (λ qs asks. asks) c.in-Ok.ensures.panel
+returns-in-Err-parts_for-clause-panel g c = hears_behind c.args.judges.now c.draft_over.new.judges c.in-Ok.drafted _ (read_result {T = List ℕ} no_effects _ _ (Err c.in-Err-parts_for.error) c.in-Err-parts_for.ensures.reads.cause) (λ qs asks. asks) c.in-Ok.ensures.panel
 
 pub returns-in-Ok-signed_over-clause-reads : goal.returns-in-Ok-signed_over-clause-reads
 returns-in-Ok-signed_over-clause-reads g c =
-    reads_quietly false true false c.args.media.now c.draft_over.new.media c.parts_for.new.media c.in-Ok.drafted _ c.in-Ok.ensures.reads c.in-Ok-parts_for.ensures.reads.stays c.in-Ok-parts_for.ensures.reads.quiet tt
+    reads_quietly judge_effects c.args.media.now c.draft_over.new.media c.parts_for.new.media c.in-Ok.drafted _ c.in-Ok.ensures.reads c.in-Ok-parts_for.ensures.reads.stays c.in-Ok-parts_for.ensures.reads.quiet tt
 
 pub returns-in-Ok-signed_over-clause-panel : goal.returns-in-Ok-signed_over-clause-panel
 returns-in-Ok-signed_over-clause-panel g c = hears_behind c.args.judges.now c.draft_over.new.judges c.in-Ok.drafted _ tt (λ qs asks. asks) c.in-Ok.ensures.panel
 
 pub returns-clause-reads : goal.returns-clause-reads
-returns-clause-reads g c = reads_quietly false true false c.args.media.now c.draft_over.new.media c.parts_for.new.media c.in-Ok.drafted _ c.in-Ok.ensures.reads c.in-Ok-parts_for.ensures.reads.stays c.in-Ok-parts_for.ensures.reads.quiet tt
+returns-clause-reads g c = reads_quietly judge_effects c.args.media.now c.draft_over.new.media c.parts_for.new.media c.in-Ok.drafted _ c.in-Ok.ensures.reads c.in-Ok-parts_for.ensures.reads.stays c.in-Ok-parts_for.ensures.reads.quiet tt
 
 pub returns-clause-panel : goal.returns-clause-panel
 returns-clause-panel g c = hears_behind c.args.judges.now c.draft_over.new.judges c.in-Ok.drafted _ tt (λ qs asks. asks) c.in-Ok.ensures.panel

@@ -1,60 +1,40 @@
-use Rattle.std.proofs.Common.{map}
+use Rattle.std.proofs.Common.{map, refl}
 use Rattle.c2_spec.specs.Judges.Panel.{panel_says}
-use Rattle.c2_build.specs.Answers.{build_heard}
-use Rattle.c2_calls.proofs.PanelLemmas.{hears_later}
-use Rattle.c2_calls.proofs.SourceLemmas.{reads_then}
-use Rattle.c2_outcome.specs.Reply.{fault_heard}
-use Rattle.c2_building_commands.proofs.Embedding.{plan_refused, plan_replied, refused_words, tbs_of}
-use Rattle.c2_building_commands.proofs.Faults.{error_panel, memory_source, memory_unbroken, plan_source}
+use Rattle.c2_refusals.specs.Kinds.{judge_effects}
+use Rattle.c2_build.specs.Building.{IsPlanned}
+use Rattle.c2_written.specs.Builds.{build_says, tbs_outcome}
+use Rattle.c2_written.proofs.Builds.{build_replied, build_words}
+use Rattle.c2_written.proofs.Calls.{words_reply}
+use Rattle.c2_building_commands.proofs.Making.{panel_left, source_left}
 use Rattle.c2_building_commands.proofs.building.reply_to_plan.Goals as goal
 
--- the line of what is to be signed is the outcome of `plan`
-pub returns-in-Ok-clause-reply : goal.returns-in-Ok-clause-reply
-returns-in-Ok-clause-reply g c a known b told =
+-- the reply reports what the files come to
+pub returns-clause-reply : goal.returns-clause-reply
+returns-clause-reply g c = λ a known b told.
     let said = panel_says (map (λ j. (goal.Judge-dyn g (j.vtable, j.value)).says j.value) c.args.judges.now.items) in
-    plan_replied g.H.Hashing.digest_of said a b c.in-Ok.bytes c.tbs_reply.result
-    (c.in-Ok.ensures.planned a known b told) (tbs_of c.in-Ok.bytes c.as_slice.result.now c.tbs_reply.result
-    c.as_slice.ensures.value c.tbs_reply.ensures.reply)
+    build_replied tbs_outcome (IsPlanned g.H.Hashing.digest_of said a b) c.plan-planned.result c.planned_reply.result
+    (c.plan-planned.ensures.planned a known b told) c.planned_reply.ensures.reply
 
--- and so is that of a refusal
-pub returns-in-Err-clause-reply : goal.returns-in-Err-clause-reply
-returns-in-Err-clause-reply g c a known b told =
-    let said = panel_says (map (λ j. (goal.Judge-dyn g (j.vtable, j.value)).says j.value) c.args.judges.now.items) in
-    plan_refused g.H.Hashing.digest_of said a b c.in-Err.error c.refusal_reply.result
-    (c.in-Err.ensures.planned a known b told) c.refusal_reply.ensures.reply
+pub returns-clause-words : goal.returns-clause-words
+returns-clause-words g c =
+    words_reply (build_says tbs_outcome c.plan-planned.result) c.planned_reply.result
+    (build_words tbs_outcome c.plan-planned.result (λ x. refl)) c.planned_reply.ensures.reply
 
--- a refusal answers no words that fit no command
-pub returns-in-Err-clause-words : goal.returns-in-Err-clause-words
-returns-in-Err-clause-words g c = refused_words c.in-Err.error c.refusal_reply.result c.refusal_reply.ensures.reply
+-- ---- what is left of each file and of the judges
 
--- once the bytes are made, memory alone may be missing
-pub returns-in-Ok-clause-media : goal.returns-in-Ok-clause-media
-returns-in-Ok-clause-media g c =
-    reads_then _ _ _ _ _ _ _ c.in-Ok.bytes _ (memory_source _ _ _ c.tbs_reply.result c.tbs_reply.ensures.memory)
-    c.in-Ok.ensures.media
+pub returns-clause-media : goal.returns-clause-media
+returns-clause-media g c =
+    source_left g.A.Source.len g.A.Source.known g.A.Source.faults tbs_outcome judge_effects _
+    c.args.media.now c.plan-planned.new.media c.plan-planned.result c.planned_reply.result
+    c.plan-planned.ensures.media c.planned_reply.ensures.reply c.planned_reply.ensures.fault
 
-pub returns-in-Ok-clause-definition : goal.returns-in-Ok-clause-definition
-returns-in-Ok-clause-definition g c =
-    reads_then _ _ _ _ _ _ _ c.in-Ok.bytes _ (memory_source _ _ _ c.tbs_reply.result c.tbs_reply.ensures.memory)
-    c.in-Ok.ensures.definition
+pub returns-clause-definition : goal.returns-clause-definition
+returns-clause-definition g c =
+    source_left g.B.Source.len g.B.Source.known g.B.Source.faults tbs_outcome judge_effects _
+    c.args.definition.now c.plan-planned.new.definition c.plan-planned.result c.planned_reply.result
+    c.plan-planned.ensures.definition c.planned_reply.ensures.reply c.planned_reply.ensures.fault
 
-pub returns-in-Ok-clause-panel : goal.returns-in-Ok-clause-panel
-returns-in-Ok-clause-panel g c =
-    hears_later _ _ _ build_heard fault_heard _ _ c.args.judges.now c.plan.new.judges c.in-Ok.bytes c.tbs_reply.result
-    (memory_unbroken c.tbs_reply.result c.tbs_reply.ensures.memory) (λ qs asks. asks) c.in-Ok.ensures.panel
-
--- an error leaves what its reply says
-pub returns-in-Err-clause-media : goal.returns-in-Err-clause-media
-returns-in-Err-clause-media g c =
-    plan_source _ _ _ _ _ _ c.in-Err.error c.refusal_reply.result c.refusal_reply.ensures.reply
-    c.refusal_reply.ensures.fault c.in-Err.ensures.media
-
-pub returns-in-Err-clause-definition : goal.returns-in-Err-clause-definition
-returns-in-Err-clause-definition g c =
-    plan_source _ _ _ _ _ _ c.in-Err.error c.refusal_reply.result c.refusal_reply.ensures.reply
-    c.refusal_reply.ensures.fault c.in-Err.ensures.definition
-
-pub returns-in-Err-clause-panel : goal.returns-in-Err-clause-panel
-returns-in-Err-clause-panel g c =
-    error_panel _ _ _ _ c.args.judges.now c.plan.new.judges c.in-Err.error c.refusal_reply.result
-    c.refusal_reply.ensures.reply c.refusal_reply.ensures.fault c.in-Err.ensures.panel
+pub returns-clause-panel : goal.returns-clause-panel
+returns-clause-panel g c =
+    panel_left _ _ _ _ c.args.judges.now c.plan-planned.new.judges tbs_outcome c.plan-planned.result c.planned_reply.result
+    c.plan-planned.ensures.panel c.planned_reply.ensures.reply c.planned_reply.ensures.fault

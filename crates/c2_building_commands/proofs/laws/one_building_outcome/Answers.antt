@@ -1,6 +1,6 @@
 use Rattle.std.proofs.Common.{sym, ◌∙◌, ap}
 use Rattle.c2_building_commands.specs.Outcomes.{plan_outcome, sample_outcome}
-use Rattle.c2_building_commands.proofs.Embedding.{one_embedding}
+use Rattle.c2_building_commands.proofs.Making.{one_embedding}
 use Rattle.c2_building_commands.proofs.laws.one_building_outcome.Goals as goal
 
 -- each outcome is that of the one thing that a build comes to

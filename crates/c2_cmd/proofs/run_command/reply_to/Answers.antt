@@ -1,14 +1,14 @@
 use Rattle.std.proofs.Common.{map, ℕ, [], refl, sym, ap, subst, inl, inr}
 use Rattle.std.specs.Prelude.{IfOk, unwrap_or}
 use Rattle.std.proofs.lemmas.Bool.{false≢true}
-use Rattle.c2_build.specs.Building.{IsDefinitionRefused, IsMediaRefused, PlanAsks}
+use Rattle.c2_build.specs.Building.{PlanAsks}
+use Rattle.c2_refusals.specs.Stages.{IsDefinitionRefused, IsMediaRefused}
 use Rattle.c2_building_commands.specs.Outcomes.{IsEmbedOutcome, IsPlanOutcome, IsSampleOutcome}
 use Rattle.c2_compare.specs.Comparing.{IsNotAccepted}
 use Rattle.c2_extract_command.specs.Outcomes.{IsExtractOutcome}
 use Rattle.c2_front_commands.specs.Outcomes.{IsEmbedFrontOutcome, IsPlanFrontOutcome}
 use Rattle.c2_outcome.specs.Reply.{Replies, outcome_of}
 use Rattle.c2_reading_commands.specs.Outcomes.{IsCompareOutcome, IsDigestOutcome, IsExternalOutcome, IsListOutcome, IsMediaOutcome, IsQuestioned, IsShown, IsValidated}
-use Rattle.c2_refusals.specs.Stages as stages
 use Rattle.c2_rules.specs.Validated.{AreQuestions, CheckAsks}
 use Rattle.c2_sample.specs.Sample.{SampleAsks}
 use Rattle.c2_sidecar.specs.Checking.{IsRefusedFile}
@@ -202,7 +202,7 @@ pub returns-in-PlanFront-clause-known : goal.returns-in-PlanFront-clause-known
 returns-in-PlanFront-clause-known g c known =
     let some = media_told c.in-Ok.found command.PlanFront c.in-Ok.ensures c.in-PlanFront.is refl known in
     let due = source_told the_second c.in-Ok.found command.PlanFront c.in-Ok.ensures c.in-PlanFront.is refl known
-    (λ n. held stages.IsMediaRefused (g.A.Source.known c.args.media.now) n) in
+    (λ n. held IsMediaRefused (g.A.Source.known c.args.media.now) n) in
     let a = unwrap_or (g.A.Source.known c.args.media.now) [] in
     let b = unwrap_or (g.B.Source.known c.args.second.now) [] in
     replies_to c.in-Ok.found command.PlanFront c.in-Ok.ensures c.in-PlanFront.is
@@ -216,9 +216,9 @@ pub returns-in-EmbedFront-clause-known : goal.returns-in-EmbedFront-clause-known
 returns-in-EmbedFront-clause-known g c known =
     let some = media_told c.in-Ok.found command.EmbedFront c.in-Ok.ensures c.in-EmbedFront.is refl known in
     let due = source_told the_second c.in-Ok.found command.EmbedFront c.in-Ok.ensures c.in-EmbedFront.is refl known
-    (λ n. held stages.IsMediaRefused (g.A.Source.known c.args.media.now) n) in
+    (λ n. held IsMediaRefused (g.A.Source.known c.args.media.now) n) in
     let due_too = source_told the_third c.in-Ok.found command.EmbedFront c.in-Ok.ensures c.in-EmbedFront.is refl known
-    (λ n. message_due stages.IsMediaRefused stages.IsDefinitionRefused (g.A.Source.known c.args.media.now) (g.B.Source.known c.args.second.now) n) in
+    (λ n. message_due IsMediaRefused IsDefinitionRefused (g.A.Source.known c.args.media.now) (g.B.Source.known c.args.second.now) n) in
     let a = unwrap_or (g.A.Source.known c.args.media.now) [] in
     let b = unwrap_or (g.B.Source.known c.args.second.now) [] in
     let m = unwrap_or (g.C.Source.known c.args.third.now) [] in
@@ -432,15 +432,15 @@ returns-in-Extract-clause-unused g c =
 pub returns-in-PlanFront-clause-unused : goal.returns-in-PlanFront-clause-unused
 returns-in-PlanFront-clause-unused g c =
     unused_by c.in-Ok.found command.PlanFront c.in-Ok.ensures c.in-PlanFront.is (inl refl)
-    (record { second = undue (left_where_known stages.IsMediaRefused (g.A.Source.known c.args.media.now) _ c.reply_to_plan_front.ensures.not_due); third = λ un. refl; out = λ un. refl; judges = λ un. refl })
+    (record { second = undue (left_where_known IsMediaRefused (g.A.Source.known c.args.media.now) _ c.reply_to_plan_front.ensures.not_due); third = λ un. refl; out = λ un. refl; judges = λ un. refl })
 
 -- `embed-front`
 pub returns-in-EmbedFront-clause-unused : goal.returns-in-EmbedFront-clause-unused
 returns-in-EmbedFront-clause-unused g c =
     unused_by c.in-Ok.found command.EmbedFront c.in-Ok.ensures c.in-EmbedFront.is (inl refl)
     (record {
-      second = undue (left_where_known stages.IsMediaRefused (g.A.Source.known c.args.media.now) _ c.reply_to_embed_front.ensures.not_due.definition_unread);
-      third = undue (message_left stages.IsMediaRefused stages.IsDefinitionRefused (g.A.Source.known c.args.media.now) (g.B.Source.known c.args.second.now) _
+      second = undue (left_where_known IsMediaRefused (g.A.Source.known c.args.media.now) _ c.reply_to_embed_front.ensures.not_due.definition_unread);
+      third = undue (message_left IsMediaRefused IsDefinitionRefused (g.A.Source.known c.args.media.now) (g.B.Source.known c.args.second.now) _
           c.reply_to_embed_front.ensures.not_due.message_unread_first c.reply_to_embed_front.ensures.not_due.message_unread);
       out = λ none. absurd (false≢true (sym none));
       judges = λ un. refl;

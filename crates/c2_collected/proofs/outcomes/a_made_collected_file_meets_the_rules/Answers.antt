@@ -9,6 +9,6 @@ returns c = made_meets (record {
   place = c.a_place_is_one.ensures;
   rooted = c.a_store_is_rooted_at_its_last_manifest.ensures;
   each = c.each_collected_file_meets_the_rules.ensures;
-  valid = c.a_file_over_a_store_meets_the_rules.ensures.approved;
+  valid = c.a_valid_store_is_approved.ensures;
   approved = c.what_is_joined_is_reached.ensures.approved;
 })

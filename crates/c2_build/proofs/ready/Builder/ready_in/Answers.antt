@@ -1,16 +1,19 @@
-use Rattle.std.proofs.Common.{List, false, inl, inr, map, refl, subst, sym, true, ℕ}
+use Rattle.std.proofs.Common.{List, inl, inr, map, refl, subst, sym, ℕ}
 use Rattle.std.specs.Prelude.{Err, Ok}
 use Rattle.c2_spec.specs.C2pa.Sign1.{SignParts, parts_of}
 use Rattle.c2_spec.specs.Judges.Panel.{panel_says}
 use Rattle.c2_calls.proofs.SourceLemmas.{reads_nothing, stays_as_it_was}
-use Rattle.c2_build.specs.Answers.{WithoutFault}
-use Rattle.c2_build.specs.Building.{IsDefinitionStage, IsEmbeddedOver, IsMediaStage, IsMessageStage}
-use Rattle.c2_build.specs.Steps.{ComesAs, IsReady}
-use Rattle.c2_build.proofs.Drawn.{as_next, comes_first, comes_next, on_any}
-use Rattle.c2_build.proofs.Judged.{hears_as, hears_none, quiet_unheard, read_unheard}
-use Rattle.c2_build.proofs.OneBuild.{not_both_definitions, not_both_media}
-use Rattle.c2_build.proofs.Outside.{alone, quiet_cause, read_cause, reads_among, reads_earlier, signed_read}
-use Rattle.c2_build.proofs.Unasked.{embedded_asks, refused_embed, told_where_both, told_where_due, undefined_embed, unsigned_embed}
+use Rattle.c2_refusals.specs.Kinds.{ComesAs, WithoutFault, message_effects, no_effects}
+use Rattle.c2_build.specs.Building.{IsEmbeddedOver}
+use Rattle.c2_refusals.specs.Stages.{IsDefinitionStage, IsMediaStage, IsMessageStage}
+use Rattle.c2_build.specs.Steps.{IsReady}
+use Rattle.c2_refusals.proofs.Outside.{alone, on_any, plain_cause, quiet_cause, read_cause, reads_among, reads_earlier}
+use Rattle.c2_refusals.proofs.Stages.{as_next, comes_first, comes_next}
+use Rattle.c2_refusals.proofs.Judged.{hears_as, hears_none, quiet_unheard, read_unheard}
+use Rattle.c2_refusals.proofs.Inputs.{not_both_definitions, not_both_media, told_where_both, told_where_due}
+use Rattle.c2_build.proofs.Causes.{message_prepares}
+use Rattle.c2_build.proofs.Unasked.{embedded_asks, refused_embed, undefined_embed, unsigned_embed}
+use Rattle.c2_build.specs.Answers.{prepare_effects}
 use Rattle.c2_build.proofs.ready.Builder.ready_in.Goals as goal
 
 -- ---- the store is refused
@@ -26,13 +29,13 @@ pub returns-in-Err-clause-not_due : goal.returns-in-Err-clause-not_due
 returns-in-Err-clause-not_due g c = record { definition_unread = λ file known refused. refl; message_unread_first = λ file known refused. refl; message_unread = λ bytes known refused. refl }
 
 pub returns-in-Err-clause-media : goal.returns-in-Err-clause-media
-returns-in-Err-clause-media g c = reads_nothing _ _ _ _ c.args.media.now _ (quiet_cause _ true true false _ _ _ refl c.in-Err.ensures.quiet)
+returns-in-Err-clause-media g c = reads_nothing _ _ _ _ c.args.media.now _ (quiet_cause _ prepare_effects _ _ _ refl c.in-Err.ensures.quiet)
 
 pub returns-in-Err-clause-definition : goal.returns-in-Err-clause-definition
-returns-in-Err-clause-definition g c = reads_nothing _ _ _ _ c.args.definition.now _ (quiet_cause _ true true false _ _ _ refl c.in-Err.ensures.quiet)
+returns-in-Err-clause-definition g c = reads_nothing _ _ _ _ c.args.definition.now _ (quiet_cause _ prepare_effects _ _ _ refl c.in-Err.ensures.quiet)
 
 pub returns-in-Err-clause-message : goal.returns-in-Err-clause-message
-returns-in-Err-clause-message g c = reads_nothing _ _ _ _ c.args.signature.now _ (quiet_cause _ true true false _ _ _ refl c.in-Err.ensures.quiet)
+returns-in-Err-clause-message g c = reads_nothing _ _ _ _ c.args.signature.now _ (quiet_cause _ prepare_effects _ _ _ refl c.in-Err.ensures.quiet)
 
 pub returns-in-Err-clause-panel : goal.returns-in-Err-clause-panel
 returns-in-Err-clause-panel g c =
@@ -62,19 +65,19 @@ returns-in-Err-read_definition_file-clause-not_due g c = record {
 
 pub returns-in-Err-read_definition_file-clause-media : goal.returns-in-Err-read_definition_file-clause-media
 returns-in-Err-read_definition_file-clause-media g c =
-    reads_earlier true true false c.args.media.now c.args.media.now _ _ (Err c.in-Err-read_definition_file.error) (stays_as_it_was _ _ _ c.args.media.now) refl (alone inl) (read_cause _ true true false _ _ _ (signed_read _ _ _ c.in-Err-read_definition_file.ensures.cause))
+    reads_earlier prepare_effects c.args.media.now c.args.media.now _ _ (Err c.in-Err-read_definition_file.error) (stays_as_it_was _ _ _ c.args.media.now) refl (alone inl) (plain_cause _ prepare_effects _ _ _ c.in-Err-read_definition_file.ensures.cause)
 
 pub returns-in-Err-read_definition_file-clause-definition : goal.returns-in-Err-read_definition_file-clause-definition
-returns-in-Err-read_definition_file-clause-definition g c = record { stays = c.in-Err-read_definition_file.ensures.stays; quiet = tt; cause = read_cause _ true true false _ _ _ (signed_read _ _ _ c.in-Err-read_definition_file.ensures.cause) }
+returns-in-Err-read_definition_file-clause-definition g c = record { stays = c.in-Err-read_definition_file.ensures.stays; quiet = tt; cause = plain_cause _ prepare_effects _ _ _ c.in-Err-read_definition_file.ensures.cause }
 
 pub returns-in-Err-read_definition_file-clause-message : goal.returns-in-Err-read_definition_file-clause-message
 returns-in-Err-read_definition_file-clause-message g c =
-    reads_earlier true true false c.args.signature.now c.args.signature.now _ _ (Err c.in-Err-read_definition_file.error) (stays_as_it_was _ _ _ c.args.signature.now) refl (alone inr) (read_cause _ true true false _ _ _ (signed_read _ _ _ c.in-Err-read_definition_file.ensures.cause))
+    reads_earlier prepare_effects c.args.signature.now c.args.signature.now _ _ (Err c.in-Err-read_definition_file.error) (stays_as_it_was _ _ _ c.args.signature.now) refl (alone inr) (plain_cause _ prepare_effects _ _ _ c.in-Err-read_definition_file.ensures.cause)
 
 pub returns-in-Err-read_definition_file-clause-panel : goal.returns-in-Err-read_definition_file-clause-panel
 returns-in-Err-read_definition_file-clause-panel g c =
     let said = panel_says (map (λ j. (goal.Judge-dyn g (j.vtable, j.value)).says j.value) c.args.judges.now.items) in
-    hears_none c.args.judges.now c.in-Err-read_definition_file.error (read_unheard false _ _ _ c.in-Err-read_definition_file.ensures.cause)
+    hears_none c.args.judges.now c.in-Err-read_definition_file.error (read_unheard no_effects _ _ _ c.in-Err-read_definition_file.ensures.cause)
     (undefined_embed c.one_opening.ensures.file g.H.Hashing.digest_of said (g.A.Source.known c.args.media.now) (g.B.Source.known c.args.definition.now) (g.C.Source.known c.args.signature.now) c.each_definition_is_read_one_way.ensures.one c.in-Ok.read
     (λ file known. let media = c.in-Ok.ensures.stage file (c.requires.found file known) in (media.0, media.2)) c.in-Err-read_definition_file.error (λ bytes known. c.in-Err-read_definition_file.ensures.stage bytes known))
 
@@ -105,22 +108,22 @@ returns-in-Err-read_message_file-clause-not_due g c = record {
 
 pub returns-in-Err-read_message_file-clause-media : goal.returns-in-Err-read_message_file-clause-media
 returns-in-Err-read_message_file-clause-media g c =
-    reads_earlier true true false c.args.media.now c.args.media.now _ _ (Err c.in-Err-read_message_file.error) (stays_as_it_was _ _ _ c.args.media.now) refl (alone inr) (read_cause _ true true false _ _ _ c.in-Err-read_message_file.ensures.cause)
+    reads_earlier prepare_effects c.args.media.now c.args.media.now _ _ (Err c.in-Err-read_message_file.error) (stays_as_it_was _ _ _ c.args.media.now) refl (alone inr) (read_cause _ prepare_effects _ _ _ (message_prepares _ _ _ c.in-Err-read_message_file.ensures.cause))
 
 pub returns-in-Err-read_message_file-clause-definition : goal.returns-in-Err-read_message_file-clause-definition
 returns-in-Err-read_message_file-clause-definition g c =
-    reads_earlier true true false c.args.definition.now c.read_definition_file.new.file _ _ (Err c.in-Err-read_message_file.error) c.in-Ok-read_definition_file.ensures.stays c.in-Ok-read_definition_file.ensures.count (alone inr)
-    (read_cause _ true true false _ _ _ c.in-Err-read_message_file.ensures.cause)
+    reads_earlier prepare_effects c.args.definition.now c.read_definition_file.new.file _ _ (Err c.in-Err-read_message_file.error) c.in-Ok-read_definition_file.ensures.stays c.in-Ok-read_definition_file.ensures.count (alone inr)
+    (read_cause _ prepare_effects _ _ _ (message_prepares _ _ _ c.in-Err-read_message_file.ensures.cause))
 
 pub returns-in-Err-read_message_file-clause-message : goal.returns-in-Err-read_message_file-clause-message
-returns-in-Err-read_message_file-clause-message g c = record { stays = c.in-Err-read_message_file.ensures.stays; quiet = tt; cause = read_cause _ true true false _ _ _ c.in-Err-read_message_file.ensures.cause }
+returns-in-Err-read_message_file-clause-message g c = record { stays = c.in-Err-read_message_file.ensures.stays; quiet = tt; cause = read_cause _ prepare_effects _ _ _ (message_prepares _ _ _ c.in-Err-read_message_file.ensures.cause) }
 
 pub returns-in-Err-read_message_file-clause-panel : goal.returns-in-Err-read_message_file-clause-panel
 returns-in-Err-read_message_file-clause-panel g c =
     let said = panel_says (map (λ j. (goal.Judge-dyn g (j.vtable, j.value)).says j.value) c.args.judges.now.items) in
     let e = c.in-Err-read_message_file.error in
     let d = c.in-Ok-read_definition_file.definition in
-    hears_none c.args.judges.now e (read_unheard true _ _ _ c.in-Err-read_message_file.ensures.cause)
+    hears_none c.args.judges.now e (read_unheard message_effects _ _ _ c.in-Err-read_message_file.ensures.cause)
     (unsigned_embed c.one_opening.ensures.file g.H.Hashing.digest_of said (g.A.Source.known c.args.media.now) (g.B.Source.known c.args.definition.now) (g.C.Source.known c.args.signature.now) c.each_definition_is_read_one_way.ensures.one c.in-Ok.read
     (λ file known. let media = c.in-Ok.ensures.stage file (c.requires.found file known) in (media.0, media.2)) c.one_item.ensures c.each_message_is_accepted_or_refused_for_one_test.ensures d (λ bytes known. c.in-Ok-read_definition_file.ensures.stage bytes known) e
     (λ signed known. subst (λ (x : List ℕ). WithoutFault e (IsMessageStage x signed (Err e))) c.as_slice.ensures.value (c.in-Err-read_message_file.ensures.stage signed known)))
@@ -158,15 +161,15 @@ returns-clause-not_due g c = record {
 }
 
 pub returns-clause-media : goal.returns-clause-media
-returns-clause-media g c = reads_among true true false c.args.media.now c.ready_over.new.media c.ready_over.result (λ none. absurd none) c.ready_over.ensures.reads
+returns-clause-media g c = reads_among prepare_effects c.args.media.now c.ready_over.new.media c.ready_over.result (λ none. absurd none) c.ready_over.ensures.reads
 
 pub returns-clause-definition : goal.returns-clause-definition
 returns-clause-definition g c =
-    reads_earlier true true false c.args.definition.now c.read_definition_file.new.file _ _ c.ready_over.result c.in-Ok-read_definition_file.ensures.stays c.in-Ok-read_definition_file.ensures.count (alone inl) c.ready_over.ensures.reads.cause
+    reads_earlier prepare_effects c.args.definition.now c.read_definition_file.new.file _ _ c.ready_over.result c.in-Ok-read_definition_file.ensures.stays c.in-Ok-read_definition_file.ensures.count (alone inl) c.ready_over.ensures.reads.cause
 
 pub returns-clause-message : goal.returns-clause-message
 returns-clause-message g c =
-    reads_earlier true true false c.args.signature.now c.read_message_file.new.file _ _ c.ready_over.result c.in-Ok-read_message_file.ensures.stays c.in-Ok-read_message_file.ensures.count (alone inl) c.ready_over.ensures.reads.cause
+    reads_earlier prepare_effects c.args.signature.now c.read_message_file.new.file _ _ c.ready_over.result c.in-Ok-read_message_file.ensures.stays c.in-Ok-read_message_file.ensures.count (alone inl) c.ready_over.ensures.reads.cause
 
 pub returns-clause-panel : goal.returns-clause-panel
 returns-clause-panel g c =

@@ -1,4 +1,4 @@
-use Rattle.std.proofs.Common.{List, false, map, subst, true, ◌∙◌, ℕ}
+use Rattle.std.proofs.Common.{List, map, subst, ◌∙◌, ℕ}
 use Rattle.std.specs.Prelude.{Err}
 use Rattle.std.proofs.lemmas.Result.{IfOk-weaker}
 use Rattle.c2_spec.specs.C2pa.Sign1.{parts_of}
@@ -7,9 +7,13 @@ use Rattle.c2_calls.proofs.SourceLemmas.{reads_then}
 use Rattle.c2_built.specs.Store.{new_alg}
 use Rattle.c2_build.specs.Steps.{IsPutReady}
 use Rattle.c2_build.proofs.Drawn.{place_at, refused_embedding}
-use Rattle.c2_build.proofs.Judged.{hears_behind, hears_failed, read_result, reserve_cause, reserve_unjudged}
+use Rattle.c2_refusals.proofs.Judged.{hears_behind, hears_failed, read_result}
 use Rattle.c2_build.proofs.NewStores.{ready_built, reserve_outside}
-use Rattle.c2_build.proofs.Outside.{outside_map, reads_then_reads, signed_cause, signed_read}
+use Rattle.c2_build.proofs.Causes.{asks_prepare, message_stays}
+use Rattle.c2_refusals.proofs.Outside.{outside_map, reads_behind}
+use Rattle.c2_refusals.specs.Kinds.{message_effects, no_effects}
+use Rattle.c2_build.specs.Answers.{prepare_effects}
+use Rattle.c2_build.specs.declared.ready.Ready.{Ready}
 use Rattle.c2_build.proofs.ready.Builder.ready_over.Goals as goal
 
 -- the place is refused
@@ -25,7 +29,7 @@ returns-in-Err-padded-clause-ready g c = λ bytes known kind is.
     let said = panel_says (map (λ j. (goal.Judge-dyn g (j.vtable, j.value)).says j.value) c.args.judges.now.items) in
     let hash = g.H.Hashing.digest_of in
     let at = c.in-Ok.ensures.passed bytes known kind is in
-    reserve_outside hash said bytes kind c.args.definition.now (parts_of c.args.sign.now) at.ground at.place c.in-Err-padded.error at.passed at.is.content.definition c.in-Err-padded.ensures.refused
+    outside_map c.in-Err-padded.error (reserve_outside hash said bytes kind c.args.definition.now (parts_of c.args.sign.now) at.ground at.place c.in-Err-padded.error at.passed at.is.content.definition) c.in-Err-padded.ensures.refused
 
 -- what is ready is the new file
 pub returns-clause-ready : goal.returns-clause-ready
@@ -42,7 +46,7 @@ returns-clause-ready g c = λ bytes known kind is.
 -- ---- what is left of the media, and what judges hear
 
 pub returns-in-Err-clause-reads : goal.returns-in-Err-clause-reads
-returns-in-Err-clause-reads g c = record { stays = c.in-Err.ensures.reads.stays; quiet = tt; cause = signed_cause _ _ _ _ c.in-Err.ensures.reads.cause }
+returns-in-Err-clause-reads g c = record { stays = c.in-Err.ensures.reads.stays; quiet = tt; cause = asks_prepare _ _ _ _ c.in-Err.ensures.reads.cause }
 
 pub returns-in-Err-clause-panel : goal.returns-in-Err-clause-panel
 returns-in-Err-clause-panel g c = hears_failed c.args.judges.now c.draft_over.new.judges c.in-Err.error (λ qs asks. asks) c.in-Err.ensures.panel
@@ -50,15 +54,15 @@ returns-in-Err-clause-panel g c = hears_failed c.args.judges.now c.draft_over.ne
 pub returns-in-Err-padded-clause-reads : goal.returns-in-Err-padded-clause-reads
 returns-in-Err-padded-clause-reads g c =
     reads_then _ _ _ _ _ c.args.media.now c.draft_over.new.media c.in-Ok.drafted (Err c.in-Err-padded.error)
-    (reserve_cause (g.A.Source.faults c.args.media.now) (g.A.Source.faults c.draft_over.new.media) c.args.definition.now (parts_of c.args.sign.now) c.in-Err-padded.error c.in-Ok.ensures.reads.quiet c.in-Err-padded.ensures.refused) c.in-Ok.ensures.reads
+    (message_stays _ _ _ c.in-Ok.ensures.reads.quiet (c.in-Err-padded.ensures.cause _)) c.in-Ok.ensures.reads
 
 pub returns-in-Err-padded-clause-panel : goal.returns-in-Err-padded-clause-panel
 returns-in-Err-padded-clause-panel g c =
-    hears_behind c.args.judges.now c.draft_over.new.judges c.in-Ok.drafted (Err c.in-Err-padded.error) (reserve_unjudged c.args.definition.now (parts_of c.args.sign.now) c.in-Err-padded.error c.in-Err-padded.ensures.refused) (λ qs asks. asks) c.in-Ok.ensures.panel
+    hears_behind c.args.judges.now c.draft_over.new.judges c.in-Ok.drafted (Err c.in-Err-padded.error) (read_result {T = Ready} message_effects 0 0 (Err c.in-Err-padded.error) (c.in-Err-padded.ensures.cause 0)) (λ qs asks. asks) c.in-Ok.ensures.panel
 
 pub returns-clause-reads : goal.returns-clause-reads
 returns-clause-reads g c =
-    reads_then_reads true true false c.args.media.now c.draft_over.new.media c.ready_with.new.media c.in-Ok.drafted c.ready_with.result c.in-Ok.ensures.reads c.ready_with.ensures.reads.stays c.ready_with.ensures.reads.quiet signed_read c.ready_with.ensures.reads.cause
+    reads_behind prepare_effects c.args.media.now c.draft_over.new.media c.ready_with.new.media c.in-Ok.drafted c.ready_with.result c.in-Ok.ensures.reads c.ready_with.ensures.reads.stays c.ready_with.ensures.reads.quiet c.ready_with.ensures.reads.cause
 
 pub returns-clause-panel : goal.returns-clause-panel
-returns-clause-panel g c = hears_behind c.args.judges.now c.draft_over.new.judges c.in-Ok.drafted c.ready_with.result (read_result false _ _ c.ready_with.result c.ready_with.ensures.reads.cause) (λ qs asks. asks) c.in-Ok.ensures.panel
+returns-clause-panel g c = hears_behind c.args.judges.now c.draft_over.new.judges c.in-Ok.drafted c.ready_with.result (read_result no_effects _ _ c.ready_with.result c.ready_with.ensures.reads.cause) (λ qs asks. asks) c.in-Ok.ensures.panel

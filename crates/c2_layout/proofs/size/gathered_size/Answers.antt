@@ -1,0 +1,21 @@
+use Rattle.std.proofs.Common.{ℕ, ◌+◌, ◌-◌, ◌^◌, min, List, [], ◌∷◌, ◌++◌, length, sym, ap, ◌∙◌}
+use Rattle.c2_spec.specs.Jumbf.Tree.{trees_bytes}
+use Rattle.c2_definition.specs.declared.types.NewAssertion.{NewAssertion}
+use Rattle.c2_built.specs.Built.{no_digest}
+use Rattle.c2_built.specs.Store.{assertion_boxes, new_alg}
+use Rattle.c2_layout.proofs.Sizes.{all_claim, reckoned_size, saturated}
+use Rattle.c2_layout.proofs.size.gathered_size.Goals as goal
+
+-- the parts are added up to the greatest number
+pub returns-clause-len : goal.returns-clause-len
+returns-clause-len c = λ content has carried.
+    let d = c.args.definition.now in
+    let further = c.args.further.now in
+    let b = c.args.binding.now in
+    let most = 2 ^ 64 - 1 in
+    let defined = c.boxes_len-boxes.ensures ∙ ap (λ (as_ : List NewAssertion). min (length (trees_bytes (assertion_boxes as_))) most) c.as_slice.ensures in
+    let label = c.saturating_add.ensures ∙ ap (λ (l : List ℕ). min (length l + 232) most) c.as_str.ensures.value in
+    saturated most (length d.label) (length (trees_bytes (assertion_boxes d.assertions))) (length (trees_bytes (assertion_boxes (further ++ b ∷ [])))) (length (all_claim (no_digest (new_alg d)) d further b)) d.reserve (length (trees_bytes content.carried)) _ _ _ _ _ _ _ _
+    label defined c.saturating_add-framed.ensures c.own_len.ensures c.saturating_add-bound.ensures (c.saturating_add-claimed.ensures ∙ ap (λ n. min (c.saturating_add-bound.result + n) most) c.in_ok-claim.ensures) c.saturating_add-filled.ensures
+    (c.saturating_add-2.ensures ∙ ap (λ (x : List ℕ). min (c.saturating_add-filled.result + length x) most) carried)
+    ∙ ap (λ n. min n most) (sym (reckoned_size d further content b d.reserve has))
