@@ -20,6 +20,7 @@ use Rattle.c2_refusals.specs.declared.error.BuildError.{BuildError}
 use Rattle.c2_refusals.specs.declared.types.Seat.{Seat}
 use Rattle.c2_refusals.specs.Kinds.{SaysNothing}
 use Rattle.c2_refusals.specs.Seats.{IsSeat, IsSeatIn}
+use Rattle.c2_bound_parts.specs.declared.parts.Bound.{Bound}
 
 -- ---- digests
 
@@ -58,10 +59,10 @@ pub record IsSmall (hash : List ℕ → List ℕ) (len : ℕ) (d : Definition) (
   pub inside : w.draft.start ≤ w.draft.size
   pub seat : IsSeatIn len w.seat
 
--- What was drafted is over a base of this length, and its place lies in that.
-pub record IsOverBase (len : ℕ) (w : Drafted) : Type 0 where
-  pub size : w.draft.size ≡ len
-  pub inside : IsSeatIn w.draft.size w.seat
+-- What is bound is bound of a base of this length, and its place lies in that.
+pub record IsOverBase (len : ℕ) (b : Bound) : Type 0 where
+  pub size : b.size ≡ len
+  pub inside : IsSeatIn len b.seat.now
 
 -- ---- the parts
 

@@ -7,4 +7,4 @@ mod digesting;
 mod parts;
 
 pub use digesting::hash_all;
-pub use parts::parts_for;
+pub use parts::{Bound, binding_at, bound_digest, parts_for};

@@ -12,7 +12,7 @@ ghost use Rattle.c2_refusals.specs.Kinds.{IsReadCause, SaysNothing};
 use crate::digesting::hash_all;
 use c2_base::{Failed, NoMemory, Range, Source};
 use c2_built::a_new_store_has_one_length;
-use c2_cleared::{Cleared, Named};
+use c2_cleared::{Cleared, Clearing, Named};
 use c2_definition::{Definition, NewAssertion};
 use c2_film_binding::film_binding;
 use c2_film_hash::{FilmError, film_digest};
@@ -23,14 +23,20 @@ use c2_refusals::{BuildError, Drafted, Seat};
 use std::alloc::Global;
 use std::marker::Brand;
 
-// What a new binding binds.
-#[derive(Drop)]
-struct Bound<'d> {
-    // What was drafted: the base, and the place in it.
-    drafted: &'d Drafted,
+/// What a new binding binds of a media file, and how it is digested.
+#[derive(Clone, Copy, Debug)]
+pub struct Bound<'d> {
+    /// How the media file is cleared of its older store.
+    pub clearing: Clearing,
 
-    // The algorithm of the digest.
-    alg: Alg,
+    /// The place of the new store in what is left.
+    pub seat: &'d Seat,
+
+    /// How many bytes are left.
+    pub size: u64,
+
+    /// The algorithm of the digest.
+    pub alg: Alg,
 }
 
 // The digest of what is bound of a base, which is read through a buffer that isn't empty.
@@ -41,16 +47,15 @@ fn digest_of<B: Source, H: Hashing>(
     bound: &Bound<'_>,
     buf: &mut [u8],
 ) -> Result<Digest, BuildError>
-    requires over { IsOverBase (B.len base.old) bound.now.drafted.now }
+    requires over { IsOverBase (B.len base.old) bound.now }
     requires room { 0 < length buf.old }
-    ensures digest { IsBoundDigest H.digest_of bound.now.alg bound.now.drafted.now.seat
+    ensures digest { IsBoundDigest H.digest_of bound.now.alg bound.now.seat.now
         (B.known base.old) result }
     ensures reads { ReadsSource B.len B.known B.faults IsReadCause base.old base.new result }
 {
     let alg = bound.alg;
-    let drafted = bound.drafted;
-    match &drafted.seat {
-        Seat::Segments { .. } => match hash_all(hashing, alg, base, drafted.draft.size, buf) {
+    match bound.seat {
+        Seat::Segments { .. } => match hash_all(hashing, alg, base, bound.size, buf) {
             Ok(digest) => Ok(digest),
             Err(Failed) => Err(BuildError::ReadFault),
         },
@@ -74,34 +79,32 @@ fn digest_left<'m, A: Source, K: Named, H: Hashing>(
     requires name { media.ghost_name ≡ K.name }
     requires len { A.len media.old ≡ K.len }
     requires known { A.known media.old ≡ K.known }
-    requires over { let clearing = bound.now.drafted.now.ground.clearing in
-        IsOverBase (cleared_len clearing (A.len media.old)) bound.now.drafted.now }
+    requires over { IsOverBase (cleared_len bound.now.clearing (A.len media.old)) bound.now }
     requires room { 0 < length buf.old }
     ensures same { result.ghost_name ≡ media.entry.ghost_name }
-    ensures digest { let clearing = bound.now.drafted.now.ground.clearing in
-        IsBoundDigest H.digest_of bound.now.alg bound.now.drafted.now.seat
-        (option_map (cleared clearing) (A.known media.old)) found.new }
+    ensures digest { IsBoundDigest H.digest_of bound.now.alg bound.now.seat.now
+        (option_map (cleared bound.now.clearing) (A.known media.old)) found.new }
     ensures reads { ReadsSource A.len A.known A.faults IsReadCause media.old result.now found.new }
 {
-    let mut base = Cleared::<A, K>::new(media, bound.drafted.ground.clearing);
+    let mut base = Cleared::<A, K>::new(media, bound.clearing);
     *found = digest_of(alloc, hashing, &mut base, bound, buf);
     base.into_media()
 }
 
-// The digest of what is bound of what is left of a media file, which is read through a buffer that isn't empty.
-fn left_digest<A: Source, H: Hashing>(
+/// The digest of what is bound of what is left of a media file, which is read through a buffer that isn't empty: of all of it in a JPEG file, and
+/// of what the binding of a film covers in a BMFF file. `ReadFault` comes only where the file's count of faults rose in this call, and `NoMemory`
+/// where memory ran out.
+pub fn bound_digest<A: Source, H: Hashing>(
     alloc: Global,
     hashing: &H,
     media: &mut A,
     bound: &Bound<'_>,
     buf: &mut [u8],
 ) -> Result<Digest, BuildError>
-    requires over { let clearing = bound.now.drafted.now.ground.clearing in
-        IsOverBase (cleared_len clearing (A.len media.old)) bound.now.drafted.now }
+    requires over { IsOverBase (cleared_len bound.now.clearing (A.len media.old)) bound.now }
     requires room { 0 < length buf.old }
-    ensures digest { let clearing = bound.now.drafted.now.ground.clearing in
-        IsBoundDigest H.digest_of bound.now.alg bound.now.drafted.now.seat
-        (option_map (cleared clearing) (A.known media.old)) result }
+    ensures digest { IsBoundDigest H.digest_of bound.now.alg bound.now.seat.now
+        (option_map (cleared bound.now.clearing) (A.known media.old)) result }
     ensures reads { ReadsSource A.len A.known A.faults IsReadCause media.old media.new result }
 {
     let mut found = Err(BuildError::NoMemory);
@@ -109,8 +112,9 @@ fn left_digest<A: Source, H: Hashing>(
     found
 }
 
-// The new binding at this place, to a file outside this range, by this digest by an algorithm.
-fn binding_at(
+/// The new binding at this place, to a file outside this range, by this digest by an algorithm. It names the range in a JPEG file alone.
+/// `NoMemory` comes where memory ran out.
+pub fn binding_at(
     alloc: Global,
     alg: Alg,
     seat: &Seat,
@@ -190,10 +194,12 @@ pub fn parts_for<A: Source, H: Hashing>(
 {
     // Matched and not handed up by `?`: each way out has clauses of its own.
     let bound = Bound {
-        drafted,
+        clearing: drafted.ground.clearing,
+        seat: &drafted.seat,
+        size: drafted.draft.size,
         alg: definition.alg,
     };
-    let digest = match left_digest(alloc, hashing, media, &bound, buf) {
+    let digest = match bound_digest(alloc, hashing, media, &bound, buf) {
         Ok(digest) => digest,
         Err(error) => return Err(error),
     };

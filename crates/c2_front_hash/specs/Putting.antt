@@ -1,6 +1,6 @@
 -- The file with the box of a store put in after its first root box, where the places in its chunk tables from there on are greater by the
 -- length of that box (C2PA Technical Specification 2.x, "Embedding manifests into assets"; ISO/IEC 14496-12, 8.7.5).
-use Rattle.std.specs.Prelude.{◌≡◌, ℕ, ◌+◌, ◌<◌, ◌≤◌, List, replicate}
+use Rattle.std.specs.Prelude.{◌≡◌, ℕ, ◌+◌, ◌<◌, ◌≤◌, List, length, replicate}
 use Rattle.c2_base.specs.declared.limits.TheConstants.{FILE_LEN_LIMIT, MAX_STORE_LEN}
 use Rattle.c2_spec.specs.Bmff.Boxes.{box_bytes}
 use Rattle.c2_spec.specs.Bmff.Writing.{c2pa_box, c2pa_frame_len}
@@ -33,3 +33,13 @@ pub record FitsIn (len : ℕ) (f : Front) : Type 0 where
   pub place : f.place ≤ len
   pub small : f.store_len ≤ MAX_STORE_LEN
   pub short : len + range_of f < FILE_LEN_LIMIT
+
+-- A piece can be put into a file of so many bytes at this place.
+pub record FitsPiece (len place : ℕ) (piece : List ℕ) : Type 0 where
+  pub inside : place ≤ len
+  pub short : len + length piece < FILE_LEN_LIMIT
+
+-- This can be done in a file of so many bytes with a piece that is as long as the box of the new store.
+pub record FitsMoved (len : ℕ) (f : Front) (piece : List ℕ) : Type 0 where
+  pub fits : FitsIn len f
+  pub size : length piece ≡ range_of f

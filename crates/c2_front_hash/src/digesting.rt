@@ -3,14 +3,13 @@ ghost use Rattle.std.specs.Prelude.{◌≡◌, ◌+◌, ◌<◌, ◌≤◌, List
 ghost use Rattle.std.specs.declared.option.Option.{Option};
 ghost use Rattle.std.specs.Option.{ForSome};
 ghost use Rattle.c2_base.specs.Source.{ReadsSource};
-ghost use Rattle.c2_base.specs.declared.limits.TheConstants as limits;
 ghost use Rattle.c2_boxes.specs.Causes.{IsCaused};
 ghost use Rattle.c2_spec.specs.Bmff.Boxes.{box_bytes};
 ghost use Rattle.c2_spec.specs.Bmff.Writing.{c2pa_box};
 ghost use Rattle.c2_spec.specs.Digest.{digest_len};
 ghost use Rattle.c2_spec.specs.PutIn.{put_in};
-ghost use Rattle.c2_front_hash.specs.Digests.{IsRootsDigest, IsUnrefused};
-ghost use Rattle.c2_front_hash.specs.Putting.{FitsIn, moved, with_blank};
+ghost use Rattle.c2_front_hash.specs.Digests.{IsFileDigest, IsRootsDigest, IsUnrefused};
+ghost use Rattle.c2_front_hash.specs.Putting.{FitsIn, FitsMoved, FitsPiece, moved, with_blank};
 
 use crate::Front;
 use crate::frame::{FRAME_LEN, blank_box};
@@ -35,10 +34,7 @@ impl<'h, H: Hashing> Digesting<'h, H> {
     // The digest of what the exclusions leave of a file, which is read through a buffer that isn't empty.
     fn of_file<S: Source>(&self, file: &mut S, buf: &mut [u8]) -> Result<Digest, MediaError>
         requires { 0 < length buf.old }
-        ensures digest { IfOk result (λ d. ForSome (S.known file.old)
-            (IsRootsDigest (H.digest_of self.now.alg) d)) }
-        ensures len { IfOk result (λ d. length d ≡ digest_len self.now.alg) }
-        ensures refused { IfErr result (λ e. ForSome (S.known file.old) (IsUnrefused e)) }
+        ensures digest { IsFileDigest H.digest_of self.now.alg (S.known file.old) result }
         ensures reads { ReadsSource S.len S.known S.faults IsCaused file.old file.new result }
     {
         // Only the prover needs this law.
@@ -67,16 +63,11 @@ impl<'h, H: Hashing> Digesting<'h, H> {
         requires name { base.ghost_name ≡ K.name }
         requires len { B.len base.old ≡ K.len }
         requires known { B.known base.old ≡ K.known }
-        requires inside { place ≤ B.len base.old }
-        requires short { B.len base.old + length piece.now < limits.FILE_LEN_LIMIT }
+        requires fits { FitsPiece (B.len base.old) place piece.now }
         requires room { 0 < length buf.old }
         ensures same { result.ghost_name ≡ base.entry.ghost_name }
-        ensures digest { IfOk found.new (λ d.
-            ForSome (option_map (put_in place piece.now) (B.known base.old))
-            (IsRootsDigest (H.digest_of self.now.alg) d)) }
-        ensures len { IfOk found.new (λ d. length d ≡ digest_len self.now.alg) }
-        ensures refused { IfErr found.new (λ e.
-            ForSome (option_map (put_in place piece.now) (B.known base.old)) (IsUnrefused e)) }
+        ensures digest { IsFileDigest H.digest_of self.now.alg
+            (option_map (put_in place piece.now) (B.known base.old)) found.new }
         ensures reads { ReadsSource B.len B.known B.faults IsCaused base.old result.now found.new }
     {
         let mut file = Inserted::<B, K>::new(base, place, piece);
@@ -92,15 +83,10 @@ impl<'h, H: Hashing> Digesting<'h, H> {
         piece: &[u8],
         buf: &mut [u8],
     ) -> Result<Digest, MediaError>
-        requires inside { place ≤ B.len base.old }
-        requires short { B.len base.old + length piece.now < limits.FILE_LEN_LIMIT }
+        requires fits { FitsPiece (B.len base.old) place piece.now }
         requires room { 0 < length buf.old }
-        ensures digest { IfOk result (λ d.
-            ForSome (option_map (put_in place piece.now) (B.known base.old))
-            (IsRootsDigest (H.digest_of self.now.alg) d)) }
-        ensures len { IfOk result (λ d. length d ≡ digest_len self.now.alg) }
-        ensures refused { IfErr result (λ e.
-            ForSome (option_map (put_in place piece.now) (B.known base.old)) (IsUnrefused e)) }
+        ensures digest { IsFileDigest H.digest_of self.now.alg
+            (option_map (put_in place piece.now) (B.known base.old)) result }
         ensures reads { ReadsSource B.len B.known B.faults IsCaused base.old base.new result }
     {
         let mut found = Err(MediaError::NoMemory);
@@ -120,16 +106,12 @@ impl<'h, H: Hashing> Digesting<'h, H> {
         requires name { media.ghost_name ≡ K.name }
         requires len { A.len media.old ≡ K.len }
         requires known { A.known media.old ≡ K.known }
-        requires fits { FitsIn (A.len media.old) front.now }
-        requires piece { length piece.now ≡ FRAME_LEN + front.now.store_len }
+        requires fits { FitsMoved (A.len media.old) front.now piece.now }
         requires room { 0 < length buf.old }
         ensures same { result.ghost_name ≡ media.entry.ghost_name }
-        ensures digest { IfOk found.new (λ d. ForSome (A.known media.old) (λ file.
-            IsRootsDigest (H.digest_of self.now.alg) d
-            (put_in front.now.place piece.now (moved front.now file)))) }
-        ensures len { IfOk found.new (λ d. length d ≡ digest_len self.now.alg) }
-        ensures refused { IfErr found.new (λ e. ForSome (A.known media.old) (λ file.
-            IsUnrefused e (put_in front.now.place piece.now (moved front.now file)))) }
+        ensures digest { IsFileDigest H.digest_of self.now.alg (option_map
+            (put_in front.now.place piece.now) (option_map (moved front.now) (A.known media.old)))
+            found.new }
         ensures reads { ReadsSource A.len A.known A.faults IsCaused media.old result.now found.new }
     {
         let moves = FRAME_LEN + front.store_len;
@@ -146,15 +128,11 @@ impl<'h, H: Hashing> Digesting<'h, H> {
         piece: &[u8],
         buf: &mut [u8],
     ) -> Result<Digest, MediaError>
-        requires fits { FitsIn (A.len media.old) front.now }
-        requires piece { length piece.now ≡ FRAME_LEN + front.now.store_len }
+        requires fits { FitsMoved (A.len media.old) front.now piece.now }
         requires room { 0 < length buf.old }
-        ensures digest { IfOk result (λ d. ForSome (A.known media.old) (λ file.
-            IsRootsDigest (H.digest_of self.now.alg) d
-            (put_in front.now.place piece.now (moved front.now file)))) }
-        ensures len { IfOk result (λ d. length d ≡ digest_len self.now.alg) }
-        ensures refused { IfErr result (λ e. ForSome (A.known media.old) (λ file.
-            IsUnrefused e (put_in front.now.place piece.now (moved front.now file)))) }
+        ensures digest { IsFileDigest H.digest_of self.now.alg (option_map
+            (put_in front.now.place piece.now) (option_map (moved front.now) (A.known media.old)))
+            result }
         ensures reads { ReadsSource A.len A.known A.faults IsCaused media.old media.new result }
     {
         let mut found = Err(MediaError::NoMemory);
@@ -164,7 +142,7 @@ impl<'h, H: Hashing> Digesting<'h, H> {
 }
 
 /// The digest by this algorithm of what the exclusions of a new hash leave of the file in which a new store is put in front, read through a
-/// buffer that isn't empty. It depends on the new store by its length alone, so the digest is known before the store is.
+/// buffer that isn't empty. Of the new store only its length matters, so the digest is known before the store is.
 ///
 /// Of a file that tells its bytes nothing is refused where its new file has root boxes. [`MediaError::ReadFault`] comes only where the
 /// source failed, [`MediaError::NoMemory`] where memory ran out. Takes as many bytes as the box of the new store

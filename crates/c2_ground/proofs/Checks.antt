@@ -7,7 +7,6 @@ use Rattle.c2_opening.specs.declared.error.ValidateError.TheVariants as error
 use Rattle.c2_validate.specs.Checked.{IsReadCause as CheckCause, validate_heard}
 use Rattle.c2_refusals.specs.Kinds.{IsAskCause, build_heard, fault_of, kind_of}
 use Rattle.c2_refusals.specs.declared.error.BuildError.{BuildError}
-use Rattle.c2_refusals.specs.declared.error.BuildError.TheVariants as build
 use Rattle.std.specs.declared.alloc.Global.{Global}
 use Rattle.std.specs.declared.vec.Vec.{Vec}
 use Rattle.c2_spec.specs.declared.panel.Verdict.{Verdict}

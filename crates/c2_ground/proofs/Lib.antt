@@ -1,3 +1,3 @@
-mod Opened
-mod Checks
-mod Grounds
+pub mod Opened
+pub mod Checks
+pub mod Grounds

@@ -14,7 +14,7 @@ ghost use Rattle.c2_spec.specs.Judges.Panel.{panel_says};
 ghost use Rattle.c2_built.specs.Store.{new_alg};
 ghost use Rattle.c2_rules.specs.Readings.{AreReadings, Reading};
 ghost use Rattle.c2_validate.specs.Checked.{IsOpenedFrom, StoreAsks};
-ghost use Rattle.c2_refusals.specs.Kinds.{ComesAs, IsAskCause, IsQuiet, WithoutFault, build_heard};
+ghost use Rattle.c2_refusals.specs.Kinds.{ComesAs, IsAskCause, IsOlderQuiet, IsQuiet, WithoutFault, build_heard};
 ghost use Rattle.c2_refusals.specs.Stages.{IsGroundStage, MediaKind, fresh};
 ghost use Rattle.c2_ground.specs.Grounds.{IsCarriedOver, IsCheckRefusal, IsChecked, IsGround, IsKind, IsOver, IsOverRefusal, IsReadIn, IsSomeGround, KindHears};
 
@@ -66,8 +66,8 @@ fn fresh_ground(
     }
 }
 
-// A store in this range of a media file in this container, as it is checked against the file.
-fn opened_in<'c, 't>(
+/// A store in this range of a media file in this container, as it is checked against the file.
+pub fn opened_in<'c, 't>(
     container: &'c Container,
     range: Range,
     chain: &'c Chain<'t>,
@@ -83,8 +83,9 @@ fn opened_in<'c, 't>(
     }
 }
 
-// Checks the store of a media file, and refuses it by the first rule that fails.
-fn check_parent<A: Source, H: Hashing>(
+/// Checks the store of a media file under these judges. `ParentFails` tells the first rule that fails. `ReadFault` comes only where the file's
+/// count of faults rose in this call, `JudgeFault` only where that of a judge did, and `NoMemory` where memory ran out.
+pub fn check_parent<A: Source, H: Hashing>(
     alloc: Global,
     hashing: &H,
     media: &mut A,
@@ -166,7 +167,7 @@ fn over_store<H: Hashing>(
         → AreReadings (manifests_of older.now.tree) rs → IsOverRefusal definition.now rs e) }
     ensures some { IfOk result (IsSomeGround (H.digest_of (new_alg definition.now))
         definition.now) }
-    ensures quiet { IfErr result IsQuiet }
+    ensures quiet { IfErr result IsOlderQuiet }
 {
     // Only the prover needs these laws, and the count: it takes from here that the tree is legal.
     one_reading();
@@ -197,7 +198,7 @@ fn over_store<H: Hashing>(
 // The label of a definition, which a manifest has already.
 fn label_taken(alloc: Global, definition: &Definition) -> BuildError
     ensures told { WithoutFault result (result ≡ LabelTaken definition.now.label) }
-    ensures quiet { IsQuiet result }
+    ensures quiet { IsOlderQuiet result }
 {
     match Text::copied(alloc, definition.label.as_str()) {
         Ok(label) => BuildError::LabelTaken(label),

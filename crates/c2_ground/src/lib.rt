@@ -6,5 +6,5 @@
 mod ground;
 mod media;
 
-pub use ground::grounded;
+pub use ground::{check_parent, grounded, opened_in};
 pub use media::{MediaFile, MediaRead, OlderStore, form_of, open_media, read_media};

@@ -1,5 +1,5 @@
 -- What the errors of a walk over the segments of a JPEG file say.
-use Rattle.std.proofs.Common.{◌≡◌, ℕ, true, false, List, Option, Some, None, option_map, refl, sym, ap, ◌∙◌, subst}
+use Rattle.std.proofs.Common.{◌≡◌, ℕ, true, false, List, Option, Some, option_map, refl, sym, ap, ◌∙◌, subst}
 use Rattle.std.proofs.lemmas.Bool.{false≢true}
 use Rattle.c2_base.specs.declared.media.MediaError.{MediaError}
 use Rattle.c2_base.specs.declared.media.MediaError.TheVariants as media
@@ -19,58 +19,46 @@ use Rattle.c2_spec.specs.Reason.{media_refusal}
 use Rattle.c2_spec.specs.declared.reason.Refusal.{Refusal}
 use Rattle.c2_places.specs.Places.{IsFreePlace, IsPlace, Place, in_boxes, in_segments}
 use Rattle.c2_refusals.specs.Seats.{IsSeat}
-use Rattle.c2_refusals.specs.Kinds.{SaysNothing}
+use Rattle.c2_refusals.specs.Kinds.{IsReadCause, SaysNothing, media_error_of}
 use Rattle.c2_place.specs.Spots.{TellsNoPlace}
 use Rattle.c2_refusals.specs.declared.error.BuildError.{BuildError}
 use Rattle.c2_refusals.specs.declared.types.Seat.TheVariants as Seat
 
--- an error that is no fault and not of memory left the count
-pub left_alone : (len before now : ℕ) (e : MediaError) → (e ≡ media.ReadFault → ⊥) → (e ≡ media.NoMemory → ⊥) → HasReason len before now e → now ≡ before
-left_alone len before now media.NotMedia read memory h = h.1
-left_alone len before now (media.FileTooLarge n) read memory h = h.2
-left_alone len before now (media.Truncated n) read memory h = h.1
-left_alone len before now (media.BadMarker n) read memory h = h.1
-left_alone len before now (media.BadSegment n) read memory h = h.1
-left_alone len before now (media.BadPacket n) read memory h = h.1
-left_alone len before now (media.TwoStores n) read memory h = h.1
-left_alone len before now (media.BadBox n) read memory h = h.1
-left_alone len before now (media.BadProvenanceBox n) read memory h = h.1
-left_alone len before now (media.StoreTooLarge n) read memory h = h.1
-left_alone len before now media.TooManyBoxes read memory h = h.1
-left_alone len before now media.ReadFault read memory h = absurd (read refl)
-left_alone len before now media.NoMemory read memory h = absurd (memory refl)
+-- an error of a walk over the segments of a file has the cause that it says
+pub segments_cause : (len before now : ℕ) (e : MediaError) → HasReason len before now e → IsReadCause before now (media_error_of e)
+segments_cause len before now media.NotMedia h = h.1
+segments_cause len before now (media.FileTooLarge n) h = h.2
+segments_cause len before now (media.Truncated n) h = h.1
+segments_cause len before now (media.BadMarker n) h = h.1
+segments_cause len before now (media.BadSegment n) h = h.1
+segments_cause len before now (media.BadPacket n) h = h.1
+segments_cause len before now (media.TwoStores n) h = h.1
+segments_cause len before now (media.BadBox n) h = h.1
+segments_cause len before now (media.BadProvenanceBox n) h = h.1
+segments_cause len before now (media.StoreTooLarge n) h = h.1
+segments_cause len before now media.TooManyBoxes h = h.1
+segments_cause len before now media.ReadFault h = h
+segments_cause len before now media.NoMemory h = tt
 
--- and tells the first test that fails
-pub told : (file : List ℕ) (e : MediaError) → (e ≡ media.ReadFault → ⊥) → (e ≡ media.NoMemory → ⊥) → TellsFault file e → SegmentsFault file e
-told file media.NotMedia read memory h = h
-told file (media.FileTooLarge n) read memory h = h
-told file (media.Truncated n) read memory h = h
-told file (media.BadMarker n) read memory h = h
-told file (media.BadSegment n) read memory h = h
-told file (media.BadPacket n) read memory h = h
-told file (media.TwoStores n) read memory h = h
-told file (media.BadBox n) read memory h = h
-told file (media.BadProvenanceBox n) read memory h = h
-told file (media.StoreTooLarge n) read memory h = h
-told file media.TooManyBoxes read memory h = h
-told file media.ReadFault read memory h = absurd (read refl)
-told file media.NoMemory read memory h = absurd (memory refl)
+-- no test fails of a file that is a list of segments
+abbrev pub NoFault : Type 0
+NoFault = (file : List ℕ) (segments : List Segment) (e : MediaError) → IsOfSegments file segments → SegmentsFault file e → ⊥
 
--- and is a refusal
-pub refuses : (e : MediaError) → (e ≡ media.ReadFault → ⊥) → (e ≡ media.NoMemory → ⊥) → media_refusal e ≡ None → ⊥
-refuses media.NotMedia read memory is = cc (is)
-refuses (media.FileTooLarge n) read memory is = cc (is)
-refuses (media.Truncated n) read memory is = cc (is)
-refuses (media.BadMarker n) read memory is = cc (is)
-refuses (media.BadSegment n) read memory is = cc (is)
-refuses (media.BadPacket n) read memory is = cc (is)
-refuses (media.TwoStores n) read memory is = cc (is)
-refuses (media.BadBox n) read memory is = cc (is)
-refuses (media.BadProvenanceBox n) read memory is = cc (is)
-refuses (media.StoreTooLarge n) read memory is = cc (is)
-refuses media.TooManyBoxes read memory is = cc (is)
-refuses media.ReadFault read memory is = absurd (read refl)
-refuses media.NoMemory read memory is = absurd (memory refl)
+-- so an error of the walk says nothing of such a file
+segments_say : NoFault → (file : List ℕ) (segments : List Segment) → IsOfSegments file segments → (e : MediaError) → TellsFault file e → SaysNothing (media_error_of e)
+segments_say law file segments is media.NotMedia h = law file segments media.NotMedia is h
+segments_say law file segments is (media.FileTooLarge n) h = law file segments (media.FileTooLarge n) is h
+segments_say law file segments is (media.Truncated n) h = law file segments (media.Truncated n) is h
+segments_say law file segments is (media.BadMarker n) h = law file segments (media.BadMarker n) is h
+segments_say law file segments is (media.BadSegment n) h = law file segments (media.BadSegment n) is h
+segments_say law file segments is (media.BadPacket n) h = law file segments (media.BadPacket n) is h
+segments_say law file segments is (media.TwoStores n) h = law file segments (media.TwoStores n) is h
+segments_say law file segments is (media.BadBox n) h = law file segments (media.BadBox n) is h
+segments_say law file segments is (media.BadProvenanceBox n) h = law file segments (media.BadProvenanceBox n) is h
+segments_say law file segments is (media.StoreTooLarge n) h = law file segments (media.StoreTooLarge n) is h
+segments_say law file segments is media.TooManyBoxes h = law file segments media.TooManyBoxes is h
+segments_say law file segments is media.ReadFault h = tt
+segments_say law file segments is media.NoMemory h = tt
 
 -- a list of segments of a file is one
 abbrev pub OneList : Type 0
@@ -83,59 +71,59 @@ found one file start number form p n =
     let same : n.segments ≡ p.segments = one file n.segments p.segments n.is_of p.is_of in
     (in_segments p.segments number, (form, p.is_of, subst (λ (ss : List Segment). IsNumberOf ss number) same n.number_is), (p.place_is, refl))
 
--- an error that says nothing of a list of segments says nothing of a JPEG file with a free place
-pub segments_told : (file : List ℕ) (e : BuildError) → is_bmff file ≡ false → ((segments : List Segment) → IsOfSegments file segments → SaysNothing e) → TellsNoPlace file e
-segments_told file e form h p free = by p free.is
+-- an error of the walk over its segments says nothing of a JPEG file with a free place
+pub segments_told : NoFault → (file : List ℕ) (e : MediaError) (f : BuildError) → is_bmff file ≡ false → f ≡ media_error_of e → TellsFault file e → TellsNoPlace file f
+segments_told law file e f form same h p free = subst SaysNothing (sym same) (by p free.is)
   where
-    by : (p : Place) → IsPlace file p → SaysNothing e
-    by (in_segments segments number) is = h segments is.1
+    by : (p : Place) → IsPlace file p → SaysNothing (media_error_of e)
+    by (in_segments segments number) is = segments_say law file segments is.1 e h
     by (in_boxes roots) is = absurd (false≢true (sym form ∙ is.0))
 
 -- the root boxes of a BMFF file are its place
 pub boxes_seat : (file : List ℕ) (rows : List RootBox) → is_bmff file ≡ true → AreRootsOf file rows → (p : Place) × IsPlace file p × IsSeat (Seat.Boxes rows) p
 boxes_seat file rows form h = (in_boxes h.boxes, (form, h.has_roots), h.are)
 
--- an error that is no fault and not of memory left the count of a walk over boxes
-pub left_boxes : (len before now : ℕ) (e : MediaError) → (e ≡ media.ReadFault → ⊥) → (e ≡ media.NoMemory → ⊥) → IsRootsCause len before now e → now ≡ before
-left_boxes len before now media.NotMedia read memory h = h.1
-left_boxes len before now (media.FileTooLarge n) read memory h = h.2
-left_boxes len before now (media.Truncated n) read memory h = h.2
-left_boxes len before now (media.BadMarker n) read memory h = absurd h
-left_boxes len before now (media.BadSegment n) read memory h = absurd h
-left_boxes len before now (media.BadPacket n) read memory h = absurd h
-left_boxes len before now (media.TwoStores n) read memory h = absurd h
-left_boxes len before now (media.BadBox n) read memory h = h.2
-left_boxes len before now (media.BadProvenanceBox n) read memory h = absurd h
-left_boxes len before now (media.StoreTooLarge n) read memory h = absurd h
-left_boxes len before now media.TooManyBoxes read memory h = h.2
-left_boxes len before now media.ReadFault read memory h = absurd (read refl)
-left_boxes len before now media.NoMemory read memory h = absurd (memory refl)
-
--- and tells the first test that fails
-pub told_boxes : (claim : Type 0) (e : MediaError) → (e ≡ media.ReadFault → ⊥) → (e ≡ media.NoMemory → ⊥) → OrOutside e claim → claim
-told_boxes claim media.NotMedia read memory h = h
-told_boxes claim (media.FileTooLarge n) read memory h = h
-told_boxes claim (media.Truncated n) read memory h = h
-told_boxes claim (media.BadMarker n) read memory h = h
-told_boxes claim (media.BadSegment n) read memory h = h
-told_boxes claim (media.BadPacket n) read memory h = h
-told_boxes claim (media.TwoStores n) read memory h = h
-told_boxes claim (media.BadBox n) read memory h = h
-told_boxes claim (media.BadProvenanceBox n) read memory h = h
-told_boxes claim (media.StoreTooLarge n) read memory h = h
-told_boxes claim media.TooManyBoxes read memory h = h
-told_boxes claim media.ReadFault read memory h = absurd (read refl)
-told_boxes claim media.NoMemory read memory h = absurd (memory refl)
+-- an error of a walk over root boxes has the cause that it says
+pub roots_cause : (len before now : ℕ) (e : MediaError) → IsRootsCause len before now e → IsReadCause before now (media_error_of e)
+roots_cause len before now media.NotMedia h = h.1
+roots_cause len before now (media.FileTooLarge n) h = h.2
+roots_cause len before now (media.Truncated n) h = h.2
+roots_cause len before now (media.BadMarker n) h = absurd h
+roots_cause len before now (media.BadSegment n) h = absurd h
+roots_cause len before now (media.BadPacket n) h = absurd h
+roots_cause len before now (media.TwoStores n) h = absurd h
+roots_cause len before now (media.BadBox n) h = h.2
+roots_cause len before now (media.BadProvenanceBox n) h = absurd h
+roots_cause len before now (media.StoreTooLarge n) h = absurd h
+roots_cause len before now media.TooManyBoxes h = h.2
+roots_cause len before now media.ReadFault h = h
+roots_cause len before now media.NoMemory h = tt
 
 -- a BMFF file comes to one thing
 abbrev pub OneFilm : Type 0
 OneFilm = (file : List ℕ) (v w : Located) → IsBmffLocated file v → IsBmffLocated file w → v ≡ w
 
 -- so one that has a free place isn't refused
-pub free_film : OneFilm → (file : List ℕ) (e : MediaError) (r : Refusal) → is_bmff file ≡ true → FirstRootsFault file e → media_refusal e ≡ Some r → (p : Place) → IsFreePlace file p → ⊥
+free_film : OneFilm → (file : List ℕ) (e : MediaError) (r : Refusal) → is_bmff file ≡ true → FirstRootsFault file e → media_refusal e ≡ Some r → (p : Place) → IsFreePlace file p → ⊥
 free_film one file e r form fault says (in_segments segments number) free = false≢true (sym free.is.0 ∙ form)
 free_film one file e r form fault says (in_boxes roots) free =
     let none : HasNoBmffStore file = record { roots = roots; has_roots = free.is.1; none = free.free } in
     let refusal = ap (option_map refused_by) says in
     let same = one file (refused r.reason r.number) absent (e, first_of_all file e fault, refusal) none in
     cc (same)
+
+-- an error of the walk over its root boxes says nothing of one
+pub roots_say : OneFilm → (file : List ℕ) → is_bmff file ≡ true → (p : Place) → IsFreePlace file p → (e : MediaError) → OrOutside e (FirstRootsFault file e) → SaysNothing (media_error_of e)
+roots_say one file form p free media.NotMedia h = free_film one file media.NotMedia _ form h refl p free
+roots_say one file form p free (media.FileTooLarge n) h = free_film one file (media.FileTooLarge n) _ form h refl p free
+roots_say one file form p free (media.Truncated n) h = free_film one file (media.Truncated n) _ form h refl p free
+roots_say one file form p free (media.BadMarker n) h = free_film one file (media.BadMarker n) _ form h refl p free
+roots_say one file form p free (media.BadSegment n) h = free_film one file (media.BadSegment n) _ form h refl p free
+roots_say one file form p free (media.BadPacket n) h = free_film one file (media.BadPacket n) _ form h refl p free
+roots_say one file form p free (media.TwoStores n) h = free_film one file (media.TwoStores n) _ form h refl p free
+roots_say one file form p free (media.BadBox n) h = free_film one file (media.BadBox n) _ form h refl p free
+roots_say one file form p free (media.BadProvenanceBox n) h = free_film one file (media.BadProvenanceBox n) _ form h refl p free
+roots_say one file form p free (media.StoreTooLarge n) h = free_film one file (media.StoreTooLarge n) _ form h refl p free
+roots_say one file form p free media.TooManyBoxes h = free_film one file media.TooManyBoxes _ form h refl p free
+roots_say one file form p free media.ReadFault h = tt
+roots_say one file form p free media.NoMemory h = tt

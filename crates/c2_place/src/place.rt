@@ -1,24 +1,17 @@
 // Where a new store goes in a media file without its older store.
-ghost use Rattle.std.specs.Prelude.{◌≡◌, ℕ, ◌<◌, List, IfErr, IfOk, OnOk};
+ghost use Rattle.std.specs.Prelude.{◌≡◌, ◌<◌, IfErr, IfOk, OnOk};
 ghost use Rattle.std.specs.Option.{ForSome};
 ghost use Rattle.c2_base.specs.Source.{ReadsSource, StaysSource};
 ghost use Rattle.c2_base.specs.declared.limits.TheConstants.{FILE_LEN_LIMIT};
-ghost use Rattle.c2_box_rows.specs.Faults.{FirstRootsFault};
-ghost use Rattle.c2_boxes.specs.Causes.{IsRootsCause, OrOutside};
-ghost use Rattle.c2_spec.specs.Jpeg.Places.{IsOfSegments};
-ghost use Rattle.c2_spec.specs.Jpeg.Segments.{Segment};
-ghost use Rattle.c2_spec.specs.Located.{HasReason};
-ghost use Rattle.c2_jpegseg.specs.Refusals.{TellsFault};
 ghost use Rattle.c2_place.specs.Spots.{HasSeat, IsSpotLeft, TellsNoPlace};
 ghost use Rattle.c2_refusals.specs.Seats.{IsForm, IsSeatIn};
-ghost use Rattle.c2_refusals.specs.Kinds.{IsReadCause, SaysNothing};
+ghost use Rattle.c2_refusals.specs.Kinds.{IsReadCause};
 
-use c2_base::{Failed, MediaError, Range, Source};
+use c2_base::{Failed, Range, Source};
 use c2_boxes::{a_bmff_file_comes_to_one_thing, roots};
 use c2_cleared::{Cleared, Clearing, Named};
 use c2_jpegseg::{free_number, insert_place, segments_end_or_fail};
-use c2_refusals::{BuildError, FileForm, Seat};
-use c2_spec::Refusal;
+use c2_refusals::{BuildError, FileForm, Seat, media_error};
 use std::alloc::Global;
 use std::marker::Brand;
 
@@ -38,31 +31,6 @@ pub struct Spot {
     pub seat: Seat,
 }
 
-// Why a file can't be walked. A file that has a free place isn't refused.
-fn walk_error(error: MediaError) -> BuildError
-    ensures told { (file : List ℕ) (segments : List Segment)
-        → IsOfSegments file segments → TellsFault file error → SaysNothing result }
-    ensures cause { (len before now : ℕ)
-        → HasReason len before now error → IsReadCause before now result }
-    ensures boxes { (file : List ℕ) → OrOutside error (FirstRootsFault file error)
-        → IsForm file FileForm.Bmff → TellsNoPlace file result }
-    ensures boxes_cause { (len before now : ℕ) → IsRootsCause len before now error
-        → IsReadCause before now result }
-{
-    // Only the prover needs these laws.
-    segments_end_or_fail();
-    a_bmff_file_comes_to_one_thing();
-    match error {
-        MediaError::ReadFault => BuildError::ReadFault,
-        MediaError::NoMemory => BuildError::NoMemory,
-        other => match Refusal::of_media(other) {
-            Some(refusal) => BuildError::MediaRefused(refusal.reason, refusal.number),
-            // Every other error is a refusal.
-            None => unreachable!(),
-        },
-    }
-}
-
 // The place in a JPEG file.
 fn seat_in_segments<B: Source>(alloc: Global, base: &mut B) -> Result<Seat, BuildError>
     ensures seat { IfOk result (λ s. ForSome (B.known base.old) (λ file.
@@ -79,11 +47,11 @@ fn seat_in_segments<B: Source>(alloc: Global, base: &mut B) -> Result<Seat, Buil
     segments_end_or_fail();
     let start = match insert_place(base, NO_RANGE) {
         Ok(start) => start,
-        Err(error) => return Err(walk_error(error)),
+        Err(error) => return Err(media_error(error)),
     };
     match free_number(alloc, base, NO_RANGE) {
         Ok(number) => Ok(Seat::Segments { start, number }),
-        Err(error) => Err(walk_error(error)),
+        Err(error) => Err(media_error(error)),
     }
 }
 
@@ -99,9 +67,11 @@ fn seat_in_boxes<B: Source>(alloc: Global, base: &mut B) -> Result<Seat, BuildEr
     ensures count { OnOk result (B.faults base.new ≡ B.faults base.old) }
     ensures stays { StaysSource B.len B.known B.faults base.old base.new }
 {
+    // Only the prover needs this law.
+    a_bmff_file_comes_to_one_thing();
     match roots(alloc, base) {
         Ok(roots) => Ok(Seat::Boxes(roots)),
-        Err(error) => Err(walk_error(error)),
+        Err(error) => Err(media_error(error)),
     }
 }
 

@@ -9,9 +9,9 @@ use Rattle.c2_spec.specs.declared.panel.Verdict.{Verdict}
 use Rattle.c2_rules.specs.Asking.{HasHeardSoFar, HearsPanel, IsJudgeCause, broken}
 use Rattle.c2_rules.proofs.AskingLemmas.{front_none, stays}
 use Rattle.c2_calls.proofs.PanelLemmas.{asked_none, hears_error, hears_later, hears_nobody, hears_same}
-use Rattle.c2_refusals.specs.Kinds.{Effects, ErrorKind, IsQuiet, IsQuietKind, IsReadKind, KindSays, WithoutFault, build_heard, front_refusal, heard_of, judge_fault, kind_of, message_refusal, no_memory, other_refusal, read_fault, refusal, write_fault}
+use Rattle.c2_refusals.specs.Kinds.{Effects, ErrorKind, IsOlderQuiet, IsOlderQuietKind, IsQuiet, IsQuietKind, IsReadKind, KindSays, WithoutFault, build_heard, front_refusal, heard_of, judge_fault, kind_of, message_refusal, no_memory, older_refusal, other_refusal, read_fault, refusal, write_fault}
 use Rattle.c2_refusals.specs.declared.error.BuildError.{BuildError}
-use Rattle.c2_refusals.proofs.Outside.{outside_all}
+use Rattle.c2_refusals.proofs.Outside.{outside_all, quiet_older}
 
 -- ---- errors
 
@@ -31,6 +31,7 @@ pub read_unheard : (does : Effects) (m n : ℕ) (k : ErrorKind) → IsReadKind d
 read_unheard does m n refusal h = tt
 read_unheard does m n message_refusal h = tt
 read_unheard does m n front_refusal h = tt
+read_unheard does m n older_refusal h = tt
 read_unheard does m n other_refusal h = tt
 read_unheard does m n read_fault h = tt
 read_unheard does m n judge_fault h = h
@@ -38,21 +39,27 @@ read_unheard does m n write_fault h = h
 read_unheard does m n no_memory h = tt
 
 -- and of one that doesn't
+pub older_unheard : (k : ErrorKind) → IsOlderQuietKind k → IsUnheard k
+older_unheard refusal h = tt
+older_unheard message_refusal h = tt
+older_unheard front_refusal h = tt
+older_unheard older_refusal h = tt
+older_unheard other_refusal h = tt
+older_unheard read_fault h = tt
+older_unheard judge_fault h = h
+older_unheard write_fault h = h
+older_unheard no_memory h = tt
+
+-- whatever it builds over
 pub quiet_unheard : (k : ErrorKind) → IsQuietKind k → IsUnheard k
-quiet_unheard refusal h = tt
-quiet_unheard message_refusal h = tt
-quiet_unheard front_refusal h = tt
-quiet_unheard other_refusal h = tt
-quiet_unheard read_fault h = tt
-quiet_unheard judge_fault h = h
-quiet_unheard write_fault h = h
-quiet_unheard no_memory h = tt
+quiet_unheard k h = older_unheard k (quiet_older k h)
 
 -- no judge fails there
 unheard_unjudged : (k : ErrorKind) → IsUnheard k → IsUnjudged k
 unheard_unjudged refusal h = tt
 unheard_unjudged message_refusal h = tt
 unheard_unjudged front_refusal h = tt
+unheard_unjudged older_refusal h = tt
 unheard_unjudged other_refusal h = tt
 unheard_unjudged read_fault h = tt
 unheard_unjudged judge_fault h = h
@@ -64,6 +71,7 @@ unbroken : (k : ErrorKind) → IsUnjudged k → heard_of k ≢ broken
 unbroken refusal h = λ is. cc (is)
 unbroken message_refusal h = λ is. cc (is)
 unbroken front_refusal h = λ is. cc (is)
+unbroken older_refusal h = λ is. cc (is)
 unbroken other_refusal h = λ is. cc (is)
 unbroken read_fault h = λ is. cc (is)
 unbroken judge_fault h = absurd h
@@ -93,6 +101,7 @@ module _ {J : Type 0} {says : J → Question → Verdict} {times faults : J → 
       still refusal h = refl
       still message_refusal h = refl
       still front_refusal h = refl
+      still older_refusal h = refl
       still other_refusal h = refl
       still read_fault h = tt
       still judge_fault h = absurd h
@@ -104,6 +113,7 @@ module _ {J : Type 0} {says : J → Question → Verdict} {times faults : J → 
       heard qs asks refusal h n = asked_none (map says v.items) qs (map times v.items) (n qs asks)
       heard qs asks message_refusal h n = asked_none (map says v.items) qs (map times v.items) (n qs asks)
       heard qs asks front_refusal h n = asked_none (map says v.items) qs (map times v.items) (n qs asks)
+      heard qs asks older_refusal h n = asked_none (map says v.items) qs (map times v.items) (n qs asks)
       heard qs asks other_refusal h n = asked_none (map says v.items) qs (map times v.items) (n qs asks)
       heard qs asks read_fault h n = front_none (map says v.items) qs (map times v.items)
       heard qs asks judge_fault h n = absurd h
@@ -144,6 +154,6 @@ read_result does m n (Ok x) h = tt
 read_result does m n (Err e) h = unheard_unjudged (kind_of e) (read_unheard does m n (kind_of e) h)
 
 -- nor does one that doesn't
-pub quiet_result : {T : Type 0} (r : Result T BuildError) → IfErr r IsQuiet → IfErr r (λ e. IsUnjudged (kind_of e))
-quiet_result (Ok x) h = tt
-quiet_result (Err e) h = unheard_unjudged (kind_of e) (quiet_unheard (kind_of e) h)
+pub older_result : {T : Type 0} (r : Result T BuildError) → IfErr r IsOlderQuiet → IfErr r (λ e. IsUnjudged (kind_of e))
+older_result (Ok x) h = tt
+older_result (Err e) h = unheard_unjudged (kind_of e) (older_unheard (kind_of e) h)

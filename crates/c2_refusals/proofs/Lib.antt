@@ -1,4 +1,6 @@
 pub mod Outside
+pub mod Media
+pub mod Doing
 pub mod Stages
 pub mod FirstRefusal
 pub mod Inputs

@@ -1,22 +1,28 @@
 -- What an error of a build says, by its kind: whether it says anything of the inputs, where its cause lies, and how far its questions came.
-use Rattle.std.specs.Prelude.{◌≡◌, ◌⊎◌, ℕ, ⊤, Bool, true, false}
+use Rattle.std.specs.Prelude.{◌≡◌, ◌⊎◌, ℕ, ⊤, Bool, true, false, option_map, unwrap_or}
 use Rattle.std.specs.declared.result.Result.{Result}
 use Rattle.std.specs.declared.result.Result.TheVariants.{Ok, Err}
 use Rattle.c2_base.specs.Causes.{Rose}
+use Rattle.c2_base.specs.declared.media.MediaError.{MediaError}
+use Rattle.c2_base.specs.declared.media.MediaError.TheVariants as media
+use Rattle.c2_spec.specs.Reason.{media_refusal}
+use Rattle.c2_spec.specs.declared.reason.Refusal.{Refusal}
 use Rattle.c2_rules.specs.Asking.{Heard, all, broken, part}
 use Rattle.c2_opening.specs.declared.error.ValidateError.{ValidateError}
 use Rattle.c2_opening.specs.declared.error.ValidateError.TheVariants as error
 use Rattle.c2_refusals.specs.declared.error.BuildError.{BuildError}
-use Rattle.c2_refusals.specs.declared.error.BuildError.TheVariants.{BadSignature, NotBmff, HasStore, OtherRefused, LabelClash, OffsetTable, BadTree, BadTable, Overflow, ReserveTooSmall, ReadFault, JudgeFault, WriteFault, NoMemory}
+use Rattle.c2_refusals.specs.declared.error.BuildError.TheVariants.{MediaRefused, BadSignature, NotBmff, HasStore, ParentFails, OtherRefused, LabelClash, LabelTaken, NoInstance, OffsetTable, BadTree, BadTable, TooManyManifests, Overflow, ReserveTooSmall, ReadFault, JudgeFault, WriteFault, NoMemory}
 
 -- ---- kinds
 
 -- What an error of a build says: the media, the definition or what is to be built is refused; the signed message is; the media is, as one that
--- gets its store at the front; another file, which is to be collected, is; a source, a judge or the sink failed; or memory ran out.
+-- gets its store at the front; it is, as one that may have an older store or be a JPEG file; another file, which is to be collected, is; a source, a
+-- judge or the sink failed; or memory ran out.
 pub data ErrorKind : Type 0 where
   refusal : ErrorKind
   message_refusal : ErrorKind
   front_refusal : ErrorKind
+  older_refusal : ErrorKind
   other_refusal : ErrorKind
   read_fault : ErrorKind
   judge_fault : ErrorKind
@@ -33,6 +39,10 @@ kind_of (OffsetTable at) = front_refusal
 kind_of (BadTree at) = front_refusal
 kind_of (BadTable at) = front_refusal
 kind_of (Overflow at) = front_refusal
+kind_of (ParentFails code uri) = older_refusal
+kind_of (LabelTaken label) = older_refusal
+kind_of NoInstance = older_refusal
+kind_of (TooManyManifests count) = older_refusal
 kind_of (OtherRefused answer) = other_refusal
 kind_of (LabelClash label) = other_refusal
 kind_of ReadFault = read_fault
@@ -81,20 +91,22 @@ pub record Effects : Type 0 where
   pub writes_file : Bool
   -- it moves the chunk tables of a file that gets its store at the front
   pub moves_tables : Bool
+  -- it builds over an older store, or into a JPEG file
+  pub takes_older : Bool
   -- it takes another file, which is collected
   pub takes_other : Bool
 
 -- it does nothing else
 abbrev pub no_effects : Effects
-no_effects = record { reads_message = false; asks_judges = false; writes_file = false; moves_tables = false; takes_other = false }
+no_effects = record { reads_message = false; asks_judges = false; writes_file = false; moves_tables = false; takes_older = false; takes_other = false }
 
 -- it looks at a signed message
 abbrev pub message_effects : Effects
 message_effects = record no_effects { reads_message = true }
 
--- it asks judges
+-- it asks judges of an older store, over which it builds
 abbrev pub judge_effects : Effects
-judge_effects = record no_effects { asks_judges = true }
+judge_effects = record no_effects { asks_judges = true; takes_older = true }
 
 -- ---- sources
 
@@ -104,11 +116,12 @@ MayCome true claim = claim
 MayCome false claim = ⊥
 
 -- The cause of an error of this kind, by a source's count of faults before and after: a refusal leaves the count; the source failed, or another
--- one did. Five kinds come only from a call that does what they tell of.
+-- one did. Six kinds come only from a call that does what they tell of.
 abbrev pub IsSourceCause : Effects → Type 0 → ℕ → ℕ → ErrorKind → Type 0
 IsSourceCause does Other before now refusal = now ≡ before
 IsSourceCause does Other before now message_refusal = MayCome does.reads_message (now ≡ before)
 IsSourceCause does Other before now front_refusal = MayCome does.moves_tables (now ≡ before)
+IsSourceCause does Other before now older_refusal = MayCome does.takes_older (now ≡ before)
 IsSourceCause does Other before now other_refusal = MayCome does.takes_other (now ≡ before)
 IsSourceCause does Other before now read_fault = Rose before now ⊎ Other
 IsSourceCause does Other before now judge_fault = MayCome does.asks_judges ⊤
@@ -124,6 +137,7 @@ abbrev pub IsReadKind : Effects → ℕ → ℕ → ErrorKind → Type 0
 IsReadKind does before now refusal = now ≡ before
 IsReadKind does before now message_refusal = MayCome does.reads_message (now ≡ before)
 IsReadKind does before now front_refusal = MayCome does.moves_tables (now ≡ before)
+IsReadKind does before now older_refusal = MayCome does.takes_older (now ≡ before)
 IsReadKind does before now other_refusal = MayCome does.takes_other (now ≡ before)
 IsReadKind does before now read_fault = Rose before now
 IsReadKind does before now judge_fault = ⊥
@@ -147,6 +161,28 @@ IsQuietKind k = ⊥
 -- the error of such a step
 abbrev pub IsQuiet : BuildError → Type 0
 IsQuiet e = IsQuietKind (kind_of e)
+
+-- the kind of an error of such a step of a call that builds over an older store, or into a JPEG file
+abbrev pub IsOlderQuietKind : ErrorKind → Type 0
+IsOlderQuietKind older_refusal = ⊤
+IsOlderQuietKind k = IsQuietKind k
+
+-- its error
+abbrev pub IsOlderQuiet : BuildError → Type 0
+IsOlderQuiet e = IsOlderQuietKind (kind_of e)
+
+-- the error of a build that a refusal of the media is
+abbrev pub refused_by : Refusal → BuildError
+refused_by r = MediaRefused r.reason r.number
+
+-- the error of a build that an error is which refuses nothing of the media
+abbrev pub media_fault : MediaError → BuildError
+media_fault media.ReadFault = ReadFault
+media_fault e = NoMemory
+
+-- the error of a build that an error of a walk over the media is
+abbrev pub media_error_of : MediaError → BuildError
+media_error_of e = unwrap_or (option_map refused_by (media_refusal e)) (media_fault e)
 
 -- the fault of a build that a fault of the check is
 abbrev pub fault_of : ValidateError → BuildError

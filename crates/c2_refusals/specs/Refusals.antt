@@ -128,6 +128,10 @@ reserve_tests d p =
     option_to_list (option_map (λ (needed : ℕ). refuse_if true (ReserveTooSmall needed))
     (reserve_needed d.reserve (length (bare_bytes p))))
 
+-- the error says that a message with these parts doesn't fit into what a definition reserves
+abbrev pub IsReserveRefusal : Definition → SignParts → BuildError → Type 0
+IsReserveRefusal d p e = (n : ℕ) × (reserve_needed d.reserve (length (bare_bytes p)) ≡ Some n) × (e ≡ ReserveTooSmall n)
+
 -- all tests at the place, where a message has these parts
 abbrev pub late_tests : Ground → SignParts → Place → List BuildTest
 late_tests g parts p = ground_tests g p ++ reserve_tests g.content.definition parts

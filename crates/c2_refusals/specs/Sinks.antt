@@ -1,11 +1,9 @@
 -- What the answer of a build leaves of its sink.
-use Rattle.std.specs.Prelude.{◌≡◌, ℕ, ⊤, Bool, true, List}
-use Rattle.std.specs.declared.option.Option.{Option}
+use Rattle.std.specs.Prelude.{◌≡◌, ℕ, ⊤, Bool, true}
 use Rattle.std.specs.declared.result.Result.{Result}
 use Rattle.std.specs.declared.result.Result.TheVariants.{Ok, Err}
 use Rattle.c2_base.specs.Causes.{Rose}
-use Rattle.c2_base.specs.Sink.{Appends, HasWrittenPrefix}
-use Rattle.c2_refusals.specs.Kinds.{ErrorKind, front_refusal, judge_fault, kind_of, message_refusal, no_memory, other_refusal, read_fault, refusal, write_fault}
+use Rattle.c2_refusals.specs.Kinds.{ErrorKind, front_refusal, judge_fault, kind_of, message_refusal, no_memory, older_refusal, other_refusal, read_fault, refusal, write_fault}
 use Rattle.c2_refusals.specs.declared.error.BuildError.{BuildError}
 
 -- The cause of an error of this kind, by the sink's count of faults before and after: a refusal leaves the count, and the sink's own fault comes
@@ -14,6 +12,7 @@ abbrev pub IsSinkCause : ℕ → ℕ → ErrorKind → Type 0
 IsSinkCause before now refusal = now ≡ before
 IsSinkCause before now message_refusal = now ≡ before
 IsSinkCause before now front_refusal = now ≡ before
+IsSinkCause before now older_refusal = now ≡ before
 IsSinkCause before now other_refusal = now ≡ before
 IsSinkCause before now read_fault = ⊤
 IsSinkCause before now judge_fault = ⊤
@@ -23,21 +22,6 @@ IsSinkCause before now no_memory = ⊤
 -- the cause of an error of a call that writes a new file, by the sink
 abbrev pub IsOutCause : ℕ → ℕ → BuildError → Type 0
 IsOutCause before now e = IsSinkCause before now (kind_of e)
-
--- What is known of a sink.
-pub record SinkState : Type 0 where
-  pub written : Option (List ℕ)
-  pub finished : Bool
-
--- The sink took these bytes, and is finished.
-pub record IsDelivered (bytes : List ℕ) (old new : SinkState) : Type 0 where
-  pub whole : Appends old.written new.written bytes
-  pub finished : new.finished ≡ true
-
--- The sink took a prefix of these bytes, and isn't finished by it.
-pub record IsBegun (bytes : List ℕ) (old new : SinkState) : Type 0 where
-  pub prefix : HasWrittenPrefix old.written new.written bytes
-  pub unfinished : new.finished ≡ old.finished
 
 -- an error of this kind leaves the sink, unless reading or writing failed
 abbrev pub KindLeaves : ErrorKind → Type 0 → Type 0

@@ -1,20 +1,21 @@
 // Why nothing is built.
 ghost use Rattle.std.specs.Prelude.{◌≡◌};
-ghost use Rattle.c2_refusals.specs.Kinds.{fault_of};
+ghost use Rattle.c2_refusals.specs.Kinds.{fault_of, media_error_of};
 
-use c2_base::{NoMemory as OutOfMemory, Text};
+use c2_base::{MediaError, NoMemory as OutOfMemory, Text};
 use c2_definition::DefinitionField;
 use c2_message::SignaturePart;
 use c2_opening::ValidateError;
 use c2_rules::{Answer, Code};
-use c2_spec::Reason;
+use c2_spec::{Reason, Refusal};
 
 /// Why nothing is built. A variant further up is tested earlier, but for these: the length and the number of root boxes of the new file,
 /// which are tested after `StoreTooLarge`, in this order; and `OpenBox`, which is tested before `RedactionRefused` where the store is to stand
 /// at the front of a BMFF file. The last four have no place in this order, since they say nothing of the inputs.
 ///
 /// `NotBmff`, `HasStore`, `OffsetTable`, `BadTree`, `BadTable` and `Overflow` come only where the store is to stand at the front of a BMFF file,
-/// and `OtherRefused` and `LabelClash` only where another file is to be collected.
+/// where `ParentFails`, `LabelTaken`, `NoInstance` and `TooManyManifests` don't come; and `OtherRefused` and `LabelClash` only where another file
+/// is to be collected.
 #[derive(Debug, Drop)]
 pub enum BuildError {
     /// The container, a box or the store of the media file is refused for this reason, with its number. `FileTooLarge` also tells
@@ -113,5 +114,18 @@ pub fn fault(error: ValidateError) -> BuildError
         ValidateError::ReadFault => BuildError::ReadFault,
         ValidateError::JudgeFault => BuildError::JudgeFault,
         ValidateError::NoMemory => BuildError::NoMemory,
+    }
+}
+
+/// The error of a build that an error of a walk over a media file is: `MediaRefused`, `ReadFault` or `NoMemory`.
+pub fn media_error(error: MediaError) -> BuildError
+    ensures { result ≡ media_error_of error }
+{
+    match Refusal::of_media(error) {
+        Some(refusal) => BuildError::MediaRefused(refusal.reason, refusal.number),
+        None => match error {
+            MediaError::ReadFault => BuildError::ReadFault,
+            _ => BuildError::NoMemory,
+        },
     }
 }

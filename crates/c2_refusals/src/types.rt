@@ -82,7 +82,7 @@ pub struct Drafted {
     pub draft: Draft,
 }
 
-/// Where the new store stands in a new file.
+/// The range of what is put into a new file of its new store: of the packets in a JPEG file, and of the box in a BMFF file.
 #[derive(Clone, Copy, Debug, PartialEq, Eq)]
 pub struct Embedded {
     /// The place of its first byte.

@@ -1,4 +1,4 @@
-use Rattle.std.proofs.Common.{false, map, refl, sym, subst, true}
+use Rattle.std.proofs.Common.{map, refl, sym, subst}
 use Rattle.std.specs.Prelude.{Err, Ok}
 use Rattle.c2_spec.specs.C2pa.Manifest.{manifests_of}
 use Rattle.c2_spec.specs.Judges.Panel.{panel_says}
@@ -13,8 +13,8 @@ use Rattle.c2_refusals.specs.Stages.{IsGroundStage, IsMediaStage, MediaKind}
 use Rattle.c2_ground.specs.Grounds.{HasBoxes, IsClearedTo, IsGround}
 use Rattle.c2_ground.proofs.Grounds.{check_stage, over_refused, stored_over}
 use Rattle.c2_ground.proofs.Opened.{fresh_asks, fresh_kind, older_asks, opened_from, opened_older, stored_kind}
-use Rattle.c2_refusals.proofs.Judged.{hears_behind, hears_failed, hears_quiet, quiet_result}
-use Rattle.c2_refusals.proofs.Outside.{quiet_results}
+use Rattle.c2_refusals.proofs.Judged.{hears_behind, hears_failed, hears_quiet, older_result}
+use Rattle.c2_refusals.proofs.Outside.{older_results, quiet_results}
 use Rattle.c2_ground.proofs.ground.grounded.Goals as goal
 
 -- ---- a file without a store
@@ -96,12 +96,12 @@ returns-clause-ground g c = λ bytes known kind is.
     (λ rs reads. c.over_store.ensures.over rs reads) (λ rs reads. over_refused d o.tree c.over_store.result rs reads c.over_store.ensures.refused))
 
 pub returns-clause-reads : goal.returns-clause-reads
-returns-clause-reads g c = reads_then _ _ _ _ _ c.args.media.now c.check_parent.new.media tt c.over_store.result (quiet_results _ judge_effects _ _ c.over_store.result c.in-Ok-check_parent.ensures.reads.quiet c.over_store.ensures.quiet) c.in-Ok-check_parent.ensures.reads
+returns-clause-reads g c = reads_then _ _ _ _ _ c.args.media.now c.check_parent.new.media tt c.over_store.result (older_results _ judge_effects _ _ c.over_store.result tt c.in-Ok-check_parent.ensures.reads.quiet c.over_store.ensures.quiet) c.in-Ok-check_parent.ensures.reads
 
 pub returns-clause-panel : goal.returns-clause-panel
 returns-clause-panel g c =
     let said = panel_says (map (λ j. (goal.Judge-dyn g (j.vtable, j.value)).says j.value) c.args.judges.now.items) in
     let o = c.in-Some.older in
-    hears_behind c.args.judges.now c.check_parent.new.judges tt c.over_store.result (quiet_result c.over_store.result c.over_store.ensures.quiet)
+    hears_behind c.args.judges.now c.check_parent.new.judges tt c.over_store.result (older_result c.over_store.result c.over_store.ensures.quiet)
     (older_asks c.a_store_answers_for_its_file.ensures.asks g.H.Hashing.digest_of said (g.A.Source.known c.args.media.now) c.args.file.now o c.opened_in-store.result c.in-Some.is c.opened_in-store.ensures.container c.opened_in-store.ensures.range
     (subst (λ (x : Chained). AreReadings (manifests_of o.tree) x.readings) (sym c.opened_in-store.ensures.chain) c.in-Ok.ensures.reads)) c.in-Ok-check_parent.ensures.panel

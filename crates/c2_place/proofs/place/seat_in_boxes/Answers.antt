@@ -1,4 +1,6 @@
-use Rattle.c2_place.proofs.Walked.{boxes_seat}
+use Rattle.std.proofs.Common.{subst, sym}
+use Rattle.c2_refusals.specs.Kinds.{IsReadCause, SaysNothing}
+use Rattle.c2_place.proofs.Walked.{boxes_seat, roots_cause, roots_say}
 use Rattle.c2_place.proofs.place.seat_in_boxes.Goals as goal
 
 -- the root boxes that were found are the place
@@ -6,7 +8,8 @@ pub returns-in-Ok-clause-seat : goal.returns-in-Ok-clause-seat
 returns-in-Ok-clause-seat g c = λ file known form. boxes_seat file c.in-Ok.roots form (c.in-Ok.ensures.found file known)
 
 pub returns-in-Err-clause-told : goal.returns-in-Err-clause-told
-returns-in-Err-clause-told g c = λ file known form. c.walk_error.ensures.boxes file (c.in-Err.ensures.refused file known) form
+returns-in-Err-clause-told g c = λ file known form p free.
+    subst SaysNothing (sym c.media_error.ensures) (roots_say c.a_bmff_file_comes_to_one_thing.ensures file form p free c.in-Err.error (c.in-Err.ensures.refused file known))
 
 pub returns-in-Err-clause-cause : goal.returns-in-Err-clause-cause
-returns-in-Err-clause-cause g c = c.walk_error.ensures.boxes_cause _ _ _ c.in-Err.ensures.cause
+returns-in-Err-clause-cause g c = subst (IsReadCause _ _) (sym c.media_error.ensures) (roots_cause _ _ _ c.in-Err.error c.in-Err.ensures.cause)

@@ -1,4 +1,4 @@
-use Rattle.c2_bound_parts.proofs.parts.left_digest.Given as goal
+use Rattle.c2_bound_parts.proofs.parts.bound_digest.Given as goal
 
 -- the borrow is that of the media as it was handed in
 abbrev pub ghosts-digest_left : goal.ghosts-digest_left
