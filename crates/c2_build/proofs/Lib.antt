@@ -9,10 +9,8 @@ mod Worked
 mod WorkedFilm
 mod WorkedOver
 mod WorkedAgain
-mod Drafted
 mod Drawn
 mod Placed
-mod Seated
 mod NewStores
 mod Causes
 mod Ended

@@ -1,15 +1,13 @@
 -- What is signed and what is written of the parts of a new store.
-use Rattle.std.proofs.Common.{◌≡◌, ℕ, true, List, length, Option, option_map, Some, None, refl, sym, ap, ◌∙◌, subst, arith}
+use Rattle.std.proofs.Common.{◌≡◌, ℕ, true, List, length, Option, option_map, Some, None, refl, sym, ap, ◌∙◌, subst}
 use Rattle.std.specs.Prelude.{Result, Ok, Err, IfErr, IfOk}
 use Rattle.std.specs.Option.{option_to_list}
 use Rattle.c2_base.specs.declared.values.Question.{Question}
 use Rattle.c2_spec.specs.C2pa.Message.{bare_bytes}
 use Rattle.c2_spec.specs.C2pa.Sign1.{SignParts, sig_structure}
 use Rattle.c2_spec.specs.Cbor.Deterministic.{deterministic}
-use Rattle.c2_spec.specs.Jpeg.Writing.{IsPacketStore, packets_bytes}
+use Rattle.c2_spec.specs.Jpeg.Writing.{IsPacketStore}
 use Rattle.c2_spec.specs.Jumbf.Tree.{tree_bytes}
-use Rattle.c2_spec.specs.Digest.{digest_len}
-use Rattle.c2_spec.specs.PutIn.{put_in}
 use Rattle.c2_spec.specs.declared.digest.Alg.{Alg}
 use Rattle.c2_spec.specs.declared.panel.Verdict.{Verdict}
 use Rattle.c2_definition.specs.declared.types.Definition.{Definition}
@@ -18,59 +16,48 @@ use Rattle.c2_message.specs.Refusals.{reserve_needed}
 use Rattle.c2_message.specs.Signed.{FillsOrNeedsMore, IsSigned}
 use Rattle.c2_built.specs.Built.{HasDigestLen, StoreSizeIsFixed}
 use Rattle.c2_layout.specs.Parts.{AreParts, IsContent}
-use Rattle.c2_built.specs.Store.{Content, data_binding, new_claim, new_manifest, new_store, new_alg}
+use Rattle.c2_built.specs.Store.{Content, new_claim, new_store, new_alg}
 use Rattle.c2_layout.specs.declared.carried.Carried.{Carried}
 use Rattle.c2_layout.specs.declared.parts.NewParts.{NewParts}
 use Rattle.c2_cleared.specs.Clears.{cleared}
 use Rattle.c2_cleared.specs.declared.clearing.Clearing.{Clearing}
 use Rattle.c2_films.specs.Films.{FilmSizeIsFixed}
-use Rattle.c2_places.specs.Places.{IsPlace, Place, binding_with, bound_text, in_boxes, in_segments, place_binding, place_start, place_store, put_bytes}
+use Rattle.c2_places.specs.Places.{IsPlace, Place, bound_text, place_binding, place_start, place_store, put_bytes}
 use Rattle.c2_refusals.specs.Kinds.{ComesAs, SaysNothing}
 use Rattle.c2_build.specs.Building.{IsBuilt, IsEmbeddedOn, IsEmbeddedOver, built_of, signed_bytes}
 use Rattle.c2_refusals.specs.Stages.{IsGroundStage, IsPlaceStage, MediaKind}
-use Rattle.c2_refusals.specs.Refusals.{Ground, first_refusal, ground_tests, late_tests, new_range_len, refuse_if, reserve_tests}
-use Rattle.c2_bound_parts.specs.Bound.{AreNewParts, IsSmall, seat_binding, seat_store_len}
-use Rattle.c2_build_front.specs.Steps.{IsReserveRefusal}
-use Rattle.c2_build.specs.Steps.{IsDrafted, IsNumbered, IsPassed, IsPut, IsPutReady, IsReady}
+use Rattle.c2_refusals.specs.Refusals.{Ground, IsReserveRefusal, first_refusal, ground_tests, late_tests, refuse_if, reserve_tests}
+use Rattle.c2_bound_parts.specs.Bound.{AreNewParts, IsSmall, seat_binding}
+use Rattle.c2_build.specs.Steps.{IsDrafted, IsPassed, IsPutReady, IsReady}
 use Rattle.c2_ground.specs.Grounds.{IsGround}
 use Rattle.c2_putting.specs.Puts.{put_of}
 use Rattle.c2_refusals.specs.Seats.{IsSeat}
 use Rattle.c2_refusals.specs.declared.types.Draft.{Draft}
 use Rattle.c2_refusals.specs.declared.types.Drafted.{Drafted}
-use Rattle.c2_refusals.specs.declared.types.Put.{Put}
-use Rattle.c2_refusals.specs.declared.types.Seat.{Seat}
-use Rattle.c2_build.specs.declared.ready.Ready.{Ready}
+use Rattle.c2_in_place.specs.Numbers.{IsNumbered, IsPut}
+use Rattle.c2_in_place.proofs.Stored.{file_is, put_is, same_binding, store_packs}
+use Rattle.c2_in_place.specs.declared.writing.Ready.{Ready}
 use Rattle.c2_refusals.specs.declared.error.BuildError.{BuildError}
 use Rattle.c2_refusals.specs.declared.error.BuildError.TheVariants as build
 use Rattle.c2_refusals.proofs.Stages.{first_passes, then_next, unless_fails, unless_passes}
 use Rattle.c2_refusals.proofs.Outside.{nothing_said}
-use Rattle.c2_built.proofs.BuiltLemmas.{packet_store}
-use Rattle.c2_bound_parts.proofs.NewParts.{seat_fixed, seat_size, seat_size_is}
 
 -- ---- what is signed
 
--- the binding of a seat is that of its place
-seat_with : (alg : Alg) (s : Seat) (p : Place) (start len : ℕ) (digest : List ℕ) → IsSeat s p → start ≡ place_start p → seat_binding alg s start len digest ≡ binding_with alg p len digest
-seat_with alg (Seat.Segments at number) (in_segments segments en) start len digest h is = ap (λ (n : ℕ). data_binding alg n len digest) is
-seat_with alg (Seat.Segments at number) (in_boxes roots) start len digest h is = absurd h
-seat_with alg (Seat.Boxes rows) (in_segments segments en) start len digest h is = absurd h
-seat_with alg (Seat.Boxes rows) (in_boxes roots) start len digest h is = refl
-
 -- the binding of a draft is that of its place
-same_binding : (hash : List ℕ → List ℕ) (known : Option (List ℕ)) (media : List ℕ) (d : Definition) (w : Drafted) (g : Ground) (p : Place) (parts : NewParts) → IsGround hash media d w.ground g → IsPlace g.base p → IsSeat w.seat p → IsNumbered w.draft g p
+draft_binding : (hash : List ℕ → List ℕ) (known : Option (List ℕ)) (media : List ℕ) (d : Definition) (w : Drafted) (g : Ground) (p : Place) (parts : NewParts) → IsGround hash media d w.ground g → IsPlace g.base p → IsSeat w.seat p → IsNumbered w.draft g.content p
     → (new : AreNewParts hash known d w parts) → known ≡ Some (cleared w.ground.clearing media)
     → seat_binding (new_alg d) w.seat w.draft.start w.draft.length new.digest ≡ place_binding hash g.content g.content.definition.reserve g.base p
-same_binding hash known media d w g p parts ground at seat numbers new is =
+draft_binding hash known media d w g p parts ground at seat numbers new is =
     let digest : new.digest ≡ hash (bound_text (cleared w.ground.clearing media) p) = new.is_digest (cleared w.ground.clearing media) is p (subst (λ (b : List ℕ). IsPlace b p) ground.base at) seat in
-    seat_with (new_alg d) w.seat p w.draft.start w.draft.length new.digest seat numbers.start ∙ ap (λ (n : ℕ). binding_with (new_alg d) p n new.digest) numbers.length
-    ∙ ap (binding_with (new_alg d) p (new_range_len p g.content)) (digest ∙ ap (λ (b : List ℕ). hash (bound_text b p)) (sym ground.base))
-    ∙ ap (λ (x : Definition). binding_with (new_alg x) p (new_range_len p g.content) (hash (bound_text g.base p))) (sym ground.content.definition)
+    same_binding hash g.content g.base (new_alg d) w.seat w.draft p new.digest g.content.definition.reserve (ap new_alg (sym ground.content.definition)) refl seat numbers
+    (digest ∙ ap (λ (b : List ℕ). hash (bound_text b p)) (sym ground.base))
 
 -- the bytes that were made over the claim
-pub signed_is : (hash : Alg → List ℕ → List ℕ) (media : List ℕ) (d : Definition) (w : Drafted) (g : Ground) (p : Place) (parts : NewParts) (known : Option (List ℕ)) (claim tbs : List ℕ) → IsGround (hash (new_alg d)) media d w.ground g → IsPlace g.base p → IsSeat w.seat p → IsNumbered w.draft g p
+pub signed_is : (hash : Alg → List ℕ → List ℕ) (media : List ℕ) (d : Definition) (w : Drafted) (g : Ground) (p : Place) (parts : NewParts) (known : Option (List ℕ)) (claim tbs : List ℕ) → IsGround (hash (new_alg d)) media d w.ground g → IsPlace g.base p → IsSeat w.seat p → IsNumbered w.draft g.content p
     → AreNewParts (hash (new_alg d)) known d w parts → known ≡ Some (cleared w.ground.clearing media) → claim ≡ parts.claim → tbs ≡ deterministic (sig_structure d.protected claim) → tbs ≡ signed_bytes hash g p
 signed_is hash media d w g p parts known claim tbs ground at seat numbers new is same made =
-    let binding = same_binding (hash (new_alg d)) known media d w g p parts ground at seat numbers new is in
+    let binding = draft_binding (hash (new_alg d)) known media d w g p parts ground at seat numbers new is in
     let own = new.parts g.content ground.content in
     made ∙ ap (λ (x : List ℕ). deterministic (sig_structure d.protected x)) (same ∙ own.claim ∙ ap (new_claim (hash (new_alg d)) g.content) binding)
     ∙ ap (λ (x : Definition). deterministic (sig_structure x.protected (new_claim (hash (new_alg x)) g.content (place_binding (hash (new_alg x)) g.content g.content.definition.reserve g.base p)))) (sym ground.content.definition)
@@ -118,19 +105,12 @@ built_over law hash said media kind d parts g p message bytes h own put signed =
 abbrev pub IsMade : Definition → Carried → NewParts → List ℕ → List ℕ → Type 0
 IsMade d k parts message store = (h : List ℕ → List ℕ) (c : Content) (binding : NewAssertion) → IsContent h d k c → AreParts h c binding parts → store ≡ tree_bytes (new_store h c binding message)
 
--- what is put in of a store
-put_is : (put : Put) (p : Place) (store : List ℕ) → IsPut put p → put_bytes p store ≡ Some (put_of put store)
-put_is (Put.Packets en) (in_segments segments number) store h = ap (option_map (packets_bytes store)) h
-put_is (Put.Packets en) (in_boxes roots) store h = absurd h
-put_is Put.Box (in_segments segments number) store h = absurd h
-put_is Put.Box (in_boxes roots) store h = refl
-
 -- it is ready to be written
 pub ready_is : (hash : Alg → List ℕ → List ℕ) (media : List ℕ) (d : Definition) (w : Drafted) (parts : NewParts) (known : Option (List ℕ)) (message : List ℕ) (r : Ready) → r.draft ≡ w.draft → r.clearing ≡ w.ground.clearing → AreNewParts (hash (new_alg d)) known d w parts
     → known ≡ Some (cleared w.ground.clearing media) → length message ≡ d.reserve → IsMade d w.ground.carried parts message r.store
-    → (g : Ground) (p : Place) → IsGround (hash (new_alg d)) media d w.ground g → IsPlace g.base p → IsSeat w.seat p → IsNumbered w.draft g p → IsPutReady (hash (new_alg d)) media r g p message
+    → (g : Ground) (p : Place) → IsGround (hash (new_alg d)) media d w.ground g → IsPlace g.base p → IsSeat w.seat p → IsNumbered w.draft g.content p → IsPutReady (hash (new_alg d)) media r g p message
 ready_is hash media d w parts known message r draft clearing new is filled store g p ground at seat numbers =
-    let binding = same_binding (hash (new_alg d)) known media d w g p parts ground at seat numbers new is in
+    let binding = draft_binding (hash (new_alg d)) known media d w g p parts ground at seat numbers new is in
     let reserve : length message ≡ g.content.definition.reserve = filled ∙ ap (λ (x : Definition). x.reserve) (sym ground.content.definition) in
     let own : r.store ≡ tree_bytes (place_store (hash (new_alg d)) g.content message g.base p) =
     store (hash (new_alg d)) g.content (seat_binding (new_alg d) w.seat w.draft.start w.draft.length new.digest) ground.content (new.parts g.content ground.content)
@@ -144,26 +124,21 @@ ready_is hash media d w parts known message r draft clearing new is filled store
       bytes = bytes;
       are = ap (put_bytes p) (sym own) ∙ put_is r.draft.put p r.store put;
       is = record {
-        file = ap (λ (n : ℕ). put_in n bytes g.base) start ∙ ap (put_in r.draft.start bytes) base;
+        file = file_is media g.base r p base start;
         start = start;
         len = sym numbers.length ∙ ap (λ (f : Draft). f.length) (sym draft);
       };
     }
 
 -- the store of a draft can go into packets
-pub store_packs : StoreSizeIsFixed → FilmSizeIsFixed → (hash : List ℕ → List ℕ) (known : Option (List ℕ)) (len : ℕ) (d : Definition) (w : Drafted) (parts : NewParts) (message store : List ℕ) → HasDigestLen (new_alg d) hash → AreNewParts
+pub draft_packs : StoreSizeIsFixed → FilmSizeIsFixed → (hash : List ℕ → List ℕ) (known : Option (List ℕ)) (len : ℕ) (d : Definition) (w : Drafted) (parts : NewParts) (message store : List ℕ) → HasDigestLen (new_alg d) hash → AreNewParts
     hash known d w parts → length message ≡ d.reserve → IsSmall hash len d w
     → IsMade d w.ground.carried parts message store → IsPacketStore store
-store_packs law film hash known len d w parts message store digests new filled small is =
+draft_packs law film hash known len d w parts message store digests new filled small is =
     let c : Content = small.content in
-    let own : c.definition ≡ d = small.is.definition in
-    let binding : NewAssertion = seat_binding (new_alg d) w.seat w.draft.start w.draft.length new.digest in
-    let tree : List ℕ = tree_bytes (new_store hash c binding message) in
-    let size : length tree ≡ seat_size w.seat c (length message) =
-    subst (λ (x : Definition). HasDigestLen (new_alg x) hash → length new.digest ≡ digest_len (new_alg x) → length (tree_bytes (new_store hash c (seat_binding (new_alg x) w.seat w.draft.start w.draft.length new.digest) message)) ≡ seat_size w.seat c (length message)) own
-    (seat_fixed law film hash c w.seat w.draft.start w.draft.length new.digest message) digests new.sized in
-    let reserved : seat_size w.seat c (length message) ≡ seat_store_len w.seat c = ap (seat_size w.seat c) (filled ∙ ap (λ (x : Definition). x.reserve) (sym own)) ∙ seat_size_is w.seat c in
-    subst IsPacketStore (sym (is hash c binding small.is (new.parts c small.is))) (packet_store c.carried (new_manifest hash c binding message) (omega (arith, size, reserved, small.small)))
+    let own : d ≡ c.definition = sym small.is.definition in
+    store_packs law film hash c (new_alg d) w.seat w.draft.start w.draft.length new.digest message store (ap new_alg own) digests new.sized (filled ∙ ap (λ (x : Definition). x.reserve) own) small.small
+    (is hash c (seat_binding (new_alg d) w.seat w.draft.start w.draft.length new.digest) small.is (new.parts c small.is))
 
 -- ---- what comes of it
 

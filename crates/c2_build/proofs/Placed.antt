@@ -2,21 +2,18 @@
 use Rattle.std.proofs.Common.{◌≡◌, inr, ℕ, ◌+◌, List, [], length, Option, Some, None, refl, sym, ap, ◌∙◌, subst}
 use Rattle.std.specs.Prelude.{Ok}
 use Rattle.c2_base.specs.declared.values.Question.{Question}
-use Rattle.c2_spec.specs.Container.{is_bmff}
 use Rattle.c2_spec.specs.declared.digest.Alg.{Alg}
 use Rattle.c2_spec.specs.declared.panel.Verdict.{Verdict}
 use Rattle.c2_rules.specs.Tests.{first_failing}
 use Rattle.c2_rules.specs.CheckList.{check_list}
 use Rattle.c2_definition.specs.declared.types.Definition.{Definition}
-use Rattle.c2_cleared.specs.Clears.{cleared, cleared_len}
-use Rattle.c2_cleared.specs.Lengths.{cleared_size}
-use Rattle.c2_cleared.specs.declared.clearing.Clearing.{Clearing}
+use Rattle.c2_cleared.specs.Clears.{cleared}
 use Rattle.c2_places.specs.Laws.{LeftHasContainer}
 use Rattle.c2_places.specs.Places.{IsPlace, Place}
 use Rattle.c2_refusals.specs.Kinds.{WithoutFault}
 use Rattle.c2_refusals.specs.Stages.{IsGroundOver, IsGroundStage, IsMediaStage, MediaKind, fresh, fresh_ground, stored}
 use Rattle.c2_refusals.specs.Refusals.{Ground, first_refusal, ground_tests, number_tests, older_tests, redaction_tests}
-use Rattle.c2_build.specs.Steps.{IsDraft, IsDrafted, IsRefusedPlace}
+use Rattle.c2_build.specs.Steps.{IsDrafted, IsRefusedPlace}
 use Rattle.c2_ground.specs.Grounds.{IsGround}
 use Rattle.c2_place.specs.Spots.{HasSeat}
 use Rattle.c2_refusals.specs.Seats.{IsForm, IsSeat}
@@ -25,16 +22,12 @@ use Rattle.c2_refusals.specs.declared.error.BuildError.{BuildError}
 use Rattle.c2_refusals.specs.declared.types.KeptGround.{KeptGround}
 use Rattle.c2_refusals.specs.declared.types.FileForm.{FileForm}
 use Rattle.c2_refusals.specs.declared.types.Seat.{Seat}
-use Rattle.c2_build.proofs.Drafted.{seat_range}
+use Rattle.c2_in_place.specs.Numbers.{IsDraft}
+use Rattle.c2_in_place.proofs.Stored.{form_moves, numbered}
 use Rattle.c2_refusals.proofs.Passing.{ground_of, opened_here}
 use Rattle.c2_refusals.proofs.Outside.{outside_map}
 use Rattle.c2_refusals.proofs.Stages.{unless_passed}
 use Rattle.c2_built.specs.Store.{new_alg}
-
--- what is built over has the form of the media
-form_moves : (f : FileForm) (file base : List ℕ) → is_bmff base ≡ is_bmff file → IsForm file f → IsForm base f
-form_moves FileForm.Jpeg file base same h = same ∙ h
-form_moves FileForm.Bmff file base same h = same ∙ h
 
 -- so it is over each kind of media file
 pub ground_form : LeftHasContainer → (hash : Alg → List ℕ → List ℕ) (said : Question → Verdict) (media : List ℕ) (d : Definition) (kind : MediaKind) (g : Ground) (f : FileForm) → IsMediaStage media (Ok kind) → IsGroundStage hash said media d kind (Ok g) → IsForm media f → IsForm g.base f
@@ -81,13 +74,12 @@ same_tests hash said media d kind k s size at o h =
 pub place_passed : (hash : Alg → List ℕ → List ℕ) (said : Question → Verdict) (media : List ℕ) (d : Definition) (kind : MediaKind) (k : KeptGround) (s : Seat) (size : ℕ) (at : IsPlaced hash said media d kind k s size) (f : Draft)
     → first_refusal (number_tests size k.manifests at.ground.content at.place) ≡ None → IsDraft at.ground.content s size f → IsDrafted hash said media d kind (record { ground = k; seat = s; draft = f })
 place_passed hash said media d kind k s size at f none draft =
-    let fitted = draft.fitted at.ground.base at.place at.is_place at.seat in
     record {
       ground = at.ground;
       place = at.place;
       passed = record { ground = at.stage; stage = (at.place, at.is_place, refl); numbers = same_tests hash said media d kind k s size at None none };
       is = at.is;
-      numbers = record { start = fitted.start; put = fitted.put; length = draft.length ∙ sym (seat_range s at.place at.ground.content at.seat) };
+      numbers = numbered at.ground.content s size f at.ground.base at.place draft at.is_place at.seat;
       seat = at.seat;
     }
 
@@ -96,7 +88,3 @@ pub place_refused : (hash : Alg → List ℕ → List ℕ) (said : Question → 
     → WithoutFault e (first_refusal (number_tests size k.manifests at.ground.content at.place) ≡ Some e) → WithoutFault e (IsRefusedPlace hash said media d kind e)
 place_refused hash said media d kind k s size at e h =
     outside_map e (λ first. inr (at.ground, at.stage, (at.place, (at.place, at.is_place, refl), same_tests hash said media d kind k s size at (Some e) first))) h
-
--- how long a cleared file is
-pub cleared_length : (c : Clearing) (file : List ℕ) → length (cleared c file) ≡ cleared_len c (length file)
-cleared_length c file = cleared_size c (Some file) (length file) (λ bytes e. let same : file ≡ bytes = cc (e) in ap length (sym same)) (cleared c file) refl

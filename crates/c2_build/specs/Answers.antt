@@ -12,7 +12,7 @@ use Rattle.c2_refusals.specs.Kinds.{ComesAs, Effects, IsSourceCause, judge_effec
 use Rattle.c2_refusals.specs.Stages.{HasNothingToAsk, IsDefinitionRefused, IsDefinitionTold, IsMessageTold, IsToldOf, IsToldRefused}
 use Rattle.c2_refusals.specs.declared.error.BuildError.{BuildError}
 use Rattle.c2_refusals.specs.declared.types.Embedded.{Embedded}
-use Rattle.c2_build_front.specs.Answers.{ending_of}
+use Rattle.c2_in_place.specs.Writings.{ending_of}
 use Rattle.c2_build.specs.Building.{Built, EmbedAsks, IsEmbedded, PlanAsks}
 use Rattle.c2_build.specs.Meeting.{IsMet}
 
@@ -20,11 +20,11 @@ use Rattle.c2_build.specs.Meeting.{IsMet}
 
 -- what is done before the new file is written
 abbrev pub prepare_effects : Effects
-prepare_effects = record no_effects { reads_message = true; asks_judges = true }
+prepare_effects = record no_effects { reads_message = true; asks_judges = true; takes_older = true }
 
 -- what `embed` does besides reading the media and the definition
 abbrev pub embed_effects : Effects
-embed_effects = record no_effects { reads_message = true; asks_judges = true; writes_file = true }
+embed_effects = record no_effects { reads_message = true; asks_judges = true; writes_file = true; takes_older = true }
 
 -- The cause of an error of `plan`, by one source, where this tells that the other one failed: it looks at no message, and writes nothing.
 abbrev pub IsPlanCause : Type 0 → ℕ → ℕ → BuildError → Type 0

@@ -4,69 +4,22 @@ ghost use Rattle.std.specs.Option.{ForSome};
 ghost use Rattle.c2_base.specs.Causes.{Rose};
 ghost use Rattle.c2_base.specs.Sink.{WritesSink, unsaid};
 ghost use Rattle.c2_base.specs.Source.{ReadsSource};
-ghost use Rattle.c2_copying.specs.Writing.{IsReadCause, IsWriteCause};
 ghost use Rattle.c2_spec.specs.Judges.Panel.{panel_says};
 ghost use Rattle.c2_rules.specs.Asking.{HearsPanel};
-ghost use Rattle.c2_putting.specs.Puts.{WritesOver};
 ghost use Rattle.c2_refusals.specs.Kinds.{build_heard};
 ghost use Rattle.c2_refusals.specs.Sinks.{EndsOut, IsOutCause};
 ghost use Rattle.c2_refusals.specs.Stages.{IsDefinitionTold, IsMessageTold, LeavesUndue};
 ghost use Rattle.c2_build.specs.Answers.{AsksEmbedded, EmbedsFile, IsEmbedCause};
-ghost use Rattle.c2_build.specs.Steps.{CanWrite, ready_file};
 
 use crate::laws::{a_build_comes_to_one_thing, a_new_file_meets_the_rules};
-use crate::ready::{Ready, prepare};
+use crate::ready::prepare;
 use c2_base::{Sink, Source};
-use c2_cleared::{Cleared, Named};
-use c2_copying::CopyError;
 use c2_hash::Hashing;
+use c2_in_place::write_file;
 use c2_judge::Judge;
-use c2_putting::{copy_fault, write_whole};
+use c2_putting::copy_fault;
 use c2_refusals::{BuildError, Embedded};
 use std::alloc::Global;
-use std::marker::Brand;
-
-// Writes the new file over what is left of a media file of which this is known, and says that nothing follows. Puts the answer into `done`,
-// and gives the file back.
-fn write_left<'m, A: Source, L: Named, K: Sink>(
-    media: &'m mut A,
-    ready: Ready,
-    out: &mut K,
-    done: &mut Result<(), CopyError>,
-) -> &'m mut A
-    requires name { media.ghost_name ≡ L.name }
-    requires len { A.len media.old ≡ L.len }
-    requires known { A.known media.old ≡ L.known }
-    requires can { CanWrite (A.len media.old) ready }
-    ensures same { result.ghost_name ≡ media.entry.ghost_name }
-    ensures written { WritesOver K.written K.spare K.finished (ready_file ready)
-        (A.known media.old) out.old out.new done.new }
-    ensures reads { ReadsSource A.len A.known A.faults IsReadCause media.old result.now done.new }
-    ensures writes { WritesSink K.written unsaid K.faults IsWriteCause out.old out.new done.new }
-{
-    let Ready {
-        store,
-        draft,
-        clearing,
-        mut buffer,
-    } = ready;
-    let mut base = Cleared::<A, L>::new(media, clearing);
-    *done = write_whole(&mut base, store.as_slice(), draft, &mut buffer, out);
-    base.into_media()
-}
-
-// Writes the new file over what is left of a media file, and says that nothing follows.
-fn write_file<A: Source, K: Sink>(media: &mut A, ready: Ready, out: &mut K) -> Result<(), CopyError>
-    requires { CanWrite (A.len media.old) ready }
-    ensures written { WritesOver K.written K.spare K.finished (ready_file ready)
-        (A.known media.old) out.old out.new result }
-    ensures reads { ReadsSource A.len A.known A.faults IsReadCause media.old media.new result }
-    ensures writes { WritesSink K.written unsaid K.faults IsWriteCause out.old out.new result }
-{
-    let mut done = Ok(());
-    let _media = write_left::<A, Brand, K>(media, ready, out, &mut done);
-    done
-}
 
 /// Writes the new file: the media with a new store, of a definition and of a signed message, in its place. That is behind the APP0
 /// segments of a JPEG file; in a BMFF file at the end, or before a last `mfra`.

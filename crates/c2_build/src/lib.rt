@@ -1,7 +1,8 @@
 //! What is built into a media file: a new store, from a definition file and a signed message.
 //!
 //! What each call comes to stands in `specs/Building.antt`, what is refused in `c2_refusals`, module `Refusals`, and what a new file meets in
-//! `specs/Meeting.antt`. The calls that put the store at the front of a BMFF file are those of `c2_build_front`.
+//! `specs/Meeting.antt`. The calls that put the store at the front of a BMFF file are those of `c2_build_front`, and
+//! those whose store collects from another file those of `c2_build_collect`.
 #![tactic(auto)]
 
 mod asking;
@@ -12,6 +13,7 @@ mod planning;
 mod ready;
 
 pub use asking::{a_build_asks_one_list, each_build_asks_a_list};
+pub use c2_build_collect::{embed_collect, plan_collect};
 pub use c2_build_front::{embed_front, plan_front};
 pub use c2_definition::{Definition, DefinitionField, NewAssertion, read_definition};
 pub use c2_message::SignaturePart;

@@ -12,74 +12,39 @@ ghost use Rattle.c2_built.specs.Store.{new_alg};
 ghost use Rattle.c2_rules.specs.Asking.{HearsPanel};
 ghost use Rattle.c2_container.specs.Contained.{HasRootsInside};
 ghost use Rattle.c2_definition.specs.DefinitionFile.{IsWellFormed};
-ghost use Rattle.c2_message.specs.Signed.{IsSigned};
 ghost use Rattle.c2_places.specs.Places.{IsPlace, Place};
-ghost use Rattle.c2_build_front.specs.Steps.{IsReserveRefusal};
 ghost use Rattle.c2_build.specs.Answers.{AsksEmbedded};
-ghost use Rattle.c2_refusals.specs.Kinds.{ComesAs, IsMessageCause, IsReadCause, SaysNothing, WithoutFault, build_heard};
+ghost use Rattle.c2_refusals.specs.Kinds.{ComesAs, IsReadCause, SaysNothing, build_heard};
 ghost use Rattle.c2_refusals.specs.Stages.{LeavesUndue, MediaKind};
 ghost use Rattle.c2_build.specs.Building.{IsEmbeddedOver};
 ghost use Rattle.c2_refusals.specs.Refusals.{Ground};
 ghost use Rattle.c2_bound_parts.specs.Bound.{IsSmall};
-ghost use Rattle.c2_build.specs.Steps.{CanWrite, IsNumbered, IsPrepareCause, IsPrepared, IsPutReady, IsReady, IsReadyCause};
+ghost use Rattle.c2_in_place.specs.Numbers.{IsNumbered};
+ghost use Rattle.c2_in_place.specs.Writings.{CanWrite};
+ghost use Rattle.c2_build.specs.Steps.{IsPrepareCause, IsPrepared, IsPutReady, IsReady, IsReadyCause};
 ghost use Rattle.c2_ground.specs.Grounds.{IsFoundIn, IsGround, IsKind, IsReadIn, KindHears};
 ghost use Rattle.c2_refusals.specs.Seats.{IsSeat};
 
 use crate::draft::draft_over;
 use c2_base::limits::PIECE_LEN;
-use c2_base::{Blob, NoMemory, Source};
+use c2_base::{NoMemory, Source};
 use c2_bound_parts::parts_for;
 use c2_built::a_new_store_has_one_length;
 use c2_cbor::one_item;
-use c2_cleared::Clearing;
 use c2_definition::{Definition, each_definition_is_read_one_way};
 use c2_films::a_new_film_store_has_one_length;
 use c2_ground::{MediaFile, MediaRead, open_media, read_media};
 use c2_hash::Hashing;
+use c2_in_place::Ready;
 use c2_judge::Judge;
 use c2_layout::new_store;
 use c2_message::{
-    MessageError, a_message_fills_its_reserve_or_needs_more,
-    each_message_is_accepted_or_refused_for_one_test, padded_message,
+    a_message_fills_its_reserve_or_needs_more, each_message_is_accepted_or_refused_for_one_test,
 };
-use c2_refusals::{BuildError, Draft, Drafted, read_definition_file, read_message_file};
+use c2_refusals::{BuildError, Drafted, padded, read_definition_file, read_message_file};
 use c2_sigstruct::Sign1;
 use c2_validate::one_opening;
 use std::alloc::Global;
-
-/// All that is needed to write a new file; no memory is taken from here on.
-#[derive(Drop)]
-pub struct Ready {
-    /// The new store.
-    pub store: Blob,
-
-    /// Where it goes, and how.
-    pub draft: Draft,
-
-    /// How the media is cleared of its older store.
-    pub clearing: Clearing,
-
-    /// What the media is copied through.
-    pub buffer: Vec<u8>,
-}
-
-// The message, padded to what a definition reserves.
-fn padded(alloc: Global, sign: &Sign1, definition: &Definition) -> Result<Blob, BuildError>
-    requires can { (entries : Pairs) × CanBePadded (parts_of sign.now) entries }
-    requires formed { IsWellFormed definition.now }
-    ensures signed { IfOk result (IsSigned (parts_of sign.now) definition.now.reserve) }
-    ensures refused { IfErr result (λ e. WithoutFault e
-        (IsReserveRefusal definition.now (parts_of sign.now) e)) }
-    ensures cause { (count : ℕ) → IfErr result (IsMessageCause count count) }
-{
-    match padded_message(alloc, sign, definition.reserve) {
-        Ok(message) => Ok(message),
-        Err(MessageError::ReserveTooSmall(needed)) => Err(BuildError::ReserveTooSmall(needed)),
-        Err(MessageError::NoMemory) => Err(BuildError::NoMemory),
-        // A message that is padded was read before.
-        Err(MessageError::BadSignature(_)) => unreachable!(),
-    }
-}
 
 // What is to be written, of what was drafted over a media file, with a message.
 fn ready_with<A: Source, H: Hashing>(
@@ -96,7 +61,7 @@ fn ready_with<A: Source, H: Hashing>(
     requires filled { length message.now ≡ definition.now.reserve }
     ensures ready { IfOk result (λ r. ForSome (A.known media.old) (λ file. (g : Ground) (p : Place)
         → IsGround (H.digest_of (new_alg definition.now)) file definition.now drafted.ground g
-        → IsPlace g.base p → IsSeat drafted.seat p → IsNumbered drafted.draft g p
+        → IsPlace g.base p → IsSeat drafted.seat p → IsNumbered drafted.draft g.content p
         → IsPutReady (H.digest_of (new_alg definition.now)) file r g p message.now)) }
     ensures nothing { IfErr result SaysNothing }
     ensures can_write { IfOk result (CanWrite (A.len media.old)) }

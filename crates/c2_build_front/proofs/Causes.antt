@@ -1,11 +1,12 @@
 -- The causes of errors, from one step to the next.
-use Rattle.std.proofs.Common.{◌≡◌, ℕ, List, refl, subst}
+use Rattle.std.proofs.Common.{◌≡◌, ℕ, List, subst}
 use Rattle.std.specs.Prelude.{IfErr, Result, Ok, Err}
 use Rattle.c2_base.specs.Source.{ReadsSource}
 use Rattle.std.specs.declared.option.Option.{Option}
+use Rattle.c2_refusals.proofs.Doing.{more_cause, more_read, unwritten_sink}
 use Rattle.c2_refusals.proofs.Outside.{read_cause}
-use Rattle.c2_refusals.specs.Kinds.{Effects, ErrorKind, IsQuietKind, IsReadKind, IsSourceCause, front_refusal, judge_fault, kind_of, message_effects, message_refusal, no_memory, other_refusal, read_fault, refusal, write_fault}
-use Rattle.c2_refusals.specs.Sinks.{IsSinkCause, KindLeaves}
+use Rattle.c2_refusals.specs.Kinds.{Effects, ErrorKind, IsQuietKind, IsReadKind, IsSourceCause, front_refusal, judge_fault, kind_of, message_effects, message_refusal, no_memory, older_refusal, other_refusal, read_fault, refusal, write_fault}
+use Rattle.c2_refusals.specs.Sinks.{IsSinkCause}
 use Rattle.c2_refusals.specs.declared.error.BuildError.{BuildError}
 use Rattle.c2_build_front.specs.Answers.{embed_effects, plan_effects, prepare_effects}
 
@@ -14,6 +15,7 @@ pub quiet_step : (does : Effects) (m n : ℕ) (k : ErrorKind) → n ≡ m → Is
 quiet_step does m n refusal same h = same
 quiet_step does m n message_refusal same h = absurd h
 quiet_step does m n front_refusal same h = absurd h
+quiet_step does m n older_refusal same h = absurd h
 quiet_step does m n other_refusal same h = absurd h
 quiet_step does m n read_fault same h = absurd h
 quiet_step does m n judge_fault same h = absurd h
@@ -22,58 +24,19 @@ quiet_step does m n no_memory same h = tt
 
 -- a step of a plan is one before a file is written
 pub plan_prepares : (m n : ℕ) (k : ErrorKind) → IsReadKind plan_effects m n k → IsReadKind prepare_effects m n k
-plan_prepares m n refusal h = h
-plan_prepares m n message_refusal h = absurd h
-plan_prepares m n front_refusal h = h
-plan_prepares m n other_refusal h = absurd h
-plan_prepares m n read_fault h = h
-plan_prepares m n judge_fault h = absurd h
-plan_prepares m n write_fault h = absurd h
-plan_prepares m n no_memory h = tt
+plan_prepares = more_read plan_effects prepare_effects (record { message = λ h. tt; judges = λ h. h; writes = λ h. h; tables = λ h. h; older = λ h. h; other = λ h. h })
 
 -- and so is one that looks at a message
 pub message_prepares : (m n : ℕ) (k : ErrorKind) → IsReadKind message_effects m n k → IsReadKind prepare_effects m n k
-message_prepares m n refusal h = h
-message_prepares m n message_refusal h = h
-message_prepares m n front_refusal h = absurd h
-message_prepares m n other_refusal h = absurd h
-message_prepares m n read_fault h = h
-message_prepares m n judge_fault h = absurd h
-message_prepares m n write_fault h = absurd h
-message_prepares m n no_memory h = tt
+message_prepares = more_read message_effects prepare_effects (record { message = λ h. h; judges = λ h. h; writes = λ h. h; tables = λ h. tt; older = λ h. h; other = λ h. h })
 
 -- what is done before a file is written is done by what writes it
 pub prepare_writes : (Other : Type 0) (m n : ℕ) (k : ErrorKind) → IsSourceCause prepare_effects Other m n k → IsSourceCause embed_effects Other m n k
-prepare_writes Other m n refusal h = h
-prepare_writes Other m n message_refusal h = h
-prepare_writes Other m n front_refusal h = h
-prepare_writes Other m n other_refusal h = absurd h
-prepare_writes Other m n read_fault h = h
-prepare_writes Other m n judge_fault h = absurd h
-prepare_writes Other m n write_fault h = absurd h
-prepare_writes Other m n no_memory h = tt
+prepare_writes = more_cause prepare_effects embed_effects (record { message = λ h. h; judges = λ h. h; writes = λ h. tt; tables = λ h. h; older = λ h. h; other = λ h. h })
 
 -- it leaves the sink
 pub prepare_sink : (Other : Type 0) (m n : ℕ) (k : ErrorKind) (count : ℕ) → IsSourceCause prepare_effects Other m n k → IsSinkCause count count k
-prepare_sink Other m n refusal count h = refl
-prepare_sink Other m n message_refusal count h = refl
-prepare_sink Other m n front_refusal count h = refl
-prepare_sink Other m n other_refusal count h = refl
-prepare_sink Other m n read_fault count h = tt
-prepare_sink Other m n judge_fault count h = tt
-prepare_sink Other m n write_fault count h = absurd h
-prepare_sink Other m n no_memory count h = tt
-
--- whatever is claimed of a sink that is left holds of one that was
-pub leaves_kind : (k : ErrorKind) {P : Type 0} → P → KindLeaves k P
-leaves_kind refusal h = h
-leaves_kind message_refusal h = h
-leaves_kind front_refusal h = h
-leaves_kind other_refusal h = h
-leaves_kind read_fault h = tt
-leaves_kind judge_fault h = h
-leaves_kind write_fault h = tt
-leaves_kind no_memory h = h
+prepare_sink = unwritten_sink prepare_effects (λ h. h)
 
 -- an answer of a step that reads one source, where others are read
 pub results_in : {T : Type 0} (Other : Type 0) (does : Effects) (m n : ℕ) (r : Result T BuildError) → IfErr r (λ e. IsReadKind does m n (kind_of e)) → IfErr r (λ e. IsSourceCause does Other m n (kind_of e))

@@ -34,10 +34,11 @@ use Rattle.c2_fronts.proofs.SomeOutcome.{FreeRoots, free_roots}
 use Rattle.c2_fronts.proofs.Stages.{then_next, unless_passes}
 use Rattle.c2_refusals.specs.declared.error.BuildError.{BuildError}
 use Rattle.c2_refusals.proofs.Outside.{outside_map}
+use Rattle.c2_refusals.specs.Refusals.{IsReserveRefusal}
 use Rattle.c2_build_front.proofs.First.{none_behind}
 use Rattle.c2_build_front.proofs.Stages.{refused_next, unless_first}
 use Rattle.c2_build_front.specs.Errors.{IsRefusedWith}
-use Rattle.c2_build_front.specs.Steps.{AreFrontParts, IsDrafted, IsDraftedOver, IsReady, IsReadyFor, IsReserveRefusal, box_len, store_size}
+use Rattle.c2_build_front.specs.Steps.{AreFrontParts, IsDrafted, IsDraftedOver, IsReady, IsReadyFor, box_len, store_size}
 use Rattle.c2_build_front.specs.declared.ready.Ready.{Ready}
 
 -- ---- what is drafted

@@ -25,28 +25,9 @@ use Rattle.c2_refusals.specs.Stages.{IsDefinitionTold, IsMediaStage, MediaKind, 
 use Rattle.c2_refusals.proofs.Inputs.{OneOpened, not_both_media, told_where_due}
 use Rattle.c2_refusals.specs.declared.types.Embedded.{Embedded}
 use Rattle.c2_front_hash.specs.Putting.{range_of, with_store}
-use Rattle.c2_build_front.specs.Answers.{EmbedsFront, HasRange, IsEmbedCause, Writes, file_of, kind_ending, prepare_effects}
+use Rattle.c2_build_front.specs.Answers.{EmbedsFront, HasRange, IsEmbedCause, Writes, file_of}
 use Rattle.c2_build_front.specs.Steps.{IsReady}
 use Rattle.c2_build_front.specs.declared.ready.Ready.{Ready}
-
--- ---- nothing is written
-
--- what was written, and then nothing
-then_none : (w : Option (List ℕ)) → w ≡ then_written w []
-then_none None = refl
-then_none (Some w) = ap Some (sym (append-nil w))
-
--- nothing is written before a file is ready
-pub unwritten : {K : Type 0} (Other : Type 0) (written : K → Option (List ℕ)) (spare : K → Option ℕ) (finished : K → Bool) (W : List ℕ → Type 0) (s : K) (m n : ℕ) (k : ErrorKind) → IsSourceCause prepare_effects Other m n k
-    → WritesFile written spare finished W s s (kind_ending k)
-unwritten Other written spare finished W s m n kind.refusal h = record { wrote = tt; fits = tt }
-unwritten Other written spare finished W s m n kind.message_refusal h = record { wrote = tt; fits = tt }
-unwritten Other written spare finished W s m n kind.front_refusal h = record { wrote = tt; fits = tt }
-unwritten Other written spare finished W s m n kind.other_refusal h = record { wrote = tt; fits = tt }
-unwritten Other written spare finished W s m n kind.read_fault h = record { wrote = λ bytes is. record { prefix = (0, then_none (written s)); unfinished = refl }; fits = tt }
-unwritten Other written spare finished W s m n kind.judge_fault h = record { wrote = tt; fits = tt }
-unwritten Other written spare finished W s m n kind.write_fault h = absurd h
-unwritten Other written spare finished W s m n kind.no_memory h = record { wrote = tt; fits = tt }
 
 -- ---- the file is written
 

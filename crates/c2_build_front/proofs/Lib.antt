@@ -4,7 +4,6 @@ mod Rows
 mod Stages
 mod Drafts
 mod Causes
-mod Walked
 mod Sized
 mod Films
 mod Ended

@@ -3,6 +3,7 @@ use Rattle.std.proofs.Common.{◌≡◌, Option, Some, None, refl, sym, ap, ◌�
 use Rattle.c2_fronts.specs.Order.{FrontRefusal, bad_definition, bad_signature, bad_table, bad_tree, has_store, media_refused, not_bmff, offset_table, open_box, overflow, redaction_refused, reserve_too_small, store_too_large}
 use Rattle.c2_refusals.specs.declared.error.BuildError.{BuildError}
 use Rattle.c2_refusals.specs.declared.error.BuildError.TheVariants as build
+use Rattle.c2_build_front.specs.Answers.{ErrorsAreOfRefusals}
 use Rattle.c2_build_front.specs.Errors.{ErrorsAreNoFaults, ErrorsTellRefusals, error_of}
 
 -- the refusal of an error, where it is one of these
@@ -62,3 +63,29 @@ no_faults (bad_table at) h = h
 no_faults (store_too_large len) h = h
 no_faults (overflow at) h = h
 no_faults (reserve_too_small needed) h = h
+
+-- no other error of such a build does
+pub only : ErrorsAreOfRefusals
+only before now (build.MediaRefused reason number) h = (media_refused reason number, refl)
+only before now (build.BadDefinition field) h = (bad_definition field, refl)
+only before now (build.BadSignature test) h = (bad_signature test, refl)
+only before now build.NotBmff h = (not_bmff, refl)
+only before now build.HasStore h = (has_store, refl)
+only before now (build.ParentFails code uri) h = absurd h
+only before now (build.OtherRefused answer) h = absurd h
+only before now (build.LabelClash label) h = absurd h
+only before now (build.LabelTaken label) h = absurd h
+only before now (build.RedactionRefused text code) h = (redaction_refused (record { text = text; code = code }), refl)
+only before now (build.OpenBox at) h = (open_box at, refl)
+only before now build.NoInstance h = absurd h
+only before now (build.OffsetTable at) h = (offset_table at, refl)
+only before now (build.BadTree at) h = (bad_tree at, refl)
+only before now (build.BadTable at) h = (bad_table at, refl)
+only before now (build.TooManyManifests count) h = absurd h
+only before now (build.StoreTooLarge len) h = (store_too_large len, refl)
+only before now (build.Overflow at) h = (overflow at, refl)
+only before now (build.ReserveTooSmall needed) h = (reserve_too_small needed, refl)
+only before now build.ReadFault h = tt
+only before now build.JudgeFault h = tt
+only before now build.WriteFault h = tt
+only before now build.NoMemory h = tt

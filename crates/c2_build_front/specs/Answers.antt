@@ -3,16 +3,16 @@ use Rattle.std.specs.Prelude.{◌≡◌, ℕ, ⊤, Bool, true, List, []}
 use Rattle.std.specs.declared.option.Option.{Option}
 use Rattle.std.specs.declared.result.Result.{Result}
 use Rattle.std.specs.declared.result.Result.TheVariants.{Ok, Err}
-use Rattle.c2_copying.specs.Writing.{Ending, WritesFile, complete, read_fault, untouched, write_fault}
+use Rattle.c2_copying.specs.Writing.{WritesFile}
 use Rattle.c2_spec.specs.declared.digest.Alg.{Alg}
 use Rattle.c2_fronts.specs.Made.{FrontMeets}
 use Rattle.c2_fronts.specs.Order.{FrontRefusal}
 use Rattle.c2_fronts.specs.Outcomes.{IsFrontMade, NewFile}
-use Rattle.c2_refusals.specs.Kinds.{Effects, ErrorKind, IsSourceCause, WithoutFault, kind_of, no_effects}
-use Rattle.c2_refusals.specs.Kinds as kind
+use Rattle.c2_refusals.specs.Kinds.{Effects, IsSourceCause, WithoutFault, kind_of, no_effects}
 use Rattle.c2_refusals.specs.declared.error.BuildError.{BuildError}
 use Rattle.c2_refusals.specs.declared.types.Embedded.{Embedded}
-use Rattle.c2_build_front.specs.Errors.{IsRefusedWith}
+use Rattle.c2_in_place.specs.Writings.{ending_of}
+use Rattle.c2_build_front.specs.Errors.{IsRefusedWith, error_of}
 
 -- ---- causes
 
@@ -40,6 +40,11 @@ IsPrepareCause Other before now e = IsSourceCause prepare_effects Other before n
 abbrev pub IsEmbedCause : Type 0 → ℕ → ℕ → BuildError → Type 0
 IsEmbedCause Other before now e = IsSourceCause embed_effects Other before now (kind_of e)
 
+-- What comes as an error of a build in front of a BMFF file is the error of a refusal, unless it says nothing of the inputs: nothing comes that
+-- needs an older store, a JPEG file or another file.
+abbrev pub ErrorsAreOfRefusals : Type 0
+ErrorsAreOfRefusals = (before now : ℕ) (e : BuildError) → IsEmbedCause ⊤ before now e → WithoutFault e ((refusal : FrontRefusal) × (e ≡ error_of refusal))
+
 -- ---- the new file
 
 -- the range that is answered is that of a new file
@@ -60,17 +65,6 @@ file_of (Err refusal) = []
 -- these bytes are written where the inputs come to something
 abbrev pub Writes : (Result NewFile FrontRefusal → Type 0) → List ℕ → Type 0
 Writes Is bytes = (r : Result NewFile FrontRefusal) × Is r × (bytes ≡ file_of r)
-
--- how a call that writes ended, by the kind of its error: a source failed while it was written, or before; the sink did; or nothing was written
-abbrev pub kind_ending : ErrorKind → Ending
-kind_ending kind.read_fault = read_fault
-kind_ending kind.write_fault = write_fault
-kind_ending k = untouched
-
--- and by its result
-abbrev pub ending_of : Result Embedded BuildError → Ending
-ending_of (Ok e) = complete
-ending_of (Err e) = kind_ending (kind_of e)
 
 -- the new file that is answered meets this: it is the media with its chunk offsets moved and the new store right after its first root box, each
 -- rule but that on the verdict holds of it, its one question is over the bytes that `plan_front` gives, and each chunk offset of the media from the

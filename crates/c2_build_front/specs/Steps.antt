@@ -1,5 +1,5 @@
 -- For private clauses: what the steps of a build in front of a BMFF file come to.
-use Rattle.std.specs.Prelude.{◌≡◌, ◌⊎◌, ℕ, ◌+◌, ◌-◌, ◌^◌, ◌<◌, ◌≤◌, List, [], ◌∷◌, length, vec_len, Some, IfOk, OnOk}
+use Rattle.std.specs.Prelude.{◌≡◌, ◌⊎◌, ℕ, ◌+◌, ◌-◌, ◌^◌, ◌<◌, ◌≤◌, List, [], ◌∷◌, length, vec_len, IfOk, OnOk}
 use Rattle.std.specs.declared.option.Option.{Option}
 use Rattle.std.specs.declared.result.Result.{Result}
 use Rattle.std.specs.declared.result.Result.TheVariants.{Ok, Err}
@@ -7,8 +7,6 @@ use Rattle.std.specs.Option.{ForSome}
 use Rattle.c2_base.specs.declared.limits.TheConstants.{FILE_LEN_LIMIT, MAX_STORE_LEN}
 use Rattle.c2_spec.specs.Bmff.Boxes.{Box, HasRoots}
 use Rattle.c2_spec.specs.Bmff.Writing.{c2pa_frame_len}
-use Rattle.c2_spec.specs.C2pa.Message.{bare_bytes}
-use Rattle.c2_spec.specs.C2pa.Sign1.{SignParts}
 use Rattle.c2_spec.specs.Digest.{digest_len}
 use Rattle.c2_spec.specs.Jpeg.Writing.{IsPacketStore}
 use Rattle.c2_spec.specs.Jumbf.Tree.{Tree}
@@ -17,7 +15,6 @@ use Rattle.c2_spec.specs.declared.digest.Alg.{Alg}
 use Rattle.c2_chunks.specs.declared.table.ShiftError.{ShiftError}
 use Rattle.c2_chunks.specs.declared.table.ShiftError.TheVariants as shift
 use Rattle.c2_definition.specs.declared.types.Definition.{Definition}
-use Rattle.c2_message.specs.Refusals.{reserve_needed}
 use Rattle.c2_built.specs.Fresh.{fresh_content}
 use Rattle.c2_built.specs.Store.{new_alg}
 use Rattle.c2_layout.specs.Parts.{AreParts}
@@ -32,7 +29,7 @@ use Rattle.c2_fronts.specs.Outcomes.{IsFrontMade, NewFile}
 use Rattle.c2_refusals.specs.Kinds.{IsReadKind, WithoutFault, kind_of}
 use Rattle.c2_refusals.specs.Stages.{HasTextsIn, IsDefinitionTold, IsMessageTold}
 use Rattle.c2_refusals.specs.declared.error.BuildError.{BuildError}
-use Rattle.c2_refusals.specs.declared.error.BuildError.TheVariants.{OffsetTable, BadTree, BadTable, Overflow, ReserveTooSmall, ReadFault, NoMemory}
+use Rattle.c2_refusals.specs.declared.error.BuildError.TheVariants.{OffsetTable, BadTree, BadTable, Overflow, ReadFault, NoMemory}
 use Rattle.c2_build_front.specs.Answers.{plan_effects, prepare_effects}
 use Rattle.c2_build_front.specs.Errors.{IsRefusedWith, error_of}
 use Rattle.c2_build_front.specs.declared.drafting.Sizes.{Sizes}
@@ -118,12 +115,6 @@ pub record AreFrontParts (hash : List ℕ → List ℕ) (known : Option (List �
   pub is_digest : ForSome known (λ file. (what : Opening Tree) → (k : IsDraftedOver file what d f)
       → digest ≡ hash (front_covered (box_len d) file k.roots))
 
--- ---- the message
-
--- the error says that a message with these parts doesn't fit into what a definition reserves
-abbrev pub IsReserveRefusal : Definition → SignParts → BuildError → Type 0
-IsReserveRefusal d p e = (n : ℕ) × (reserve_needed d.reserve (length (bare_bytes p)) ≡ Some n) × (e ≡ ReserveTooSmall n)
-
 -- ---- what is ready to be written
 
 -- a new file is ready to be written over this media file
@@ -132,11 +123,15 @@ pub record IsReady (media : List ℕ) (r : Ready) (b : NewFile) : Type 0 where
   pub start : b.start ≡ r.front.place
   pub len : b.len ≡ range_of r.front
 
--- what is ready can be written over a media file of this length, whatever is known of its bytes
-pub record CanWrite (len : ℕ) (r : Ready) : Type 0 where
-  pub fits : FitsIn len r.front
-  pub store : IsPacketStore r.store
-  pub room : 0 < vec_len r.buffer
+-- This store can be put so into a media file of this length, whatever is known of its bytes, through a buffer of so many.
+pub record CanWriteFront (len : ℕ) (f : Front) (bytes : List ℕ) (size : ℕ) : Type 0 where
+  pub fits : FitsIn len f
+  pub store : IsPacketStore bytes
+  pub room : 0 < size
+
+-- what is ready can be written over such a file
+abbrev pub CanWrite : ℕ → Ready → Type 0
+CanWrite len r = CanWriteFront len r.front r.store (vec_len r.buffer)
 
 -- over inputs that come to something a new file is ready to be written over this media file, or the error is that of what is refused first
 abbrev pub IsReadyFor : List ℕ → (Result NewFile FrontRefusal → Type 0) → Result Ready BuildError → Type 0

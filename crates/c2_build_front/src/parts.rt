@@ -1,9 +1,8 @@
 // The parts of a new manifest whose store stands in front.
-ghost use Rattle.std.specs.Prelude.{◌≡◌, ℕ, ◌<◌, ◌≤◌, IfErr, IfOk, length};
+ghost use Rattle.std.specs.Prelude.{◌≡◌, ◌<◌, ◌≤◌, IfErr, IfOk, length};
 ghost use Rattle.std.specs.Option.{ForSome};
 ghost use Rattle.c2_base.specs.Source.{ReadsSource};
 ghost use Rattle.c2_base.specs.declared.limits.TheConstants.{MAX_STORE_LEN};
-ghost use Rattle.c2_boxes.specs.Causes.{IsCaused, OrOutside};
 ghost use Rattle.c2_built.specs.Fresh.{fresh_content};
 ghost use Rattle.c2_built.specs.Store.{new_alg};
 ghost use Rattle.c2_definition.specs.DefinitionFile.{IsWellFormed};
@@ -16,7 +15,7 @@ ghost use Rattle.c2_spec.specs.Located.{Opening};
 ghost use Rattle.c2_spec.specs.Jumbf.Tree.{Tree};
 ghost use Rattle.c2_build_front.specs.Steps.{AreFrontParts, IsDraftedOver, IsPlanStep, store_size};
 
-use c2_base::{MediaError, NoMemory, Source};
+use c2_base::{NoMemory, Source};
 use c2_definition::Definition;
 use c2_film_binding::film_binding;
 use c2_films::a_new_film_store_has_one_length;
@@ -24,25 +23,8 @@ use c2_front_hash::{Front, front_digest};
 use c2_fronts::the_covered_text_is_known_first;
 use c2_hash::{Digest, Hashing};
 use c2_layout::{Carried, NewParts, bound_parts};
-use c2_refusals::BuildError;
-use c2_spec::Refusal;
+use c2_refusals::{BuildError, media_error};
 use std::alloc::Global;
-
-// The error of a build that an error of the walk over the new file is. A file that tells its bytes isn't refused there.
-fn walk_error(error: MediaError) -> BuildError
-    ensures nothing { OrOutside error ⊥ → SaysNothing result }
-    ensures cause { (before now : ℕ) → IsCaused before now error → IsPlanStep before now result }
-{
-    match error {
-        MediaError::ReadFault => BuildError::ReadFault,
-        MediaError::NoMemory => BuildError::NoMemory,
-        other => match Refusal::of_media(other) {
-            Some(refusal) => BuildError::MediaRefused(refusal.reason, refusal.number),
-            // Every other error is a refusal.
-            None => unreachable!(),
-        },
-    }
-}
 
 // The parts of the new manifest of a definition, whose store isn't too large, with this digest of what its binding binds.
 fn parts_with<H: Hashing>(
@@ -95,7 +77,7 @@ pub(crate) fn parts_over<A: Source, H: Hashing>(
     // Matched and not handed up by `?`, here and below: each way out has clauses of its own.
     let digest = match front_digest(alloc, hashing, definition.alg, media, front, buf) {
         Ok(digest) => digest,
-        Err(error) => return Err(walk_error(error)),
+        Err(error) => return Err(media_error(error)),
     };
     match parts_with(alloc, hashing, definition, &digest) {
         Ok(parts) => Ok(parts),

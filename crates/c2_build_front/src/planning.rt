@@ -1,5 +1,5 @@
 // What is to be signed of a new manifest whose store stands in front.
-ghost use Rattle.std.specs.Prelude.{◌≡◌, IfOk, ℕ, List};
+ghost use Rattle.std.specs.Prelude.{◌≡◌, ℕ, List};
 ghost use Rattle.std.specs.Option.{ForSome};
 ghost use Rattle.c2_base.specs.Causes.{Rose};
 ghost use Rattle.c2_base.specs.Source.{ReadsSource};
@@ -8,10 +8,6 @@ ghost use Rattle.c2_definition.specs.DefinitionFile.{IsWellFormed};
 ghost use Rattle.c2_fronts.specs.Outcomes.{IsFilmStage, IsFrontPlanned, IsPlannedIn, Then};
 ghost use Rattle.c2_ground.specs.Grounds.{IsFoundIn, IsKind, IsReadIn};
 ghost use Rattle.c2_refusals.specs.Stages.{IsDefinitionTold, IsMediaRefused, MediaKind};
-ghost use Rattle.c2_spec.specs.C2pa.Sign1.{sig_structure};
-ghost use Rattle.c2_spec.specs.Cbor.Deterministic.{deterministic};
-ghost use Rattle.c2_spec.specs.Cbor.Item.{dict, no_pairs};
-ghost use Rattle.c2_spec.specs.Cbor.View.{view};
 ghost use Rattle.c2_build_front.specs.Answers.{IsPlanCause};
 ghost use Rattle.c2_build_front.specs.Errors.{IsAnswerTo};
 ghost use Rattle.c2_build_front.specs.Steps.{HasSize, IsPlanStep};
@@ -20,36 +16,13 @@ use crate::drafting::drafted;
 use crate::parts::parts_over;
 use c2_base::limits::PIECE_LEN;
 use c2_base::{Blob, NoMemory, Source};
-use c2_cbor::Cbor;
 use c2_definition::{Definition, each_definition_is_read_one_way};
 use c2_ground::{MediaFile, MediaRead, open_media, read_media};
 use c2_hash::Hashing;
 use c2_lengths::the_length_of_a_new_store_fits;
-use c2_refusals::{BuildError, read_definition_file};
-use c2_sigstruct::{Sign1, question};
+use c2_refusals::{BuildError, read_definition_file, signed_over};
 use c2_validate::one_opening;
 use std::alloc::Global;
-
-// A map without entries.
-fn empty_map(alloc: Global) -> Cbor
-    ensures { view result ≡ dict no_pairs }
-{
-    Cbor::Map(Vec::new(alloc))
-}
-
-// What is signed over a claim: the definition's protected header stands before it (RFC 9052, section 4.4).
-fn signed_over(alloc: Global, definition: &Definition, claim: &[u8]) -> Result<Blob, NoMemory>
-    ensures { IfOk result (λ b. b
-        ≡ deterministic (sig_structure definition.now.protected claim.now)) }
-{
-    let sign = Sign1 {
-        protected: Blob::copied(alloc, definition.protected.as_slice())?,
-        unprotected: empty_map(alloc),
-        signature: Blob::copied(alloc, &[])?,
-    };
-    let asked = question(alloc, &sign, claim)?;
-    Ok(asked.tbs)
-}
 
 // What is to be signed, where this was read of a media file, of a definition.
 fn plan_over<A: Source, H: Hashing>(

@@ -9,8 +9,7 @@ ghost use Rattle.c2_definition.specs.DefinitionFile.{IsWellFormed};
 ghost use Rattle.c2_front_hash.specs.Putting.{FitsIn};
 ghost use Rattle.c2_fronts.specs.Outcomes.{IsFilmStage, IsMadeIn, Then, new_file};
 ghost use Rattle.c2_ground.specs.Grounds.{IsFoundIn, IsKind, IsReadIn};
-ghost use Rattle.c2_message.specs.Signed.{IsSigned};
-ghost use Rattle.c2_refusals.specs.Kinds.{SaysNothing, WithoutFault};
+ghost use Rattle.c2_refusals.specs.Kinds.{SaysNothing};
 ghost use Rattle.c2_refusals.specs.Stages.{LeavesUndue, MediaKind};
 ghost use Rattle.c2_spec.specs.C2pa.Message.{CanBePadded};
 ghost use Rattle.c2_spec.specs.C2pa.Sign1.{parts_of};
@@ -18,7 +17,7 @@ ghost use Rattle.c2_spec.specs.Cbor.Item.{Pairs};
 ghost use Rattle.c2_spec.specs.Jumbf.Tree.{Tree};
 ghost use Rattle.c2_spec.specs.Located.{Opening};
 ghost use Rattle.c2_build_front.specs.Answers.{IsPrepareCause};
-ghost use Rattle.c2_build_front.specs.Steps.{CanWrite, HasSize, IsDraftedOver, IsPlanStep, IsPrepareStep, IsPrepared, IsReady, IsReadyFor, IsReserveRefusal, store_size};
+ghost use Rattle.c2_build_front.specs.Steps.{CanWrite, HasSize, IsDraftedOver, IsPlanStep, IsPrepareStep, IsPrepared, IsReady, IsReadyFor, store_size};
 
 use crate::drafting::drafted;
 use crate::parts::parts_over;
@@ -33,10 +32,9 @@ use c2_hash::Hashing;
 use c2_layout::{Carried, new_store};
 use c2_lengths::the_length_of_a_new_store_fits;
 use c2_message::{
-    MessageError, a_message_fills_its_reserve_or_needs_more,
-    each_message_is_accepted_or_refused_for_one_test, padded_message,
+    a_message_fills_its_reserve_or_needs_more, each_message_is_accepted_or_refused_for_one_test,
 };
-use c2_refusals::{BuildError, read_definition_file, read_message_file};
+use c2_refusals::{BuildError, padded, read_definition_file, read_message_file};
 use c2_sigstruct::Sign1;
 use c2_validate::one_opening;
 use std::alloc::Global;
@@ -52,24 +50,6 @@ pub(crate) struct Ready {
 
     /// What the media is copied through.
     pub(crate) buffer: Vec<u8>,
-}
-
-// The message, padded to what a definition reserves.
-fn padded(alloc: Global, sign: &Sign1, definition: &Definition) -> Result<Blob, BuildError>
-    requires can { (entries : Pairs) × CanBePadded (parts_of sign.now) entries }
-    requires formed { IsWellFormed definition.now }
-    ensures signed { IfOk result (IsSigned (parts_of sign.now) definition.now.reserve) }
-    ensures refused { IfErr result (λ e. WithoutFault e
-        (IsReserveRefusal definition.now (parts_of sign.now) e)) }
-    ensures cause { (count : ℕ) → IfErr result (IsPrepareStep count count) }
-{
-    match padded_message(alloc, sign, definition.reserve) {
-        Ok(message) => Ok(message),
-        Err(MessageError::ReserveTooSmall(needed)) => Err(BuildError::ReserveTooSmall(needed)),
-        Err(MessageError::NoMemory) => Err(BuildError::NoMemory),
-        // A message that is padded was read before.
-        Err(MessageError::BadSignature(_)) => unreachable!(),
-    }
 }
 
 // What is to be written, of what was drafted over a media file, with a message.

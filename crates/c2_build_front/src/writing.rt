@@ -1,11 +1,11 @@
 // The new file, written to a sink.
-ghost use Rattle.std.specs.Prelude.{◌≡◌, ◌<◌, length};
+ghost use Rattle.std.specs.Prelude.{◌≡◌, length};
 ghost use Rattle.c2_base.specs.Sink.{WritesSink, unsaid};
 ghost use Rattle.c2_base.specs.Source.{ReadsSource};
 ghost use Rattle.c2_copying.specs.Writing.{IsReadCause, IsWriteCause};
-ghost use Rattle.c2_front_hash.specs.Putting.{FitsIn, with_store};
+ghost use Rattle.c2_front_hash.specs.Putting.{with_store};
 ghost use Rattle.c2_putting.specs.Puts.{WritesOver};
-ghost use Rattle.c2_spec.specs.Jpeg.Writing.{IsPacketStore};
+ghost use Rattle.c2_build_front.specs.Steps.{CanWriteFront};
 
 use c2_base::{Sink, Source};
 use c2_copying::CopyError;
@@ -27,9 +27,7 @@ fn write_named<'m, A: Source, N: NamedTables, K: Sink>(
     requires name { media.ghost_name ≡ N.name }
     requires len { A.len media.old ≡ N.len }
     requires known { A.known media.old ≡ N.known }
-    requires fits { FitsIn (A.len media.old) front.now }
-    requires store { IsPacketStore store.now }
-    requires room { 0 < length buf.old }
+    requires can { CanWriteFront (A.len media.old) front.now store.now (length buf.old) }
     ensures same { result.ghost_name ≡ media.entry.ghost_name }
     ensures written { WritesOver K.written K.spare K.finished (with_store front.now store.now)
         (A.known media.old) out.old out.new done.new }
@@ -57,9 +55,7 @@ pub(crate) fn write_front<A: Source, K: Sink>(
     buf: &mut [u8],
     out: &mut K,
 ) -> Result<(), CopyError>
-    requires fits { FitsIn (A.len media.old) front.now }
-    requires store { IsPacketStore store.now }
-    requires room { 0 < length buf.old }
+    requires can { CanWriteFront (A.len media.old) front.now store.now (length buf.old) }
     ensures written { WritesOver K.written K.spare K.finished (with_store front.now store.now)
         (A.known media.old) out.old out.new result }
     ensures reads { ReadsSource A.len A.known A.faults IsReadCause media.old media.new result }

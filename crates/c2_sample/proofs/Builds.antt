@@ -10,7 +10,7 @@ use Rattle.c2_spec.specs.declared.digest.Alg.{Alg}
 use Rattle.c2_spec.specs.declared.panel.Verdict.{Verdict}
 use Rattle.c2_spec.specs.Judges.Panel.{panel_says}
 use Rattle.c2_rules.specs.Validated.{CheckAsks}
-use Rattle.c2_refusals.specs.Kinds.{ErrorKind, KindSays, WithoutFault, front_refusal, judge_fault, kind_of, message_refusal, no_memory, other_refusal, read_fault, refusal, write_fault}
+use Rattle.c2_refusals.specs.Kinds.{ErrorKind, KindSays, WithoutFault, front_refusal, judge_fault, kind_of, message_refusal, no_memory, older_refusal, other_refusal, read_fault, refusal, write_fault}
 use Rattle.c2_refusals.specs.declared.error.BuildError.{BuildError}
 use Rattle.c2_refusals.specs.declared.types.Embedded.{Embedded}
 use Rattle.c2_build.specs.Answers.{EmbedsFile, Writes, file_of}
@@ -45,6 +45,7 @@ kind_comes : (k : ErrorKind) (claim : Type 0) → is_refusal k ≡ true → Kind
 kind_comes refusal claim is h = h
 kind_comes message_refusal claim is h = h
 kind_comes front_refusal claim is h = h
+kind_comes older_refusal claim is h = h
 kind_comes other_refusal claim is h = h
 kind_comes read_fault claim is h = absurd (true≢false (sym is))
 kind_comes judge_fault claim is h = absurd (true≢false (sym is))

@@ -17,7 +17,7 @@ use Rattle.c2_copying.specs.Writing.{FitsSpare, write_fault}
 use Rattle.c2_rules.specs.Asking.{IsJudgeCause}
 use Rattle.c2_refusals.specs.Kinds as kind
 use Rattle.c2_refusals.specs.Kinds.{ErrorKind, IsSourceCause, heard_of}
-use Rattle.c2_build_front.specs.Answers.{kind_ending}
+use Rattle.c2_in_place.specs.Writings.{kind_ending}
 use Rattle.c2_build.specs.Answers.{Writes, embed_effects, file_of}
 use Rattle.c2_build.specs.Meeting.{BuiltFileMeets, SomeEmbedding}
 use Rattle.c2_sample.specs.Sample.{IsSureFault, IsSureKind, no_judges, sample_definition, sample_message}
@@ -89,6 +89,7 @@ pub sure_kind : {T : Type 0} (faults : T → ℕ) (judges : List T) (now : List 
 sure_kind faults judges now hash media sink kind.refusal none m c j s = inl refl
 sure_kind faults judges now hash media sink kind.message_refusal none m c j s = inl refl
 sure_kind faults judges now hash media sink kind.front_refusal none m c j s = inl refl
+sure_kind faults judges now hash media sink kind.older_refusal none m c j s = inl refl
 sure_kind faults judges now hash media sink kind.other_refusal none m c j s = inl refl
 sure_kind faults judges now hash media sink kind.read_fault none m c j s = absurd (no_read_fault c)
 sure_kind faults judges now hash media sink kind.judge_fault none m c j s = absurd (nobody_rose faults judges now none j)

@@ -5,9 +5,10 @@ use Rattle.c2_cleared.specs.Clears.{cleared_len}
 use Rattle.c2_places.specs.Places.{IsFreePlace}
 use Rattle.c2_refusals.specs.Seats.{IsForm, IsSeatIn}
 use Rattle.c2_refusals.specs.declared.types.Drafted.{Drafted}
-use Rattle.c2_refusals.proofs.Judged.{hears_behind, hears_failed, quiet_result, read_result}
+use Rattle.c2_refusals.proofs.Judged.{hears_behind, hears_failed, older_result, read_result}
 use Rattle.c2_refusals.proofs.Outside.{nothing_said, outside_map, reads_behind, reads_quietly}
-use Rattle.c2_build.proofs.Placed.{cleared_length, ground_form, place_passed, place_refused, placed}
+use Rattle.c2_in_place.proofs.Stored.{cleared_length}
+use Rattle.c2_build.proofs.Placed.{ground_form, place_passed, place_refused, placed}
 use Rattle.c2_build.proofs.SomeBuild.{PlaceLaws, free_place}
 use Rattle.c2_refusals.specs.Kinds.{judge_effects, no_effects}
 use Rattle.c2_build.proofs.draft.draft_over.Goals as goal
@@ -42,8 +43,8 @@ pub returns-in-Err-find_spot-clause-panel : goal.returns-in-Err-find_spot-clause
 returns-in-Err-find_spot-clause-panel g c = hears_behind c.args.judges.now c.grounded.new.judges c.in-Ok.ground _ (read_result {T = Drafted} no_effects _ _ (Err c.in-Err-find_spot.error) c.in-Err-find_spot.ensures.reads.cause) (λ qs asks. asks) c.in-Ok.ensures.panel
 
 -- a test at the place fails
-pub returns-in-Err-draft_at-clause-refused : goal.returns-in-Err-draft_at-clause-refused
-returns-in-Err-draft_at-clause-refused g c = λ bytes known kind is.
+pub returns-in-Err-numbers_of-clause-refused : goal.returns-in-Err-numbers_of-clause-refused
+returns-in-Err-numbers_of-clause-refused g c = λ bytes known kind is.
     let said = panel_says (map (λ j. (goal.Judge-dyn g (j.vtable, j.value)).says j.value) c.args.judges.now.items) in
     let hash = g.H.Hashing.digest_of in
     let k = c.in-Ok.ground in
@@ -54,18 +55,18 @@ returns-in-Err-draft_at-clause-refused g c = λ bytes known kind is.
     let size = c.in-Ok-find_spot.ensures.spot.size ∙ ap (cleared_len k.clearing) (c.in-Ok.ensures.reads.stays.same_len ∙ sym len) ∙ sym (cleared_length k.clearing bytes) in
     let s = c.in-Ok-find_spot.spot in
     let at = placed hash said bytes c.args.definition.now kind k s.seat s.size over.0 over.1 over.2 seat size in
-    place_refused hash said bytes c.args.definition.now kind k s.seat s.size at c.in-Err-draft_at.error (c.in-Err-draft_at.ensures.refused (hash (new_alg c.args.definition.now)) at.ground.content at.ground.base at.place at.is.content at.is_place at.seat)
+    place_refused hash said bytes c.args.definition.now kind k s.seat s.size at c.in-Err-numbers_of.error (c.in-Err-numbers_of.ensures.refused (hash (new_alg c.args.definition.now)) at.ground.content at.ground.base at.place at.is.content at.is_place at.seat)
 
-pub returns-in-Err-draft_at-clause-reads : goal.returns-in-Err-draft_at-clause-reads
-returns-in-Err-draft_at-clause-reads g c =
-    reads_quietly judge_effects c.args.media.now c.grounded.new.media c.find_spot.new.media c.in-Ok.ground (Err c.in-Err-draft_at.error) c.in-Ok.ensures.reads c.in-Ok-find_spot.ensures.reads.stays c.in-Ok-find_spot.ensures.reads.quiet c.in-Err-draft_at.ensures.quiet
+pub returns-in-Err-numbers_of-clause-reads : goal.returns-in-Err-numbers_of-clause-reads
+returns-in-Err-numbers_of-clause-reads g c =
+    reads_quietly judge_effects tt c.args.media.now c.grounded.new.media c.find_spot.new.media c.in-Ok.ground (Err c.in-Err-numbers_of.error) c.in-Ok.ensures.reads c.in-Ok-find_spot.ensures.reads.stays c.in-Ok-find_spot.ensures.reads.quiet c.in-Err-numbers_of.ensures.quiet
 
-pub returns-in-Err-draft_at-clause-panel : goal.returns-in-Err-draft_at-clause-panel
-returns-in-Err-draft_at-clause-panel g c = hears_behind c.args.judges.now c.grounded.new.judges c.in-Ok.ground _ (quiet_result {T = Drafted} (Err c.in-Err-draft_at.error) c.in-Err-draft_at.ensures.quiet) (λ qs asks. asks) c.in-Ok.ensures.panel
+pub returns-in-Err-numbers_of-clause-panel : goal.returns-in-Err-numbers_of-clause-panel
+returns-in-Err-numbers_of-clause-panel g c = hears_behind c.args.judges.now c.grounded.new.judges c.in-Ok.ground _ (older_result {T = Drafted} (Err c.in-Err-numbers_of.error) c.in-Err-numbers_of.ensures.quiet) (λ qs asks. asks) c.in-Ok.ensures.panel
 
 -- none does
-pub returns-in-Ok-draft_at-clause-passed : goal.returns-in-Ok-draft_at-clause-passed
-returns-in-Ok-draft_at-clause-passed g c = λ bytes known kind is.
+pub returns-in-Ok-numbers_of-clause-passed : goal.returns-in-Ok-numbers_of-clause-passed
+returns-in-Ok-numbers_of-clause-passed g c = λ bytes known kind is.
     let said = panel_says (map (λ j. (goal.Judge-dyn g (j.vtable, j.value)).says j.value) c.args.judges.now.items) in
     let hash = g.H.Hashing.digest_of in
     let k = c.in-Ok.ground in
@@ -76,26 +77,26 @@ returns-in-Ok-draft_at-clause-passed g c = λ bytes known kind is.
     let size = c.in-Ok-find_spot.ensures.spot.size ∙ ap (cleared_len k.clearing) (c.in-Ok.ensures.reads.stays.same_len ∙ sym len) ∙ sym (cleared_length k.clearing bytes) in
     let s = c.in-Ok-find_spot.spot in
     let at = placed hash said bytes c.args.definition.now kind k s.seat s.size over.0 over.1 over.2 seat size in
-    place_passed hash said bytes c.args.definition.now kind k s.seat s.size at c.in-Ok-draft_at.draft (c.in-Ok-draft_at.ensures.passed (hash (new_alg c.args.definition.now)) at.ground.content at.ground.base at.place at.is.content
-    at.is_place at.seat) (c.in-Ok-draft_at.ensures.draft (hash (new_alg c.args.definition.now)) at.ground.content at.is.content)
+    place_passed hash said bytes c.args.definition.now kind k s.seat s.size at c.in-Ok-numbers_of.draft (c.in-Ok-numbers_of.ensures.passed (hash (new_alg c.args.definition.now)) at.ground.content at.ground.base at.place at.is.content
+    at.is_place at.seat) (c.in-Ok-numbers_of.ensures.draft (hash (new_alg c.args.definition.now)) at.ground.content at.is.content)
 
-pub returns-in-Ok-draft_at-clause-small : goal.returns-in-Ok-draft_at-clause-small
-returns-in-Ok-draft_at-clause-small g c =
+pub returns-in-Ok-numbers_of-clause-small : goal.returns-in-Ok-numbers_of-clause-small
+returns-in-Ok-numbers_of-clause-small g c =
     let some = c.in-Ok.ensures.some in
-    let draft = c.in-Ok-draft_at.ensures.draft (g.H.Hashing.digest_of (new_alg c.args.definition.now)) some.content some.is in
+    let draft = c.in-Ok-numbers_of.ensures.draft (g.H.Hashing.digest_of (new_alg c.args.definition.now)) some.content some.is in
     let size = c.in-Ok-find_spot.ensures.spot.size ∙ ap (cleared_len c.in-Ok.ground.clearing) c.in-Ok.ensures.reads.stays.same_len in
     record {
       content = some.content;
       is = some.is;
       small = draft.small;
       size = draft.size ∙ size;
-      inside = subst (λ n. c.in-Ok-draft_at.draft.start ≤ n) (sym draft.size) draft.inside;
+      inside = subst (λ n. c.in-Ok-numbers_of.draft.start ≤ n) (sym draft.size) draft.inside;
       seat = subst (λ n. IsSeatIn n c.in-Ok-find_spot.spot.seat) size c.in-Ok-find_spot.ensures.spot.inside;
     }
 
-pub returns-in-Ok-draft_at-clause-reads : goal.returns-in-Ok-draft_at-clause-reads
-returns-in-Ok-draft_at-clause-reads g c =
-    reads_quietly judge_effects c.args.media.now c.grounded.new.media c.find_spot.new.media c.in-Ok.ground _ c.in-Ok.ensures.reads c.in-Ok-find_spot.ensures.reads.stays c.in-Ok-find_spot.ensures.reads.quiet tt
+pub returns-in-Ok-numbers_of-clause-reads : goal.returns-in-Ok-numbers_of-clause-reads
+returns-in-Ok-numbers_of-clause-reads g c =
+    reads_quietly judge_effects tt c.args.media.now c.grounded.new.media c.find_spot.new.media c.in-Ok.ground _ c.in-Ok.ensures.reads c.in-Ok-find_spot.ensures.reads.stays c.in-Ok-find_spot.ensures.reads.quiet tt
 
-pub returns-in-Ok-draft_at-clause-panel : goal.returns-in-Ok-draft_at-clause-panel
-returns-in-Ok-draft_at-clause-panel g c = hears_behind c.args.judges.now c.grounded.new.judges c.in-Ok.ground _ tt (λ qs asks. asks) c.in-Ok.ensures.panel
+pub returns-in-Ok-numbers_of-clause-panel : goal.returns-in-Ok-numbers_of-clause-panel
+returns-in-Ok-numbers_of-clause-panel g c = hears_behind c.args.judges.now c.grounded.new.judges c.in-Ok.ground _ tt (λ qs asks. asks) c.in-Ok.ensures.panel

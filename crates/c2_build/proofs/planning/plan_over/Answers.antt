@@ -56,13 +56,13 @@ returns-in-Err-parts_for-clause-panel g c = hears_behind c.args.judges.now c.dra
 
 pub returns-in-Ok-signed_over-clause-reads : goal.returns-in-Ok-signed_over-clause-reads
 returns-in-Ok-signed_over-clause-reads g c =
-    reads_quietly judge_effects c.args.media.now c.draft_over.new.media c.parts_for.new.media c.in-Ok.drafted _ c.in-Ok.ensures.reads c.in-Ok-parts_for.ensures.reads.stays c.in-Ok-parts_for.ensures.reads.quiet tt
+    reads_quietly judge_effects tt c.args.media.now c.draft_over.new.media c.parts_for.new.media c.in-Ok.drafted _ c.in-Ok.ensures.reads c.in-Ok-parts_for.ensures.reads.stays c.in-Ok-parts_for.ensures.reads.quiet tt
 
 pub returns-in-Ok-signed_over-clause-panel : goal.returns-in-Ok-signed_over-clause-panel
 returns-in-Ok-signed_over-clause-panel g c = hears_behind c.args.judges.now c.draft_over.new.judges c.in-Ok.drafted _ tt (λ qs asks. asks) c.in-Ok.ensures.panel
 
 pub returns-clause-reads : goal.returns-clause-reads
-returns-clause-reads g c = reads_quietly judge_effects c.args.media.now c.draft_over.new.media c.parts_for.new.media c.in-Ok.drafted _ c.in-Ok.ensures.reads c.in-Ok-parts_for.ensures.reads.stays c.in-Ok-parts_for.ensures.reads.quiet tt
+returns-clause-reads g c = reads_quietly judge_effects tt c.args.media.now c.draft_over.new.media c.parts_for.new.media c.in-Ok.drafted _ c.in-Ok.ensures.reads c.in-Ok-parts_for.ensures.reads.stays c.in-Ok-parts_for.ensures.reads.quiet tt
 
 pub returns-clause-panel : goal.returns-clause-panel
 returns-clause-panel g c = hears_behind c.args.judges.now c.draft_over.new.judges c.in-Ok.drafted _ tt (λ qs asks. asks) c.in-Ok.ensures.panel

@@ -5,8 +5,11 @@ use Rattle.c2_front_hash.specs.Putting.{with_store}
 use Rattle.c2_calls.proofs.SinkLemmas.{writes_nothing}
 use Rattle.c2_calls.proofs.SourceLemmas.{reads_next, reads_then}
 use Rattle.c2_fronts.specs.Outcomes.{IsFrontMade}
-use Rattle.c2_build_front.proofs.Causes.{leaves_kind, prepare_sink, prepare_writes}
-use Rattle.c2_build_front.proofs.Ended.{all_written, broken_off, opened_once, range_is, told_of_file, unwritten}
+use Rattle.c2_refusals.proofs.Doing.{leaves_kind}
+use Rattle.c2_build_front.proofs.Causes.{prepare_sink, prepare_writes}
+use Rattle.c2_in_place.proofs.Endings.{unwritten}
+use Rattle.c2_build_front.specs.Answers.{prepare_effects}
+use Rattle.c2_build_front.proofs.Ended.{all_written, broken_off, opened_once, range_is, told_of_file}
 use Rattle.c2_build_front.proofs.embedding.embed_front.Goals as goal
 
 -- ---- nothing is ready to be written
@@ -14,7 +17,7 @@ use Rattle.c2_build_front.proofs.embedding.embed_front.Goals as goal
 pub returns-in-Err-clause-embedded : goal.returns-in-Err-clause-embedded
 returns-in-Err-clause-embedded g c = λ file known bytes due message due'. record {
   answered = c.in-Err.ensures.prepared.ready file known bytes due message due';
-  wrote = unwritten _ g.K.Sink.written g.K.Sink.spare g.K.Sink.finished _ c.args.out.now _ _ _ c.in-Err.ensures.media.cause;
+  wrote = unwritten prepare_effects (λ h. h) _ g.K.Sink.written g.K.Sink.spare g.K.Sink.finished _ c.args.out.now _ _ _ c.in-Err.ensures.media.cause;
   meets = tt;
 }
 

@@ -1,16 +1,20 @@
-use Rattle.std.proofs.Common.{arith}
+use Rattle.std.proofs.Common.{arith, subst, sym}
 use Rattle.c2_built.specs.Store.{new_alg}
+use Rattle.c2_refusals.proofs.Media.{media_caused, media_said}
+use Rattle.c2_refusals.specs.Kinds.{SaysNothing}
 use Rattle.c2_build_front.proofs.Drafts.{digest_is, roots_of_new}
+use Rattle.c2_build_front.specs.Answers.{plan_effects}
+use Rattle.c2_build_front.specs.Steps.{IsPlanStep}
 use Rattle.c2_build_front.proofs.parts.parts_over.Goals as goal
 
 -- the new file has root boxes, so nothing is refused of it
 pub returns-in-Err-clause-nothing : goal.returns-in-Err-clause-nothing
 returns-in-Err-clause-nothing g c = λ file known what k.
     let roots = roots_of_new c.the_covered_text_is_known_first.ensures file what c.args.definition.now c.args.front.now k in
-    c.walk_error.ensures.nothing (c.in-Err.ensures.refused file known roots.0 roots.1)
+    subst SaysNothing (sym c.media_error.ensures) (media_said ⊥ c.in-Err.error (c.in-Err.ensures.refused file known roots.0 roots.1))
 
 pub returns-in-Err-clause-reads : goal.returns-in-Err-clause-reads
-returns-in-Err-clause-reads g c = record { stays = c.in-Err.ensures.reads.stays; quiet = tt; cause = c.walk_error.ensures.cause _ _ c.in-Err.ensures.reads.cause }
+returns-in-Err-clause-reads g c = record { stays = c.in-Err.ensures.reads.stays; quiet = tt; cause = subst (IsPlanStep _ _) (sym c.media_error.ensures) (media_caused plan_effects _ _ c.in-Err.error c.in-Err.ensures.reads.cause) }
 
 -- the new store isn't too large
 pub parts_with-requires-clause-small : goal.parts_with-requires-clause-small

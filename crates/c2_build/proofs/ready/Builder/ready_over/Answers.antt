@@ -13,7 +13,7 @@ use Rattle.c2_build.proofs.Causes.{asks_prepare, message_stays}
 use Rattle.c2_refusals.proofs.Outside.{outside_map, reads_behind}
 use Rattle.c2_refusals.specs.Kinds.{message_effects, no_effects}
 use Rattle.c2_build.specs.Answers.{prepare_effects}
-use Rattle.c2_build.specs.declared.ready.Ready.{Ready}
+use Rattle.c2_in_place.specs.declared.writing.Ready.{Ready}
 use Rattle.c2_build.proofs.ready.Builder.ready_over.Goals as goal
 
 -- the place is refused

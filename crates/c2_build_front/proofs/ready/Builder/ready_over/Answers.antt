@@ -6,7 +6,7 @@ use Rattle.c2_message.specs.Signed.{IsSigned}
 use Rattle.c2_spec.specs.C2pa.Sign1.{parts_of}
 use Rattle.c2_fronts.specs.Outcomes.{IsMadeIn, new_file}
 use Rattle.c2_refusals.proofs.Outside.{nothing_said, outside_map}
-use Rattle.c2_build_front.proofs.Causes.{plan_prepares, prepares_of}
+use Rattle.c2_build_front.proofs.Causes.{message_prepares, plan_prepares, prepares_of}
 use Rattle.c2_build_front.proofs.Drafts.{made_of, reserve_refused}
 use Rattle.c2_build_front.proofs.Stages.{made_refuses, refused_over}
 use Rattle.c2_build_front.specs.Steps.{CanWrite}
@@ -32,7 +32,7 @@ returns-in-Err-padded-clause-ready g c = λ bytes known kind is size.
     outside_map c.in-Err-padded.error (reserve_refused g.H.Hashing.digest_of bytes is.stage.0 d c.in-Ok.front (parts_of c.args.sign.now) c.in-Err-padded.error (c.in-Ok.ensures.drafted bytes known kind is)) c.in-Err-padded.ensures.refused
 
 pub returns-in-Err-padded-clause-reads : goal.returns-in-Err-padded-clause-reads
-returns-in-Err-padded-clause-reads g c = reads_then _ _ _ _ _ c.args.media.now c.drafted.new.media c.in-Ok.front (Err c.in-Err-padded.error) (prepares_of _ _ _ c.in-Ok.ensures.reads.quiet (c.in-Err-padded.ensures.cause _)) c.in-Ok.ensures.reads
+returns-in-Err-padded-clause-reads g c = reads_then _ _ _ _ _ c.args.media.now c.drafted.new.media c.in-Ok.front (Err c.in-Err-padded.error) (prepares_of _ _ _ c.in-Ok.ensures.reads.quiet (message_prepares _ _ _ (c.in-Err-padded.ensures.cause _))) c.in-Ok.ensures.reads
 
 -- ---- a new file is ready
 

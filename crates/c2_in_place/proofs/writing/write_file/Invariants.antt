@@ -1,4 +1,4 @@
-use Rattle.c2_build.proofs.embedding.write_file.Given as goal
+use Rattle.c2_in_place.proofs.writing.write_file.Given as goal
 
 -- the borrow is that of the media as it was handed in
 abbrev pub ghosts-write_left : goal.ghosts-write_left

@@ -2,8 +2,8 @@ use Rattle.std.proofs.Common.{None, ap, sym, ◌∙◌, subst}
 use Rattle.std.specs.Prelude.{Err}
 use Rattle.c2_base.specs.declared.media.MediaError.{MediaError}
 use Rattle.c2_refusals.specs.Seats.{IsSeat}
-use Rattle.c2_build.proofs.Seated.{box_fitted, box_refused, refused_less}
-use Rattle.c2_build.proofs.draft.put_at.Goals as goal
+use Rattle.c2_in_place.proofs.Seated.{box_fitted, box_refused, refused_less}
+use Rattle.c2_in_place.proofs.numbers.put_at.Goals as goal
 
 -- a box is put in behind root boxes, the last of which isn't open
 pub returns-in-Ok-clause-passed : goal.returns-in-Ok-clause-passed

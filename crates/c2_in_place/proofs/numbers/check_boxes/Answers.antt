@@ -1,7 +1,7 @@
 use Rattle.std.proofs.Common.{◌≡◌, ap, arith, length, subst}
 use Rattle.c2_refusals.specs.Seats.{IsSeat}
-use Rattle.c2_build.proofs.Seated.{boxes_pass, boxes_refused}
-use Rattle.c2_build.proofs.draft.check_boxes.Goals as goal
+use Rattle.c2_in_place.proofs.Seated.{boxes_pass, boxes_refused}
+use Rattle.c2_in_place.proofs.numbers.check_boxes.Goals as goal
 
 -- there are as many root boxes as there may be
 pub returns-then-as_slice-ge-MAX_ROOT_BOXES-clause-refused : goal.returns-then-as_slice-ge-MAX_ROOT_BOXES-clause-refused

@@ -14,18 +14,14 @@ use Rattle.std.specs.Str.{bytes_eq}
 use Rattle.c2_boxes.specs.Places.{place_behind, place_less}
 use Rattle.c2_boxes.specs.Roots.{AreRootsOf, skipped_len}
 use Rattle.c2_box_rows.proofs.Lists.{length-rows}
-use Rattle.c2_built.specs.Built.{bound_len}
-use Rattle.c2_built.specs.Store.{Content, new_alg}
 use Rattle.c2_box_rows.specs.declared.row.RootBox.{RootBox}
 use Rattle.c2_places.specs.Places.{IsPlace, Place, in_boxes, in_segments}
 use Rattle.c2_refusals.specs.Refusals.{box_tests, first_refusal, place_tests, refuse_if}
-use Rattle.c2_bound_parts.specs.Bound.{seat_binding, seat_store_len}
-use Rattle.c2_build.specs.Steps.{IsFitted}
+use Rattle.c2_in_place.specs.Numbers.{IsFitted}
 use Rattle.c2_refusals.specs.Seats.{IsSeat}
 use Rattle.c2_refusals.specs.declared.types.Put.TheVariants as Put
 use Rattle.c2_refusals.specs.declared.error.BuildError.TheVariants.{MediaRefused, OpenBox}
 use Rattle.c2_refusals.specs.declared.types.Seat.{Seat}
-use Rattle.c2_spec.specs.Digest.{zero_digest}
 
 -- where a box goes, by whether the last root box is open
 box_place : (o : Option ℕ) (at place : ℕ) → Ok at ≡ place_or o place → (o ≡ None) × (at ≡ place)
@@ -89,10 +85,3 @@ boxes_pass rows (in_segments segments number) h few = absurd h
 boxes_pass rows (in_boxes roots) h few =
     let count : length rows ≡ length roots = ap length h ∙ length-rows roots in
     ap (λ (b : Bool). first_refusal (refuse_if b (MediaRefused TooManyBoxes MAX_ROOT_BOXES) ∷ [])) (lt-leb MAX_ROOT_BOXES (length roots) (omega (arith, count, few)))
-
--- ---- how long a store is
-
--- with a blank binding it is as long as its place tells
-pub blank_len : (s : Seat) (c : Content) → bound_len c (seat_binding (new_alg c.definition) s 0 0 (zero_digest (new_alg c.definition))) c.definition.reserve ≡ seat_store_len s c
-blank_len (Seat.Segments start number) c = refl
-blank_len (Seat.Boxes rows) c = refl

@@ -1,5 +1,5 @@
--- Which test of a build fails first.
-use Rattle.std.proofs.Common.{◌≡◌, ℕ, ◌+◌, ◌<◌, ◌≤◌, Bool, false, cond, Option, Some, None, refl, ap, ◌∙◌}
+-- Which test on the numbers of a new file fails first, and how long its store is.
+use Rattle.std.proofs.Common.{◌≡◌, ℕ, ◌+◌, ◌-◌, ◌^◌, ◌<◌, ◌≤◌, min, arith, Bool, false, cond, Option, Some, None, refl, ap, ◌∙◌}
 use Rattle.std.specs.Prelude.{nat_lt, nat_le}
 use Rattle.std.proofs.lemmas.Bool.{lt-ltb, le-ltb, le-leb, lt-leb}
 use Rattle.c2_base.specs.declared.limits.TheConstants.{MAX_MANIFESTS, MAX_STORE_LEN, FILE_LEN_LIMIT}
@@ -8,6 +8,7 @@ use Rattle.c2_built.specs.Store.{Content}
 use Rattle.c2_places.specs.Places.{Place, in_boxes, in_segments}
 use Rattle.c2_refusals.specs.Refusals.{box_tests, first_refusal, new_range_len, new_store_len, number_tests, place_tests}
 use Rattle.c2_bound_parts.specs.Bound.{seat_range_len, seat_store_len}
+use Rattle.c2_in_place.specs.Numbers.{IsStoreRefusal, IsToldLen}
 use Rattle.c2_refusals.specs.Seats.{IsSeat}
 use Rattle.c2_refusals.specs.declared.error.BuildError.{BuildError}
 use Rattle.c2_refusals.specs.declared.error.BuildError.TheVariants.{MediaRefused, TooManyManifests, StoreTooLarge}
@@ -63,6 +64,16 @@ pub numbers_pass : (size ms : ℕ) (c : Content) (p : Place) (o : Option BuildEr
 numbers_pass size ms c p o is few small short boxes = small_are size ms c p is few small ∙ ap (λ (b : Bool). by_numbers false false b size ms c p) (lt-leb FILE_LEN_LIMIT (size + new_range_len p c) short) ∙ boxes
 
 -- ---- lengths
+
+-- a length that is told and isn't too large is the store's
+pub told_small : (s : Seat) (c : Content) (n : ℕ) → IsToldLen s c n → n ≤ MAX_STORE_LEN → n ≡ seat_store_len s c
+told_small s c n told small = omega (arith, told, small)
+
+-- one that is too large, and isn't the greatest number, is told as it is
+pub store_refused : (len n : ℕ) → n ≡ min len (2 ^ 64 - 1) → n < 2 ^ 64 - 1 → MAX_STORE_LEN < n → IsStoreRefusal len (StoreTooLarge n)
+store_refused len n told less large =
+    let same : n ≡ len = omega (arith, told, less) in
+    (omega (arith, same, large), ap StoreTooLarge same)
 
 -- a store is as long in a place as in its seat
 pub seat_store : (s : Seat) (p : Place) (c : Content) → IsSeat s p → new_store_len p c ≡ seat_store_len s c

@@ -1,0 +1,4 @@
+mod Numbered
+mod Seated
+pub mod Stored
+pub mod Endings

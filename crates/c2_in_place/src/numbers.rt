@@ -1,0 +1,143 @@
+// The numbers of a new file, that are known before anything is digested.
+ghost use Rattle.std.specs.Prelude.{◌≡◌, ℕ, ◌-◌, ◌<◌, ◌≤◌, ◌^◌, min, List, IfErr, IfOk, None, Some, OnOk};
+ghost use Rattle.c2_base.specs.declared.limits.TheConstants as limits;
+ghost use Rattle.c2_spec.specs.Jpeg.Writing as jpeg;
+ghost use Rattle.c2_spec.specs.declared.packets.TheConstants.{LEAST_STORE_LEN};
+ghost use Rattle.c2_built.specs.Store.{Content};
+ghost use Rattle.c2_places.specs.Places.{IsPlace, Place};
+ghost use Rattle.c2_refusals.specs.Kinds.{IsOlderQuiet, IsQuiet, WithoutFault};
+ghost use Rattle.c2_refusals.specs.Refusals.{box_tests, first_refusal, number_tests, place_tests};
+ghost use Rattle.c2_refusals.specs.Seats.{IsSeat, IsSeatIn};
+ghost use Rattle.c2_bound_parts.specs.Bound.{seat_range_len, seat_store_len};
+ghost use Rattle.c2_in_place.specs.Numbers.{IsDraft, IsFitted, IsStoreRefusal, IsToldLen};
+
+use c2_base::MediaError;
+use c2_base::limits::{FILE_LEN_LIMIT, MAX_MANIFESTS, MAX_ROOT_BOXES, MAX_STORE_LEN};
+use c2_boxes::insert_place;
+use c2_jpegseg::segments_len;
+use c2_refusals::{BuildError, Draft, Put, Seat};
+use c2_spec::Reason;
+
+// How many bytes the C2PA box of a store has before the store.
+const BOX_FRAME_LEN: u64 = 45;
+
+// The place of the first byte that is put in, and what is put in, where something can be put in at this place.
+fn put_at(seat: &Seat) -> Result<(u64, Put), BuildError>
+    ensures passed { IfOk result (λ r. (base : List ℕ) (p : Place) → IsPlace base p
+        → IsSeat seat.now p → IsFitted r.0 r.1 p) }
+    ensures refused { IfErr result (λ e. (base : List ℕ) (p : Place) → IsPlace base p
+        → IsSeat seat.now p → first_refusal (place_tests p) ≡ Some e) }
+    ensures inside { IfOk result (λ r. (len : ℕ) → IsSeatIn len seat.now → r.0 ≤ len) }
+    ensures quiet { IfErr result IsOlderQuiet }
+{
+    match seat {
+        Seat::Segments { start, number } => match number {
+            Some(number) => Ok((*start, Put::Packets(*number))),
+            None => Err(BuildError::NoInstance),
+        },
+        Seat::Boxes(roots) => match insert_place(roots, None) {
+            Ok(start) => Ok((start, Put::Box)),
+            Err(error) => match error {
+                MediaError::BadBox(at) => Err(BuildError::OpenBox(at)),
+                _ => unreachable!(),
+            },
+        },
+    }
+}
+
+// Refuses a store of so many bytes, as 64 bits tell it, which is too large. The greatest number may stand for a length that 64 bits can't
+// hold.
+fn check_store(told: u64) -> Result<(), BuildError>
+    ensures small { OnOk result (told ≤ limits.MAX_STORE_LEN) }
+    ensures refused { IfErr result (λ e. (len : ℕ) → told ≡ min len (2 ^ 64 - 1)
+        → WithoutFault e (IsStoreRefusal len e)) }
+    ensures quiet { IfErr result IsQuiet }
+{
+    if told == u64::MAX {
+        return Err(BuildError::NoMemory);
+    }
+    if told > MAX_STORE_LEN {
+        return Err(BuildError::StoreTooLarge(told));
+    }
+    Ok(())
+}
+
+// How many bytes are put in of a store of so many.
+fn range_len(seat: &Seat, store_len: u64) -> u64
+    requires { jpeg.IsStoreLen store_len }
+    ensures len { (c : Content) → seat_store_len seat.now c ≡ store_len
+        → result ≡ seat_range_len seat.now c }
+    ensures small { result < limits.FILE_LEN_LIMIT }
+{
+    match seat {
+        Seat::Segments { .. } => segments_len(store_len),
+        Seat::Boxes(_) => BOX_FRAME_LEN + store_len,
+    }
+}
+
+// Refuses a file that has as many root boxes as it may have.
+fn check_boxes(seat: &Seat) -> Result<(), BuildError>
+    ensures passed { OnOk result ((p : Place) → IsSeat seat.now p
+        → first_refusal (box_tests p) ≡ None) }
+    ensures refused { IfErr result (λ e. (p : Place) → IsSeat seat.now p
+        → first_refusal (box_tests p) ≡ Some e) }
+    ensures quiet { IfErr result IsQuiet }
+{
+    match seat {
+        Seat::Segments { .. } => Ok(()),
+        Seat::Boxes(roots) => {
+            if roots.as_slice().len() as u64 >= MAX_ROOT_BOXES {
+                return Err(BuildError::MediaRefused(Reason::TooManyBoxes, MAX_ROOT_BOXES));
+            }
+            Ok(())
+        }
+    }
+}
+
+/// The numbers of a new file at a place that was found in a base of so many bytes, with a store of so many manifests and of so many bytes,
+/// as 64 bits tell it, where no test on them refuses it.
+///
+/// In this order: `NoInstance` or `OpenBox`, where nothing can be put in; `TooManyManifests` and `StoreTooLarge` of the store; and
+/// `MediaRefused` where the new file would be too long or have too many root boxes. `NoMemory` comes where 64 bits can't hold the length of
+/// the store. Takes no memory.
+pub fn draft_at(seat: &Seat, size: u64, manifests: u64, store_len: u64) -> Result<Draft, BuildError>
+    requires short { size < limits.FILE_LEN_LIMIT }
+    requires inside { IsSeatIn size seat.now }
+    requires least { LEAST_STORE_LEN ≤ store_len }
+    ensures passed { OnOk result ((c : Content) (base : List ℕ) (p : Place)
+        → IsToldLen seat.now c store_len → IsPlace base p → IsSeat seat.now p
+        → first_refusal (number_tests size manifests c p) ≡ None) }
+    ensures refused { IfErr result (λ e. (c : Content) (base : List ℕ) (p : Place)
+        → IsToldLen seat.now c store_len → IsPlace base p → IsSeat seat.now p
+        → WithoutFault e (first_refusal (number_tests size manifests c p) ≡ Some e)) }
+    ensures draft { IfOk result (λ f. (c : Content) → IsToldLen seat.now c store_len
+        → IsDraft c seat.now size f) }
+    ensures quiet { IfErr result IsOlderQuiet }
+{
+    // Matched and not handed up by `?`, here and below: each way out has clauses of its own.
+    let (start, put) = match put_at(seat) {
+        Ok(at) => at,
+        Err(error) => return Err(error),
+    };
+    if manifests > MAX_MANIFESTS as u64 {
+        return Err(BuildError::TooManyManifests(manifests));
+    }
+    match check_store(store_len) {
+        Ok(()) => {}
+        Err(error) => return Err(error),
+    }
+    let length = range_len(seat, store_len);
+    let file_len = size + length;
+    if file_len >= FILE_LEN_LIMIT {
+        return Err(BuildError::MediaRefused(Reason::FileTooLarge, file_len));
+    }
+    match check_boxes(seat) {
+        Ok(()) => Ok(Draft {
+            start,
+            length,
+            size,
+            put,
+        }),
+        Err(error) => Err(error),
+    }
+}
