@@ -10,7 +10,7 @@ use c2_base::NoMemory;
 use c2_parent::Redactions;
 
 /// How many bytes the manifests have that these flags want.
-fn wanted_len(side: &Side<'_, '_>, wanted: &[bool]) -> usize
+fn wanted_len(side: &Side<'_, '_, '_>, wanted: &[bool]) -> usize
     requires { length wanted.now ≡ length (manifests_in side.now) }
     ensures len { result ≡ length (wanted_bytes wanted.now (manifests_in side.now)) }
     ensures fits { result < 2 ^ 63 }
@@ -27,7 +27,11 @@ fn wanted_len(side: &Side<'_, '_>, wanted: &[bool]) -> usize
 }
 
 /// Appends the manifests that these flags want.
-fn append_wanted(out: &mut Vec<u8>, side: &Side<'_, '_>, wanted: &[bool]) -> Result<(), NoMemory>
+fn append_wanted(
+    out: &mut Vec<u8>,
+    side: &Side<'_, '_, '_>,
+    wanted: &[bool],
+) -> Result<(), NoMemory>
     requires { length wanted.now ≡ length (manifests_in side.now) }
     ensures { OnOk result (out.new.items
         ≡ out.old.items ++ wanted_bytes wanted.now (manifests_in side.now)) }
@@ -44,7 +48,7 @@ fn append_wanted(out: &mut Vec<u8>, side: &Side<'_, '_>, wanted: &[bool]) -> Res
 pub fn append_with(
     out: &mut Vec<u8>,
     front: &[u8],
-    side: &Side<'_, '_>,
+    side: &Side<'_, '_, '_>,
     wanted: &[bool],
 ) -> Result<(), NoMemory>
     requires { length wanted.now ≡ length (manifests_in side.now) }
@@ -66,7 +70,7 @@ pub fn wanted_count(wanted: &[bool]) -> usize
 /// Appends the manifests that these flags want, each less what is redacted of it.
 fn append_wanted_less<'s>(
     out: &mut Vec<u8>,
-    side: &Side<'s, '_>,
+    side: &Side<'s, '_, '_>,
     wanted: &[bool],
     redactions: &Redactions<'s>,
 ) -> Result<(), NoMemory>
@@ -86,8 +90,8 @@ fn append_wanted_less<'s>(
 /// it. The room that they take as they stand is reserved first.
 pub fn append_both_less<'s>(
     out: &mut Vec<u8>,
-    old: &Side<'s, '_>,
-    other: &Side<'s, '_>,
+    old: &Side<'s, '_, '_>,
+    other: &Side<'s, '_, '_>,
     wanted: &[bool],
     redactions: &Redactions<'s>,
 ) -> Result<(), NoMemory>
@@ -105,7 +109,7 @@ pub fn append_both_less<'s>(
 /// reserved first.
 pub fn append_one_less<'s>(
     out: &mut Vec<u8>,
-    side: &Side<'s, '_>,
+    side: &Side<'s, '_, '_>,
     wanted: &[bool],
     redactions: &Redactions<'s>,
 ) -> Result<(), NoMemory>

@@ -12,7 +12,7 @@ use c2_lookup::{Places, add_place, first_place, no_places};
 use std::alloc::Global;
 
 /// Where the labels of a store's manifests stand.
-pub fn places_of<'s>(alloc: Global, side: &Side<'s, '_>) -> Result<Places<'s>, NoMemory>
+pub fn places_of<'s>(alloc: Global, side: &Side<'s, '_, '_>) -> Result<Places<'s>, NoMemory>
     ensures { IfOk result (FindsLabels (manifests_in side.now)) }
 {
     let mut places = no_places(alloc);
@@ -30,7 +30,7 @@ fn is_same(is_reached: bool, ours: &[u8], theirs: &[u8]) -> bool
 }
 
 /// Whether a manifest of the one store is reached there, and has the bytes of one of the other.
-fn is_shared(old: &Side<'_, '_>, at: usize, other: &Side<'_, '_>, i: usize) -> bool
+fn is_shared(old: &Side<'_, '_, '_>, at: usize, other: &Side<'_, '_, '_>, i: usize) -> bool
     requires ours { at < length (manifests_in old.now) }
     requires theirs { i < length (manifests_in other.now) }
     ensures { IsShared old.now other.now at i result }
@@ -42,9 +42,9 @@ fn is_shared(old: &Side<'_, '_>, at: usize, other: &Side<'_, '_>, i: usize) -> b
 
 /// Whether the manifest at a place of the other store is carried; none where the stores clash at it.
 fn is_carried(
-    old: &Side<'_, '_>,
+    old: &Side<'_, '_, '_>,
     places: &Places<'_>,
-    other: &Side<'_, '_>,
+    other: &Side<'_, '_, '_>,
     i: usize,
 ) -> Option<bool>
     requires places { FindsLabels (manifests_in old.now) places.now }
@@ -74,9 +74,9 @@ fn push_flag(flags: &mut Vec<bool>, flag: bool) -> Result<(), NoMemory>
 /// Which manifests of the other store are carried.
 pub fn carried_of(
     alloc: Global,
-    old: &Side<'_, '_>,
+    old: &Side<'_, '_, '_>,
     places: &Places<'_>,
-    other: &Side<'_, '_>,
+    other: &Side<'_, '_, '_>,
 ) -> Result<Vec<bool>, JoinError>
     requires { FindsLabels (manifests_in old.now) places.now }
     ensures carried { IfOk result (λ flags. AreCarried old.now other.now flags.items

@@ -24,8 +24,8 @@ use std::alloc::Global;
 pub fn join_into(
     alloc: Global,
     out: &mut Vec<u8>,
-    old: &Side<'_, '_>,
-    other: &Side<'_, '_>,
+    old: &Side<'_, '_, '_>,
+    other: &Side<'_, '_, '_>,
 ) -> Result<(), JoinError>
     ensures joined { OnOk result (out.new.items ≡ out.old.items
         ++ trees_bytes (joined_boxes old.now.boxes (is_marked other.now) other.now.boxes)) }
@@ -48,7 +48,7 @@ pub fn join_into(
 
 /// Appends the manifests of a store that are reached, as they stand, where there is no other store. The room for them is reserved first.
 /// Where memory runs out some of them may have been appended.
-pub fn carry_into(out: &mut Vec<u8>, other: &Side<'_, '_>) -> Result<(), NoMemory>
+pub fn carry_into(out: &mut Vec<u8>, other: &Side<'_, '_, '_>) -> Result<(), NoMemory>
     ensures { OnOk result (out.new.items ≡ out.old.items
         ++ trees_bytes (joined_boxes none (is_marked other.now) other.now.boxes)) }
 {
@@ -62,8 +62,8 @@ pub fn carry_into(out: &mut Vec<u8>, other: &Side<'_, '_>) -> Result<(), NoMemor
 pub fn join_less_into<'s>(
     alloc: Global,
     out: &mut Vec<u8>,
-    old: &Side<'s, '_>,
-    other: &Side<'s, '_>,
+    old: &Side<'s, '_, '_>,
+    other: &Side<'s, '_, '_>,
     redactions: &Redactions<'s>,
 ) -> Result<usize, JoinError>
     ensures joined { OnOk result (out.new.items ≡ out.old.items
@@ -93,7 +93,7 @@ pub fn join_less_into<'s>(
 /// stand is reserved first. Where memory runs out some of them may have been appended.
 pub fn carry_less_into<'s>(
     out: &mut Vec<u8>,
-    other: &Side<'s, '_>,
+    other: &Side<'s, '_, '_>,
     redactions: &Redactions<'s>,
 ) -> Result<usize, NoMemory>
     ensures joined { OnOk result (out.new.items ≡ out.old.items

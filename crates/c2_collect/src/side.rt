@@ -14,13 +14,13 @@ use std::marker::Model;
 /// One of two stores that are joined: the store, the tree that it was read from, and which of its manifests are reached. Clauses see the
 /// boxes of the tree's root behind its description, and the flags.
 #[derive(Drop)]
-pub struct Side<'s, 't> {
+pub struct Side<'s, 't, 'r> {
     tree: &'s Tree<'t>,
     store: &'s Store,
-    reached: &'s [bool],
+    reached: &'r [bool],
 }
 
-impl<'s, 't> Model for Side<'s, 't> {
+impl<'s, 't, 'r> Model for Side<'s, 't, 'r> {
     ghost use Rattle.c2_collect.specs.Marked.{IsSide, MarkedStore, marked};
     ghost use Rattle.c2_collect.specs.MarkedCode.{marked_code};
 
@@ -33,9 +33,9 @@ impl<'s, 't> Model for Side<'s, 't> {
     ghost invariant = { λ s. IsSide s.tree.now s.store.now s.reached.now };
 }
 
-impl<'s, 't> Side<'s, 't> {
+impl<'s, 't, 'r> Side<'s, 't, 'r> {
     /// The store that was read from this tree, with a flag for each of its manifests that says whether it is reached. Takes no memory.
-    pub fn new(tree: &'s Tree<'t>, store: &'s Store, reached: &'s [bool]) -> Side<'s, 't>
+    pub fn new(tree: &'s Tree<'t>, store: &'s Store, reached: &'r [bool]) -> Side<'s, 't, 'r>
         requires same { IsStoreOf tree.now store.now }
         requires count { length reached.now ≡ length store.now }
         ensures { result ≡ marked tree.now reached.now }
@@ -58,7 +58,7 @@ impl<'s, 't> Side<'s, 't> {
     }
 
     /// The flags, one for each manifest.
-    pub(crate) fn reached(&self) -> &'s [bool]
+    pub(crate) fn reached(&self) -> &'r [bool]
         ensures flags { result.now ≡ self.now.reached }
         ensures count { length result.now ≡ length (manifests_in self.now) }
     {

@@ -13,7 +13,12 @@ pub mod Stages
 pub mod Clashes
 pub mod OneOutcome
 pub mod SomeOutcome
+pub mod Asked
+pub mod Unrefused
 pub mod Made
+pub mod Lengths
+pub mod Making
 pub mod Worked
 pub mod WorkedPair
+pub mod WorkedFiles
 mod Rows

@@ -1,35 +1,41 @@
 -- A file that a build comes to whose new store collects from two files meets all that is said of it.
-use Rattle.std.proofs.Common.{◌≡◌, ◌⊎◌, inl, inr, ⊎_elim, ℕ, ◌+◌, ◌<◌, ◌≤◌, List, [], ◌∷◌, ◌++◌, length, None, Contains, refl, sym, ap, ◌∙◌, subst, arith}
+use Rattle.std.proofs.Common.{◌≡◌, ◌⊎◌, inl, inr, ⊎_elim, ℕ, ◌+◌, ◌<◌, ◌≤◌, List, [], ◌∷◌, ◌++◌, length, Option, None, Contains, refl, sym, ap, ◌∙◌, subst, arith}
 use Rattle.std.specs.Prelude.{Result, Ok}
 use Rattle.std.specs.List.{AllByRecursion}
 use Rattle.c2_base.specs.declared.limits.TheConstants.{MAX_STORE_LEN, FILE_LEN_LIMIT}
 use Rattle.c2_base.specs.declared.values.Question.{Question}
+use Rattle.c2_base.specs.declared.values.Range.{Range}
 use Rattle.c2_spec.specs.C2pa.Sign1.{SignParts}
 use Rattle.c2_spec.specs.Jumbf.Tree.{Tree}
 use Rattle.c2_spec.specs.Located.{Opening, absent, here, refused}
+use Rattle.c2_spec.specs.PutIn.{taken_out}
 use Rattle.c2_spec.specs.declared.digest.Alg.{Alg}
 use Rattle.c2_spec.specs.declared.panel.Verdict.{Verdict}
-use Rattle.c2_rules.specs.CheckList.{check_list, questions, summary_of}
+use Rattle.c2_rules.specs.CheckList.{StoreReading, answer_of, check_list, questions, summary_of}
 use Rattle.c2_rules.specs.Opened.{IsOpened}
 use Rattle.c2_rules.specs.Readings.{Reading}
 use Rattle.c2_rules.specs.Tests.{first_failing}
+use Rattle.c2_rules.specs.Validated.{IsAnswer}
 use Rattle.c2_rules.specs.declared.answer.Answer.TheVariants as answers
-use Rattle.c2_rules.proofs.FirstLemmas.{all_hold}
+use Rattle.c2_rules.specs.declared.answer.Summary.{Summary}
+use Rattle.c2_rules.proofs.FirstLemmas.{all_hold, none_fails}
 use Rattle.c2_joined.specs.Rooted.{StoreIsRooted}
 use Rattle.c2_succeeding.specs.Over.{ValidIsApproved}
 use Rattle.c2_definition.specs.declared.types.Definition.{Definition}
 use Rattle.c2_message.specs.Signed.{IsSigned}
-use Rattle.c2_built.specs.Store.{Content}
+use Rattle.c2_built.specs.Store.{Content, range_at}
 use Rattle.c2_gathered.specs.Gathered.{Gathered}
 use Rattle.c2_places.specs.Laws.{OnePlace}
-use Rattle.c2_places.specs.Places.{IsFreePlace, IsPlace, Place, range_len, store_len}
+use Rattle.c2_places.specs.Places.{IsFreePlace, IsPlace, Place, place_start, range_len, store_len}
+use Rattle.c2_splits.specs.Kept.{KeepsBytes, KeepsOutside, LeftKeeps}
 use Rattle.c2_collected.specs.Collected.{AreApproved, CollectsFrom, IsOfEither, QuestionsAreApproved}
 use Rattle.c2_collected.specs.Files.{collected_content, collected_signed}
-use Rattle.c2_collected.specs.Made.{HasTextsIn, IsAskedBy, MadeCollectedMeets}
+use Rattle.c2_collected.specs.Made.{HasTextsIn, IsAskedBy, MadeCollectedMeets, embedded_range}
 use Rattle.c2_collected.specs.Order.{CanCollectPair, CollectRefusal, FilePair, IsCollectedFile, IsMediaFile, IsOtherFile, IsValidAnswer, MediaFile, OtherFile}
 use Rattle.c2_collected.specs.Order.{pair_readings, reserve_refusals}
 use Rattle.c2_collected.specs.Outcomes.{CollectGround, IsCollectMade, IsCollectPlanned, IsDefinitionStage, IsGroundStage, IsMadeOn, IsMadeOver, IsMediaStage, IsMessageStage, IsNewFile}
 use Rattle.c2_collected.specs.Outcomes.{IsPairStage, IsPlannedOn, IsPlannedOver, IsPutIn, NewFile, ground_refusals, ground_signed, new_file}
+use Rattle.c2_collected.specs.Stores.{IsAcceptedFile}
 use Rattle.c2_collected.specs.Whole.{EachCollectedFileMeets, MeetsCollected, pair_questions}
 use Rattle.c2_collected.proofs.Order.{both_none, file_fits, none_failing, pair_collects}
 use Rattle.c2_collected.proofs.SomeOutcome.{AreWellFormed, IsPairPassed, LeftLaws, defined_of, free_place, opened_as, pair_passed, read_taken}
@@ -181,6 +187,7 @@ pub record MadeLaws : Type 0 where
   pub place : OnePlace
   pub rooted : StoreIsRooted
   pub each : EachCollectedFileMeets
+  pub keeps : LeftKeeps
   pub valid : ValidIsApproved
   pub approved : QuestionsAreApproved
 
@@ -227,6 +234,34 @@ built_of l hash said media definition message other b texts k p =
     } in
     record { is = built; same = refl }
 
+-- what is left of a media file has all bytes outside the range of its store
+base_keeps : LeftKeeps → (hash : Alg → List ℕ → List ℕ) (said : Question → Verdict) (media : List ℕ) (what : Opening Tree) (m : MediaFile) → IsOpened media what
+    → IsMediaFile hash said media what m → KeepsOutside media (embedded_range what) m.base
+base_keeps law hash said media (refused reason number) m opened is = absurd is
+base_keeps law hash said media absent m opened is =
+    subst (λ (x : MediaFile). KeepsOutside media None x.base) (sym is) (record { freed = None; only = inl refl; same = refl })
+base_keeps law hash said media (here start len t) m opened is = law media start len t m.base opened is.left
+
+-- so has the new file less its range, where that is what is left
+file_keeps : (media : List ℕ) (old : Option Range) (base file : List ℕ) (start at len count : ℕ) → KeepsOutside media old base
+    → taken_out start len file ≡ base → at ≡ start → count ≡ len → KeepsBytes media old file (range_at at count)
+file_keeps media old base file start at len count h is same_start same_len =
+    subst (KeepsOutside media old)
+    (sym (ap (λ n. taken_out n count file) same_start ∙ ap (λ n. taken_out start n file) same_len ∙ is)) h
+
+-- the check of an accepted file answers that it is valid
+accepted_answer : (hash : Alg → List ℕ → List ℕ) (said : Question → Verdict) (file : List ℕ) (start len : ℕ) (t : Tree) (s : StoreReading)
+    → IsAcceptedFile hash said file start len t s → (summary : Summary) × IsAnswer hash said file (answers.Valid summary)
+accepted_answer hash said file start len t s h =
+    let summary : Summary = summary_of (length file) start len s in (
+      summary,
+      (
+        here start len t,
+        h.opened,
+        (s, h.reads, sym (ap (answer_of summary) (none_fails (check_list hash said s) h.valid))),
+      ),
+    )
+
 -- so it meets all of it
 pub made_meets : MadeLaws → MadeCollectedMeets
 made_meets l hash said media definition message other b digests texts h = record {
@@ -239,9 +274,8 @@ made_meets l hash said media definition message other b digests texts h = record
   place = k.place;
   built = built.is;
   meets = met;
-  start = ap (λ (f : NewFile). f.start) k.made.same;
-  len = ap (λ (f : NewFile). f.len) k.made.same ∙ ap (λ n. range_len k.place (collected_content hash k.content) n) k.made.filled.filled
-      ∙ ap (λ (c : Gathered). range_len k.place (collected_content hash c) k.d.reserve) (sym built.same) ∙ sym met.range;
+  start = start;
+  len = len;
   signed = subst (λ (x : List ℕ). IsCollectPlanned hash said media definition other (Ok x))
       (sym (met.signed ∙ ap (λ (c : Gathered). collected_signed hash k.d c k.pair.media.base k.place) built.same))
       (planned_of hash said media definition message other b k);
@@ -251,6 +285,11 @@ made_meets l hash said media definition message other b digests texts h = record
   approved = l.approved hash said k.pair.media.boxes k.pair.other.boxes k.pair.media.readings k.pair.other.readings built.is.collects.can.joins
       (media_approved l.valid hash said media k.what k.pair.media p.is_media built.is.collects.media)
       (other_approved l.valid hash said other p.is_pair.found k.pair.other p.is_pair.is_other built.is.collects.other);
+  kept = file_keeps media (embedded_range p.is_pair.opened) k.pair.media.base b.file (place_start k.place) b.start met.len b.len
+      (base_keeps l.keeps hash said media p.is_pair.opened k.pair.media p.is_pair.is_opened p.is_pair.is_media) met.base start len;
+  accepted = λ others approved.
+      let a = met.accepted others approved in
+      accepted_answer hash others b.file (place_start k.place) met.len met.store a.0 a.1;
 }
   where
     k : Known hash said media definition message other b
@@ -262,5 +301,12 @@ made_meets l hash said media definition message other b digests texts h = record
     built : IsBuiltOf hash k.d k.pair k.parts k.place k.content b.file
     built = built_of l hash said media definition message other b texts k p
 
-    met : MeetsCollected hash k.d built.is.content k.pair k.place b.file
+    met : MeetsCollected hash k.d built.is.content built.is.message k.pair k.place b.file
     met = l.each hash k.d k.pair k.parts k.place b.file digests built.is
+
+    start : b.start ≡ place_start k.place
+    start = ap (λ (f : NewFile). f.start) k.made.same
+
+    len : b.len ≡ met.len
+    len = ap (λ (f : NewFile). f.len) k.made.same ∙ ap (λ n. range_len k.place (collected_content hash k.content) n) k.made.filled.filled
+        ∙ ap (λ (c : Gathered). range_len k.place (collected_content hash c) k.d.reserve) (sym built.same) ∙ sym met.range

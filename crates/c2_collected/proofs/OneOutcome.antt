@@ -115,7 +115,7 @@ same_form v p q (inr a) (inl b) = absurd (let bad = sym a ∙ b in cc (bad))
 same_form v p q (inr a) (inr b) = same_parts p q (let both = sym a ∙ b in cc (both))
 
 -- bytes are one message
-same_message : OneItem → (s : List ℕ) (p q : SignParts) → SpellsMessage s p → SpellsMessage s q → p ≡ q
+pub same_message : OneItem → (s : List ℕ) (p q : SignParts) → SpellsMessage s p → SpellsMessage s q → p ≡ q
 same_message one s p q a b =
     let item : b.message ≡ a.message = one b.message a.message s b.spelled a.spelled in
     same_form a.message p q a.is.form (subst (λ (v : Item). (v ≡ message_list q) ⊎ (v ≡ tag 18 (message_list q))) item b.is.form)
@@ -123,11 +123,11 @@ same_message one s p q a b =
 -- ---- the inputs
 
 -- a media file is one thing to a build
-one_media : (media : List ℕ) → IsOpenedOnce media → IsOne (IsMediaStage media)
+pub one_media : (media : List ℕ) → IsOpenedOnce media → IsOne (IsMediaStage media)
 one_media media one r s h k = h.2 ∙ ap media_stage (one h.0 k.0 h.1 k.1) ∙ sym k.2
 
 -- so is a definition file
-one_definition : OneDefinition → (file : List ℕ) → IsOne (IsDefinitionStage file)
+pub one_definition : OneDefinition → (file : List ℕ) → IsOne (IsDefinitionStage file)
 one_definition one file r s h k = h.2 ∙ ap definition_stage (one file h.0 k.0 h.1 k.1) ∙ sym k.2
 
 -- a message is read as one thing
@@ -138,7 +138,7 @@ one_read one law protected bytes (Err t) (Ok q) h k = absurd (law.none protected
 one_read one law protected bytes (Err t) (Err u) h k = ap (λ (x : SignaturePart). Err x) (law.one protected bytes t u h k)
 
 -- and is one thing to a build
-one_message : OneItem → RefusedForOne → (protected bytes : List ℕ) → IsOne (IsMessageStage protected bytes)
+pub one_message : OneItem → RefusedForOne → (protected bytes : List ℕ) → IsOne (IsMessageStage protected bytes)
 one_message one law protected bytes r s h k = h.2 ∙ ap message_stage (one_read one law protected bytes h.0 k.0 h.1 k.1) ∙ sym k.2
 
 -- ---- both files
@@ -183,7 +183,7 @@ one_other_file l hash said file (here start len t) o p h k =
     ∙ ap (other_with p.answer p.boxes) readings
 
 -- the media's part comes to one thing
-one_parent : OneLaws → (hash : Alg → List ℕ → List ℕ) (said : Question → Verdict) (media : List ℕ) (what : Opening Tree) → IsOne (IsParentStage hash said media what)
+pub one_parent : OneLaws → (hash : Alg → List ℕ → List ℕ) (said : Question → Verdict) (media : List ℕ) (what : Opening Tree) → IsOne (IsParentStage hash said media what)
 one_parent l hash said media what r s h k =
     let same : k.0 ≡ h.0 = one_media_file l hash said media what k.0 h.0 k.1 h.1 in
     one_unless (parent_refusals h.0) (λ x. x ≡ Ok h.0) (one_value h.0) r s h.2

@@ -8,6 +8,7 @@ use Rattle.c2_base.specs.declared.values.Question.{Question}
 use Rattle.c2_spec.specs.Bmff.Paths.{placed_from}
 use Rattle.c2_spec.specs.Bmff.Writing.{open_end}
 use Rattle.c2_spec.specs.C2pa.Message.{bare_bytes}
+use Rattle.c2_spec.specs.C2pa.Sign1.{SignParts}
 use Rattle.c2_spec.specs.Jumbf.Tree.{Tree, Trees, tree_bytes}
 use Rattle.c2_spec.specs.Located.{Opening, absent, here, refused}
 use Rattle.c2_spec.specs.declared.digest.Alg.{Alg}
@@ -33,9 +34,9 @@ use Rattle.c2_built.specs.Store.{Content, new_alg}
 use Rattle.c2_gathered.specs.Gathered.{Gathered}
 use Rattle.c2_places.specs.Places.{CanPut, HasRoom, Place, in_boxes, in_segments, place_file, place_store, put_bytes, range_len, store_len}
 use Rattle.c2_collected.specs.Files.{collected_content}
-use Rattle.c2_collected.specs.Order.{CanCollectPair, CollectInputs, CollectRefusal, IsCollectedFile, IsMediaFile, IsOtherFile, IsValidAnswer, MediaFile, OtherFile}
+use Rattle.c2_collected.specs.Order.{CanCollectPair, CollectRefusal, FilePair, IsCollectedFile, IsMediaFile, IsOtherFile, IsValidAnswer, MediaFile, OtherFile}
 use Rattle.c2_collected.specs.Order.{CollectablePairIsUnrefused, CollectedIsNotRefused, NothingRefusedIsCollected, UnrefusedPairCollects}
-use Rattle.c2_collected.specs.Order.{behind, box_refusals, collected_refusals, definition_refusals, file_refusals, label_refusals, media_refusals, message_refusals, other_refusals}
+use Rattle.c2_collected.specs.Order.{box_refusals, collected_refusals, file_refusals, label_refusals, other_refusals}
 use Rattle.c2_collected.specs.Order.{pair_readings, pair_refusals, pair_roots, place_refusals, reserve_refusals, size_refusals}
 use Rattle.c2_collected.specs.Order.{label_clash, label_taken, media_refused, no_instance, open_box, parent_fails, redaction_refused, reserve_too_small, store_too_large, too_many_manifests}
 use Rattle.c2_collected.specs.Refusals.{redaction_refusal_by}
@@ -129,13 +130,6 @@ media_store law hash said file (here start len t) m opened is none =
     let k = accepted_rooted law hash said file start len t is.reading accepted in
     subst (λ (rs : List Reading). IsRootedStore hash m.boxes rs (last_roots rs)) (sym is.readings)
     (subst (λ (x : Trees). IsRootedStore hash x is.reading.readings (last_roots is.reading.readings)) (sym is.boxes) k.0)
-
--- a media file that isn't refused
-media_none : (hash : Alg → List ℕ → List ℕ) (said : Question → Verdict) (file : List ℕ) (what : Opening Tree) (m : MediaFile)
-    → IsMediaFile hash said file what m → media_refusals what ≡ []
-media_none hash said file (refused reason number) m is = absurd is
-media_none hash said file absent m is = refl
-media_none hash said file (here start len t) m is = refl
 
 -- ---- both files
 
@@ -258,53 +252,42 @@ none_needed (Some n) h = absurd (h n refl)
 
 -- ---- all of it
 
--- all that is refused behind the inputs, where this is the definition
-abbrev behind_inputs : (Alg → List ℕ → List ℕ) → CollectInputs → Definition → List CollectRefusal
-behind_inputs hash i d =
-    pair_refusals d i.pair ++ (collected_refusals hash d i.pair i.content i.place ++ behind i.message (reserve_refusals d))
-
 -- where nothing is refused, the file is built with a message that fills what is reserved for it
 pub nothing_refused : StoreIsRooted → FillsOrNeedsMore → NothingRefusedIsCollected
-nothing_refused law fills hash said media other d parts i h e =
-    let opened = both_none (media_refusals i.opened) _ e in
-    let defined = both_none (definition_refusals i.definition) _ opened.1 in
-    let signed = both_none (message_refusals i.message) _ defined.1 in
-    let all : behind_inputs hash i d ≡ [] = ap (λ r. behind r (behind_inputs hash i)) (sym h.definition) ∙ signed.1 in
-    let pair = both_none (pair_refusals d i.pair) _ all in
-    let file = both_none (collected_refusals hash d i.pair i.content i.place) _ pair.1 in
-    let reserve : reserve_refusals d parts ≡ [] = ap (λ r. behind r (reserve_refusals d)) (sym h.message) ∙ file.1 in
+nothing_refused law fills hash said media other d parts pair c p h e =
+    let both = both_none (pair_refusals d pair) _ e in
+    let file = both_none (collected_refusals hash d pair c p) (reserve_refusals d parts) both.1 in
     let needed : Option ℕ = reserve_needed d.reserve (length (bare_bytes parts)) in
-    let enough : needed ≡ None = none_told reserve_too_small needed reserve in
-    let k : CanCollectPair hash d i.pair = pair_collects law hash said d media other i.pair h.pair pair.0 in
-    let f : Fits i.pair.media.base (collected_content hash i.content) d.reserve (length (pair_readings i.pair) + 1) i.place =
-    file_fits i.pair.media.base (collected_content hash i.content) d.reserve (length (pair_readings i.pair) + 1) i.place file.0 in
+    let enough : needed ≡ None = none_told reserve_too_small needed file.1 in
+    let k : CanCollectPair hash d pair = pair_collects law hash said d media other pair h.read both.0 in
+    let f : Fits base x d.reserve (length (pair_readings pair) + 1) p = file_fits base x d.reserve (length (pair_readings pair) + 1) p file.0 in
     ⊎_elim (λ s. made k f s) (λ n. absurd (let bad = sym enough ∙ n.1 in cc (bad))) (fills.either h.bytes parts d.reserve h.paddable)
   where
     x : Content
-    x = collected_content hash i.content
+    x = collected_content hash c
 
     base : List ℕ
-    base = i.pair.media.base
+    base = pair.media.base
 
-    made : CanCollectPair hash d i.pair → Fits base x d.reserve (length (pair_readings i.pair) + 1) i.place
+    made : CanCollectPair hash d pair → Fits base x d.reserve (length (pair_readings pair) + 1) p
         → (message : List ℕ) × IsSigned parts d.reserve message
-        → (file : List ℕ) × IsCollectedFile hash d i.pair parts i.place file
+        → (file : List ℕ) × IsCollectedFile hash d pair parts p file
     made k f s =
         let count = f.few in
-        let bytes = some_bytes i.place f.room (tree_bytes (place_store (hash (new_alg d)) x s.0 base i.place)) in (
-          place_file base i.place bytes.0,
+        let bytes = some_bytes p f.room (tree_bytes (place_store (hash (new_alg d)) x s.0 base p)) in (
+          place_file base p bytes.0,
           record {
             own = h.own;
             collects = k;
-            content = i.content;
+            content = c;
             collected = record { can = k.can; few = omega (arith, count); written = h.written; content = h.content };
             message = s.0;
             signed = s.1;
             can = record {
               place = h.place;
               room = f.room;
-              small = subst (λ n. store_len i.place x n ≤ MAX_STORE_LEN) (sym s.1.filled) f.small;
-              fits = subst (λ n. length base + range_len i.place x n < FILE_LEN_LIMIT) (sym s.1.filled) f.fits;
+              small = subst (λ n. store_len p x n ≤ MAX_STORE_LEN) (sym s.1.filled) f.small;
+              fits = subst (λ n. length base + range_len p x n < FILE_LEN_LIMIT) (sym s.1.filled) f.fits;
             };
             bytes = bytes.0;
             put = bytes.1;
@@ -312,36 +295,30 @@ nothing_refused law fills hash said media other d parts i h e =
           },
         )
 
--- and where it is built, nothing is refused
+-- nothing of the new file is refused where it is built
+pub file_unrefused : (hash : Alg → List ℕ → List ℕ) (d : Definition) (pair : FilePair) (parts : SignParts) (p : Place) (file : List ℕ) (b : IsCollectedFile hash d pair parts p file)
+    → collected_refusals hash d pair b.content p ≡ []
+file_unrefused hash d pair parts p file b =
+    let x : Content = collected_content hash b.content in
+    let base : List ℕ = pair.media.base in
+    let can : CanPut x d.reserve base p = subst (λ n. CanPut x n base p) b.signed.filled b.can in
+    let count = b.collected.few in
+    file_none base x d.reserve (length (pair_readings pair) + 1) p
+    (record { room = can.room; few = omega (arith, count); small = can.small; fits = can.fits })
+
+-- nor of its message
+pub reserve_unrefused : FillsOrNeedsMore → (hash : Alg → List ℕ → List ℕ) (d : Definition) (pair : FilePair) (parts : SignParts) (p : Place) (file : List ℕ)
+    → IsCollectedFile hash d pair parts p file → reserve_refusals d parts ≡ []
+reserve_unrefused fills hash d pair parts p file b =
+    let needed : Option ℕ = reserve_needed d.reserve (length (bare_bytes parts)) in
+    told_none reserve_too_small needed (none_needed needed (λ n e. fills.never_both parts d.reserve b.message b.signed (n, e)))
+
+-- so nothing at all is
 pub built_unrefused : FillsOrNeedsMore → CollectedIsNotRefused
-built_unrefused fills hash said media other d parts i file h b =
-    none_both (media_refusals i.opened) _ (ap media_refusals h.opened ∙ media_none hash said media h.pair.opened i.pair.media h.pair.is_media)
-    (none_both (definition_refusals i.definition) _ (ap definition_refusals h.definition)
-    (none_both (message_refusals i.message) _ (ap message_refusals h.message)
-    (ap (λ r. behind r (behind_inputs hash i)) h.definition
-    ∙ none_both (pair_refusals d i.pair) _ (pair_unrefused hash said d media other i.pair h.pair b.collects)
-    (none_both (collected_refusals hash d i.pair i.content i.place) _ (file_none base x d.reserve (length (pair_readings i.pair) + 1) i.place fits)
-    (ap (λ r. behind r (reserve_refusals d)) h.message ∙ told_none reserve_too_small needed enough)))))
-  where
-    x : Content
-    x = collected_content hash i.content
-
-    base : List ℕ
-    base = i.pair.media.base
-
-    needed : Option ℕ
-    needed = reserve_needed d.reserve (length (bare_bytes parts))
-
-    enough : needed ≡ None
-    enough = none_needed needed (λ n e. fills.never_both parts d.reserve b.message b.signed (n, e))
-
-    same : b.content ≡ i.content
-    same = content_one d i.pair.media.boxes i.pair.other.boxes i.pair.media.readings i.pair.other.readings b.content i.content b.collected.content h.content
-
-    can : CanPut x d.reserve base i.place
-    can = subst (λ n. CanPut x n base i.place) b.signed.filled
-        (subst (λ (c : Gathered). CanPut (collected_content hash c) (length b.message) base i.place) same b.can)
-
-    fits : Fits base x d.reserve (length (pair_readings i.pair) + 1) i.place
-    fits = let count = b.collected.few in
-        record { room = can.room; few = omega (arith, count); small = can.small; fits = can.fits }
+built_unrefused fills hash said media other d parts pair c p file h b =
+    let same : b.content ≡ c =
+    content_one d pair.media.boxes pair.other.boxes pair.media.readings pair.other.readings b.content c b.collected.content h.content in
+    none_both (pair_refusals d pair) _ (pair_unrefused hash said d media other pair h.read b.collects)
+    (none_both (collected_refusals hash d pair c p) (reserve_refusals d parts)
+    (subst (λ (g : Gathered). collected_refusals hash d pair g p ≡ []) same (file_unrefused hash d pair parts p file b))
+    (reserve_unrefused fills hash d pair parts p file b))

@@ -95,7 +95,7 @@ refused_not media reason number {P} m = absurd (by m.0 m.2)
     by (here start len t) e = let bad = same_value (refused reason number) (here start len t) e in cc (bad)
 
 -- what the check of a file that is opened so answers
-answer_over : (hash : Alg → List ℕ → List ℕ) (said : Question → Verdict) (file : List ℕ) (what : Opening Tree) (c : HasCheck hash said file) → IsOpened file what
+pub answer_over : (hash : Alg → List ℕ → List ℕ) (said : Question → Verdict) (file : List ℕ) (what : Opening Tree) (c : HasCheck hash said file) → IsOpened file what
     → IsOpenedAnswer hash said file what c.answer
 answer_over hash said file what c opened =
     subst (λ (w : Opening Tree). IsOpenedAnswer hash said file w c.answer) (c.once c.is.0 what c.is.1 opened) c.is.2
@@ -145,7 +145,7 @@ pub record IsOtherPassed (hash : Alg → List ℕ → List ℕ) (said : Question
   pub none : other_refusals o.answer ≡ []
 
 -- so much is known
-other_passed : (hash : Alg → List ℕ → List ℕ) (said : Question → Verdict) (other : List ℕ) (o : OtherFile) → IsOtherStage hash said other (Ok o) → IsOtherPassed hash said other o
+pub other_passed : (hash : Alg → List ℕ → List ℕ) (said : Question → Verdict) (other : List ℕ) (o : OtherFile) → IsOtherStage hash said other (Ok o) → IsOtherPassed hash said other o
 other_passed hash said other o h =
     let p = unless_passed (other_refusals h.2.0.answer) (λ s. s ≡ Ok h.2.0) o h.2.2 in
     let same : h.2.0 ≡ o = cc (p.1) in
@@ -158,7 +158,7 @@ pub record IsMediaPassed (hash : Alg → List ℕ → List ℕ) (said : Question
   pub none : parent_refusals m ≡ []
 
 -- so much is known
-media_passed : (hash : Alg → List ℕ → List ℕ) (said : Question → Verdict) (media : List ℕ) (what : Opening Tree) (m : MediaFile) → IsParentStage hash said media what (Ok m) → IsMediaPassed hash said media what m
+pub media_passed : (hash : Alg → List ℕ → List ℕ) (said : Question → Verdict) (media : List ℕ) (what : Opening Tree) (m : MediaFile) → IsParentStage hash said media what (Ok m) → IsMediaPassed hash said media what m
 media_passed hash said media what m h =
     let p = unless_passed (parent_refusals h.0) (λ s. s ≡ Ok h.0) m h.2 in
     let same : h.0 ≡ m = cc (p.1) in

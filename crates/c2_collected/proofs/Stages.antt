@@ -1,4 +1,4 @@
--- Stages one after the other: where each comes to one thing, all of them do; and so for something.
+-- Stages one after the other: where each comes to one thing, all of them do; and so for something, and for no refusal.
 use Rattle.std.proofs.Common.{◌≡◌, List, [], ◌∷◌, refl, sym, ◌∙◌, subst}
 use Rattle.std.specs.Prelude.{Result, Ok, Err}
 use Rattle.c2_collected.specs.Order.{CollectRefusal}
@@ -79,3 +79,31 @@ then_next First Next a r h k = record { first = Ok a; is_first = h; next = k }
 -- and behind a list of what is refused, which is empty
 pub unless_passes : {A : Type 0} (es : List CollectRefusal) (Next : Result A CollectRefusal → Type 0) (r : Result A CollectRefusal) → es ≡ [] → Next r → Unless es Next r
 unless_passes {A} es Next r h n = subst (λ (xs : List CollectRefusal). Unless {A = A} xs Next r) (sym h) n
+
+-- ---- no refusal
+
+-- what comes to no refusal
+abbrev pub NeverRefuses : {A : Type 0} → (Result A CollectRefusal → Type 0) → Type 0
+NeverRefuses Is = (e : CollectRefusal) → Is (Err e) → ⊥
+
+-- two stages refuse nothing where neither does
+pub then_never : {A B : Type 0} (First : Result A CollectRefusal → Type 0) (Next : A → Result B CollectRefusal → Type 0) → NeverRefuses First
+    → ((a : A) → First (Ok a) → NeverRefuses (Next a)) → NeverRefuses (Then First Next)
+then_never {A} {B} First Next first next e h = by h.first h.is_first h.next
+  where
+    by : (r : Result A CollectRefusal) → First r → After Next r (Err e) → ⊥
+    by (Ok a) f n = next a f e n
+    by (Err x) f n = first x f
+
+-- an empty list refuses nothing, where what comes behind it doesn't
+pub unless_never : {A : Type 0} (es : List CollectRefusal) (Next : Result A CollectRefusal → Type 0) → es ≡ [] → NeverRefuses Next → NeverRefuses (Unless es Next)
+unless_never {A} es Next none next e h = next e (subst (λ (xs : List CollectRefusal). Unless {A = A} xs Next (Err e)) none h)
+
+-- a value is no refusal
+pub value_never : {A : Type 0} (a : A) → NeverRefuses (λ (r : Result A CollectRefusal). r ≡ Ok a)
+value_never a e h = cc (h)
+
+-- what comes to something, and refuses nothing, comes to a value
+pub comes_out : {A : Type 0} (Is : Result A CollectRefusal → Type 0) (r : Result A CollectRefusal) → Is r → NeverRefuses Is → (a : A) × Is (Ok a)
+comes_out Is (Ok a) h never = (a, h)
+comes_out Is (Err e) h never = absurd (never e h)

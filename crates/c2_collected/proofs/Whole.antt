@@ -49,6 +49,7 @@ each_meets laws hash d pair parts p file digests b = record {
   len = len;
   range = ap (λ n. range_len p x n) b.signed.filled;
   store = t;
+  is = ap (λ (e : Definition). place_store (hash (new_alg e)) x b.message base p) b.collected.content.definition;
   question = q;
   meets = met;
   signed = signed;

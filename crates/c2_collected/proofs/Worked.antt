@@ -71,7 +71,7 @@ first_texts = record {
 }
 
 -- so are those of the second
-second_texts : HasTexts (defined second_label)
+pub second_texts : HasTexts (defined second_label)
 unfolding lib.Utf8.encode
 second_texts = record {
   label = record { utf8 = (second_label, (refl, refl)); short = lit< tt };
@@ -160,11 +160,11 @@ legal = record { shallow = lit≤ tt; distinct = (tt, (tt, (tt, (tt, tt)))); no_
     bad (inr (inr (inr (inr h)))) = h
 
 -- and plain
-plain : IsPlainMessage parts
+pub plain : IsPlainMessage parts
 plain = record { legal = legal; plain = (tt, (tt, (tt, (tt, tt)))) }
 
 -- the bytes spell it
-spelled : SpellsMessage message parts
+pub spelled : SpellsMessage message parts
 spelled = record {
   message = tagged_message parts;
   legal = legal;

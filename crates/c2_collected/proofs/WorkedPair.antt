@@ -332,6 +332,17 @@ builds hash pair c filled base collects is s can =
       },
     )
 
+-- The file of the second definition over these two files, with both as they are read.
+pub record IsSecond (hash : Alg → List ℕ → List ℕ) (said : Question → Verdict) (media other : List ℕ) : Type 0 where
+  pub file : List ℕ
+  pub pair : FilePair
+  pub read : IsFilePair hash said media other pair
+  pub is : IsCollectedFile hash (defined second_label) pair parts place file
+
+-- so such a file is built of them
+built_from : (hash : Alg → List ℕ → List ℕ) (said : Question → Verdict) (own other : List ℕ) (k : IsSecond hash said own other) → IsCollectedFrom hash said own other k.file
+built_from hash said own other k = record { definition = defined second_label; pair = k.pair; read = k.read; parts = parts; place = place; is = k.is }
+
 module _ (l : WorkedLaws) (hash : Alg → List ℕ → List ℕ) (said : Question → Verdict) (digests : GivesDigests hash) (filled : List ℕ)
     (s : IsSigned parts 64 filled) (k : IsFirst hash said filled) where
   -- the first store and file
@@ -387,12 +398,12 @@ module _ (l : WorkedLaws) (hash : Alg → List ℕ → List ℕ) (said : Questio
   }
 
   -- so a file is built
-  alone_file : (new : List ℕ) × IsCollectedFrom hash said media file new
+  pub alone_file : IsSecond hash said media file
   alone_file =
       let b = builds hash alone_pair (alone (hash Sha256) filled) filled refl alone_may
       (record { can = alone_may.can; few = lit< tt; written = second_written; content = alone_collects (hash Sha256) filled k.own }) s
       (alone_can l hash digests filled s.filled) in
-      (b.0, record { definition = defined second_label; pair = alone_pair; read = alone_read; parts = parts; place = place; is = b.1 })
+      record { file = b.0; pair = alone_pair; read = alone_read; is = b.1 }
 
   -- with itself
   abbrev twice_pair : FilePair
@@ -427,14 +438,14 @@ module _ (l : WorkedLaws) (hash : Alg → List ℕ → List ℕ) (said : Questio
   }
 
   -- so a file is built
-  twice_file : (new : List ℕ) × IsCollectedFrom hash said file file new
+  pub twice_file : IsSecond hash said file file
   twice_file =
       let few : length (collected_readings (k.own ∷ []) (k.own ∷ [])) < MAX_MANIFESTS =
       subst (λ (js : List Reading). length js < MAX_MANIFESTS) (sym (twice_readings k.own)) (lit< tt) in
       let b = builds hash twice_pair (twice (hash Sha256) filled) filled refl twice_may
       (record { can = twice_may.can; few = few; written = second_written; content = twice_collects (hash Sha256) filled k.own }) s
       (twice_can l hash digests filled s.filled) in
-      (b.0, record { definition = defined second_label; pair = twice_pair; read = twice_read; parts = parts; place = place; is = b.1 })
+      record { file = b.0; pair = twice_pair; read = twice_read; is = b.1 }
 
 -- so some file is built
 pub some_file : WorkedLaws → SomeFileIsCollected
@@ -442,9 +453,10 @@ some_file l false hash said digests all =
     let s = signed l.fills in
     let k : IsFirst hash said s.0 = is_first l.meets l.asks hash said digests all s.0 s.1 in
     let b = alone_file l hash said digests s.0 s.1 k in
-    (media, first_file (hash Sha256) s.0, b.0, is_absent, b.1)
+    (media, first_file (hash Sha256) s.0, b.file, is_absent, built_from hash said media (first_file (hash Sha256) s.0) b)
 some_file l true hash said digests all =
     let s = signed l.fills in
     let k : IsFirst hash said s.0 = is_first l.meets l.asks hash said digests all s.0 s.1 in
+    let first : List ℕ = first_file (hash Sha256) s.0 in
     let b = twice_file l hash said digests s.0 s.1 k in
-    (first_file (hash Sha256) s.0, first_file (hash Sha256) s.0, b.0, (place_start place, first_len s.0, store (hash Sha256) s.0, k.accepted.opened), b.1)
+    (first, first, b.file, (place_start place, first_len s.0, store (hash Sha256) s.0, k.accepted.opened), built_from hash said first first b)

@@ -7,4 +7,6 @@ pub mod Contents
 pub mod Order
 pub mod Whole
 pub mod Outcomes
+pub mod Asked
 pub mod Made
+pub mod Lengths

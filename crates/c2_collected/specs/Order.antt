@@ -3,8 +3,6 @@
 use Rattle.std.specs.Prelude.{◌≡◌, ℕ, ◌+◌, nat_lt, nat_le, Bool, true, false, List, [], ◌∷◌, ◌++◌, is_none, length, option_map, slice_get, if◌then◌else◌}
 use Rattle.std.specs.declared.option.Option.{Option}
 use Rattle.std.specs.declared.option.Option.TheVariants.{None, Some}
-use Rattle.std.specs.declared.result.Result.{Result}
-use Rattle.std.specs.declared.result.Result.TheVariants.{Ok, Err}
 use Rattle.std.specs.Option.{option_to_list}
 use Rattle.c2_base.specs.declared.limits.TheConstants.{FILE_LEN_LIMIT, MAX_MANIFESTS, MAX_ROOT_BOXES, MAX_STORE_LEN}
 use Rattle.c2_base.specs.declared.values.Question.{Question}
@@ -150,23 +148,7 @@ pub data CollectRefusal : Type 0 where
 abbrev pub first_refusal : List CollectRefusal → Option CollectRefusal
 first_refusal refusals = slice_get refusals 0
 
--- ---- of the inputs, one by one
-
--- that a media file is refused
-abbrev pub media_refusals : Opening Tree → List CollectRefusal
-media_refusals (refused reason number) = media_refused reason number ∷ []
-media_refusals absent = []
-media_refusals (here start len t) = []
-
--- that a definition file is refused
-abbrev pub definition_refusals : Result Definition DefinitionField → List CollectRefusal
-definition_refusals (Ok d) = []
-definition_refusals (Err field) = bad_definition field ∷ []
-
--- that a signed message is refused
-abbrev pub message_refusals : Result SignParts SignaturePart → List CollectRefusal
-message_refusals (Ok p) = []
-message_refusals (Err test) = bad_signature test ∷ []
+-- ---- of both files
 
 -- that the other file isn't valid
 abbrev pub other_refusals : Answer → List CollectRefusal
@@ -174,8 +156,6 @@ other_refusals (answers.Valid summary) = []
 other_refusals (answers.Failing failing) = other_refused (answers.Failing failing) ∷ []
 other_refusals (answers.Refused reason number) = other_refused (answers.Refused reason number) ∷ []
 other_refusals answers.NoStore = other_refused answers.NoStore ∷ []
-
--- ---- of both files
 
 -- that one of these manifests has the label of a new one
 abbrev pub label_refusals : List ℕ → List Reading → List CollectRefusal
@@ -236,38 +216,10 @@ abbrev pub collected_refusals : (Alg → List ℕ → List ℕ) → Definition �
 collected_refusals hash d pair c p =
     file_refusals pair.media.base (collected_content hash c) d.reserve (length (pair_readings pair) + 1) p
 
--- ---- the whole order
-
--- What is found of the inputs of a build that collects, before anything is tested: what the media file is opened as, what the definition
--- file and the message come to, what both files are to the new store, what goes into that, and where.
-pub record CollectInputs : Type 0 where
-  pub opened : Opening Tree
-  pub definition : Result Definition DefinitionField
-  pub message : Result SignParts SignaturePart
-  pub pair : FilePair
-  pub content : Gathered
-  pub place : Place
-
--- what is refused behind something that isn't
-abbrev pub behind : {A E : Type 0} → Result A E → (A → List CollectRefusal) → List CollectRefusal
-behind (Ok a) refusals = refusals a
-behind (Err e) refusals = []
-
--- all that is refused, in order, of a plan: it has no message
-abbrev pub plan_refusals : (Alg → List ℕ → List ℕ) → CollectInputs → List CollectRefusal
-plan_refusals hash i =
-    media_refusals i.opened
-    ++ (definition_refusals i.definition
-    ++ behind i.definition (λ d. pair_refusals d i.pair ++ collected_refusals hash d i.pair i.content i.place))
-
--- all that is refused, in order, of a new file with its message
-abbrev pub embed_refusals : (Alg → List ℕ → List ℕ) → CollectInputs → List CollectRefusal
-embed_refusals hash i =
-    media_refusals i.opened
-    ++ (definition_refusals i.definition
-    ++ (message_refusals i.message
-    ++ behind i.definition (λ d. pair_refusals d i.pair
-    ++ (collected_refusals hash d i.pair i.content i.place ++ behind i.message (reserve_refusals d)))))
+-- all that is refused, in order, of two files and of a new file of a definition that collects this content from them, with a message of
+-- these parts: what a build tests once its inputs are read and none of them is refused alone
+abbrev pub all_refusals : (Alg → List ℕ → List ℕ) → Definition → SignParts → FilePair → Gathered → Place → List CollectRefusal
+all_refusals hash d parts pair c p = pair_refusals d pair ++ (collected_refusals hash d pair c p ++ reserve_refusals d parts)
 
 -- ---- where nothing is refused
 
@@ -309,29 +261,26 @@ pub record IsCollectedFile (hash : Alg → List ℕ → List ℕ) (d : Definitio
 
 -- What a build that collects is given, where none of its inputs is refused alone: two files, a definition that can be written, a message
 -- with its protected header that can be padded, what goes into the new store, and a free place for it in what is left of the media.
-pub record HasCollectInputs (hash : Alg → List ℕ → List ℕ) (said : Question → Verdict) (media other : List ℕ) (d : Definition) (parts : SignParts) (i : CollectInputs) : Type 0 where
-  pub pair : IsFilePair hash said media other i.pair
-  pub opened : i.opened ≡ pair.opened
-  pub definition : i.definition ≡ Ok d
+pub record HasCollectInputs (hash : Alg → List ℕ → List ℕ) (said : Question → Verdict) (media other : List ℕ) (d : Definition) (parts : SignParts) (pair : FilePair) (c : Gathered) (p : Place) : Type 0 where
+  pub read : IsFilePair hash said media other pair
   pub written : CanBeWritten d
-  pub message : i.message ≡ Ok parts
   pub own : parts.protected ≡ d.protected
   pub bytes : List ℕ
   pub paddable : IsPaddable bytes parts d.reserve
-  pub content : CollectsFrom d i.pair.media.boxes i.pair.other.boxes i.pair.media.readings i.pair.other.readings i.content
-  pub place : IsFreePlace i.pair.media.base i.place
+  pub content : CollectsFrom d pair.media.boxes pair.other.boxes pair.media.readings pair.other.readings c
+  pub place : IsFreePlace pair.media.base p
 
 -- Where nothing is refused of what a build that collects is given, there is a file of its new store.
 abbrev pub NothingRefusedIsCollected : Type 0
-NothingRefusedIsCollected = (hash : Alg → List ℕ → List ℕ) (said : Question → Verdict) (media other : List ℕ) (d : Definition) (parts : SignParts) (i : CollectInputs)
-    → HasCollectInputs hash said media other d parts i → embed_refusals hash i ≡ []
-    → (file : List ℕ) × IsCollectedFile hash d i.pair parts i.place file
+NothingRefusedIsCollected = (hash : Alg → List ℕ → List ℕ) (said : Question → Verdict) (media other : List ℕ) (d : Definition) (parts : SignParts) (pair : FilePair) (c : Gathered) (p : Place)
+    → HasCollectInputs hash said media other d parts pair c p → all_refusals hash d parts pair c p ≡ []
+    → (file : List ℕ) × IsCollectedFile hash d pair parts p file
 
 -- Where there is a file of the new store of what a build that collects is given, nothing is refused of that.
 abbrev pub CollectedIsNotRefused : Type 0
-CollectedIsNotRefused = (hash : Alg → List ℕ → List ℕ) (said : Question → Verdict) (media other : List ℕ) (d : Definition) (parts : SignParts) (i : CollectInputs) (file : List ℕ)
-    → HasCollectInputs hash said media other d parts i → IsCollectedFile hash d i.pair parts i.place file
-    → embed_refusals hash i ≡ []
+CollectedIsNotRefused = (hash : Alg → List ℕ → List ℕ) (said : Question → Verdict) (media other : List ℕ) (d : Definition) (parts : SignParts) (pair : FilePair) (c : Gathered) (p : Place) (file : List ℕ)
+    → HasCollectInputs hash said media other d parts pair c p → IsCollectedFile hash d pair parts p file
+    → all_refusals hash d parts pair c p ≡ []
 
 -- ---- there is one
 

@@ -3,6 +3,7 @@
 ghost use Rattle.c2_collected.specs.Collected.{CollectedContentIsOne, CollectedStoreMeets, CollectedStoreReaches, JoinedIsReached, QuestionsAreApproved, QuestionsAreOfEither, SomeContentCollects};
 ghost use Rattle.c2_collected.specs.Contents.{CollectedContentMeets};
 ghost use Rattle.c2_collected.specs.Files.{CollectedFileMeets, CollectedFileReaches};
+ghost use Rattle.c2_collected.specs.Lengths.{CollectedIsShort, CollectedStoresFit};
 ghost use Rattle.c2_collected.specs.Order.{CollectablePairIsUnrefused, CollectedIsNotRefused, NothingRefusedIsCollected, SomeFileIsCollected, UnrefusedPairCollects};
 ghost use Rattle.c2_collected.specs.Refusals.{FirstRedactionIsLeastBy, RedactionsAreAcceptedBy, RefusalsAreStanding};
 ghost use Rattle.c2_collected.specs.Whole.{EachCollectedFileMeets};
@@ -13,6 +14,7 @@ use c2_cbor::sorting_keeps_the_length;
 use c2_gathered::{a_gathered_store_meets_the_rules, stores_are_gathered};
 use c2_joined::{a_store_is_rooted_at_its_last_manifest, chains_join};
 use c2_jumbf::each_list_is_a_tree_or_not;
+use c2_lengths::the_length_of_a_gathered_store_fits;
 use c2_message::a_message_fills_its_reserve_or_needs_more;
 use c2_places::{a_new_store_has_one_length_in_its_place, bindings_are_known};
 use c2_reading::one_reading;
@@ -139,6 +141,16 @@ pub fn each_collected_file_meets_the_rules()
     what_is_joined_is_reached();
     a_base_stays();
     a_question_where_the_claim_rules_hold();
+}
+
+/// What goes into a new store that collects from two files is short, so the length of that store is less than 2^64 - 1 where a file is the
+/// definition: a length that is told by 64 bits is exact.
+pub fn the_length_of_a_collected_store_fits()
+    ensures short { CollectedIsShort }
+    ensures fits { CollectedStoresFit }
+{
+    // Only the prover needs this law.
+    the_length_of_a_gathered_store_fits();
 }
 
 /// Some file is built that collects, whatever the hash, where it gives digests and judges approve each question: of a media file without a

@@ -9,6 +9,7 @@ returns c = made_meets (record {
   place = c.a_place_is_one.ensures;
   rooted = c.a_store_is_rooted_at_its_last_manifest.ensures;
   each = c.each_collected_file_meets_the_rules.ensures;
+  keeps = c.a_file_at_a_split_keeps_its_bytes.ensures.left;
   valid = c.a_valid_store_is_approved.ensures;
   approved = c.what_is_joined_is_reached.ensures.approved;
 })
