@@ -26,8 +26,8 @@ fn the_claim_is_signed(rt: HostRuntime) -> Result<(), Fail> {
     Ok(())
 }
 
-// What the whole check of a file answers where a judge approves all.
-fn checked(alloc: Global, bytes: &[u8]) -> Result<String, Fail> {
+/// What the whole check of a file answers where a judge approves all.
+pub fn checked(alloc: Global, bytes: &[u8]) -> Result<String, Fail> {
     let mut source = MemSource::new(Blob::copied(alloc, bytes)?, 100, 0);
     let mut judges: Vec<Box<dyn Judge>> = Vec::new(alloc);
     judges.push(Box::new(alloc, FixedJudge::new(Verdict::Approved, 0))?)?;

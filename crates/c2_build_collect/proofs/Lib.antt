@@ -1,0 +1,10 @@
+mod Stages
+mod Refused
+mod Contents
+mod Drafts
+mod Planned
+mod Due
+mod Unasked
+mod Ended
+mod Causes
+mod Questioned

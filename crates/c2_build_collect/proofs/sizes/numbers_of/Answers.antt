@@ -1,0 +1,11 @@
+use Rattle.c2_build_collect.proofs.sizes.numbers_of.Goals as goal
+
+-- the tests are those of the length that was told
+pub returns-in-Ok-draft_at-clause-passed : goal.returns-in-Ok-draft_at-clause-passed
+returns-in-Ok-draft_at-clause-passed c = λ content base p is at seat. c.in-Ok-draft_at.ensures.passed content base p (c.in-Ok.ensures.len content is) at seat
+
+pub returns-in-Ok-draft_at-clause-draft : goal.returns-in-Ok-draft_at-clause-draft
+returns-in-Ok-draft_at-clause-draft c = λ content is. c.in-Ok-draft_at.ensures.draft content (c.in-Ok.ensures.len content is)
+
+pub returns-in-Err-draft_at-clause-refused : goal.returns-in-Err-draft_at-clause-refused
+returns-in-Err-draft_at-clause-refused c = λ content base p is at seat. c.in-Err-draft_at.ensures.refused content base p (c.in-Ok.ensures.len content is) at seat

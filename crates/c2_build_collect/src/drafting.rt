@@ -1,0 +1,110 @@
+// What is to be built over two files, by what is known before anything is digested.
+ghost use Rattle.std.specs.Prelude.{◌≡◌, IfOk, map};
+ghost use Rattle.c2_base.specs.Causes.{Rose};
+ghost use Rattle.c2_base.specs.Source.{ReadsSource};
+ghost use Rattle.c2_spec.specs.Judges.Panel.{panel_says};
+ghost use Rattle.c2_rules.specs.Asking.{HearsPanel};
+ghost use Rattle.c2_cleared.specs.Clears.{cleared_len};
+ghost use Rattle.c2_refusals.specs.Kinds.{build_heard};
+ghost use Rattle.c2_ground.specs.Grounds.{IsReadIn};
+ghost use Rattle.c2_collect_ground.specs.Grounds.{IsGroundCause, PairHears};
+ghost use Rattle.c2_build_collect.specs.Steps.{ForFiles, IsDraftOf, IsSmall, LeavesOther};
+
+use crate::sizes::numbers_of;
+use c2_base::Source;
+use c2_collect_ground::{CollectedGround, Collector};
+use c2_definition::Definition;
+use c2_ground::{MediaRead, form_of};
+use c2_hash::Hashing;
+use c2_judge::Judge;
+use c2_layout::ingredient_labels_may_be_written;
+use c2_place::find_spot;
+use c2_places::each_media_has_a_place;
+use c2_refusals::{BuildError, Draft, Seat};
+use std::alloc::Global;
+
+/// What is to be built, and over what.
+#[derive(Debug, Drop)]
+pub(crate) struct CollectedDraft {
+    /// What it is built over.
+    pub(crate) ground: CollectedGround,
+
+    /// The place in what is left of the media.
+    pub(crate) seat: Seat,
+
+    /// Its numbers.
+    pub(crate) draft: Draft,
+}
+
+/// What a build is made of, once the media file and the definition are read.
+#[derive(Drop)]
+pub(crate) struct Build<'b, 't, H> {
+    /// What takes memory.
+    pub(crate) alloc: Global,
+
+    /// What makes digests.
+    pub(crate) hashing: &'b H,
+
+    /// What was read of the media file.
+    pub(crate) file: &'b MediaRead<'t>,
+
+    /// The definition.
+    pub(crate) definition: &'b Definition,
+}
+
+impl<'b, 't, H: Hashing> Build<'b, 't, H> {
+    /// What is to be built over both files. Judges are asked what the checks of both ask, and the place in the media is looked for after that.
+    pub(crate) fn drafted<A: Source, D: Source>(
+        &self,
+        media: &mut A,
+        other: &mut D,
+        judges: &mut Vec<Box<dyn Judge>>,
+    ) -> Result<CollectedDraft, BuildError>
+        requires { IsReadIn (A.len media.old) self.now.file.now }
+        ensures drafted { let said = panel_says (map says judges.old.items) in
+            let d = self.now.definition.now in
+            ForFiles H.digest_of said (A.known media.old) (D.known other.old) self.now.file.now
+            (λ bytes what others. IsDraftOf H.digest_of said bytes others what d result) }
+        ensures not_due { let said = panel_says (map says judges.old.items) in
+            LeavesOther H.digest_of said (A.known media.old) self.now.file.now
+            other.old other.new }
+        ensures small { IfOk result (λ w. IsSmall
+            (cleared_len w.ground.clearing (A.len media.old)) self.now.definition.now w) }
+        ensures media { ReadsSource A.len A.known A.faults
+            (IsGroundCause (Rose (D.faults other.old) (D.faults other.new)))
+            media.old media.new result }
+        ensures other { ReadsSource D.len D.known D.faults
+            (IsGroundCause (Rose (A.faults media.old) (A.faults media.new)))
+            other.old other.new result }
+        ensures panel { HearsPanel says asked_times judge_faults build_heard
+            (PairHears H.digest_of (A.known media.old) (D.known other.old) self.now.file.now)
+            judges.old judges.new result }
+    {
+        // Only the prover needs these laws.
+        each_media_has_a_place();
+        ingredient_labels_may_be_written();
+        let form = form_of(self.file.container);
+        let collector = Collector {
+            alloc: self.alloc,
+            hashing: self.hashing,
+            definition: self.definition,
+        };
+        // Matched and not handed up by `?`, here and below: each way out has clauses of its own.
+        let ground = match collector.ground(media, self.file, other, judges) {
+            Ok(ground) => ground,
+            Err(error) => return Err(error),
+        };
+        let spot = match find_spot(self.alloc, media, ground.clearing, form) {
+            Ok(spot) => spot,
+            Err(error) => return Err(error),
+        };
+        match numbers_of(self.alloc, self.definition, &ground, &spot) {
+            Ok(draft) => Ok(CollectedDraft {
+                ground,
+                seat: spot.seat,
+                draft,
+            }),
+            Err(error) => Err(error),
+        }
+    }
+}

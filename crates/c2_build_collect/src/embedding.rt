@@ -1,0 +1,169 @@
+// Writing a new file whose store collects.
+ghost use Rattle.std.specs.Prelude.{◌≡◌, ◌⊎◌, map};
+ghost use Rattle.c2_base.specs.Causes.{Rose};
+ghost use Rattle.c2_base.specs.Source.{ReadsSource};
+ghost use Rattle.c2_spec.specs.Judges.Panel.{panel_says};
+ghost use Rattle.c2_rules.specs.Asking.{HearsPanel};
+ghost use Rattle.c2_refusals.specs.Kinds.{build_heard};
+ghost use Rattle.c2_build_collect.specs.Answers.{AsksEmbedded, EmbedsCollected, ForEmbedInputs, IsEmbedCause, IsPrepareCause, LeavesBuildUndue, WritesOut};
+ghost use Rattle.c2_build_collect.specs.Steps.{IsPrepared};
+
+use crate::ready::Builder;
+use c2_base::{Sink, Source};
+use c2_collected::{a_collected_build_comes_to_one_thing, a_made_collected_file_meets_the_rules};
+use c2_definition::each_definition_is_read_one_way;
+use c2_ground::open_media;
+use c2_hash::Hashing;
+use c2_in_place::{Ready, write_file};
+use c2_judge::Judge;
+use c2_putting::copy_fault;
+use c2_refusals::{BuildError, Embedded};
+use c2_validate::one_opening;
+use std::alloc::Global;
+
+// What media files are opened with.
+#[derive(Drop)]
+struct Opener<'h, H> {
+    alloc: Global,
+    hashing: &'h H,
+}
+
+impl<'h, H: Hashing> Opener<'h, H> {
+    // What is to be written, made from the four sources.
+    fn prepare<A: Source, B: Source, C: Source, D: Source>(
+        &self,
+        media: &mut A,
+        definition: &mut B,
+        signature: &mut C,
+        other: &mut D,
+        judges: &mut Vec<Box<dyn Judge>>,
+    ) -> Result<Ready, BuildError>
+        requires { Unit {0} }
+        ensures prepared { let said = panel_says (map says judges.old.items) in
+            IsPrepared H.digest_of said (A.known media.old) (B.known definition.old)
+            (C.known signature.old) (D.known other.old) (A.len media.old) result }
+        ensures not_due { let said = panel_says (map says judges.old.items) in
+            LeavesBuildUndue H.digest_of said (A.known media.old) (B.known definition.old)
+            (C.known signature.old) definition.old definition.new signature.old signature.new
+            other.old other.new }
+        ensures media { ReadsSource A.len A.known A.faults (IsPrepareCause
+            (Rose (B.faults definition.old) (B.faults definition.new)
+            ⊎ (Rose (C.faults signature.old) (C.faults signature.new)
+            ⊎ Rose (D.faults other.old) (D.faults other.new))))
+            media.old media.new result }
+        ensures definition { ReadsSource B.len B.known B.faults (IsPrepareCause
+            (Rose (A.faults media.old) (A.faults media.new)
+            ⊎ (Rose (C.faults signature.old) (C.faults signature.new)
+            ⊎ Rose (D.faults other.old) (D.faults other.new))))
+            definition.old definition.new result }
+        ensures message { ReadsSource C.len C.known C.faults (IsPrepareCause
+            (Rose (A.faults media.old) (A.faults media.new)
+            ⊎ (Rose (B.faults definition.old) (B.faults definition.new)
+            ⊎ Rose (D.faults other.old) (D.faults other.new))))
+            signature.old signature.new result }
+        ensures other { ReadsSource D.len D.known D.faults (IsPrepareCause
+            (Rose (A.faults media.old) (A.faults media.new)
+            ⊎ (Rose (B.faults definition.old) (B.faults definition.new)
+            ⊎ Rose (C.faults signature.old) (C.faults signature.new))))
+            other.old other.new result }
+        ensures panel { HearsPanel says asked_times judge_faults build_heard (AsksEmbedded
+            H.digest_of (A.known media.old) (B.known definition.old) (C.known signature.old)
+            (D.known other.old)) judges.old judges.new result }
+    {
+        // Only the prover needs this law.
+        one_opening();
+        let file = match open_media(self.alloc, media) {
+            Ok(file) => file,
+            Err(error) => return Err(error),
+        };
+        let builder = Builder {
+            alloc: self.alloc,
+            hashing: self.hashing,
+            file: &file,
+        };
+        builder.prepare(media, definition, signature, other, judges)
+    }
+}
+
+/// Writes the new file: the media with a new store, of a definition and of a signed message, in its place, which carries the manifests of the media's
+/// store and what is reached in the other file's, less what the definition redacts, and has the last manifest of the other file's store as a component
+/// beside the parent, where the media has a store. The place is behind the APP0 segments of a JPEG file; in a BMFF file at the end, or before a last
+/// `mfra`.
+///
+/// The media is refused by `MediaRefused`, then the definition by `BadDefinition`, then the message by `BadSignature`. What comes behind these is refused
+/// as `plan_collect` refuses it, and at last `ReserveTooSmall` comes where the message doesn't fit into the bytes that are reserved for it. Over known
+/// bytes the error is the first of these whose condition holds. `ReadFault` and `WriteFault` come only where a source or the sink failed in this call, and
+/// leave a prefix of the new file that isn't finished; every other error leaves the sink as it was, since all memory is taken before anything is written.
+/// `JudgeFault` comes only where a judge failed in this call, and `NoMemory` where memory ran out; no other error comes.
+///
+/// The judges are asked what the check of the media's store asks, where it has one and neither the definition nor the message is refused, and then, where
+/// no rule of that fails, what the check of the other file asks. The definition isn't read where the media is refused, the message isn't where the media
+/// or the definition is, and the other file isn't where the media isn't accepted or one of these is refused. Each file is opened once, and read in pieces.
+// The condition always holds: a function that is lent boxed judges is called under a contract only where it has one.
+pub fn embed_collect<A: Source, B: Source, C: Source, D: Source, K: Sink, H: Hashing>(
+    alloc: Global,
+    hashing: &H,
+    media: &mut A,
+    definition: &mut B,
+    signature: &mut C,
+    other: &mut D,
+    judges: &mut Vec<Box<dyn Judge>>,
+    out: &mut K,
+) -> Result<Embedded, BuildError>
+    requires { Unit {0} }
+    // Where the bytes that are due are known: this is what they come to, what the sink took, and what the new file meets.
+    ensures embedded { let said = panel_says (map says judges.old.items) in
+        ForEmbedInputs H.digest_of said (A.known media.old) (B.known definition.old)
+        (C.known signature.old) (D.known other.old) (λ file bytes message others.
+        EmbedsCollected K.written K.spare K.finished H.digest_of said file bytes message others
+        out.old out.new result) }
+    ensures not_due { let said = panel_says (map says judges.old.items) in
+        LeavesBuildUndue H.digest_of said (A.known media.old) (B.known definition.old)
+        (C.known signature.old) definition.old definition.new signature.old signature.new
+        other.old other.new }
+
+    // These hold of every source; just the questions of the build are asked where the bytes are known that tell them.
+    ensures media { ReadsSource A.len A.known A.faults (IsEmbedCause
+        (Rose (B.faults definition.old) (B.faults definition.new)
+        ⊎ (Rose (C.faults signature.old) (C.faults signature.new)
+        ⊎ Rose (D.faults other.old) (D.faults other.new))))
+        media.old media.new result }
+    ensures definition { ReadsSource B.len B.known B.faults (IsEmbedCause
+        (Rose (A.faults media.old) (A.faults media.new)
+        ⊎ (Rose (C.faults signature.old) (C.faults signature.new)
+        ⊎ Rose (D.faults other.old) (D.faults other.new))))
+        definition.old definition.new result }
+    ensures message { ReadsSource C.len C.known C.faults (IsEmbedCause
+        (Rose (A.faults media.old) (A.faults media.new)
+        ⊎ (Rose (B.faults definition.old) (B.faults definition.new)
+        ⊎ Rose (D.faults other.old) (D.faults other.new))))
+        signature.old signature.new result }
+    ensures other { ReadsSource D.len D.known D.faults (IsEmbedCause
+        (Rose (A.faults media.old) (A.faults media.new)
+        ⊎ (Rose (B.faults definition.old) (B.faults definition.new)
+        ⊎ Rose (C.faults signature.old) (C.faults signature.new))))
+        other.old other.new result }
+    ensures sink { WritesOut K.written K.faults K.finished out.old out.new result }
+    ensures panel { HearsPanel says asked_times judge_faults build_heard (AsksEmbedded
+        H.digest_of (A.known media.old) (B.known definition.old) (C.known signature.old)
+        (D.known other.old)) judges.old judges.new result }
+{
+    // Only the prover needs these laws.
+    a_collected_build_comes_to_one_thing();
+    a_made_collected_file_meets_the_rules();
+    one_opening();
+    each_definition_is_read_one_way();
+    let opener = Opener { alloc, hashing };
+    let ready = match opener.prepare(media, definition, signature, other, judges) {
+        Ok(ready) => ready,
+        Err(error) => return Err(error),
+    };
+    let embedded = Embedded {
+        start: ready.draft.start,
+        length: ready.draft.length,
+    };
+    match write_file(media, ready, out) {
+        Ok(()) => Ok(embedded),
+        Err(error) => Err(copy_fault(error)),
+    }
+}

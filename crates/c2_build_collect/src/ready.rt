@@ -1,0 +1,214 @@
+// What is ready to be written, before anything is.
+ghost use Rattle.std.specs.Prelude.{◌≡◌, ◌⊎◌, IfErr, IfOk, length, map};
+ghost use Rattle.c2_base.specs.Causes.{Rose};
+ghost use Rattle.c2_base.specs.Source.{ReadsSource};
+ghost use Rattle.c2_spec.specs.C2pa.Message.{CanBePadded};
+ghost use Rattle.c2_spec.specs.C2pa.Sign1.{parts_of};
+ghost use Rattle.c2_spec.specs.Cbor.Item.{Pairs};
+ghost use Rattle.c2_spec.specs.Judges.Panel.{panel_says};
+ghost use Rattle.c2_rules.specs.Asking.{HearsPanel};
+ghost use Rattle.c2_cleared.specs.Clears.{cleared_len};
+ghost use Rattle.c2_collected.specs.Outcomes.{IsMadeOver, IsPairStage, Then};
+ghost use Rattle.c2_definition.specs.DefinitionFile.{IsWellFormed};
+ghost use Rattle.c2_refusals.specs.Kinds.{IsReadCause, SaysNothing, build_heard};
+ghost use Rattle.c2_in_place.specs.Writings.{CanWrite};
+ghost use Rattle.c2_collect_ground.specs.Grounds.{PairHears};
+ghost use Rattle.c2_build_collect.specs.Answers.{AsksEmbedded, IsPrepareCause, LeavesBuildUndue};
+ghost use Rattle.c2_build_collect.specs.Steps.{ForFiles, IsBuildRead, IsFileFound, IsPrepared, IsReadyFor, IsReadyWith, IsSmall, LeavesOther};
+
+use crate::drafting::{Build, CollectedDraft};
+use crate::parts::collected_parts;
+use c2_base::limits::PIECE_LEN;
+use c2_base::{NoMemory, Source};
+use c2_built::a_new_store_has_one_length;
+use c2_cbor::one_item;
+use c2_definition::each_definition_is_read_one_way;
+use c2_films::a_new_film_store_has_one_length;
+use c2_ground::{MediaFile, read_media};
+use c2_hash::Hashing;
+use c2_in_place::Ready;
+use c2_judge::Judge;
+use c2_layout::gathered_store;
+use c2_message::{
+    a_message_fills_its_reserve_or_needs_more, each_message_is_accepted_or_refused_for_one_test,
+};
+use c2_refusals::{BuildError, padded, read_definition_file, read_message_file};
+use c2_sigstruct::Sign1;
+use c2_validate::one_opening;
+use std::alloc::Global;
+
+/// What builds are made with, once the media file is opened.
+#[derive(Drop)]
+pub(crate) struct Builder<'b, H> {
+    /// What takes memory.
+    pub(crate) alloc: Global,
+
+    /// What makes digests.
+    pub(crate) hashing: &'b H,
+
+    /// What was found of the media file.
+    pub(crate) file: &'b MediaFile,
+}
+
+impl<'b, 't, H: Hashing> Build<'b, 't, H> {
+    // What is to be written, of what was drafted, with a message.
+    fn ready_with<A: Source>(
+        &self,
+        media: &mut A,
+        drafted: CollectedDraft,
+        message: &[u8],
+    ) -> Result<Ready, BuildError>
+        requires formed { IsWellFormed self.now.definition.now }
+        requires small { IsSmall (cleared_len drafted.ground.clearing (A.len media.old))
+            self.now.definition.now drafted }
+        requires filled { length message.now ≡ self.now.definition.now.reserve }
+        ensures ready { IfOk result (IsReadyWith H.digest_of (A.known media.old)
+            self.now.definition.now drafted message.now) }
+        ensures nothing { IfErr result SaysNothing }
+        ensures can_write { IfOk result (CanWrite (A.len media.old)) }
+        ensures reads { ReadsSource A.len A.known A.faults IsReadCause media.old media.new result }
+    {
+        // Only the prover needs these laws.
+        a_new_store_has_one_length();
+        a_new_film_store_has_one_length();
+        let alloc = self.alloc;
+        let definition = self.definition;
+        let Ok(mut buffer) = vec![in alloc; 0u8; PIECE_LEN] else {
+            return Err(BuildError::NoMemory);
+        };
+        // Matched and not handed up by `?`, here and below: each way out has clauses of its own.
+        let parts = match collected_parts(
+            alloc,
+            self.hashing,
+            media,
+            definition,
+            &drafted,
+            &mut buffer,
+        ) {
+            Ok(parts) => parts,
+            Err(error) => return Err(error),
+        };
+        let boxes = drafted.ground.boxes.as_slice();
+        match gathered_store(alloc, definition, boxes, &parts, message) {
+            Ok(store) => Ok(Ready {
+                store,
+                draft: drafted.draft,
+                clearing: drafted.ground.clearing,
+                buffer,
+            }),
+            Err(NoMemory) => Err(BuildError::NoMemory),
+        }
+    }
+
+    // What is to be written, over both files, with a message.
+    fn ready<A: Source, D: Source>(
+        &self,
+        media: &mut A,
+        sign: &Sign1,
+        other: &mut D,
+        judges: &mut Vec<Box<dyn Judge>>,
+    ) -> Result<Ready, BuildError>
+        requires read { IsBuildRead (A.len media.old) self.now.file.now self.now.definition.now }
+        requires can { (entries : Pairs) × CanBePadded (parts_of sign.now) entries }
+        ensures ready { let said = panel_says (map says judges.old.items) in
+            let d = self.now.definition.now in
+            ForFiles H.digest_of said (A.known media.old) (D.known other.old) self.now.file.now
+            (λ bytes what others. IsReadyFor bytes (Then
+            (IsPairStage H.digest_of said bytes others what d)
+            (IsMadeOver H.digest_of d (parts_of sign.now))) result) }
+        ensures not_due { let said = panel_says (map says judges.old.items) in
+            LeavesOther H.digest_of said (A.known media.old) self.now.file.now
+            other.old other.new }
+        ensures can_write { IfOk result (CanWrite (A.len media.old)) }
+        ensures media { ReadsSource A.len A.known A.faults
+            (IsPrepareCause (Rose (D.faults other.old) (D.faults other.new)))
+            media.old media.new result }
+        ensures other { ReadsSource D.len D.known D.faults
+            (IsPrepareCause (Rose (A.faults media.old) (A.faults media.new)))
+            other.old other.new result }
+        ensures panel { HearsPanel says asked_times judge_faults build_heard
+            (PairHears H.digest_of (A.known media.old) (D.known other.old) self.now.file.now)
+            judges.old judges.new result }
+    {
+        // Only the prover needs this law.
+        a_message_fills_its_reserve_or_needs_more();
+        let drafted = match self.drafted(media, other, judges) {
+            Ok(drafted) => drafted,
+            Err(error) => return Err(error),
+        };
+        let message = match padded(self.alloc, sign, self.definition) {
+            Ok(message) => message,
+            Err(error) => return Err(error),
+        };
+        self.ready_with(media, drafted, message.as_slice())
+    }
+}
+
+impl<'b, H: Hashing> Builder<'b, H> {
+    /// What is to be written, made from the other three sources.
+    pub(crate) fn prepare<A: Source, B: Source, C: Source, D: Source>(
+        &self,
+        media: &mut A,
+        definition: &mut B,
+        signature: &mut C,
+        other: &mut D,
+        judges: &mut Vec<Box<dyn Judge>>,
+    ) -> Result<Ready, BuildError>
+        requires { IsFileFound (A.len media.old) (A.known media.old) self.now.file.now }
+        ensures prepared { let said = panel_says (map says judges.old.items) in
+            IsPrepared H.digest_of said (A.known media.old) (B.known definition.old)
+            (C.known signature.old) (D.known other.old) (A.len media.old) result }
+        ensures not_due { let said = panel_says (map says judges.old.items) in
+            LeavesBuildUndue H.digest_of said (A.known media.old) (B.known definition.old)
+            (C.known signature.old) definition.old definition.new signature.old signature.new
+            other.old other.new }
+        ensures media { ReadsSource A.len A.known A.faults (IsPrepareCause
+            (Rose (B.faults definition.old) (B.faults definition.new)
+            ⊎ (Rose (C.faults signature.old) (C.faults signature.new)
+            ⊎ Rose (D.faults other.old) (D.faults other.new))))
+            media.old media.new result }
+        ensures definition { ReadsSource B.len B.known B.faults (IsPrepareCause
+            (Rose (A.faults media.old) (A.faults media.new)
+            ⊎ (Rose (C.faults signature.old) (C.faults signature.new)
+            ⊎ Rose (D.faults other.old) (D.faults other.new))))
+            definition.old definition.new result }
+        ensures message { ReadsSource C.len C.known C.faults (IsPrepareCause
+            (Rose (A.faults media.old) (A.faults media.new)
+            ⊎ (Rose (B.faults definition.old) (B.faults definition.new)
+            ⊎ Rose (D.faults other.old) (D.faults other.new))))
+            signature.old signature.new result }
+        ensures other { ReadsSource D.len D.known D.faults (IsPrepareCause
+            (Rose (A.faults media.old) (A.faults media.new)
+            ⊎ (Rose (B.faults definition.old) (B.faults definition.new)
+            ⊎ Rose (C.faults signature.old) (C.faults signature.new))))
+            other.old other.new result }
+        ensures panel { HearsPanel says asked_times judge_faults build_heard (AsksEmbedded
+            H.digest_of (A.known media.old) (B.known definition.old) (C.known signature.old)
+            (D.known other.old)) judges.old judges.new result }
+    {
+        // Only the prover needs these laws.
+        one_opening();
+        each_definition_is_read_one_way();
+        one_item();
+        each_message_is_accepted_or_refused_for_one_test();
+        let read = match read_media(self.alloc, self.file) {
+            Ok(read) => read,
+            Err(error) => return Err(error),
+        };
+        let definition = match read_definition_file(self.alloc, definition) {
+            Ok(definition) => definition,
+            Err(error) => return Err(error),
+        };
+        let sign = match read_message_file(self.alloc, definition.protected.as_slice(), signature) {
+            Ok(sign) => sign,
+            Err(error) => return Err(error),
+        };
+        let build = Build {
+            alloc: self.alloc,
+            hashing: self.hashing,
+            file: &read,
+            definition: &definition,
+        };
+        build.ready(media, &sign, other, judges)
+    }
+}

@@ -1,0 +1,12 @@
+mod Told
+mod Flags
+mod Boxed
+mod Lasts
+mod Stages
+mod Files
+mod Heard
+mod Pair
+mod Opened
+mod Named
+mod Joins
+mod Tests
