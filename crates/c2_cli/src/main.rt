@@ -57,6 +57,7 @@ fn run_into(
     let mut media = file_at(rt, words, roles.and_then(|roles| roles.media));
     let mut second = file_at(rt, words, roles.and_then(|roles| roles.second));
     let mut third = file_at(rt, words, roles.and_then(|roles| roles.third));
+    let mut fourth = file_at(rt, words, roles.and_then(|roles| roles.fourth));
     let mut report = HostOut::standard(rt.stdout());
     Ok(run(
         alloc,
@@ -65,6 +66,7 @@ fn run_into(
         &mut media,
         &mut second,
         &mut third,
+        &mut fourth,
         &mut out,
         &mut report,
         &mut judges,

@@ -4,7 +4,7 @@ use Rattle.std.specs.Prelude.{◌≢◌, ⊤, IfErr, IfOk, Ok, Err, Result}
 use Rattle.c2_base.specs.Causes.{Rose}
 use Rattle.c2_spec.specs.Judges.Panel.{SomeRose}
 use Rattle.c2_rules.specs.Asking.{IsJudgeCause}
-use Rattle.c2_words.specs.CommandLine.{has_word, is_media, is_out, is_second, is_third, lets_ask}
+use Rattle.c2_words.specs.CommandLine.{has_word, is_fourth, is_media, is_out, is_second, is_third, lets_ask}
 use Rattle.c2_words.specs.declared.types.Command.{Command}
 use Rattle.c2_words.specs.declared.types.Roles.{Roles}
 use Rattle.c2_outcome.specs.Reply.{CausedBy, IsCopyingCause, IsInputCause, IsMediaCause, IsOutputCause, IsPanelCause, IsReadingCause, IsSourcesCause, IsWritingCause, end_of, fault_heard}
@@ -16,7 +16,7 @@ use Rattle.c2_outcome.specs.declared.types.Answer.{Answer}
 use Rattle.c2_outcome.specs.declared.types.Answer.TheVariants as answer
 use Rattle.c2_outcome.specs.declared.types.Status.TheVariants.{Usage, InputFault, OutputFault, JudgeFault}
 use Rattle.c2_cmd.specs.Run.{Faults, IsCaused, JudgeFailed, SinkFailed, SourceFailed}
-use Rattle.c2_cmd.specs.Sources.{the_media, the_second, the_third}
+use Rattle.c2_cmd.specs.Sources.{the_fourth, the_media, the_second, the_third}
 use Rattle.c2_cmd.proofs.Commands.{named_by}
 use Rattle.c2_cmd.proofs.Delivering.{no_end}
 
@@ -239,6 +239,64 @@ caused_writing {roles} {f} r found c gives named has other more writes words cau
     (λ e. three_failed roles f found c gives named has other more (source_end _ _ _ r cause e))
     (λ e. inr (named_by is_out roles found c gives named writes, sink_end _ _ _ r out e))
     (λ e. unjudged_end _ _ _ r cause e)
+
+-- one of these failed: the media, the second file or the fourth
+collect_failed : (roles : Option Roles) (f : Faults) (found : Roles) (c : Command) → roles ≡ Some found
+    → found.command ≡ c → has_word is_media c ≡ true → has_word is_second c ≡ true → has_word is_fourth c ≡ true
+    → Rose f.sources.media.0 f.sources.media.1
+    ⊎ (Rose f.sources.second.0 f.sources.second.1 ⊎ Rose f.sources.fourth.0 f.sources.fourth.1) → SourceFailed roles f
+collect_failed roles f found c gives named has other more (inl rose) =
+    two_failed roles f found c gives named has other (inl rose)
+collect_failed roles f found c gives named has other more (inr (inl rose)) =
+    two_failed roles f found c gives named has other (inr rose)
+collect_failed roles f found c gives named has other more (inr (inr rose)) =
+    (the_fourth, (named_by is_fourth roles found c gives named more, rose))
+
+-- by a command that reads these and asks judges
+pub caused_collecting : {roles : Option Roles} {f : Faults} (r : Result Reply Fault) (found : Roles)
+    (c : Command)
+    → roles ≡ Some found → found.command ≡ c → has_word is_media c ≡ true → has_word is_second c ≡ true
+    → has_word is_fourth c ≡ true → has_word lets_ask c ≡ true → IfOk r (λ reply. reply.answer ≢ answer.Usage)
+    → IfErr r (IsReadingCause (Rose f.sources.second.0 f.sources.second.1 ⊎ Rose f.sources.fourth.0 f.sources.fourth.1)
+    f.sources.media.0 f.sources.media.1)
+    → IfErr r (λ e. IsJudgeCause f.judges.0 f.judges.1 (fault_heard e)) → IsCaused roles f (end_of r)
+caused_collecting {roles} {f} r found c gives named has other more asks words cause panel =
+    words_caused roles f r words
+    (λ e. collect_failed roles f found c gives named has other more (source_end _ _ _ r cause e))
+    (λ e. absurd (sink_end _ _ _ r cause e))
+    (λ e. (named_by lets_ask roles found c gives named asks, judged_end _ _ r panel e))
+
+-- one of four failed
+four_failed : (roles : Option Roles) (f : Faults) (found : Roles) (c : Command) → roles ≡ Some found
+    → found.command ≡ c → has_word is_media c ≡ true → has_word is_second c ≡ true → has_word is_third c ≡ true
+    → has_word is_fourth c ≡ true
+    → Rose f.sources.media.0 f.sources.media.1
+    ⊎ (Rose f.sources.second.0 f.sources.second.1
+    ⊎ (Rose f.sources.third.0 f.sources.third.1 ⊎ Rose f.sources.fourth.0 f.sources.fourth.1)) → SourceFailed roles f
+four_failed roles f found c gives named has other message more (inl rose) =
+    two_failed roles f found c gives named has other (inl rose)
+four_failed roles f found c gives named has other message more (inr (inl rose)) =
+    two_failed roles f found c gives named has other (inr rose)
+four_failed roles f found c gives named has other message more (inr (inr (inl rose))) =
+    three_failed roles f found c gives named has other message (inr (inr rose))
+four_failed roles f found c gives named has other message more (inr (inr (inr rose))) =
+    (the_fourth, (named_by is_fourth roles found c gives named more, rose))
+
+-- by a command that reads four, writes to the new file and asks judges
+pub caused_collected : {roles : Option Roles} {f : Faults} (r : Result Reply Fault) (found : Roles)
+    (c : Command)
+    → roles ≡ Some found → found.command ≡ c → has_word is_media c ≡ true → has_word is_second c ≡ true
+    → has_word is_third c ≡ true → has_word is_fourth c ≡ true → has_word is_out c ≡ true
+    → has_word lets_ask c ≡ true → IfOk r (λ reply. reply.answer ≢ answer.Usage)
+    → IfErr r (IsInputCause (Rose f.sources.second.0 f.sources.second.1
+    ⊎ (Rose f.sources.third.0 f.sources.third.1 ⊎ Rose f.sources.fourth.0 f.sources.fourth.1))
+    f.sources.media.0 f.sources.media.1) → IfErr r (IsOutputCause f.out.0 f.out.1)
+    → IfErr r (λ e. IsJudgeCause f.judges.0 f.judges.1 (fault_heard e)) → IsCaused roles f (end_of r)
+caused_collected {roles} {f} r found c gives named has other message more writes asks words cause out panel =
+    words_caused roles f r words
+    (λ e. four_failed roles f found c gives named has other message more (source_end _ _ _ r cause e))
+    (λ e. inr (named_by is_out roles found c gives named writes, sink_end _ _ _ r out e))
+    (λ e. (named_by lets_ask roles found c gives named asks, judged_end _ _ r panel e))
 
 -- ---- words of no command
 

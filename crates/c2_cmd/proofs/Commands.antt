@@ -7,7 +7,7 @@ use Rattle.std.specs.declared.vec.Vec.{Vec}
 use Rattle.std.proofs.lemmas.Bool.{false≢true}
 use Rattle.c2_base.specs.Source.{IsKnownWhereDue}
 use Rattle.c2_base.specs.declared.values.Question.{Question}
-use Rattle.c2_refusals.specs.Stages.{IsDefinitionRefused, IsMediaRefused}
+use Rattle.c2_refusals.specs.Stages.{IsDefinitionRefused, IsMediaRefused, IsMessageRefused, IsToldRefused}
 use Rattle.c2_calls.specs.Asks.{AsksKnown}
 use Rattle.c2_calls.proofs.PanelLemmas.{asked_none}
 use Rattle.c2_spec.specs.Judges.Panel.{Judges, judges_of, panel_says}
@@ -137,6 +137,27 @@ pub message_left : (P Q : List ℕ → Type 0) (known other : Option (List ℕ))
     → ForSome known (λ a. P a → Same) → ForSome other (λ b. Q b → Same) → IsKnownAs P known ⊎ IsKnownAs Q other → Same
 message_left P Q known other Same first second (inl k) = left_where_known P known Same first k
 message_left P Q known other Same first second (inr k) = left_where_known Q other Same second k
+
+-- a message is refused by what is known of it and of its definition
+told_refused : (known other : Option (List ℕ)) → IsToldRefused known other → IsMessageRefused (unwrap_or known []) (unwrap_or other [])
+told_refused known other (b, is, (m, spoken, refuses)) =
+    subst (λ (x : Option (List ℕ)). IsMessageRefused (unwrap_or x []) (unwrap_or other [])) (sym is)
+    (subst (λ (x : Option (List ℕ)). IsMessageRefused b (unwrap_or x [])) (sym spoken) refuses)
+
+-- so another media file isn't due by what is known of the media, of the definition or of the message
+pub other_due : (P Q : List ℕ → Type 0) (media known other : Option (List ℕ)) → IsKnownAs P media ⊎ (IsKnownAs Q known ⊎ IsToldRefused known other)
+    → P (unwrap_or media []) ⊎ (Q (unwrap_or known []) ⊎ IsMessageRefused (unwrap_or known []) (unwrap_or other []))
+other_due P Q media known other (inl k) = inl (held P media k)
+other_due P Q media known other (inr (inl k)) = inr (inl (held Q known k))
+other_due P Q media known other (inr (inr k)) = inr (inr (told_refused known other k))
+
+-- and is left as it was then
+pub other_left : (P Q : List ℕ → Type 0) (media known other : Option (List ℕ)) (Same : Type 0) → ForSome media (λ a. P a → Same)
+    → ForSome known (λ b. Q b → Same) → (IsToldRefused known other → Same) → IsKnownAs P media ⊎ (IsKnownAs Q known ⊎ IsToldRefused known other)
+    → Same
+other_left P Q media known other Same first second third (inl k) = left_where_known P media Same first k
+other_left P Q media known other Same first second third (inr (inl k)) = left_where_known Q known Same second k
+other_left P Q media known other Same first second third (inr (inr k)) = third k
 
 -- ---- replies
 

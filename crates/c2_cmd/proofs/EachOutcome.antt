@@ -4,6 +4,7 @@ use Rattle.std.specs.Prelude.{All}
 use Rattle.c2_base.specs.declared.values.Question.{Question}
 use Rattle.c2_building_commands.specs.Laws.{EachBuildingOutcome, EachBuildingQuestions}
 use Rattle.c2_built.specs.Fresh.{GivesDigests}
+use Rattle.c2_collect_commands.specs.Laws.{EachCollectOutcome, EachCollectQuestions}
 use Rattle.c2_extract_command.specs.Outcomes.{IsExtractOutcome}
 use Rattle.c2_front_commands.specs.Outcomes.{IsEmbedFrontOutcome, IsPlanFrontOutcome}
 use Rattle.c2_outcome.specs.Outcome.{Outcome, reports}
@@ -17,7 +18,7 @@ use Rattle.c2_words.specs.declared.types.Command.{Command}
 use Rattle.c2_words.specs.declared.types.Command.TheVariants as command
 use Rattle.c2_words.specs.declared.types.Roles.{Roles}
 use Rattle.c2_cmd.specs.Outcome.{AreBytes, Asks, CommandAsks, HasDigests, Inputs, IsCommandOutcome, IsOutcome, digest_alg, pieces_in}
-use Rattle.c2_cmd.specs.Sources.{the_media, the_second, the_third}
+use Rattle.c2_cmd.specs.Sources.{the_fourth, the_media, the_second, the_third}
 
 -- what the laws of the crates of the commands say
 pub record Laws : Type 0 where
@@ -29,6 +30,7 @@ pub record Laws : Type 0 where
       → (expected : Outcome) × IsPlanFrontOutcome hash media definition expected
   pub embeds_front : (hash : Alg → List ℕ → List ℕ) (media definition message : List ℕ) → All (λ b. b < 2 ^ 8) media
       → All (λ b. b < 2 ^ 8) message → (expected : Outcome) × IsEmbedFrontOutcome hash media definition message expected
+  pub collects : EachCollectOutcome
 
 -- every command has an outcome where its files are bytes
 each_command : Laws → (c : Command) (roles : Roles) (i : Inputs)
@@ -54,6 +56,11 @@ each_command laws command.PlanFront roles i held gives =
     laws.plans_front i.hash i.files.media i.files.second (held the_media)
 each_command laws command.EmbedFront roles i held gives =
     laws.embeds_front i.hash i.files.media i.files.second i.files.third (held the_media) (held the_third)
+each_command laws command.PlanCollect roles i held gives =
+    laws.collects.plan i.hash i.said i.files.media i.files.second i.files.fourth (held the_media) (held the_fourth)
+each_command laws command.EmbedCollect roles i held gives =
+    laws.collects.embed i.hash i.said i.files.media i.files.second i.files.third i.files.fourth (held the_media)
+    (held the_third) (held the_fourth)
 
 -- a call whose files are bytes has an outcome, whether its words fit a command or none
 pub each_outcome : Laws → (roles : Option Roles) (i : Inputs)
@@ -63,30 +70,35 @@ each_outcome laws (Some roles) i held gives =
     each_command laws roles.command roles i held gives
 
 -- every command has a list of questions for its judges where its files are bytes
-each_asks : EachReadingQuestions → EachBuildingQuestions → (c : Command) (roles : Roles) (i : Inputs)
+each_asks : EachReadingQuestions → EachBuildingQuestions → EachCollectQuestions → (c : Command) (roles : Roles) (i : Inputs)
     → AreBytes i → (makes_media c ≡ true → GivesDigests i.hash) → (qs : List Question) × CommandAsks c roles i qs
-each_asks reads builds command.Digest roles i held gives = ([], refl)
-each_asks reads builds command.List roles i held gives = ([], refl)
-each_asks reads builds command.Show roles i held gives = ([], refl)
-each_asks reads builds command.Questions roles i held gives = reads.questions i.files.media (held the_media)
-each_asks reads builds command.Validate roles i held gives = reads.validate i.hash i.said i.files.media (held the_media)
-each_asks reads builds command.Compare roles i held gives =
+each_asks reads builds collects command.Digest roles i held gives = ([], refl)
+each_asks reads builds collects command.List roles i held gives = ([], refl)
+each_asks reads builds collects command.Show roles i held gives = ([], refl)
+each_asks reads builds collects command.Questions roles i held gives = reads.questions i.files.media (held the_media)
+each_asks reads builds collects command.Validate roles i held gives = reads.validate i.hash i.said i.files.media (held the_media)
+each_asks reads builds collects command.Compare roles i held gives =
     reads.compare i.hash i.said i.files.media i.files.second (held the_media) (held the_second)
-each_asks reads builds command.Plan roles i held gives = builds.plan i.hash i.said i.files.media i.files.second (held the_media)
-each_asks reads builds command.Embed roles i held gives =
+each_asks reads builds collects command.Plan roles i held gives = builds.plan i.hash i.said i.files.media i.files.second (held the_media)
+each_asks reads builds collects command.Embed roles i held gives =
     builds.embed i.hash i.said i.files.media i.files.second i.files.third (held the_media) (held the_third)
-each_asks reads builds command.Sample roles i held gives =
+each_asks reads builds collects command.Sample roles i held gives =
     builds.sample i.hash i.said (pieces_in roles) (gives refl)
-each_asks reads builds command.Strip roles i held gives = ([], refl)
-each_asks reads builds command.Extract roles i held gives = ([], refl)
-each_asks reads builds command.ValidateExternal roles i held gives =
+each_asks reads builds collects command.Strip roles i held gives = ([], refl)
+each_asks reads builds collects command.Extract roles i held gives = ([], refl)
+each_asks reads builds collects command.ValidateExternal roles i held gives =
     reads.external i.hash i.said i.files.media i.files.second (held the_media) (held the_second)
-each_asks reads builds command.PlanFront roles i held gives = ([], refl)
-each_asks reads builds command.EmbedFront roles i held gives = ([], refl)
+each_asks reads builds collects command.PlanFront roles i held gives = ([], refl)
+each_asks reads builds collects command.EmbedFront roles i held gives = ([], refl)
+each_asks reads builds collects command.PlanCollect roles i held gives =
+    collects.plan i.hash i.said i.files.media i.files.second i.files.fourth (held the_media) (held the_fourth)
+each_asks reads builds collects command.EmbedCollect roles i held gives =
+    collects.embed i.hash i.said i.files.media i.files.second i.files.third i.files.fourth (held the_media)
+    (held the_third) (held the_fourth)
 
 -- a call whose files are bytes has a list of questions: an empty one where its words fit no command
-pub each_list : EachReadingQuestions → EachBuildingQuestions → (roles : Option Roles) (i : Inputs)
+pub each_list : EachReadingQuestions → EachBuildingQuestions → EachCollectQuestions → (roles : Option Roles) (i : Inputs)
     → AreBytes i → HasDigests roles i → (qs : List Question) × Asks roles i qs
-each_list reads builds None i held gives = ([], refl)
-each_list reads builds (Some roles) i held gives =
-    each_asks reads builds roles.command roles i held gives
+each_list reads builds collects None i held gives = ([], refl)
+each_list reads builds collects (Some roles) i held gives =
+    each_asks reads builds collects roles.command roles i held gives

@@ -87,11 +87,12 @@ cause_untold failed = record {
 -- it comes to an outcome, and ends as it says
 pub ends_known : {call : Call} {old new : RunState} {Same : Type 0} {s : Status} → EachOutcome
     → ForSome call.known.media (All (λ b. b < 2 ^ 8)) → ForSome call.known.second (All (λ b. b < 2 ^ 8))
-    → ForSome call.known.third (All (λ b. b < 2 ^ 8)) → GivesDigests call.hash
+    → ForSome call.known.third (All (λ b. b < 2 ^ 8)) → ForSome call.known.fourth (All (λ b. b < 2 ^ 8))
+    → GivesDigests call.hash
     → ((expected : Outcome) → ComesTo call expected → RunsTo call expected old new Same s)
     → (expected : Outcome) × ComesTo call expected × RunsTo call expected old new Same s
-ends_known {call} law media second third gives runs =
-    let e = comes_to law call media second third gives in (e.0, e.1, runs e.0 e.1)
+ends_known {call} law media second third fourth gives runs =
+    let e = comes_to law call media second third fourth gives in (e.0, e.1, runs e.0 e.1)
 
 -- a file that was taken with a reply is all there
 has_all : (file : Option (List ℕ)) (reply : Reply) (old new : SinkState) → TakesFile file old new (Ok reply)

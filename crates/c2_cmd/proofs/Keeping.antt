@@ -6,7 +6,7 @@ use Rattle.c2_base.proofs.Growing.{grows_none}
 use Rattle.c2_base.specs.Sink.{WritesSink, unsaid}
 use Rattle.c2_calls.proofs.SourceLemmas.{stays_as_it_was}
 use Rattle.c2_spec.specs.Judges.Panel.{Judges, LeavesJudges, NoneFell}
-use Rattle.c2_words.specs.CommandLine.{has_word, is_media, is_out, is_second, is_third, lets_ask}
+use Rattle.c2_words.specs.CommandLine.{has_word, is_fourth, is_media, is_out, is_second, is_third, lets_ask}
 use Rattle.c2_words.specs.declared.types.Command.{Command}
 use Rattle.c2_words.specs.declared.types.Role.{Role}
 use Rattle.c2_words.specs.declared.types.Roles.{Roles}
@@ -14,7 +14,7 @@ use Rattle.c2_outcome.specs.Reply.{EndsFile, FileEnd, end_of}
 use Rattle.c2_cmd.specs.Left.{FileEnds, KeepsOut, LeavesOut, LeavesReport, LeavesSource}
 use Rattle.c2_cmd.specs.Outcome.{names}
 use Rattle.c2_cmd.specs.Run.{Call, HasNotDue, IsUnused, LeavesUnused, Untouched}
-use Rattle.c2_cmd.specs.Sources.{SourceName, is_source, of_source, the_media, the_second, the_third}
+use Rattle.c2_cmd.specs.Sources.{SourceName, is_source, of_source, the_fourth, the_media, the_second, the_third}
 use Rattle.c2_cmd.proofs.Commands.{of_command}
 use Rattle.c2_outcome.specs.Status.{WithoutFault, status_of}
 use Rattle.c2_outcome.specs.declared.reply.Fault.{Fault}
@@ -232,6 +232,7 @@ idle_panel js r = record {
 pub record LeavesBy (call : Call) (c : Command) (u : Untouched) : Type 0 where
   pub second : (has_word is_second c ≡ false) ⊎ HasNotDue call the_second c → u.sources.second
   pub third : (has_word is_third c ≡ false) ⊎ HasNotDue call the_third c → u.sources.third
+  pub fourth : (has_word is_fourth c ≡ false) ⊎ HasNotDue call the_fourth c → u.sources.fourth
   pub out : has_word is_out c ≡ false → u.out
   pub judges : has_word lets_ask c ≡ false → u.judges
 
@@ -264,6 +265,7 @@ unused_by {call} {u} found c gives named media by =
     source the_media h = reads media (due the_media h)
     source the_second h = by.second (due the_second h)
     source the_third h = by.third (due the_third h)
+    source the_fourth h = by.fourth (due the_fourth h)
 
 -- what is left of a source that the command names, where it isn't due
 pub undue : {NotDue Left : Type 0} → (NotDue → Left) → (true ≡ false) ⊎ NotDue → Left
@@ -271,12 +273,13 @@ undue left (inl none) = absurd (false≢true (sym none))
 undue left (inr n) = left n
 
 -- a call that has touched nothing
-pub unused_idle : {call : Call} {u : Untouched} → u.sources.media → u.sources.second → u.sources.third → u.out
-    → u.judges → LeavesUnused call u
-unused_idle {call} {u} media second third out judges =
+pub unused_idle : {call : Call} {u : Untouched} → u.sources.media → u.sources.second → u.sources.third
+    → u.sources.fourth → u.out → u.judges → LeavesUnused call u
+unused_idle {call} {u} media second third fourth out judges =
     record { sources = source; out = λ none. out; judges = λ none. judges }
   where
     source : (s : SourceName) → IsUnused call s → of_source u.sources s
     source the_media h = media
     source the_second h = second
     source the_third h = third
+    source the_fourth h = fourth

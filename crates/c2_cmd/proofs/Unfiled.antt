@@ -5,6 +5,8 @@ use Rattle.std.specs.declared.result.Result.TheVariants.{Ok, Err}
 use Rattle.c2_base.specs.declared.values.Question.{Question}
 use Rattle.c2_binding.specs.declared.compared.Compared.{Compared}
 use Rattle.c2_binding.specs.declared.compared.Compared.TheVariants as compared
+use Rattle.c2_collected.specs.Order.{CollectRefusal}
+use Rattle.c2_collect_commands.specs.Outcomes.{IsPlanCollectOutcome, plan_outcome as plan_collect_outcome}
 use Rattle.c2_refusals.specs.declared.error.BuildError.{BuildError}
 use Rattle.c2_front_commands.specs.Outcomes.{IsPlanFrontOutcome, plan_outcome as plan_front_outcome}
 use Rattle.c2_fronts.specs.Order.{FrontRefusal}
@@ -52,6 +54,11 @@ unfiled_plan (Err e) = refl
 unfiled_plan_front : (r : Result (List ℕ) FrontRefusal) → (plan_front_outcome r).file ≡ None
 unfiled_plan_front (Ok bytes) = refl
 unfiled_plan_front (Err refusal) = refl
+
+-- nor what is to be signed of a store that collects
+unfiled_plan_collect : (r : Result (List ℕ) CollectRefusal) → (plan_collect_outcome r).file ≡ None
+unfiled_plan_collect (Ok bytes) = refl
+unfiled_plan_collect (Err refusal) = refl
 
 -- nor a sample
 unfiled_sample : (n : ℕ) (s : Sampled) → (sample_outcome n s).file ≡ None
@@ -107,6 +114,11 @@ plan_unfiled hash said media definition e h = ap (λ (o : Outcome). o.file) h.2 
 pub plan_front_unfiled : (hash : Alg → List ℕ → List ℕ) (media definition : List ℕ) (e : Outcome)
     → IsPlanFrontOutcome hash media definition e → e.file ≡ None
 plan_front_unfiled hash media definition e h = ap (λ (o : Outcome). o.file) h.2 ∙ unfiled_plan_front h.0
+
+-- `plan-collect`
+pub plan_collect_unfiled : (hash : Alg → List ℕ → List ℕ) (said : Question → Verdict) (media definition other : List ℕ) (e : Outcome)
+    → IsPlanCollectOutcome hash said media definition other e → e.file ≡ None
+plan_collect_unfiled hash said media definition other e h = ap (λ (o : Outcome). o.file) h.2 ∙ unfiled_plan_collect h.0
 
 -- `sample`
 pub sample_unfiled : (hash : Alg → List ℕ → List ℕ) (said : Question → Verdict) (n : ℕ) (e : Outcome)

@@ -13,6 +13,8 @@ use Rattle.c2_binding.specs.Comparison.{CompareAsks}
 use Rattle.c2_build.specs.Building.{Built, EmbedAsks, IsEmbedded, PlanAsks}
 use Rattle.c2_build.specs.Meeting.{BuiltMeets}
 use Rattle.c2_built.specs.Fresh.{GivesDigests}
+use Rattle.c2_collected.specs.Made.{CollectedMeets}
+use Rattle.c2_collected.specs.Outcomes.{CollectAsks, CollectPlanAsks, IsCollectMade, NewFile as CollectedFile}
 use Rattle.c2_fronts.specs.Made.{FrontMeets}
 use Rattle.c2_fronts.specs.Outcomes.{IsFrontMade, NewFile}
 use Rattle.c2_restored.specs.Restored.{Restores}
@@ -23,6 +25,7 @@ use Rattle.c2_outcome.specs.Outcome.{Outcome, reports}
 use Rattle.c2_outcome.specs.declared.types.Answer.TheVariants as answer
 use Rattle.c2_reading_commands.specs.Outcomes.{IsCompareOutcome, IsDigestOutcome, IsExternalOutcome, IsListOutcome, IsMediaOutcome, IsQuestioned, IsShown, IsValidated}
 use Rattle.c2_building_commands.specs.Outcomes.{IsEmbedOutcome, IsPlanOutcome, IsSampleOutcome}
+use Rattle.c2_collect_commands.specs.Outcomes.{IsEmbedCollectOutcome, IsPlanCollectOutcome}
 use Rattle.c2_extract_command.specs.Outcomes.{IsExtractOutcome}
 use Rattle.c2_front_commands.specs.Outcomes.{IsEmbedFrontOutcome, IsPlanFrontOutcome}
 use Rattle.c2_strip_command.specs.Outcomes.{IsStripOutcome}
@@ -72,6 +75,8 @@ IsCommandOutcome command.Extract roles i expected = IsExtractOutcome i.files.med
 IsCommandOutcome command.ValidateExternal roles i expected = IsExternalOutcome i.hash i.said i.files.media i.files.second expected
 IsCommandOutcome command.PlanFront roles i expected = IsPlanFrontOutcome i.hash i.files.media i.files.second expected
 IsCommandOutcome command.EmbedFront roles i expected = IsEmbedFrontOutcome i.hash i.files.media i.files.second i.files.third expected
+IsCommandOutcome command.PlanCollect roles i expected = IsPlanCollectOutcome i.hash i.said i.files.media i.files.second i.files.fourth expected
+IsCommandOutcome command.EmbedCollect roles i expected = IsEmbedCollectOutcome i.hash i.said i.files.media i.files.second i.files.third i.files.fourth expected
 
 -- the outcome of words with these roles, or with none
 abbrev pub IsOutcome : Option Roles → Inputs → Outcome → Type 0
@@ -109,6 +114,8 @@ CommandAsks command.Extract roles i qs = qs ≡ []
 CommandAsks command.ValidateExternal roles i qs = ExternalAsks i.hash i.files.second i.files.media i.said qs
 CommandAsks command.PlanFront roles i qs = qs ≡ []
 CommandAsks command.EmbedFront roles i qs = qs ≡ []
+CommandAsks command.PlanCollect roles i qs = CollectPlanAsks i.hash i.said i.files.media i.files.second i.files.fourth qs
+CommandAsks command.EmbedCollect roles i qs = CollectAsks i.hash i.said i.files.media i.files.second i.files.third i.files.fourth qs
 
 -- the judges are asked these questions, in order, by words with these roles; words without roles ask none
 abbrev pub Asks : Option Roles → Inputs → List Question → Type 0
@@ -124,10 +131,12 @@ pub record HasBuilt (i : Inputs) (b : Built) : Type 0 where
 
 -- The new file of a command meets what is promised of it, where it is built. One with its store in front meets all rules but for the verdict
 -- on it, and each chunk offset that told a place of the media from the store's on tells where the same byte is, unless that byte is in such an
--- offset itself.
+-- offset itself. One with a store that collects meets all rules but for the verdict on it, asks over what `plan-collect` gives and then what one of
+-- both media files asks and the judges approve, and keeps what the media holds outside its embedded range.
 abbrev pub CommandMeets : Command → Inputs → Type 0
 CommandMeets command.Embed i = (b : Built) → IsEmbedded i.hash i.said i.files.media i.files.second i.files.third (Ok b) → HasBuilt i b
 CommandMeets command.EmbedFront i = (b : NewFile) → IsFrontMade i.hash i.files.media i.files.second i.files.third (Ok b) → FrontMeets i.hash i.files.media i.files.second i.files.third b
+CommandMeets command.EmbedCollect i = (b : CollectedFile) → IsCollectMade i.hash i.said i.files.media i.files.second i.files.third i.files.fourth (Ok b) → CollectedMeets i.hash i.said i.files.media i.files.second i.files.third i.files.fourth b
 CommandMeets c i = ⊤
 
 -- the new file of words with these roles meets what is promised of it, where it is built

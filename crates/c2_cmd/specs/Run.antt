@@ -9,9 +9,10 @@ use Rattle.c2_spec.specs.declared.digest.Alg.{Alg}
 use Rattle.c2_spec.specs.declared.panel.Verdict.{Verdict}
 use Rattle.c2_spec.specs.Judges.Panel.{SomeRose, Judges, panel_says}
 use Rattle.c2_rules.specs.Asking.{HaveAsked, HaveAskedPrefix, HaveFailed, HasHeard}
+use Rattle.c2_build_collect.specs.Answers as collect
 use Rattle.c2_compare.specs.Comparing.{IsNotAccepted}
 use Rattle.c2_sidecar.specs.Checking.{IsRefusedFile}
-use Rattle.c2_refusals.specs.Stages.{IsDefinitionRefused, IsMediaRefused}
+use Rattle.c2_refusals.specs.Stages.{IsDefinitionRefused, IsMediaRefused, IsToldRefused}
 use Rattle.c2_words.specs.CommandLine.{is_out, lets_ask, roles_of}
 use Rattle.c2_outcome.specs.Left.{Delivers, Finishes, Leaves, SinkState}
 use Rattle.c2_outcome.specs.Outcome.{Outcome}
@@ -22,7 +23,7 @@ use Rattle.c2_outcome.specs.declared.reply.Reply.{Reply}
 use Rattle.c2_outcome.specs.declared.types.Status.{Status}
 use Rattle.c2_outcome.specs.declared.types.Status.TheVariants.{Done, Usage, InputFault, OutputFault, JudgeFault, NoMemory}
 use Rattle.c2_cmd.specs.Outcome.{Asks, Inputs, inputs, IsOutcome, Meets, names}
-use Rattle.c2_cmd.specs.Sources.{Each, SourceName, is_source, of_source, the_media, the_second, the_third}
+use Rattle.c2_cmd.specs.Sources.{Each, SourceName, is_source, of_source, the_fourth, the_media, the_second, the_third}
 use Rattle.c2_words.specs.declared.types.Command.{Command}
 use Rattle.c2_words.specs.declared.types.Command.TheVariants as command
 use Rattle.c2_words.specs.declared.types.Roles.{Roles}
@@ -76,7 +77,8 @@ IsOfCommand Holds (Some roles) = Holds roles.command
 
 -- What is known of a call of a command tells that a source isn't due. The media always is; `compare` reads its second file only where the
 -- media is accepted, a command that builds only where it isn't refused, and `validate-external` only where its container isn't; a command that
--- embeds reads its third file only where neither the media nor the definition is refused.
+-- embeds reads its third file only where neither the media nor the definition is refused; and one that collects reads its fourth file only where
+-- none of these and no message is refused, and no rule fails of the media's store.
 abbrev pub HasNotDue : Call → SourceName → Command → Type 0
 HasNotDue c the_media k = ⊥
 HasNotDue c the_second command.Compare = IsKnownAs (IsNotAccepted c.hash (panel_says c.said)) c.known.media
@@ -85,8 +87,15 @@ HasNotDue c the_second command.Embed = IsKnownAs IsMediaRefused c.known.media
 HasNotDue c the_second command.ValidateExternal = IsKnownAs IsRefusedFile c.known.media
 HasNotDue c the_second command.PlanFront = IsKnownAs IsMediaRefused c.known.media
 HasNotDue c the_second command.EmbedFront = IsKnownAs IsMediaRefused c.known.media
+HasNotDue c the_second command.PlanCollect = IsKnownAs IsMediaRefused c.known.media
+HasNotDue c the_second command.EmbedCollect = IsKnownAs IsMediaRefused c.known.media
 HasNotDue c the_third command.Embed = IsKnownAs IsMediaRefused c.known.media ⊎ IsKnownAs IsDefinitionRefused c.known.second
 HasNotDue c the_third command.EmbedFront = IsKnownAs IsMediaRefused c.known.media ⊎ IsKnownAs IsDefinitionRefused c.known.second
+HasNotDue c the_third command.EmbedCollect = IsKnownAs IsMediaRefused c.known.media ⊎ IsKnownAs IsDefinitionRefused c.known.second
+HasNotDue c the_fourth command.PlanCollect = IsKnownAs (collect.IsNotAccepted c.hash (panel_says c.said)) c.known.media ⊎ IsKnownAs IsDefinitionRefused c.known.second
+HasNotDue c the_fourth command.EmbedCollect =
+    IsKnownAs (collect.IsNotAccepted c.hash (panel_says c.said)) c.known.media
+    ⊎ (IsKnownAs IsDefinitionRefused c.known.second ⊎ IsToldRefused c.known.second c.known.third)
 HasNotDue c s k = ⊥
 
 -- a source of a call isn't due

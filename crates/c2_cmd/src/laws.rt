@@ -10,6 +10,7 @@ ghost use Rattle.c2_outcome.specs.declared.types.Status.TheVariants.{NoMemory};
 ghost use Rattle.c2_words.specs.declared.types.Roles.{Roles as AnyRoles};
 
 use c2_building_commands::{each_building_outcome, one_building_outcome};
+use c2_collect_commands::{each_collect_outcome, one_collect_outcome};
 use c2_extract_command::an_extract_comes_to_one_outcome;
 use c2_front_commands::{each_front_outcome, one_front_outcome};
 use c2_reading_commands::{each_reading_outcome, one_reading_outcome};
@@ -25,6 +26,7 @@ pub fn one_outcome()
     one_reading_outcome();
     one_building_outcome();
     one_front_outcome();
+    one_collect_outcome();
     a_strip_comes_to_one_outcome();
     an_extract_comes_to_one_outcome();
 }
@@ -39,6 +41,7 @@ pub fn each_run_has_an_outcome()
     each_reading_outcome();
     each_building_outcome();
     each_front_outcome();
+    each_collect_outcome();
     a_strip_comes_to_one_outcome();
     an_extract_comes_to_one_outcome();
 }

@@ -14,6 +14,7 @@ ghost use Rattle.c2_cmd.specs.Run.{ComesTo, Faults, IsCaused, IsKnown, LeavesUnu
 use crate::laws::each_run_has_an_outcome;
 use c2_base::{Failed, Sink, Source, write_all};
 use c2_building_commands::{one_building_outcome, reply_to_embed, reply_to_plan, reply_to_sample};
+use c2_collect_commands::{one_collect_outcome, reply_to_embed_collect, reply_to_plan_collect};
 use c2_extract_command::reply_to_extract;
 use c2_front_commands::{one_front_outcome, reply_to_embed_front, reply_to_plan_front};
 use c2_hash::{Alg, Hashing};
@@ -32,7 +33,8 @@ use std::alloc::Global;
 
 /// Runs the command that the words spell, over the files, the sinks and the judges that it is handed: `second` is the other file of
 /// `compare`, the definition of a command that builds, and the store that `validate-external` checks the media with, `third` the signed
-/// message of `embed` and `embed-front`, and `out` takes the file that one of these, `strip` or `extract` writes.
+/// message of a command that embeds, `fourth` the other media file of `plan-collect` and `embed-collect`, and `out` takes the file that a command
+/// which embeds, `strip` or `extract` writes.
 ///
 /// Where the bytes of the files that the command reads are known, the report holds the outcome's text and is finished; after a fault or
 /// out of memory it holds a prefix of it. `Usage` comes exactly where the words fit no command, unless the report fails or memory
@@ -50,20 +52,23 @@ use std::alloc::Global;
 /// order, around the new range and an older box that is freed; and where the media had no store, `strip` makes of the new file the media
 /// again, byte for byte. That of `embed-front` meets every rule but that too, and asks over what `plan-front` gives. Each chunk offset that told
 /// a place of the media from the store's on tells where the same byte is, unless that byte is in such an offset itself; and each byte of the media
-/// outside of moved offsets is kept, in the same order around the new range.
+/// outside of moved offsets is kept, in the same order around the new range. That of `embed-collect` meets every rule but that too. It asks over what
+/// `plan-collect` gives, and then only what the media or the other file asks, all of which the judges approve; and it keeps of the media what that of
+/// `embed` does.
 ///
 /// A file that isn't due is left as it was, where the bytes that tell so are known: `second` under `compare` where the media isn't
-/// accepted, under a command that builds where it is refused, and under `validate-external` where its container is; and `third` where the
-/// media or the definition is refused.
+/// accepted, under a command that builds where it is refused, and under `validate-external` where its container is; `third` where the
+/// media or the definition is refused; and `fourth` where one of these or the message is refused, or a rule fails of the media's store.
 // The condition always holds. A public function without one that changes boxed judges can't be called from another crate
 // under a contract.
-pub fn run<H: Hashing, A: Source, B: Source, C: Source, K: Sink, W: Sink>(
+pub fn run<H: Hashing, A: Source, B: Source, C: Source, D: Source, K: Sink, W: Sink>(
     alloc: Global,
     hashing: &H,
     words: &Vec<String>,
     media: &mut A,
     second: &mut B,
     third: &mut C,
+    fourth: &mut D,
     out: &mut K,
     report: &mut W,
     judges: &mut Vec<Box<dyn Judge>>,
@@ -75,6 +80,7 @@ pub fn run<H: Hashing, A: Source, B: Source, C: Source, K: Sink, W: Sink>(
       media = A.known media.old;
       second = B.known second.old;
       third = C.known third.old;
+      fourth = D.known fourth.old;
     }) (map says judges.old.items) H.digest_of in
         let old : RunState = record {
           report = state_of W.written W.finished report.old;
@@ -94,6 +100,7 @@ pub fn run<H: Hashing, A: Source, B: Source, C: Source, K: Sink, W: Sink>(
         media = (A.faults media.old, A.faults media.new);
         second = (B.faults second.old, B.faults second.new);
         third = (C.faults third.old, C.faults third.new);
+        fourth = (D.faults fourth.old, D.faults fourth.new);
       };
       out = (K.faults out.old, K.faults out.new);
       report = (W.faults report.old, W.faults report.new);
@@ -106,12 +113,14 @@ pub fn run<H: Hashing, A: Source, B: Source, C: Source, K: Sink, W: Sink>(
       media = A.known media.old;
       second = B.known second.old;
       third = C.known third.old;
+      fourth = D.known fourth.old;
     }) (map says judges.old.items) H.digest_of in
         let untouched : Untouched = record {
           sources = record {
             media = media.new ≡ media.old;
             second = second.new ≡ second.old;
             third = third.new ≡ third.old;
+            fourth = fourth.new ≡ fourth.old;
           };
           out = out.new ≡ out.old;
           judges = judges.new ≡ judges.old;
@@ -122,6 +131,7 @@ pub fn run<H: Hashing, A: Source, B: Source, C: Source, K: Sink, W: Sink>(
     ensures media { KeepsSource A.len A.known A.faults media.old media.new result }
     ensures second { KeepsSource B.len B.known B.faults second.old second.new result }
     ensures third { KeepsSource C.len C.known C.faults third.old third.new result }
+    ensures fourth { KeepsSource D.len D.known D.faults fourth.old fourth.new result }
     ensures out { let named = names is_out (roles_in words.now.items) in
         let failed = Rose (W.faults report.old) (W.faults report.new) in
         KeepsOut K.written K.finished K.faults named failed out.old out.new result }
@@ -135,7 +145,7 @@ pub fn run<H: Hashing, A: Source, B: Source, C: Source, K: Sink, W: Sink>(
     // Only the prover needs this law.
     each_run_has_an_outcome();
     let reply = match reply_to(
-        alloc, hashing, words, media, second, third, out, report, judges,
+        alloc, hashing, words, media, second, third, fourth, out, report, judges,
     ) {
         Ok(reply) => reply,
         Err(Fault::Input) => return Status::InputFault,
@@ -151,13 +161,14 @@ pub fn run<H: Hashing, A: Source, B: Source, C: Source, K: Sink, W: Sink>(
 
 // The reply to a command line. `compare` alone writes to the report; only a command that embeds, `strip` and `extract` write to the new file.
 #[tactic(auto, using(crate::proofs::Keeping::idle_source, crate::proofs::Keeping::idle_report, crate::proofs::Keeping::idle_panel))]
-fn reply_to<H: Hashing, A: Source, B: Source, C: Source, K: Sink, W: Sink>(
+fn reply_to<H: Hashing, A: Source, B: Source, C: Source, D: Source, K: Sink, W: Sink>(
     alloc: Global,
     hashing: &H,
     words: &Vec<String>,
     media: &mut A,
     second: &mut B,
     third: &mut C,
+    fourth: &mut D,
     out: &mut K,
     report: &mut W,
     judges: &mut Vec<Box<dyn Judge>>,
@@ -168,6 +179,7 @@ fn reply_to<H: Hashing, A: Source, B: Source, C: Source, K: Sink, W: Sink>(
       media = A.known media.old;
       second = B.known second.old;
       third = C.known third.old;
+      fourth = D.known fourth.old;
     }) (map says judges.old.items) H.digest_of in
         let old : RunState = record {
           report = state_of W.written W.finished report.old;
@@ -186,6 +198,7 @@ fn reply_to<H: Hashing, A: Source, B: Source, C: Source, K: Sink, W: Sink>(
         media = (A.faults media.old, A.faults media.new);
         second = (B.faults second.old, B.faults second.new);
         third = (C.faults third.old, C.faults third.new);
+        fourth = (D.faults fourth.old, D.faults fourth.new);
       };
       out = (K.faults out.old, K.faults out.new);
       report = (W.faults report.old, W.faults report.new);
@@ -196,12 +209,14 @@ fn reply_to<H: Hashing, A: Source, B: Source, C: Source, K: Sink, W: Sink>(
       media = A.known media.old;
       second = B.known second.old;
       third = C.known third.old;
+      fourth = D.known fourth.old;
     }) (map says judges.old.items) H.digest_of in
         let untouched : Untouched = record {
           sources = record {
             media = media.new ≡ media.old;
             second = second.new ≡ second.old;
             third = third.new ≡ third.old;
+            fourth = fourth.new ≡ fourth.old;
           };
           out = out.new ≡ out.old;
           judges = judges.new ≡ judges.old;
@@ -210,6 +225,7 @@ fn reply_to<H: Hashing, A: Source, B: Source, C: Source, K: Sink, W: Sink>(
     ensures media { LeavesSource A.len A.known A.faults media.old media.new result }
     ensures second { LeavesSource B.len B.known B.faults second.old second.new result }
     ensures third { LeavesSource C.len C.known C.faults third.old third.new result }
+    ensures fourth { LeavesSource D.len D.known D.faults fourth.old fourth.new result }
     ensures out { let named = names is_out (roles_in words.now.items) in
         LeavesOut K.written K.finished K.faults named out.old out.new result }
     ensures report { let whole = has_whole_report (roles_in words.now.items) in
@@ -222,6 +238,7 @@ fn reply_to<H: Hashing, A: Source, B: Source, C: Source, K: Sink, W: Sink>(
     one_reading_outcome();
     one_building_outcome();
     one_front_outcome();
+    one_collect_outcome();
     a_built_file_is_restored();
     let found = match roles(alloc, words) {
         Ok(found) => found,
@@ -245,6 +262,12 @@ fn reply_to<H: Hashing, A: Source, B: Source, C: Source, K: Sink, W: Sink>(
         }
         Command::PlanFront => reply_to_plan_front(alloc, hashing, media, second),
         Command::EmbedFront => reply_to_embed_front(alloc, hashing, media, second, third, out),
+        Command::PlanCollect => {
+            reply_to_plan_collect(alloc, hashing, media, second, fourth, judges)
+        }
+        Command::EmbedCollect => reply_to_embed_collect(
+            alloc, hashing, media, second, third, fourth, judges, out,
+        ),
     }
 }
 

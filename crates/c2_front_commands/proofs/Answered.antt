@@ -1,5 +1,5 @@
 -- What inputs come to in front of a BMFF file, told by the errors of a build.
-use Rattle.std.proofs.Common.{◌≡◌, refl, sym, ap, ◌∙◌, subst, ℕ, List}
+use Rattle.std.proofs.Common.{◌≡◌, refl, ap, ◌∙◌, ℕ, List}
 use Rattle.std.specs.Prelude.{IfOk, Ok, Err}
 use Rattle.std.specs.declared.result.Result.{Result}
 use Rattle.c2_fronts.specs.Order.{FrontRefusal}
@@ -7,41 +7,30 @@ use Rattle.c2_fronts.specs.Outcomes.{NewFile}
 use Rattle.c2_refusals.specs.Kinds.{ComesAs, ComesTo}
 use Rattle.c2_refusals.specs.declared.error.BuildError.{BuildError}
 use Rattle.c2_refusals.specs.declared.types.Embedded.{Embedded}
-use Rattle.c2_refusals.proofs.Outside.{outside_map}
-use Rattle.c2_build_front.specs.Answers.{HasRange, IsRangeOf, Writes, file_of}
-use Rattle.c2_build_front.specs.Errors.{IsAnswerTo, IsRefusedWith}
+use Rattle.c2_build_front.specs.Answers.{HasRange, IsRangeOf, file_of}
+use Rattle.c2_build_front.specs.Errors.{IsAnswerTo, error_of}
 use Rattle.c2_outcome.specs.Outcome.{Outcome}
 use Rattle.c2_outcome.specs.Reply.{IsReplyTo, outcome_of}
 use Rattle.c2_outcome.specs.declared.reply.Fault.{Fault}
 use Rattle.c2_outcome.specs.declared.reply.Reply.{Reply}
 use Rattle.c2_written.specs.Builds.{build_says, embedded_outcome, range_outcome, result_outcome, tbs_outcome}
 use Rattle.c2_written.proofs.Builds.{WritesNew, build_ending, build_outcome, build_replied, new_bytes}
+use Rattle.c2_written.specs.Refused.{with_error}
 use Rattle.c2_written.proofs.Calls.{IsOutcomeOf}
-use Rattle.c2_front_commands.specs.Outcomes.{embed_outcome, file_bytes, file_report, plan_outcome, with_error}
-
--- inputs come to this, where each refusal is told by its error
-abbrev pub ComesWith : {A : Type 0} → (Result A FrontRefusal → Type 0) → Result A BuildError → Type 0
-ComesWith {A} Is s = (r : Result A FrontRefusal) × Is r × (s ≡ with_error r)
-
--- results with the same error are the same
-same_err : {A : Type 0} (e f : BuildError) → e ≡ f → ◌≡◌ {A = Result A BuildError} (Err e) (Err f)
-same_err {A} e f is = subst (λ (x : BuildError). ◌≡◌ {A = Result A BuildError} (Err e) (Err x)) is refl
-
--- inputs that are refused with an error come to it
-refused_with : {A : Type 0} (Is : Result A FrontRefusal → Type 0) (e : BuildError) → IsRefusedWith Is e → ComesWith Is (Err e)
-refused_with {A} Is e h = (Err h.0, h.1, same_err e _ h.2)
+use Rattle.c2_written.proofs.Refused.{ComesWith, one_with, refused_comes}
+use Rattle.c2_front_commands.specs.Outcomes.{embed_outcome, file_bytes, file_report, plan_outcome}
 
 -- a value or an error that is answered is what the inputs come to
-answer_comes : {A : Type 0} (Is : Result A FrontRefusal → Type 0) (r : Result A BuildError) → IsAnswerTo Is r → ComesTo (ComesWith Is) r
+answer_comes : {A : Type 0} (Is : Result A FrontRefusal → Type 0) (r : Result A BuildError) → IsAnswerTo Is r → ComesTo (ComesWith error_of Is) r
 answer_comes Is (Ok a) h = (Ok a, h, refl)
-answer_comes Is (Err e) h = outside_map e {P = IsRefusedWith Is e} {Q = ComesWith Is (Err e)} (refused_with Is e) h
+answer_comes Is (Err e) h = refused_comes error_of Is e h
 
 -- the reply to a plan reports what the inputs come to
 pub plan_replied : (Is : Result (List ℕ) FrontRefusal → Type 0) (r : Result (List ℕ) BuildError) (reply : Result Reply Fault)
     → IsAnswerTo Is r → IfOk reply (IsReplyTo (build_says tbs_outcome r))
     → IfOk reply (λ x. (s : Result (List ℕ) FrontRefusal) × Is s × (outcome_of x ≡ plan_outcome s))
 plan_replied Is r (Ok x) answers reports =
-    let t : (s : Result (List ℕ) BuildError) × ComesWith Is s × (outcome_of x ≡ result_outcome tbs_outcome s) = build_replied tbs_outcome (ComesWith Is) r (Ok x) (answer_comes Is r answers) reports in
+    let t : (s : Result (List ℕ) BuildError) × ComesWith error_of Is s × (outcome_of x ≡ result_outcome tbs_outcome s) = build_replied tbs_outcome (ComesWith error_of Is) r (Ok x) (answer_comes Is r answers) reports in
     (t.1.0, t.1.1, t.2 ∙ ap (result_outcome tbs_outcome) t.1.2)
 plan_replied Is r (Err f) answers reports = tt
 
@@ -53,33 +42,20 @@ range_same x b h = ap (λ (n : ℕ). range_outcome n x.length) h.start ∙ ap (r
 
 -- a range or an error that is answered is what the inputs come to
 range_comes : (Is : Result NewFile FrontRefusal → Type 0) (r : Result Embedded BuildError) → IsRangeOf Is r
-    → ComesAs (λ (x : Embedded) (b : NewFile). embedded_outcome x ≡ file_report b) (ComesWith Is) r
+    → ComesAs (λ (x : Embedded) (b : NewFile). embedded_outcome x ≡ file_report b) (ComesWith error_of Is) r
 range_comes Is (Ok x) h = (h.0, (Ok h.0, h.1, refl), range_same x h.0 h.2)
-range_comes Is (Err e) h = outside_map e {P = IsRefusedWith Is e} {Q = ComesWith Is (Err e)} (refused_with Is e) h
+range_comes Is (Err e) h = refused_comes error_of Is e h
 
 -- the bytes of what the inputs come to
-file_same : (r : Result NewFile FrontRefusal) → file_of r ≡ new_bytes file_bytes (with_error r)
+pub file_same : (r : Result NewFile FrontRefusal) → file_of r ≡ new_bytes file_bytes (with_error error_of r)
 file_same (Ok b) = refl
 file_same (Err refusal) = refl
-
--- the bytes that are written are those
-pub writes_new : (Is : Result NewFile FrontRefusal → Type 0) (text : List ℕ) → Writes Is text → WritesNew file_bytes (ComesWith Is) text
-writes_new Is text h = (with_error h.0, (h.0, h.1, refl), h.2 ∙ file_same h.0)
-
--- and those are written
-pub new_writes : (Is : Result NewFile FrontRefusal → Type 0) (text : List ℕ) → WritesNew file_bytes (ComesWith Is) text → Writes Is text
-new_writes Is text h = (h.1.0, h.1.1, h.2 ∙ ap (new_bytes file_bytes) h.1.2 ∙ sym (file_same h.1.0))
-
--- inputs that come to one thing come to one with its error
-one_with : (Is : Result NewFile FrontRefusal → Type 0) → ((a b : Result NewFile FrontRefusal) → Is a → Is b → a ≡ b)
-    → (x y : Result NewFile BuildError) → ComesWith Is x → ComesWith Is y → x ≡ y
-one_with Is one x y h k = h.2 ∙ ap with_error (one h.0 k.0 h.1 k.1) ∙ sym k.2
 
 -- the outcome of `embed-front` is what the call came to
 pub front_outcome : (Is : Result NewFile FrontRefusal → Type 0) (r : Result Embedded BuildError)
     → ((a b : Result NewFile FrontRefusal) → Is a → Is b → a ≡ b) → IsRangeOf Is r
     → (expected : Outcome) → ((s : Result NewFile FrontRefusal) × Is s × (expected ≡ embed_outcome s))
-    → IsOutcomeOf (WritesNew file_bytes (ComesWith Is)) (build_ending r) (build_says embedded_outcome r) expected
+    → IsOutcomeOf (WritesNew file_bytes (ComesWith error_of Is)) (build_ending r) (build_says embedded_outcome r) expected
 front_outcome Is r one answered expected is =
-    build_outcome file_bytes file_report (ComesWith Is) embedded_outcome r (one_with Is one) (range_comes Is r answered) expected
-    (with_error is.0, (is.0, is.1, refl), is.2)
+    build_outcome file_bytes file_report (ComesWith error_of Is) embedded_outcome r (one_with error_of Is one) (range_comes Is r answered) expected
+    (with_error error_of is.0, (is.0, is.1, refl), is.2)

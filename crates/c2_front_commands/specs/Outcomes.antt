@@ -1,23 +1,17 @@
 -- What `plan-front` and `embed-front` come to.
 use Rattle.std.specs.Prelude.{◌≡◌, ℕ, List}
 use Rattle.std.specs.declared.result.Result.{Result}
-use Rattle.std.specs.declared.result.Result.TheVariants.{Ok, Err}
 use Rattle.c2_spec.specs.declared.digest.Alg.{Alg}
 use Rattle.c2_fronts.specs.Order.{FrontRefusal}
 use Rattle.c2_fronts.specs.Outcomes.{IsFrontMade, IsFrontPlanned, NewFile}
-use Rattle.c2_refusals.specs.declared.error.BuildError.{BuildError}
 use Rattle.c2_build_front.specs.Errors.{error_of}
 use Rattle.c2_outcome.specs.Outcome.{Outcome}
 use Rattle.c2_written.specs.Builds.{new_file_outcome, range_outcome, result_outcome, tbs_outcome}
-
--- what a build in front of a BMFF file comes to, where each refusal is told by its error
-abbrev pub with_error : {A : Type 0} → Result A FrontRefusal → Result A BuildError
-with_error (Ok a) = Ok a
-with_error (Err refusal) = Err (error_of refusal)
+use Rattle.c2_written.specs.Refused.{with_error}
 
 -- what is reported where `plan-front` comes to this: the bytes that are to be signed, or what is refused
 abbrev pub plan_outcome : Result (List ℕ) FrontRefusal → Outcome
-plan_outcome r = result_outcome tbs_outcome (with_error r)
+plan_outcome r = result_outcome tbs_outcome (with_error error_of r)
 
 -- the outcome of `plan-front` over a media file and a definition file
 abbrev pub IsPlanFrontOutcome : (Alg → List ℕ → List ℕ) → List ℕ → List ℕ → Outcome → Type 0
@@ -34,7 +28,7 @@ file_report b = range_outcome b.start b.len
 
 -- what is reported where `embed-front` comes to this, and the new file: there is none where the build is refused
 abbrev pub embed_outcome : Result NewFile FrontRefusal → Outcome
-embed_outcome r = new_file_outcome file_bytes file_report (with_error r)
+embed_outcome r = new_file_outcome file_bytes file_report (with_error error_of r)
 
 -- the outcome of `embed-front` over a media file, a definition file and a signed message
 abbrev pub IsEmbedFrontOutcome : (Alg → List ℕ → List ℕ) → List ℕ → List ℕ → List ℕ → Outcome → Type 0

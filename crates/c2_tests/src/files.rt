@@ -15,7 +15,7 @@ pub fn words(alloc: Global, texts: &[&str]) -> Result<Vec<String>, AllocError> {
     Ok(words)
 }
 
-/// Runs a command over one file. A second, a third and a new file would fail at each call.
+/// Runs a command over one file. A second, a third, a fourth and a new file would fail at each call.
 pub fn run_one<A: Source>(
     alloc: Global,
     given: &Vec<String>,
@@ -25,6 +25,7 @@ pub fn run_one<A: Source>(
 ) -> Status {
     let mut second = HostFile::absent();
     let mut third = HostFile::absent();
+    let mut fourth = HostFile::absent();
     let Ok(mut out) = MemSink::with_room(alloc, 0, 1) else {
         return Status::NoMemory;
     };
@@ -35,6 +36,7 @@ pub fn run_one<A: Source>(
         media,
         &mut second,
         &mut third,
+        &mut fourth,
         &mut out,
         report,
         judges,

@@ -13,7 +13,7 @@ use Rattle.c2_words.specs.Parsing.{command_line, leaf, rule_for, top}
 use Rattle.c2_words.specs.declared.types.Command.{Command}
 use Rattle.c2_words.specs.declared.types.Command.TheVariants as command
 use Rattle.c2_words.specs.declared.types.Role.{Role}
-use Rattle.c2_words.specs.declared.types.Role.TheVariants.{Media, Other, Definition, Signature, Out, Count, Algorithm, Judges}
+use Rattle.c2_words.specs.declared.types.Role.TheVariants.{Media, Other, Definition, Signature, Collected, Out, Count, Algorithm, Judges}
 use Rattle.c2_words.specs.declared.types.Roles.{Roles}
 use Rattle.c2_words.proofs.Walking.{both, ends_well, goes, goes_well, judges_at, judges_go, judges_used, judging, level, start}
 
@@ -132,6 +132,24 @@ built_taken name (m ∷ (d ∷ (s ∷ []))) e = no_words e
 built_taken name (m ∷ (d ∷ (s ∷ (o ∷ [])))) e = (refl, refl)
 built_taken name (m ∷ (d ∷ (s ∷ (o ∷ (x ∷ xs))))) e = no_words e
 
+-- a media file, a definition, another media file and judges
+collected_taken : TakesFit (Media ∷ Definition ∷ Collected ∷ Judges ∷ [])
+collected_taken name [] e = no_words e
+collected_taken name (m ∷ []) e = no_words e
+collected_taken name (m ∷ (d ∷ [])) e = no_words e
+collected_taken name (m ∷ (d ∷ (c ∷ []))) e = (refl, refl)
+collected_taken name (m ∷ (d ∷ (c ∷ (j ∷ js)))) e = let l = built_as name (Media ∷ Definition ∷ Collected ∷ Judges ∷ []) in judged l 4 (rows_after l (m ∷ d ∷ c ∷ [])) (m ∷ d ∷ c ∷ j ∷ js) j js refl refl refl refl refl e
+
+-- four files, a new one and judges
+four_taken : TakesFit (Media ∷ Definition ∷ Signature ∷ Collected ∷ Out ∷ Judges ∷ [])
+four_taken name [] e = no_words e
+four_taken name (m ∷ []) e = no_words e
+four_taken name (m ∷ (d ∷ [])) e = no_words e
+four_taken name (m ∷ (d ∷ (s ∷ []))) e = no_words e
+four_taken name (m ∷ (d ∷ (s ∷ (c ∷ [])))) e = no_words e
+four_taken name (m ∷ (d ∷ (s ∷ (c ∷ (o ∷ []))))) e = (refl, refl)
+four_taken name (m ∷ (d ∷ (s ∷ (c ∷ (o ∷ (j ∷ js)))))) e = let l = built_as name (Media ∷ Definition ∷ Signature ∷ Collected ∷ Out ∷ Judges ∷ []) in judged l 6 (rows_after l (m ∷ d ∷ s ∷ c ∷ o ∷ [])) (m ∷ d ∷ s ∷ c ∷ o ∷ j ∷ js) j js refl refl refl refl refl e
+
 -- words that fit a command are those that it takes
 taken : (c : Command) → TakesFit (words_of c)
 taken command.Digest = algorithm_taken
@@ -148,6 +166,8 @@ taken command.Extract = new_taken
 taken command.ValidateExternal = second_taken
 taken command.PlanFront = planned_taken
 taken command.EmbedFront = built_taken
+taken command.PlanCollect = collected_taken
+taken command.EmbedCollect = four_taken
 
 -- where there are roles, the words fit
 with_roles : (c : Command) (words : List Text) (roles : Roles) → roles_with c words ≡ Some roles → fit (words_of c) words ≡ true
@@ -216,6 +236,8 @@ met command.Extract = record { stops = refl; turned = refl; found = refl }
 met command.ValidateExternal = record { stops = refl; turned = refl; found = refl }
 met command.PlanFront = record { stops = refl; turned = refl; found = refl }
 met command.EmbedFront = record { stops = refl; turned = refl; found = refl }
+met command.PlanCollect = record { stops = refl; turned = refl; found = refl }
+met command.EmbedCollect = record { stops = refl; turned = refl; found = refl }
 
 -- what is tested of a walk over the first level
 abbrev stopped_passes : Walk → Bool → Bool

@@ -9,9 +9,9 @@ use Rattle.std.specs.declared.result.Result.{Result}
 use Rattle.c2_base.specs.declared.limits.TheConstants.{MAX_JUDGE_NAMES}
 use Rattle.c2_spec.specs.Digest.{alg_named}
 use Rattle.c2_words.specs.declared.types.Command.{Command}
-use Rattle.c2_words.specs.declared.types.Command.TheVariants.{Digest, List as ListBoxes, Show, Questions, Validate, Compare, Plan, Embed, Sample, Strip, Extract, ValidateExternal, PlanFront, EmbedFront}
+use Rattle.c2_words.specs.declared.types.Command.TheVariants.{Digest, List as ListBoxes, Show, Questions, Validate, Compare, Plan, Embed, Sample, Strip, Extract, ValidateExternal, PlanFront, EmbedFront, PlanCollect, EmbedCollect}
 use Rattle.c2_words.specs.declared.types.Role.{Role}
-use Rattle.c2_words.specs.declared.types.Role.TheVariants.{Media, Other, Definition, Signature, Store, Out, Count, Algorithm, Judges}
+use Rattle.c2_words.specs.declared.types.Role.TheVariants.{Media, Other, Definition, Signature, Store, Collected, Out, Count, Algorithm, Judges}
 use Rattle.c2_words.specs.declared.types.Roles.{Roles}
 use Rattle.c2_words.specs.declared.types.RolesError.{RolesError}
 use Rattle.c2_words.specs.declared.types.TheConstants.{MAX_PIECES}
@@ -33,6 +33,8 @@ usage_parts =
     ∷ (ValidateExternal ∷ [])
     ∷ (PlanFront ∷ [])
     ∷ (EmbedFront ∷ [])
+    ∷ (PlanCollect ∷ [])
+    ∷ (EmbedCollect ∷ [])
     ∷ []
 
 -- the word of a command
@@ -51,6 +53,8 @@ name_of Extract = codes "extract"
 name_of ValidateExternal = codes "validate-external"
 name_of PlanFront = codes "plan-front"
 name_of EmbedFront = codes "embed-front"
+name_of PlanCollect = codes "plan-collect"
+name_of EmbedCollect = codes "embed-collect"
 
 -- what each word behind a command's own is, in order
 abbrev pub words_of : Command → List Role
@@ -68,6 +72,8 @@ words_of Extract = Media ∷ Out ∷ []
 words_of ValidateExternal = Media ∷ Store ∷ Judges ∷ []
 words_of PlanFront = Media ∷ Definition ∷ []
 words_of EmbedFront = Media ∷ Definition ∷ Signature ∷ Out ∷ []
+words_of PlanCollect = Media ∷ Definition ∷ Collected ∷ Judges ∷ []
+words_of EmbedCollect = Media ∷ Definition ∷ Signature ∷ Collected ∷ Out ∷ Judges ∷ []
 
 -- all commands
 abbrev pub commands : List Command
@@ -86,6 +92,7 @@ role_text Other = codes "OTHER"
 role_text Definition = codes "DEFINITION"
 role_text Signature = codes "SIGNATURE"
 role_text Store = codes "STORE"
+role_text Collected = codes "OTHER"
 role_text Out = codes "OUT"
 role_text Count = codes "N"
 role_text Algorithm = codes "[ALG]"
@@ -107,6 +114,11 @@ is_second role = false
 abbrev pub is_third : Role → Bool
 is_third Signature = true
 is_third role = false
+
+-- another media file whose manifests are taken in is the fourth source
+abbrev pub is_fourth : Role → Bool
+is_fourth Collected = true
+is_fourth role = false
 
 -- the new file is `out`
 abbrev pub is_out : Role → Bool
@@ -237,6 +249,7 @@ roles_as c words = record {
   media = place_of is_media (words_of c);
   second = place_of is_second (words_of c);
   third = place_of is_third (words_of c);
+  fourth = place_of is_fourth (words_of c);
   out = place_of is_out (words_of c);
   judges = first_judge (words_of c) words;
   count = option_and_then pieces_of (word_as is_count (words_of c) words);

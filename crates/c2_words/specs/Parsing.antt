@@ -8,7 +8,7 @@ use Rattle.clap.specs.declared.builder.command.Command.TheViews.{out-Command as 
 use Rattle.c2_words.specs.CommandLine.{commands, name_of, words_of}
 use Rattle.c2_words.specs.declared.types.Command.{Command}
 use Rattle.c2_words.specs.declared.types.Role.{Role}
-use Rattle.c2_words.specs.declared.types.Role.TheVariants.{Media, Other, Definition, Signature, Store, Out, Count, Algorithm, Judges}
+use Rattle.c2_words.specs.declared.types.Role.TheVariants.{Media, Other, Definition, Signature, Store, Collected, Out, Count, Algorithm, Judges}
 
 -- what `clap` calls the words of a role: the objects of one call have different names
 abbrev pub id_of : Role → Text
@@ -17,6 +17,7 @@ id_of Other = codes "SECOND"
 id_of Definition = codes "SECOND"
 id_of Signature = codes "THIRD"
 id_of Store = codes "SECOND"
+id_of Collected = codes "FOURTH"
 id_of Out = codes "OUT"
 id_of Count = codes "N"
 id_of Algorithm = codes "ALG"

@@ -3,7 +3,7 @@ ghost use Rattle.std.specs.Prelude.{◌≡◌, ◌+◌, ◌<◌, ◌≤◌, IfSo
 ghost use Rattle.std.specs.Option.{ForSome};
 ghost use Rattle.std.specs.List.{list_all};
 ghost use Rattle.c2_spec.specs.Digest.{alg_named};
-ghost use Rattle.c2_words.specs.CommandLine.{GivesRoles, first_judge, fit, is_algorithm, is_count, is_name, is_media, is_out, is_second, is_third, pieces_of, place_of, roles_as, roles_of_names, roles_with, word_as, words_of};
+ghost use Rattle.c2_words.specs.CommandLine.{GivesRoles, first_judge, fit, is_algorithm, is_count, is_fourth, is_name, is_media, is_out, is_second, is_third, pieces_of, place_of, roles_as, roles_of_names, roles_with, word_as, words_of};
 
 use crate::commands::{command_of, words_of};
 use crate::numbers::pieces_of;
@@ -59,6 +59,7 @@ fn roles_with(command: Command, words: &[String]) -> Option<Roles>
         media: behind(media_place(roles)),
         second: behind(second_place(roles)),
         third: behind(third_place(roles)),
+        fourth: behind(fourth_place(roles)),
         out: behind(out_place(roles)),
         judges: first_judge(roles, words),
         count: count_in(roles, words),
@@ -90,6 +91,14 @@ fn third_place(roles: &[Role]) -> Option<usize>
     roles.iter().position(Role::is_third)
 }
 
+// Which word is the fourth source.
+fn fourth_place(roles: &[Role]) -> Option<usize>
+    ensures place { result ≡ position is_fourth roles.now }
+    ensures within { IfSome result (λ i. i < length roles.now) }
+{
+    roles.iter().position(Role::is_fourth)
+}
+
 // Which word is the new file.
 fn out_place(roles: &[Role]) -> Option<usize>
     ensures place { result ≡ position is_out roles.now }
@@ -100,7 +109,7 @@ fn out_place(roles: &[Role]) -> Option<usize>
 
 // The place of a word behind the command's own, counted from that.
 fn behind(place: Option<usize>) -> Option<usize>
-    requires { ForSome place (λ i. i < 5) }
+    requires { ForSome place (λ i. i < 6) }
     ensures { result ≡ option_map (λ i. i + 1) place }
 {
     Some(place? + 1)
@@ -108,7 +117,7 @@ fn behind(place: Option<usize>) -> Option<usize>
 
 // Where names of judges begin.
 fn first_judge(roles: &[Role], words: &[String]) -> usize
-    requires { length roles.now ≤ 5 }
+    requires { length roles.now ≤ 6 }
     ensures { result ≡ first_judge roles.now (map string_bytes words.now) }
 {
     let before = roles.iter().filter(|role| role.is_one_word()).count();

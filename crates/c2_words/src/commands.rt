@@ -1,6 +1,6 @@
 // The commands, their words, and what those are.
 ghost use Rattle.std.specs.Prelude.{◌≡◌, ◌≤◌, bytes_eq, find, length};
-ghost use Rattle.c2_words.specs.CommandLine.{EachHasSameWords, command_of, commands, has_form, is_algorithm, is_count, is_judges, is_media, is_one_word, is_out, is_second, is_third, name_of, usage_parts, usage_text, words_of};
+ghost use Rattle.c2_words.specs.CommandLine.{EachHasSameWords, command_of, commands, has_form, is_algorithm, is_count, is_fourth, is_judges, is_media, is_one_word, is_out, is_second, is_third, name_of, usage_parts, usage_text, words_of};
 
 use crate::numbers::pieces_of;
 use crate::types::{Command, Role};
@@ -25,6 +25,8 @@ pub fn commands() -> &'static [Command]
         Command::ValidateExternal,
         Command::PlanFront,
         Command::EmbedFront,
+        Command::PlanCollect,
+        Command::EmbedCollect,
     ]
 }
 
@@ -47,13 +49,15 @@ pub fn name_of<'a>(command: Command) -> &'a str
         Command::ValidateExternal => "validate-external",
         Command::PlanFront => "plan-front",
         Command::EmbedFront => "embed-front",
+        Command::PlanCollect => "plan-collect",
+        Command::EmbedCollect => "embed-collect",
     }
 }
 
 /// What each word behind a command's own is, in order.
 pub fn words_of(command: Command) -> &'static [Role]
     ensures words { result.now ≡ words_of command }
-    ensures few { length result.now ≤ 5 }
+    ensures few { length result.now ≤ 6 }
 {
     match command {
         Command::Digest => &[Role::Media, Role::Algorithm],
@@ -73,6 +77,15 @@ pub fn words_of(command: Command) -> &'static [Role]
         Command::ValidateExternal => &[Role::Media, Role::Store, Role::Judges],
         Command::PlanFront => &[Role::Media, Role::Definition],
         Command::EmbedFront => &[Role::Media, Role::Definition, Role::Signature, Role::Out],
+        Command::PlanCollect => &[Role::Media, Role::Definition, Role::Collected, Role::Judges],
+        Command::EmbedCollect => &[
+            Role::Media,
+            Role::Definition,
+            Role::Signature,
+            Role::Collected,
+            Role::Out,
+            Role::Judges,
+        ],
     }
 }
 
@@ -81,7 +94,7 @@ pub fn usage() -> &'static str
     ensures text { result.now ≡ usage_text }
     ensures parts { EachHasSameWords usage_parts }
 {
-    "usage: c2 digest MEDIA [ALG]; list|show MEDIA; questions|validate MEDIA [JUDGE..]; compare MEDIA OTHER [JUDGE..]; plan MEDIA DEFINITION [JUDGE..]; embed MEDIA DEFINITION SIGNATURE OUT [JUDGE..]; sample N; strip|extract MEDIA OUT; validate-external MEDIA STORE [JUDGE..]; plan-front MEDIA DEFINITION; embed-front MEDIA DEFINITION SIGNATURE OUT"
+    "usage: c2 digest MEDIA [ALG]; list|show MEDIA; questions|validate MEDIA [JUDGE..]; compare MEDIA OTHER [JUDGE..]; plan MEDIA DEFINITION [JUDGE..]; embed MEDIA DEFINITION SIGNATURE OUT [JUDGE..]; sample N; strip|extract MEDIA OUT; validate-external MEDIA STORE [JUDGE..]; plan-front MEDIA DEFINITION; embed-front MEDIA DEFINITION SIGNATURE OUT; plan-collect MEDIA DEFINITION OTHER [JUDGE..]; embed-collect MEDIA DEFINITION SIGNATURE OTHER OUT [JUDGE..]"
 }
 
 /// The command of a word.
@@ -121,6 +134,13 @@ impl Role {
         ensures { result ≡ is_third self.now }
     {
         matches!(self, Role::Signature)
+    }
+
+    /// Whether the word is the fourth source: another media file whose manifests are taken in.
+    pub fn is_fourth(&self) -> bool
+        ensures { result ≡ is_fourth self.now }
+    {
+        matches!(self, Role::Collected)
     }
 
     /// Whether the word is the new file.
@@ -163,6 +183,7 @@ impl Role {
             | Role::Definition
             | Role::Signature
             | Role::Store
+            | Role::Collected
             | Role::Out
             | Role::Judges => true,
         }

@@ -66,6 +66,7 @@ fn rule_for<'a>(alloc: Global, role: Role) -> Arg<'a>
         Role::Media => one_word(alloc, "MEDIA"),
         Role::Other | Role::Definition | Role::Store => one_word(alloc, "SECOND"),
         Role::Signature => one_word(alloc, "THIRD"),
+        Role::Collected => one_word(alloc, "FOURTH"),
         Role::Out => one_word(alloc, "OUT"),
         Role::Count => one_word(alloc, "N"),
         Role::Algorithm => Arg::new(alloc, "ALG"),

@@ -49,6 +49,12 @@ pub enum Command {
 
     /// The film with a new store right behind its file type box, as a new file.
     EmbedFront,
+
+    /// What is to be signed where another media file is to be an ingredient of the new store.
+    PlanCollect,
+
+    /// The media with a new store, of which another media file is an ingredient, as a new file.
+    EmbedCollect,
 }
 
 /// What a word behind a command's own is.
@@ -68,6 +74,9 @@ pub enum Role {
 
     /// The external store.
     Store,
+
+    /// The other media file whose manifests are taken in.
+    Collected,
 
     /// The file that is written.
     Out,
@@ -96,6 +105,9 @@ pub struct Roles {
 
     /// The third file that is read.
     pub third: Option<usize>,
+
+    /// The fourth file that is read.
+    pub fourth: Option<usize>,
 
     /// The file that is written.
     pub out: Option<usize>,

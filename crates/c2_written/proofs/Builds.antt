@@ -41,6 +41,7 @@ kind_reads : (does : Effects) (Other : Type 0) (before now : ℕ) (k : ErrorKind
 kind_reads does Other before now kind.refusal o cause = cause
 kind_reads does Other before now kind.message_refusal o cause = come does.reads_message (now ≡ before) cause
 kind_reads does Other before now kind.front_refusal o cause = come does.moves_tables (now ≡ before) cause
+kind_reads does Other before now kind.older_refusal o cause = come does.takes_older (now ≡ before) cause
 kind_reads does Other before now kind.other_refusal o cause = come does.takes_other (now ≡ before) cause
 kind_reads does Other before now kind.read_fault o cause = cause
 kind_reads does Other before now kind.judge_fault o cause = cause
@@ -60,6 +61,7 @@ kind_writes : (before now : ℕ) (k : ErrorKind) (o : Outcome) → IsSinkCause b
 kind_writes before now kind.refusal o cause = cause
 kind_writes before now kind.message_refusal o cause = cause
 kind_writes before now kind.front_refusal o cause = cause
+kind_writes before now kind.older_refusal o cause = cause
 kind_writes before now kind.other_refusal o cause = cause
 kind_writes before now kind.read_fault o cause = tt
 kind_writes before now kind.judge_fault o cause = tt
@@ -90,6 +92,7 @@ kind_fits : (k : ErrorKind) (line : List ℕ) → FitsEnding (kind_ending k) (un
 kind_fits kind.refusal line = λ e. cc (e)
 kind_fits kind.message_refusal line = λ e. cc (e)
 kind_fits kind.front_refusal line = λ e. cc (e)
+kind_fits kind.older_refusal line = λ e. cc (e)
 kind_fits kind.other_refusal line = λ e. cc (e)
 kind_fits kind.read_fault line = refl
 kind_fits kind.judge_fault line = λ e. cc (e)
@@ -108,6 +111,7 @@ kind_ends : {K : Type 0} (finished : K → Bool) (old new : K) (k : ErrorKind) �
 kind_ends finished old new kind.refusal same left = record { finish = same; leaves = left }
 kind_ends finished old new kind.message_refusal same left = record { finish = same; leaves = left }
 kind_ends finished old new kind.front_refusal same left = record { finish = same; leaves = left }
+kind_ends finished old new kind.older_refusal same left = record { finish = same; leaves = left }
 kind_ends finished old new kind.other_refusal same left = record { finish = same; leaves = left }
 kind_ends finished old new kind.read_fault same left = record { finish = same; leaves = tt }
 kind_ends finished old new kind.judge_fault same left = record { finish = same; leaves = left }
@@ -131,6 +135,7 @@ kind_words : (k : ErrorKind) (line : List ℕ) → IfOk (unless_fault (kind_faul
 kind_words kind.refusal line = λ e. cc (e)
 kind_words kind.message_refusal line = λ e. cc (e)
 kind_words kind.front_refusal line = λ e. cc (e)
+kind_words kind.older_refusal line = λ e. cc (e)
 kind_words kind.other_refusal line = λ e. cc (e)
 kind_words kind.read_fault line = tt
 kind_words kind.judge_fault line = tt
@@ -143,6 +148,7 @@ kind_undone : (k : ErrorKind) (line : List ℕ) (reply : Reply) → IsReplyTo (u
 kind_undone kind.refusal line reply out = refused_undone line reply out
 kind_undone kind.message_refusal line reply out = refused_undone line reply out
 kind_undone kind.front_refusal line reply out = refused_undone line reply out
+kind_undone kind.older_refusal line reply out = refused_undone line reply out
 kind_undone kind.other_refusal line reply out = refused_undone line reply out
 kind_undone kind.read_fault line reply out = absurd out
 kind_undone kind.judge_fault line reply out = absurd out
@@ -161,6 +167,7 @@ kind_refused : (k : ErrorKind) (o : Outcome) (claim : Type 0) (reply : Reply) �
 kind_refused kind.refusal o claim reply says reports = (says, reports)
 kind_refused kind.message_refusal o claim reply says reports = (says, reports)
 kind_refused kind.front_refusal o claim reply says reports = (says, reports)
+kind_refused kind.older_refusal o claim reply says reports = (says, reports)
 kind_refused kind.other_refusal o claim reply says reports = (says, reports)
 kind_refused kind.read_fault o claim reply says reports = absurd reports
 kind_refused kind.judge_fault o claim reply says reports = absurd reports
@@ -182,6 +189,7 @@ kind_comes : (does : Effects) (Other : Type 0) (before now : ℕ) (k : ErrorKind
 kind_comes does Other before now kind.refusal o reply cause out = (tt, out)
 kind_comes does Other before now kind.message_refusal o reply cause out = (came _ does.reads_message cause, out)
 kind_comes does Other before now kind.front_refusal o reply cause out = (came _ does.moves_tables cause, out)
+kind_comes does Other before now kind.older_refusal o reply cause out = (came _ does.takes_older cause, out)
 kind_comes does Other before now kind.other_refusal o reply cause out = (came _ does.takes_other cause, out)
 kind_comes does Other before now kind.read_fault o reply cause out = absurd out
 kind_comes does Other before now kind.judge_fault o reply cause out = absurd out
@@ -250,6 +258,7 @@ module _ {N : Type 0} (bytes : N → List ℕ) (told : N → Outcome) (Comes : R
   kind_told kind.refusal e s says = sym (ap new_told says)
   kind_told kind.message_refusal e s says = sym (ap new_told says)
   kind_told kind.front_refusal e s says = sym (ap new_told says)
+  kind_told kind.older_refusal e s says = sym (ap new_told says)
   kind_told kind.other_refusal e s says = sym (ap new_told says)
   kind_told kind.read_fault e s says = tt
   kind_told kind.judge_fault e s says = tt
@@ -262,6 +271,7 @@ module _ {N : Type 0} (bytes : N → List ℕ) (told : N → Outcome) (Comes : R
   kind_new kind.refusal e s says = ap new_file says
   kind_new kind.message_refusal e s says = ap new_file says
   kind_new kind.front_refusal e s says = ap new_file says
+  kind_new kind.older_refusal e s says = ap new_file says
   kind_new kind.other_refusal e s says = ap new_file says
   kind_new kind.read_fault e s says = tt
   kind_new kind.judge_fault e s says = tt
@@ -274,6 +284,7 @@ module _ {N : Type 0} (bytes : N → List ℕ) (told : N → Outcome) (Comes : R
   kind_one kind.refusal e s one is says = one s (Err e) is says
   kind_one kind.message_refusal e s one is says = one s (Err e) is says
   kind_one kind.front_refusal e s one is says = one s (Err e) is says
+  kind_one kind.older_refusal e s one is says = one s (Err e) is says
   kind_one kind.other_refusal e s one is says = one s (Err e) is says
   kind_one kind.read_fault e s one is says = tt
   kind_one kind.judge_fault e s one is says = tt

@@ -1,3 +1,5 @@
 pub mod Builds
 pub mod Calls
+pub mod Left
+pub mod Refused
 pub mod Taking

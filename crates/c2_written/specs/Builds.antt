@@ -2,7 +2,7 @@
 use Rattle.std.specs.Prelude.{◌≡◌, ℕ, List, [], IfErr, Ok, Err, Some, None, ⊤}
 use Rattle.std.specs.declared.option.Option.{Option}
 use Rattle.std.specs.declared.result.Result.{Result}
-use Rattle.c2_refusals.specs.Kinds.{Effects, ErrorKind, MayCome, kind_of, refusal, message_refusal, front_refusal, other_refusal, read_fault, judge_fault, write_fault, no_memory}
+use Rattle.c2_refusals.specs.Kinds.{Effects, ErrorKind, MayCome, kind_of, refusal, message_refusal, front_refusal, older_refusal, other_refusal, read_fault, judge_fault, write_fault, no_memory}
 use Rattle.c2_refusals.specs.declared.error.BuildError.{BuildError}
 use Rattle.c2_refusals.specs.declared.error.BuildError.TheVariants as build
 use Rattle.c2_refusals.specs.declared.types.Embedded.{Embedded}
@@ -52,6 +52,7 @@ abbrev pub kind_fault : ErrorKind → Option Fault
 kind_fault refusal = None
 kind_fault message_refusal = None
 kind_fault front_refusal = None
+kind_fault older_refusal = None
 kind_fault other_refusal = None
 kind_fault read_fault = Some Input
 kind_fault judge_fault = Some Judge
@@ -107,6 +108,7 @@ abbrev pub IsRefusalKind : Effects → ErrorKind → Type 0
 IsRefusalKind does refusal = ⊤
 IsRefusalKind does message_refusal = MayCome does.reads_message ⊤
 IsRefusalKind does front_refusal = MayCome does.moves_tables ⊤
+IsRefusalKind does older_refusal = MayCome does.takes_older ⊤
 IsRefusalKind does other_refusal = MayCome does.takes_other ⊤
 IsRefusalKind does k = ⊥
 

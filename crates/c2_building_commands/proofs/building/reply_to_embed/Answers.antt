@@ -4,7 +4,8 @@ use Rattle.c2_build.specs.Answers.{embed_effects}
 use Rattle.c2_written.specs.Builds.{build_says, embedded_outcome}
 use Rattle.c2_written.proofs.Builds.{build_words}
 use Rattle.c2_written.proofs.Calls.{words_reply}
-use Rattle.c2_building_commands.proofs.Making.{file_made, panel_left, sink_left, source_left}
+use Rattle.c2_written.proofs.Left.{panel_left, sink_left, source_left}
+use Rattle.c2_building_commands.proofs.Making.{file_made}
 use Rattle.c2_building_commands.proofs.building.reply_to_embed.Goals as goal
 
 -- what is replied and written is what the files come to

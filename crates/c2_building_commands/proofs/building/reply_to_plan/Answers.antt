@@ -5,7 +5,7 @@ use Rattle.c2_build.specs.Building.{IsPlanned}
 use Rattle.c2_written.specs.Builds.{build_says, tbs_outcome}
 use Rattle.c2_written.proofs.Builds.{build_replied, build_words}
 use Rattle.c2_written.proofs.Calls.{words_reply}
-use Rattle.c2_building_commands.proofs.Making.{panel_left, source_left}
+use Rattle.c2_written.proofs.Left.{panel_left, source_left}
 use Rattle.c2_building_commands.proofs.building.reply_to_plan.Goals as goal
 
 -- the reply reports what the files come to

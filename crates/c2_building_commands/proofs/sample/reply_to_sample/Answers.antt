@@ -4,7 +4,7 @@ use Rattle.c2_calls.proofs.PanelLemmas.{hears_error, hears_later}
 use Rattle.c2_sample.specs.Sample.{sample_heard}
 use Rattle.c2_outcome.specs.Reply.{fault_heard}
 use Rattle.c2_outcome.specs.declared.reply.Fault.TheVariants.{Judge, Memory}
-use Rattle.c2_building_commands.proofs.Making.{memory_unbroken}
+use Rattle.c2_written.proofs.Left.{memory_unbroken}
 use Rattle.c2_building_commands.proofs.Sampling.{memory_source, sampled_reply, sampled_words}
 use Rattle.c2_building_commands.proofs.sample.reply_to_sample.Goals as goal
 

@@ -10,9 +10,10 @@ returns-clause-outcome c = each_outcome (record {
   extracts = c.an_extract_comes_to_one_outcome.ensures.each;
   plans_front = c.each_front_outcome.ensures.plan;
   embeds_front = c.each_front_outcome.ensures.embed;
+  collects = c.each_collect_outcome.ensures.outcome;
 })
 
 -- every call whose files are bytes has a list of questions for its judges
 pub returns-clause-questions : goal.returns-clause-questions
 returns-clause-questions c =
-    each_list c.each_reading_outcome.ensures.questions c.each_building_outcome.ensures.questions
+    each_list c.each_reading_outcome.ensures.questions c.each_building_outcome.ensures.questions c.each_collect_outcome.ensures.questions

@@ -10,8 +10,10 @@ returns-clause-outcome c = one_outcome (record {
   extracts = c.an_extract_comes_to_one_outcome.ensures.once;
   plans_front = c.one_front_outcome.ensures.plan;
   embeds_front = c.one_front_outcome.ensures.embed;
+  collects = c.one_collect_outcome.ensures.outcome;
 })
 
 -- two lists of questions of the same call are the same
 pub returns-clause-questions : goal.returns-clause-questions
-returns-clause-questions c = one_list c.one_reading_outcome.ensures.questions c.one_building_outcome.ensures.questions
+returns-clause-questions c =
+    one_list c.one_reading_outcome.ensures.questions c.one_building_outcome.ensures.questions c.one_collect_outcome.ensures.questions

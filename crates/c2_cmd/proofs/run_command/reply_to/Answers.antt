@@ -1,7 +1,13 @@
-use Rattle.std.proofs.Common.{map, ℕ, [], refl, sym, ap, subst, inl, inr}
+use Rattle.std.proofs.Common.{map, ℕ, List, [], refl, sym, ap, subst, inl, inr}
 use Rattle.std.specs.Prelude.{IfOk, unwrap_or}
 use Rattle.std.proofs.lemmas.Bool.{false≢true}
+use Rattle.c2_base.specs.declared.values.Question.{Question}
 use Rattle.c2_build.specs.Building.{PlanAsks}
+use Rattle.c2_build_collect.specs.Answers as collect
+use Rattle.c2_build_collect.specs.Answers.{embed_effects}
+use Rattle.c2_collect_commands.specs.Outcomes.{IsEmbedCollectOutcome, IsPlanCollectOutcome}
+use Rattle.c2_collect_ground.specs.Grounds.{ground_effects}
+use Rattle.c2_collected.specs.Outcomes.{CollectAsks, CollectPlanAsks}
 use Rattle.c2_refusals.specs.Stages.{IsDefinitionRefused, IsMediaRefused}
 use Rattle.c2_building_commands.specs.Outcomes.{IsEmbedOutcome, IsPlanOutcome, IsSampleOutcome}
 use Rattle.c2_compare.specs.Comparing.{IsNotAccepted}
@@ -16,14 +22,16 @@ use Rattle.c2_spec.specs.Judges.Panel.{panel_says}
 use Rattle.c2_strip_command.specs.Outcomes.{IsStripOutcome}
 use Rattle.c2_validate.specs.External.{ExternalAsks}
 use Rattle.c2_words.specs.CommandLine.{is_out}
+use Rattle.c2_written.specs.Builds.{IsRefusedBy, embedded_outcome, tbs_outcome}
+use Rattle.c2_written.proofs.Left.{built_words}
 use Rattle.c2_words.specs.declared.types.Command.TheVariants as command
 use Rattle.c2_cmd.specs.Outcome.{digest_alg, names, pieces_in}
-use Rattle.c2_cmd.specs.Sources.{the_second, the_third}
-use Rattle.c2_cmd.proofs.Causing.{caused_compare, caused_copying, caused_embed, caused_media, caused_memory, caused_panel, caused_reading, caused_sample, caused_sources, caused_usage, caused_writing}
-use Rattle.c2_cmd.proofs.Commands.{begins_filed, early_by, held, left_where_known, media_told, message_due, message_left, replies_copied, replies_filed, replies_heard}
+use Rattle.c2_cmd.specs.Sources.{the_fourth, the_second, the_third}
+use Rattle.c2_cmd.proofs.Causing.{caused_collected, caused_collecting, caused_compare, caused_copying, caused_embed, caused_media, caused_memory, caused_panel, caused_reading, caused_sample, caused_sources, caused_usage, caused_writing}
+use Rattle.c2_cmd.proofs.Commands.{begins_filed, early_by, held, left_where_known, media_told, message_due, message_left, other_due, other_left, replies_copied, replies_filed, replies_heard}
 use Rattle.c2_cmd.proofs.Commands.{replies_media, replies_memory, replies_silent, replies_to, replies_unheard, replies_usage, source_told, takes_none, told, unnamed_by}
 use Rattle.c2_cmd.proofs.Keeping.{begun_report, idle_memory, idle_out, undue, unused_by, unused_idle, written_out}
-use Rattle.c2_cmd.proofs.Unfiled.{compare_unfiled, digest_unfiled, external_unfiled, list_unfiled, plan_front_unfiled, plan_unfiled, questions_unfiled, sample_unfiled, show_unfiled, validate_unfiled}
+use Rattle.c2_cmd.proofs.Unfiled.{compare_unfiled, digest_unfiled, external_unfiled, list_unfiled, plan_collect_unfiled, plan_front_unfiled, plan_unfiled, questions_unfiled, sample_unfiled, show_unfiled, validate_unfiled}
 use Rattle.c2_cmd.proofs.run_command.reply_to.Goals as goal
 
 -- ---- where the sources are known
@@ -227,6 +235,72 @@ returns-in-EmbedFront-clause-known g c known =
     (replies_filed (IsEmbedFrontOutcome g.H.Hashing.digest_of a b m) _ _ made.made made.meets refl
     c.reply_to_embed_front.ensures.media.cause)
 
+-- the reply to `plan-collect` is
+pub returns-in-PlanCollect-clause-known : goal.returns-in-PlanCollect-clause-known
+returns-in-PlanCollect-clause-known g c known =
+    let said = panel_says (map (λ j. (goal.Judge-dyn g (j.vtable, j.value)).says j.value) c.args.judges.now.items) in
+    let some = media_told c.in-Ok.found command.PlanCollect c.in-Ok.ensures c.in-PlanCollect.is refl known in
+    let due = source_told the_second c.in-Ok.found command.PlanCollect c.in-Ok.ensures c.in-PlanCollect.is refl known
+    (λ n. held IsMediaRefused (g.A.Source.known c.args.media.now) n) in
+    let due_too = source_told the_fourth c.in-Ok.found command.PlanCollect c.in-Ok.ensures c.in-PlanCollect.is refl known
+    (λ n. message_due (collect.IsNotAccepted g.H.Hashing.digest_of said) IsDefinitionRefused (g.A.Source.known c.args.media.now) (g.B.Source.known c.args.second.now) n) in
+    let a = unwrap_or (g.A.Source.known c.args.media.now) [] in
+    let b = unwrap_or (g.B.Source.known c.args.second.now) [] in
+    let o = unwrap_or (g.D.Source.known c.args.fourth.now) [] in
+    replies_to c.in-Ok.found command.PlanCollect c.in-Ok.ensures c.in-PlanCollect.is
+    (replies_heard (IsPlanCollectOutcome g.H.Hashing.digest_of said a b o) (CollectPlanAsks g.H.Hashing.digest_of said a b o)
+    (c.one_collect_outcome.ensures.outcome.plan g.H.Hashing.digest_of said a b o) (plan_collect_unfiled g.H.Hashing.digest_of said a b o) tt
+    (c.reply_to_plan_collect.ensures.reply a (told (g.A.Source.known c.args.media.now) some) b due o due_too) c.reply_to_plan_collect.ensures.panel
+    (λ qs asks. inl (record {
+      file = a;
+      is_file = told (g.A.Source.known c.args.media.now) some;
+      bytes = b;
+      is_bytes = due;
+      others = o;
+      is_others = due_too;
+      asks = asks;
+    })))
+
+-- the reply to `embed-collect` is, its file is the outcome's, and meets what is promised of it
+pub returns-in-EmbedCollect-clause-known : goal.returns-in-EmbedCollect-clause-known
+returns-in-EmbedCollect-clause-known g c known =
+    let said = panel_says (map (λ j. (goal.Judge-dyn g (j.vtable, j.value)).says j.value) c.args.judges.now.items) in
+    let some = media_told c.in-Ok.found command.EmbedCollect c.in-Ok.ensures c.in-EmbedCollect.is refl known in
+    let due = source_told the_second c.in-Ok.found command.EmbedCollect c.in-Ok.ensures c.in-EmbedCollect.is refl known
+    (λ n. held IsMediaRefused (g.A.Source.known c.args.media.now) n) in
+    let due_too = source_told the_third c.in-Ok.found command.EmbedCollect c.in-Ok.ensures c.in-EmbedCollect.is refl known
+    (λ n. message_due IsMediaRefused IsDefinitionRefused (g.A.Source.known c.args.media.now) (g.B.Source.known c.args.second.now) n) in
+    let due_last = source_told the_fourth c.in-Ok.found command.EmbedCollect c.in-Ok.ensures c.in-EmbedCollect.is refl known
+    (λ n. other_due (collect.IsNotAccepted g.H.Hashing.digest_of said) IsDefinitionRefused (g.A.Source.known c.args.media.now) (g.B.Source.known c.args.second.now)
+    (g.C.Source.known c.args.third.now) n) in
+    let a = unwrap_or (g.A.Source.known c.args.media.now) [] in
+    let b = unwrap_or (g.B.Source.known c.args.second.now) [] in
+    let m = unwrap_or (g.C.Source.known c.args.third.now) [] in
+    let o = unwrap_or (g.D.Source.known c.args.fourth.now) [] in
+    let made = c.reply_to_embed_collect.ensures.made a (told (g.A.Source.known c.args.media.now) some) b due m due_too o due_last in
+    let asked : (qs : List Question) → CollectAsks g.H.Hashing.digest_of said a b m o qs
+    → collect.AsksEmbedded g.H.Hashing.digest_of (g.A.Source.known c.args.media.now) (g.B.Source.known c.args.second.now) (g.C.Source.known c.args.third.now)
+    (g.D.Source.known c.args.fourth.now) said qs
+    = λ qs asks. inl (record {
+      file = a;
+      is_file = told (g.A.Source.known c.args.media.now) some;
+      bytes = b;
+      is_bytes = due;
+      signed = m;
+      is_signed = due_too;
+      others = o;
+      is_others = due_last;
+      asks = asks;
+    }) in
+    replies_to c.in-Ok.found command.EmbedCollect c.in-Ok.ensures c.in-EmbedCollect.is
+    (record {
+      reply = begins_filed (IsEmbedCollectOutcome g.H.Hashing.digest_of said a b m o) _ c.reply_to_embed_collect.result made.made.stands;
+      file = made.made.takes;
+      met = made.meets;
+      asked = λ qs asks. c.reply_to_embed_collect.ensures.panel.asked qs (asked qs asks);
+      unasked = λ none. c.reply_to_embed_collect.ensures.panel.unasked (asked [] none);
+    })
+
 -- the reply to words that fit no command is the usage line
 pub returns-in-Err-Usage-clause-known : goal.returns-in-Err-Usage-clause-known
 returns-in-Err-Usage-clause-known g c known =
@@ -337,6 +411,22 @@ returns-in-EmbedFront-clause-cause g c =
     refl refl refl refl
     c.reply_to_embed_front.ensures.words c.reply_to_embed_front.ensures.media.cause c.reply_to_embed_front.ensures.out.writes.cause
 
+-- `plan-collect`
+pub returns-in-PlanCollect-clause-cause : goal.returns-in-PlanCollect-clause-cause
+returns-in-PlanCollect-clause-cause g c =
+    caused_collecting c.reply_to_plan_collect.result c.in-Ok.found command.PlanCollect c.in-Ok.ensures c.in-PlanCollect.is
+    refl refl refl refl
+    (built_words (IsRefusedBy ground_effects) tbs_outcome c.reply_to_plan_collect.result (λ bytes. refl) c.reply_to_plan_collect.ensures.within)
+    c.reply_to_plan_collect.ensures.media.cause c.reply_to_plan_collect.ensures.panel.cause
+
+-- `embed-collect`
+pub returns-in-EmbedCollect-clause-cause : goal.returns-in-EmbedCollect-clause-cause
+returns-in-EmbedCollect-clause-cause g c =
+    caused_collected c.reply_to_embed_collect.result c.in-Ok.found command.EmbedCollect c.in-Ok.ensures c.in-EmbedCollect.is
+    refl refl refl refl refl refl
+    (built_words (IsRefusedBy embed_effects) embedded_outcome c.reply_to_embed_collect.result (λ range. refl) c.reply_to_embed_collect.ensures.ends.within)
+    c.reply_to_embed_collect.ensures.media.cause c.reply_to_embed_collect.ensures.ends.out.writes.cause c.reply_to_embed_collect.ensures.panel.cause
+
 -- words that fit no command
 pub returns-in-Err-Usage-clause-cause : goal.returns-in-Err-Usage-clause-cause
 returns-in-Err-Usage-clause-cause g c =
@@ -353,50 +443,50 @@ returns-in-Err-NoMemory-clause-cause g c = caused_memory
 pub returns-in-Digest-clause-unused : goal.returns-in-Digest-clause-unused
 returns-in-Digest-clause-unused g c =
     unused_by c.in-Ok.found command.Digest c.in-Ok.ensures c.in-Digest.is (inl refl)
-    (record { second = λ un. refl; third = λ un. refl; out = λ un. refl; judges = λ un. refl })
+    (record { second = λ un. refl; third = λ un. refl; fourth = λ un. refl; out = λ un. refl; judges = λ un. refl })
 
 -- `list`
 pub returns-in-List-clause-unused : goal.returns-in-List-clause-unused
 returns-in-List-clause-unused g c =
     unused_by c.in-Ok.found command.List c.in-Ok.ensures c.in-List.is (inl refl)
-    (record { second = λ un. refl; third = λ un. refl; out = λ un. refl; judges = λ un. refl })
+    (record { second = λ un. refl; third = λ un. refl; fourth = λ un. refl; out = λ un. refl; judges = λ un. refl })
 
 -- `show`
 pub returns-in-Show-clause-unused : goal.returns-in-Show-clause-unused
 returns-in-Show-clause-unused g c =
     unused_by c.in-Ok.found command.Show c.in-Ok.ensures c.in-Show.is (inl refl)
-    (record { second = λ un. refl; third = λ un. refl; out = λ un. refl; judges = λ un. refl })
+    (record { second = λ un. refl; third = λ un. refl; fourth = λ un. refl; out = λ un. refl; judges = λ un. refl })
 
 -- `questions`
 pub returns-in-Questions-clause-unused : goal.returns-in-Questions-clause-unused
 returns-in-Questions-clause-unused g c =
     unused_by c.in-Ok.found command.Questions c.in-Ok.ensures c.in-Questions.is (inl refl)
-    (record { second = λ un. refl; third = λ un. refl; out = λ un. refl; judges = λ none. absurd (false≢true (sym none)) })
+    (record { second = λ un. refl; third = λ un. refl; fourth = λ un. refl; out = λ un. refl; judges = λ none. absurd (false≢true (sym none)) })
 
 -- `validate`
 pub returns-in-Validate-clause-unused : goal.returns-in-Validate-clause-unused
 returns-in-Validate-clause-unused g c =
     unused_by c.in-Ok.found command.Validate c.in-Ok.ensures c.in-Validate.is (inl refl)
-    (record { second = λ un. refl; third = λ un. refl; out = λ un. refl; judges = λ none. absurd (false≢true (sym none)) })
+    (record { second = λ un. refl; third = λ un. refl; fourth = λ un. refl; out = λ un. refl; judges = λ none. absurd (false≢true (sym none)) })
 
 -- `compare`
 pub returns-in-Compare-clause-unused : goal.returns-in-Compare-clause-unused
 returns-in-Compare-clause-unused g c =
     let said = panel_says (map (λ j. (goal.Judge-dyn g (j.vtable, j.value)).says j.value) c.args.judges.now.items) in
     unused_by c.in-Ok.found command.Compare c.in-Ok.ensures c.in-Compare.is (inl refl)
-    (record { second = undue (left_where_known (IsNotAccepted g.H.Hashing.digest_of said) (g.A.Source.known c.args.media.now) _ c.reply_to_compare.ensures.not_due); third = λ un. refl; out = λ un. refl; judges = λ none. absurd (false≢true (sym none)) })
+    (record { second = undue (left_where_known (IsNotAccepted g.H.Hashing.digest_of said) (g.A.Source.known c.args.media.now) _ c.reply_to_compare.ensures.not_due); third = λ un. refl; fourth = λ un. refl; out = λ un. refl; judges = λ none. absurd (false≢true (sym none)) })
 
 -- `plan`
 pub returns-in-Plan-clause-unused : goal.returns-in-Plan-clause-unused
 returns-in-Plan-clause-unused g c =
     unused_by c.in-Ok.found command.Plan c.in-Ok.ensures c.in-Plan.is (inl refl)
-    (record { second = undue (left_where_known IsMediaRefused (g.A.Source.known c.args.media.now) _ c.reply_to_plan.ensures.not_due); third = λ un. refl; out = λ un. refl; judges = λ none. absurd (false≢true (sym none)) })
+    (record { second = undue (left_where_known IsMediaRefused (g.A.Source.known c.args.media.now) _ c.reply_to_plan.ensures.not_due); third = λ un. refl; fourth = λ un. refl; out = λ un. refl; judges = λ none. absurd (false≢true (sym none)) })
 
 -- `validate-external`
 pub returns-in-ValidateExternal-clause-unused : goal.returns-in-ValidateExternal-clause-unused
 returns-in-ValidateExternal-clause-unused g c =
     unused_by c.in-Ok.found command.ValidateExternal c.in-Ok.ensures c.in-ValidateExternal.is (inl refl)
-    (record { second = undue (left_where_known IsRefusedFile (g.A.Source.known c.args.media.now) _ c.reply_to_validate_external.ensures.not_due); third = λ un. refl; out = λ un. refl; judges = λ none. absurd (false≢true (sym none)) })
+    (record { second = undue (left_where_known IsRefusedFile (g.A.Source.known c.args.media.now) _ c.reply_to_validate_external.ensures.not_due); third = λ un. refl; fourth = λ un. refl; out = λ un. refl; judges = λ none. absurd (false≢true (sym none)) })
 
 -- `embed`
 pub returns-in-Embed-clause-unused : goal.returns-in-Embed-clause-unused
@@ -406,6 +496,7 @@ returns-in-Embed-clause-unused g c =
       second = undue (left_where_known IsMediaRefused (g.A.Source.known c.args.media.now) _ c.reply_to_embed.ensures.not_due.definition_unread);
       third = undue (message_left IsMediaRefused IsDefinitionRefused (g.A.Source.known c.args.media.now) (g.B.Source.known c.args.second.now) _
           c.reply_to_embed.ensures.not_due.message_unread_first c.reply_to_embed.ensures.not_due.message_unread);
+      fourth = λ un. refl;
       out = λ none. absurd (false≢true (sym none));
       judges = λ none. absurd (false≢true (sym none));
     })
@@ -414,25 +505,25 @@ returns-in-Embed-clause-unused g c =
 pub returns-in-Sample-clause-unused : goal.returns-in-Sample-clause-unused
 returns-in-Sample-clause-unused g c =
     unused_by c.in-Ok.found command.Sample c.in-Ok.ensures c.in-Sample.is (inr refl)
-    (record { second = λ un. refl; third = λ un. refl; out = λ un. refl; judges = λ none. absurd (false≢true (sym none)) })
+    (record { second = λ un. refl; third = λ un. refl; fourth = λ un. refl; out = λ un. refl; judges = λ none. absurd (false≢true (sym none)) })
 
 -- `strip`
 pub returns-in-Strip-clause-unused : goal.returns-in-Strip-clause-unused
 returns-in-Strip-clause-unused g c =
     unused_by c.in-Ok.found command.Strip c.in-Ok.ensures c.in-Strip.is (inl refl)
-    (record { second = λ un. refl; third = λ un. refl; out = λ none. absurd (false≢true (sym none)); judges = λ un. refl })
+    (record { second = λ un. refl; third = λ un. refl; fourth = λ un. refl; out = λ none. absurd (false≢true (sym none)); judges = λ un. refl })
 
 -- `extract`
 pub returns-in-Extract-clause-unused : goal.returns-in-Extract-clause-unused
 returns-in-Extract-clause-unused g c =
     unused_by c.in-Ok.found command.Extract c.in-Ok.ensures c.in-Extract.is (inl refl)
-    (record { second = λ un. refl; third = λ un. refl; out = λ none. absurd (false≢true (sym none)); judges = λ un. refl })
+    (record { second = λ un. refl; third = λ un. refl; fourth = λ un. refl; out = λ none. absurd (false≢true (sym none)); judges = λ un. refl })
 
 -- `plan-front`
 pub returns-in-PlanFront-clause-unused : goal.returns-in-PlanFront-clause-unused
 returns-in-PlanFront-clause-unused g c =
     unused_by c.in-Ok.found command.PlanFront c.in-Ok.ensures c.in-PlanFront.is (inl refl)
-    (record { second = undue (left_where_known IsMediaRefused (g.A.Source.known c.args.media.now) _ c.reply_to_plan_front.ensures.not_due); third = λ un. refl; out = λ un. refl; judges = λ un. refl })
+    (record { second = undue (left_where_known IsMediaRefused (g.A.Source.known c.args.media.now) _ c.reply_to_plan_front.ensures.not_due); third = λ un. refl; fourth = λ un. refl; out = λ un. refl; judges = λ un. refl })
 
 -- `embed-front`
 pub returns-in-EmbedFront-clause-unused : goal.returns-in-EmbedFront-clause-unused
@@ -442,17 +533,48 @@ returns-in-EmbedFront-clause-unused g c =
       second = undue (left_where_known IsMediaRefused (g.A.Source.known c.args.media.now) _ c.reply_to_embed_front.ensures.not_due.definition_unread);
       third = undue (message_left IsMediaRefused IsDefinitionRefused (g.A.Source.known c.args.media.now) (g.B.Source.known c.args.second.now) _
           c.reply_to_embed_front.ensures.not_due.message_unread_first c.reply_to_embed_front.ensures.not_due.message_unread);
+      fourth = λ un. refl;
       out = λ none. absurd (false≢true (sym none));
       judges = λ un. refl;
     })
 
+-- `plan-collect`
+pub returns-in-PlanCollect-clause-unused : goal.returns-in-PlanCollect-clause-unused
+returns-in-PlanCollect-clause-unused g c =
+    let said = panel_says (map (λ j. (goal.Judge-dyn g (j.vtable, j.value)).says j.value) c.args.judges.now.items) in
+    unused_by c.in-Ok.found command.PlanCollect c.in-Ok.ensures c.in-PlanCollect.is (inl refl)
+    (record {
+      second = undue (left_where_known IsMediaRefused (g.A.Source.known c.args.media.now) _ c.reply_to_plan_collect.ensures.not_due.definition_unread);
+      third = λ un. refl;
+      fourth = undue (message_left (collect.IsNotAccepted g.H.Hashing.digest_of said) IsDefinitionRefused (g.A.Source.known c.args.media.now) (g.B.Source.known c.args.second.now) _
+          c.reply_to_plan_collect.ensures.not_due.other_unread_first c.reply_to_plan_collect.ensures.not_due.other_unread);
+      out = λ un. refl;
+      judges = λ none. absurd (false≢true (sym none));
+    })
+
+-- `embed-collect`
+pub returns-in-EmbedCollect-clause-unused : goal.returns-in-EmbedCollect-clause-unused
+returns-in-EmbedCollect-clause-unused g c =
+    let said = panel_says (map (λ j. (goal.Judge-dyn g (j.vtable, j.value)).says j.value) c.args.judges.now.items) in
+    unused_by c.in-Ok.found command.EmbedCollect c.in-Ok.ensures c.in-EmbedCollect.is (inl refl)
+    (record {
+      second = undue (left_where_known IsMediaRefused (g.A.Source.known c.args.media.now) _ c.reply_to_embed_collect.ensures.not_due.inputs.definition_unread);
+      third = undue (message_left IsMediaRefused IsDefinitionRefused (g.A.Source.known c.args.media.now) (g.B.Source.known c.args.second.now) _
+          c.reply_to_embed_collect.ensures.not_due.inputs.message_unread_first c.reply_to_embed_collect.ensures.not_due.inputs.message_unread);
+      fourth = undue (other_left (collect.IsNotAccepted g.H.Hashing.digest_of said) IsDefinitionRefused (g.A.Source.known c.args.media.now) (g.B.Source.known c.args.second.now)
+          (g.C.Source.known c.args.third.now) _ c.reply_to_embed_collect.ensures.not_due.other_unread_first
+          c.reply_to_embed_collect.ensures.not_due.other_unread_then c.reply_to_embed_collect.ensures.not_due.other_unread);
+      out = λ none. absurd (false≢true (sym none));
+      judges = λ none. absurd (false≢true (sym none));
+    })
+
 -- words that fit no command
 pub returns-in-Err-Usage-clause-unused : goal.returns-in-Err-Usage-clause-unused
-returns-in-Err-Usage-clause-unused g c = unused_idle refl refl refl refl refl
+returns-in-Err-Usage-clause-unused g c = unused_idle refl refl refl refl refl refl
 
 -- out of memory
 pub returns-in-Err-NoMemory-clause-unused : goal.returns-in-Err-NoMemory-clause-unused
-returns-in-Err-NoMemory-clause-unused g c = unused_idle refl refl refl refl refl
+returns-in-Err-NoMemory-clause-unused g c = unused_idle refl refl refl refl refl refl
 
 -- ---- what is left
 
@@ -472,6 +594,11 @@ returns-in-Extract-clause-out g c = written_out c.reply_to_extract.ensures.write
 pub returns-in-EmbedFront-clause-out : goal.returns-in-EmbedFront-clause-out
 returns-in-EmbedFront-clause-out g c =
     written_out c.reply_to_embed_front.ensures.out.writes c.reply_to_embed_front.ensures.out.ends
+
+-- the new file of `embed-collect`
+pub returns-in-EmbedCollect-clause-out : goal.returns-in-EmbedCollect-clause-out
+returns-in-EmbedCollect-clause-out g c =
+    written_out c.reply_to_embed_collect.ensures.ends.out.writes c.reply_to_embed_collect.ensures.ends.out.ends
 
 -- the report of `compare`
 pub returns-in-Compare-clause-report : goal.returns-in-Compare-clause-report
@@ -518,6 +645,10 @@ returns-in-Sample-clause-out g c = idle_out _ _ _ _ _ _ (unnamed_by is_out _ c.i
 -- `plan-front` writes no file
 pub returns-in-PlanFront-clause-out : goal.returns-in-PlanFront-clause-out
 returns-in-PlanFront-clause-out g c = idle_out _ _ _ _ _ _ (unnamed_by is_out _ c.in-Ok.found command.PlanFront c.in-Ok.ensures c.in-PlanFront.is refl)
+
+-- `plan-collect` writes no file
+pub returns-in-PlanCollect-clause-out : goal.returns-in-PlanCollect-clause-out
+returns-in-PlanCollect-clause-out g c = idle_out _ _ _ _ _ _ (unnamed_by is_out _ c.in-Ok.found command.PlanCollect c.in-Ok.ensures c.in-PlanCollect.is refl)
 
 -- nor do words that fit no command
 pub returns-in-Err-Usage-clause-out : goal.returns-in-Err-Usage-clause-out

@@ -19,7 +19,7 @@ returns-in-Err-Input-clause-known g c known =
     let replies = c.in-Err-Input.ensures.known known in
     ends_known c.each_run_has_an_outcome.ensures.outcome (g.met.A.Source.known_bytes c.args.media.now)
     (g.met.B.Source.known_bytes c.args.second.now) (g.met.C.Source.known_bytes c.args.third.now)
-    g.met.H.Hashing.is_digest
+    (g.met.D.Source.known_bytes c.args.fourth.now) g.met.H.Hashing.is_digest
     (λ e comes. runs_input (λ whole. ap (λ w. state_of g.W.Sink.written g.W.Sink.finished w)
     (c.in-Err-Input.ensures.report.unwritten whole)) e comes (rw c.in-Err-Input.field-0-is at replies)
     c.in-Err-Input.ensures.report.unfinished)
@@ -30,7 +30,7 @@ returns-in-Err-Output-clause-known g c known =
     let replies = c.in-Err-Output.ensures.known known in
     ends_known c.each_run_has_an_outcome.ensures.outcome (g.met.A.Source.known_bytes c.args.media.now)
     (g.met.B.Source.known_bytes c.args.second.now) (g.met.C.Source.known_bytes c.args.third.now)
-    g.met.H.Hashing.is_digest
+    (g.met.D.Source.known_bytes c.args.fourth.now) g.met.H.Hashing.is_digest
     (λ e comes. runs_output (λ whole. ap (λ w. state_of g.W.Sink.written g.W.Sink.finished w)
     (c.in-Err-Output.ensures.report.unwritten whole)) e comes (rw c.in-Err-Output.field-0-is at replies)
     c.in-Err-Output.ensures.report.unfinished)
@@ -41,7 +41,7 @@ returns-in-Err-Judge-clause-known g c known =
     let replies = c.in-Err-Judge.ensures.known known in
     ends_known c.each_run_has_an_outcome.ensures.outcome (g.met.A.Source.known_bytes c.args.media.now)
     (g.met.B.Source.known_bytes c.args.second.now) (g.met.C.Source.known_bytes c.args.third.now)
-    g.met.H.Hashing.is_digest
+    (g.met.D.Source.known_bytes c.args.fourth.now) g.met.H.Hashing.is_digest
     (λ e comes. runs_judge (λ whole. ap (λ w. state_of g.W.Sink.written g.W.Sink.finished w)
     (c.in-Err-Judge.ensures.report.unwritten whole)) e comes (rw c.in-Err-Judge.field-0-is at replies)
     c.in-Err-Judge.ensures.report.unfinished)
@@ -52,7 +52,7 @@ returns-in-Err-Memory-clause-known g c known =
     let replies = c.in-Err-Memory.ensures.known known in
     ends_known c.each_run_has_an_outcome.ensures.outcome (g.met.A.Source.known_bytes c.args.media.now)
     (g.met.B.Source.known_bytes c.args.second.now) (g.met.C.Source.known_bytes c.args.third.now)
-    g.met.H.Hashing.is_digest
+    (g.met.D.Source.known_bytes c.args.fourth.now) g.met.H.Hashing.is_digest
     (λ e comes. runs_memory (λ whole. ap (λ w. state_of g.W.Sink.written g.W.Sink.finished w)
     (c.in-Err-Memory.ensures.report.unwritten whole)) e comes (rw c.in-Err-Memory.field-0-is at replies)
     c.in-Err-Memory.ensures.report.unfinished)
@@ -62,7 +62,7 @@ pub returns-in-Ok-deliver-clause-known : goal.returns-in-Ok-deliver-clause-known
 returns-in-Ok-deliver-clause-known g c known =
     ends_known c.each_run_has_an_outcome.ensures.outcome (g.met.A.Source.known_bytes c.args.media.now)
     (g.met.B.Source.known_bytes c.args.second.now) (g.met.C.Source.known_bytes c.args.third.now)
-    g.met.H.Hashing.is_digest
+    (g.met.D.Source.known_bytes c.args.fourth.now) g.met.H.Hashing.is_digest
     (runs_answered c.in-Ok.reply _ _ _ c.status.ensures (c.in-Ok.ensures.known known)
     c.in-Ok-deliver.ensures.delivered)
 
@@ -71,7 +71,7 @@ pub returns-clause-known : goal.returns-clause-known
 returns-clause-known g c known =
     ends_known c.each_run_has_an_outcome.ensures.outcome (g.met.A.Source.known_bytes c.args.media.now)
     (g.met.B.Source.known_bytes c.args.second.now) (g.met.C.Source.known_bytes c.args.third.now)
-    g.met.H.Hashing.is_digest
+    (g.met.D.Source.known_bytes c.args.fourth.now) g.met.H.Hashing.is_digest
     (runs_untold c.in-Ok.reply _ _ _ (c.in-Ok.ensures.known known) c.deliver.ensures.prefix
     (c.in-Err.ensures.unfinished ∙ c.in-Ok.ensures.report.unfinished))
 

@@ -3,7 +3,8 @@ use Rattle.c2_build_front.specs.Answers.{embed_effects}
 use Rattle.c2_written.specs.Builds.{build_says, embedded_outcome}
 use Rattle.c2_written.proofs.Builds.{build_within, build_words}
 use Rattle.c2_written.proofs.Calls.{words_reply}
-use Rattle.c2_front_commands.proofs.Making.{front_made, sink_left, source_left}
+use Rattle.c2_written.proofs.Left.{sink_left, source_left}
+use Rattle.c2_front_commands.proofs.Making.{front_made}
 use Rattle.c2_front_commands.proofs.embedding.reply_to_embed_front.Goals as goal
 
 -- what is replied and written is what the files come to

@@ -4,8 +4,8 @@ use Rattle.c2_build_front.specs.Answers.{plan_effects}
 use Rattle.c2_written.specs.Builds.{build_says, tbs_outcome}
 use Rattle.c2_written.proofs.Builds.{build_within, build_words}
 use Rattle.c2_written.proofs.Calls.{words_reply}
+use Rattle.c2_written.proofs.Left.{source_left}
 use Rattle.c2_front_commands.proofs.Answered.{plan_replied}
-use Rattle.c2_front_commands.proofs.Making.{source_left}
 use Rattle.c2_front_commands.proofs.planning.reply_to_plan_front.Goals as goal
 
 -- what is replied is what the files come to

@@ -1,0 +1,76 @@
+-- What `embed-collect` replies and writes, by the call below it.
+use Rattle.std.proofs.Common.{◌≡◌, refl, subst, ℕ, Bool, List, Option}
+use Rattle.std.specs.Prelude.{IfErr, IfOk, OnOk, Ok, Err}
+use Rattle.std.specs.declared.result.Result.{Result}
+use Rattle.c2_base.specs.declared.values.Question.{Question}
+use Rattle.c2_copying.specs.Writing.{HasWritten}
+use Rattle.c2_spec.specs.declared.digest.Alg.{Alg}
+use Rattle.c2_spec.specs.declared.panel.Verdict.{Verdict}
+use Rattle.c2_collected.specs.Made.{CollectedMeets}
+use Rattle.c2_collected.specs.Order.{CollectRefusal}
+use Rattle.c2_collected.specs.Outcomes.{IsCollectMade, NewFile}
+use Rattle.c2_refusals.specs.Kinds as kind
+use Rattle.c2_refusals.specs.Kinds.{ErrorKind, kind_of}
+use Rattle.c2_refusals.specs.Sinks.{EndsOut}
+use Rattle.c2_refusals.specs.declared.error.BuildError.{BuildError}
+use Rattle.c2_refusals.specs.declared.types.Embedded.{Embedded}
+use Rattle.c2_in_place.specs.Writings as collect
+use Rattle.c2_collect_ground.specs.Errors.{error_of}
+use Rattle.c2_build_collect.specs.Answers.{EmbedsCollected, IsMet, Writes, file_of}
+use Rattle.c2_outcome.specs.Left.{state_of}
+use Rattle.c2_outcome.specs.Reply.{IsFaultOf, IsReplyTo}
+use Rattle.c2_outcome.specs.declared.reply.Fault.{Fault}
+use Rattle.c2_outcome.specs.declared.reply.Reply.{Reply}
+use Rattle.c2_written.specs.Builds.{build_says, embedded_outcome}
+use Rattle.c2_written.proofs.Builds.{WritesNew, build_ending, build_ends, build_fits, build_met, kind_ending}
+use Rattle.c2_written.proofs.Calls.{makes_reply}
+use Rattle.c2_written.proofs.Left.{written_as}
+use Rattle.c2_written.proofs.Refused.{ComesWith, new_writes, writes_new}
+use Rattle.c2_collect_commands.specs.Outcomes.{IsEmbedCollectOutcome, file_bytes}
+use Rattle.c2_collect_commands.specs.Writing.{BuildsCollected}
+use Rattle.c2_collect_commands.proofs.Answered.{collect_outcome, file_same}
+
+-- a call ends with an error of this kind as a build does
+kind_same : (k : ErrorKind) → collect.kind_ending k ≡ kind_ending k
+kind_same kind.refusal = refl
+kind_same kind.message_refusal = refl
+kind_same kind.front_refusal = refl
+kind_same kind.older_refusal = refl
+kind_same kind.other_refusal = refl
+kind_same kind.read_fault = refl
+kind_same kind.judge_fault = refl
+kind_same kind.write_fault = refl
+kind_same kind.no_memory = refl
+
+-- and so with a result
+ending_same : (r : Result Embedded BuildError) → collect.ending_of r ≡ build_ending r
+ending_same (Ok x) = refl
+ending_same (Err e) = kind_same (kind_of e)
+
+-- what the new file meets is met where one is answered
+met_ok : (hash : Alg → List ℕ → List ℕ) (said : Question → Verdict) (media definition message other : List ℕ) (r : Result Embedded BuildError) → IsMet hash said media definition message other r
+    → OnOk r ((b : NewFile) → IsCollectMade hash said media definition message other (Ok b) → CollectedMeets hash said media definition message other b)
+met_ok hash said media definition message other (Ok x) h = h
+met_ok hash said media definition message other (Err e) h = tt
+
+-- what is replied and written, and what that meets
+pub collect_made : {K : Type 0} (written : K → Option (List ℕ)) (spare : K → Option ℕ) (finished : K → Bool) (hash : Alg → List ℕ → List ℕ) (said : Question → Verdict) (media definition message other : List ℕ) (old new : K)
+    (r : Result Embedded BuildError) (reply : Result Reply Fault)
+    → ((a b : Result NewFile CollectRefusal) → IsCollectMade hash said media definition message other a → IsCollectMade hash said media definition message other b → a ≡ b)
+    → EmbedsCollected written spare finished hash said media definition message other old new r → EndsOut finished old new r
+    → IfOk reply (IsReplyTo (build_says embedded_outcome r)) → IfErr reply (IsFaultOf (build_says embedded_outcome r))
+    → BuildsCollected hash said media definition message other (state_of written finished old) (state_of written finished new) reply
+collect_made {K} written spare finished hash said media definition message other old new r reply one h ends reports fails = record {
+  made = makes_reply written finished (WritesNew file_bytes (ComesWith error_of Is)) (IsEmbedCollectOutcome hash said media definition message other) old new (build_ending r) (build_says embedded_outcome r) reply
+      (build_fits embedded_outcome r (λ x. refl)) wrote (build_ends finished old new r ends)
+      (collect_outcome Is r one h.answered) reports fails;
+  meets = build_met written finished old new embedded_outcome r reply ends reports (met_ok hash said media definition message other r h.meets);
+}
+  where
+    Is : Result NewFile CollectRefusal → Type 0
+    Is = IsCollectMade hash said media definition message other
+
+    wrote : HasWritten written finished (WritesNew file_bytes (ComesWith error_of Is)) old new (build_ending r)
+    wrote = written_as written finished (Writes Is) (WritesNew file_bytes (ComesWith error_of Is)) old new (build_ending r)
+        (writes_new error_of file_bytes Is file_of file_same) (new_writes error_of file_bytes Is file_of file_same)
+        (subst (HasWritten written finished (Writes Is) old new) (ending_same r) h.wrote.wrote)
