@@ -1,11 +1,12 @@
 #!/usr/bin/env python3
-"""Prints a definition file for `c2 plan` and `c2 embed` (docs/FORMATS.md, "Definition files").
+"""Prints a definition file for `c2 plan` and `c2 embed` and their like (docs/FORMATS.md, "Definition files").
 
     define.py --chain CHAIN.pem [OPTIONS] > DEFINITION
 
 CHAIN.pem has the signer's certificate and then those above it. The first action of the new manifest is `c2pa.created`. For media
-that is signed already it has to be `c2pa.opened`, with a reference to the parent. The digest in it is in no file before the new
-manifest is planned, so such media is planned twice, and --opened takes it out of the first plan.
+that is signed already it has to be `c2pa.opened`, with a reference to the parent; and where another file is collected into it,
+`c2pa.placed` has one to that file. The digests in them are in no file before the new manifest is planned, so such media is planned
+twice, and --opened and --placed take them out of the first plan.
 """
 
 import argparse
@@ -18,7 +19,9 @@ import cose
 from cose import Unfit, cbor
 
 ACTIONS = "c2pa.actions.v2"
-PARENT = "self#jumbf=c2pa.assertions/c2pa.ingredient.v3"
+INGREDIENT = "self#jumbf=c2pa.assertions/c2pa.ingredient.v3"
+# The ingredients of a new manifest in their order: the parent is the first, where the media has a store, and what is collected the last.
+INGREDIENTS = INGREDIENT, INGREDIENT + "__1"
 SOURCE_TYPES = "http://cv.iptc.org/newscodes/digitalsourcetype/"
 KINDS = {".json": "json", ".cbor": "cbor"}
 LEAST_RESERVE = 64
@@ -37,21 +40,27 @@ def mapping(*pairs):
 def actions_of(given):
     """The actions (C2PA Technical Specification 2.x, "Actions"): how the media came to be, and what was done with it."""
     if given.opened:
-        first = [("action", text("c2pa.opened")), ("parameters", mapping(("ingredients", ("list", (parent_of(given.opened),)))))]
+        first = action_over("c2pa.opened", ingredients_of(given.opened)[0])
     else:
-        first = [("action", text("c2pa.created"))]
-        first += [("digitalSourceType", text(SOURCE_TYPES + given.source))] if given.source else []
-    actions = [mapping(*first), *(mapping(("action", text(name))) for name in given.action)]
+        source = [("digitalSourceType", text(SOURCE_TYPES + given.source))] if given.source else []
+        first = mapping(("action", text("c2pa.created")), *source)
+    placed = [action_over("c2pa.placed", ingredients_of(given.placed)[-1])] if given.placed else []
+    actions = [first, *placed, *(mapping(("action", text(name))) for name in given.action)]
     return cbor.encode(mapping(("actions", ("list", tuple(actions)))))
 
 
-def parent_of(plan):
-    """The reference to the parent's assertion, as the claim of an earlier plan has it."""
+def action_over(name, reference):
+    """An action that says of what ingredient it is."""
+    return mapping(("action", text(name)), ("parameters", mapping(("ingredients", ("list", (reference,))))))
+
+
+def ingredients_of(plan):
+    """The references to ingredients in their order, as the claim of an earlier plan has them."""
     claim = cbor.read_whole(cose.parts_of(cose.tbs_of(plan))[1])
     created = cbor.field(claim, "created_assertions") or ("list", ())
-    found = next((entry for entry in created[1] if cbor.field(entry, "url") == text(PARENT)), None)
-    if found is None:
-        raise Unfit(f"{plan} plans a manifest without a parent")
+    found = [entry for entry in created[1] if cbor.field(entry, "url") in map(text, INGREDIENTS)]
+    if not found:
+        raise Unfit(f"{plan} plans a manifest without an ingredient")
     return found
 
 
@@ -116,6 +125,7 @@ def content_options():
 def main():
     parser = argparse.ArgumentParser(description="Prints a definition file for c2.", parents=[content_options()])
     parser.add_argument("--opened", metavar="PLAN", help="the media has a parent; PLAN is a first plan without this option")
+    parser.add_argument("--placed", metavar="PLAN", help="another file is collected into the media; PLAN is a first plan of that")
     given = parser.parse_args()
     try:
         json.dump(definition_of(given), sys.stdout, indent=2)

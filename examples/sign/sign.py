@@ -7,7 +7,8 @@ MEDIA is a JPEG or a BMFF file (HEIC, AVIF, MP4, MOV), and OUT the copy that is 
 it is, so it can be typed by hand, or the one with the key on another machine. What the steps write is kept in the folder OUT.steps.
 Media that is signed already wants the verdicts on its signatures: --anchors asks the judge of examples/judge for them, and --verdicts
 names files that have them. With --anchors the copy is judged and validated at the end. With --front MEDIA is a film without a store,
-and that of the copy stands in front, where a reader that takes the film from its beginning finds it.
+and that of the copy stands in front, where a reader that takes the film from its beginning finds it. With --collect OTHER the copy
+has the history of another signed file besides, which was put into the picture.
 """
 
 import argparse
@@ -21,6 +22,8 @@ import define
 
 HERE = os.path.dirname(os.path.abspath(__file__))
 DONE, NO_STORE = 0, 3
+# The verdict files that the judge is asked for, by the options of define.py.
+JUDGED = {"--opened": "verdicts", "--placed": "other-verdicts"}
 # What c2's statuses mean that a signer may meet, and what to do.
 MEANINGS = {
     2: "the media is malformed, or its check fails for what c2 doesn't support",
@@ -28,7 +31,7 @@ MEANINGS = {
     6: "a file can't be written: the new one must not be there yet, and the disk not be full",
     7: "a verdict file isn't one",
     8: "out of memory",
-    11: 'nothing is built: the line above says why (docs/RULES.md, "What `plan` and `embed` refuse", and behind it what --front refuses)',
+    11: 'nothing is built: the line above says why (docs/RULES.md, "What `plan` and `embed` refuse", and behind it what --front and --collect refuse)',
 }
 
 
@@ -87,32 +90,41 @@ class Steps:
         return self.path(into)
 
     def named(self, command):
-        """The command of c2 that puts the store where it is wanted."""
-        return f"{command}-front" if self.given.front else command
+        """The command of c2 that puts the store where it is wanted, or another file's history into it."""
+        return command + ("-front" if self.given.front else "-collect" if self.given.collect else "")
+
+    def others(self):
+        """The other file, where there is one."""
+        return [self.given.collect] if self.given.collect else []
 
     def plan(self, definition, into="plan"):
-        self.c2(self.named("plan"), self.given.media, definition, *self.verdicts, into=into)
+        self.c2(self.named("plan"), self.given.media, definition, *self.others(), *self.verdicts, into=into)
         return self.path(into)
 
     def sign(self):
         if not os.path.isdir(self.folder):
             os.mkdir(self.folder)
         is_signed = not self.given.front and self.c2("list", self.given.media, into="boxes", allowed=(DONE, NO_STORE)) == DONE
-        definition = self.define_over_parent() if is_signed else self.define()
+        older = {"--opened": self.given.media} if is_signed else {}
+        if self.given.collect:
+            older["--placed"] = self.given.collect
+        definition = self.define_over(older) if older else self.define()
         plan = self.plan(definition)
         self.python("message.py", "--key", self.given.key, plan, into="message")
-        self.c2(self.named("embed"), self.given.media, definition, self.path("message"), self.given.out, *self.verdicts)
+        files = self.given.media, definition, self.path("message"), *self.others(), self.given.out
+        self.c2(self.named("embed"), *files, *self.verdicts)
         if self.given.anchors:
             self.c2("validate", self.given.out, self.judge(self.given.out, "new-verdicts"))
 
-    def define_over_parent(self):
-        """The definition for media that is signed already: its first plan tells the digest that the reference to the parent needs."""
-        if self.given.anchors:
-            self.verdicts = [*self.verdicts, self.judge(self.given.media, "verdicts")]
-        elif not self.verdicts:
-            sys.exit(f"sign: {self.given.media} is signed already: --anchors or --verdicts is wanted")
+    def define_over(self, older):
+        """The definition over files that are signed already, by the option of each: a first plan tells the digests that references to them need."""
+        for option, name in older.items():
+            if self.given.anchors:
+                self.verdicts = [*self.verdicts, self.judge(name, JUDGED[option])]
+            elif not self.verdicts:
+                sys.exit(f"sign: {name} is signed already: --anchors or --verdicts is wanted")
         first = self.plan(self.define(into="first.json"), into="first-plan")
-        return self.define("--opened", first)
+        return self.define(*(word for option in older for word in (option, first)))
 
 
 def content_words(given):
@@ -134,13 +146,16 @@ def words():
     parser.add_argument("--anchors", metavar="ANCHORS.pem", help="the certificates that are trusted, for the judge")
     parser.add_argument("--verdicts", action="append", default=[], metavar="FILE", help="a verdict file on the media; any number")
     parser.add_argument("--front", action="store_true", help="put the store in front of the film, which has none yet")
+    parser.add_argument("--collect", metavar="OTHER", help="a signed file that was put into the picture; its history comes along")
     parser.add_argument("--c2", default=typed(os.path.join(HERE, "..", "..", "c2")), help="the program c2 (the repository's)")
     parser.add_argument("media", metavar="MEDIA")
     parser.add_argument("out", metavar="OUT")
     given = parser.parse_args()
     if given.front and given.verdicts:
         parser.error("with --front the media has no store, so there are no verdicts on it")
-    for name in (given.key, given.chain, given.media, *filter(None, [given.anchors]), *given.verdicts):
+    if given.front and given.collect:
+        parser.error("--front and --collect can't be done at once")
+    for name in (given.key, given.chain, given.media, *filter(None, [given.anchors, given.collect]), *given.verdicts):
         if not os.path.isfile(name):
             parser.error(f"there is no file {name}")
     if os.path.lexists(given.out):

@@ -37,6 +37,7 @@ FILM = bytes.fromhex("00000010 66747970 69736f6d 00000000 0000000e 6d646174") + 
 TABLE = bytes.fromhex("0000003c 6d6f6f76 00000034 7472616b 0000002c 6d646961 00000024 6d696e66 0000001c 7374626c 00000014 7374636f 00000000 00000001 00000054")
 INDEXED = FILM[:16] + TABLE + FILM[16:]
 PARENT = "self#jumbf=c2pa.assertions/c2pa.ingredient.v3"
+COMPONENT = PARENT + "__1"
 
 
 def certificate(folder, name, key, above=None, extensions=SIGNER):
@@ -162,6 +163,36 @@ class Signing(unittest.TestCase):
         self.assertEqual(made[start + length :].replace(place.to_bytes(4, "big"), b"\0\0\0\x54"), INDEXED[16:])
         self.assertEqual(self.signed("1.mp4", "2.mp4")[:18], "valid manifests=2 ")
 
+    def test_a_picture_made_of_two(self):
+        self.signed("photo.jpg", "1.jpg", "--assertion", "org.example.place=place.json")
+        self.write("other.jpg", PICTURE.replace(b"a tree", b"a lake"))
+        self.signed("other.jpg", "2.jpg", signer="EdDSA")
+        line = self.signed("1.jpg", "3.jpg", "--collect", "2.jpg", signer="ES384")
+        self.assertEqual(line, f"valid manifests=3 assertions=9 covered={len(PICTURE)} outside=0")
+        self.assertEqual(self.actions("3.jpg"), [("c2pa.opened", PARENT), ("c2pa.placed", COMPONENT)])
+        labels = [self.shown(name)["active"] for name in ("1.jpg", "2.jpg", "3.jpg")]
+        self.assertEqual([manifest["label"] for manifest in self.shown("3.jpg")["manifests"]], labels)
+        uri = f"self#jumbf=/c2pa/{labels[0]}/c2pa.assertions/org.example.place"
+        line = self.signed("film.mp4", "4.mp4", "--collect", "3.jpg", "--redact", uri, "--alg", "sha512")
+        self.assertEqual(line, "valid manifests=4 assertions=11 covered=14 outside=16")
+        self.assertEqual(self.actions("4.mp4"), [("c2pa.created", None), ("c2pa.placed", PARENT)])
+        self.assertNotIn(b'"a street"', self.contents(self.folder, "4.mp4"))
+
+    def actions(self, media):
+        """The actions of a file's active manifest, each with the URL of the ingredient that it refers to."""
+        with open(os.path.join(self.folder, f"{media}.steps", "definition.json"), encoding="utf-8") as file:
+            actions = cbor.read_whole(bytes.fromhex(json.load(file)["assertions"][0]["hex"]))
+        entries = {entry["url"]: entry["hash"] for entry in self.shown(media)["manifests"][-1]["claim"]["assertions"]}
+        found = []
+        for action in cbor.field(actions, "actions")[1]:
+            parameters, url = cbor.field(action, "parameters"), None
+            if parameters is not None:
+                (reference,) = cbor.field(parameters, "ingredients")[1]
+                url = cbor.field(reference, "url")[1]
+                self.assertEqual(cbor.field(reference, "hash")[1].hex(), entries[url])
+            found.append((cbor.field(action, "action")[1], url))
+        return found
+
     def test_the_action_refers_to_the_parent(self):
         self.signed("photo.jpg", "1.jpg")
         self.assert_refers("1.jpg", 32)
@@ -192,15 +223,19 @@ class Signing(unittest.TestCase):
         self.assertEqual(commands, ["list", "plan", "embed", "validate"])
         commands = self.typed_again("film.mp4", "a signed one.mp4", "--front", covered=14, outside=16)
         self.assertEqual(commands, ["plan-front", "embed-front", "validate"])
+        self.signed("film.mp4", "a signed film.mp4")
+        options = "--collect", "a signed film.mp4"
+        commands = self.typed_again("photo.jpg", "made of two.jpg", *options, manifests=2, assertions=5, covered=len(PICTURE), outside=0)
+        self.assertEqual(commands, ["list", "plan-collect", "plan-collect", "embed-collect", "validate"])
 
-    def typed_again(self, media, out, *options, covered, outside):
+    def typed_again(self, media, out, *options, manifests=1, assertions=2, covered, outside):
         """The commands of c2 among the printed steps, which come to the same when they are typed again."""
         printed = self.sign(media, out, *options).stdout
         typed = [line[2:] for line in printed.splitlines() if line.startswith("+ ")]
         first = self.contents(self.folder, out)
         os.remove(os.path.join(self.folder, out))
         done = self.run_in("sh", "-c", "\n".join(typed))
-        self.assertEqual(done.stdout.splitlines()[-1], f"valid manifests=1 assertions=2 covered={covered} outside={outside}")
+        self.assertEqual(done.stdout.splitlines()[-1], f"valid manifests={manifests} assertions={assertions} covered={covered} outside={outside}")
         self.assertEqual(len(self.contents(self.folder, out)), len(first))
         return [shlex.split(line)[1] for line in typed if shlex.split(line)[0] == C2]
 
@@ -221,6 +256,11 @@ class Signing(unittest.TestCase):
         self.refused("build ParentFails assertion.dataHash.mismatch", "changed.jpg", "no.jpg")
         self.signed("film.mp4", "1.mp4")
         self.refused("build HasStore", "1.mp4", "no.mp4", "--front")
+        self.refused("can't be done at once", "film.mp4", "no.mp4", "--front", "--collect", "1.jpg")
+        self.refused("there is no file absent.jpg", "photo.jpg", "no.jpg", "--collect", "absent.jpg")
+        self.refused("build OtherRefused none", "1.jpg", "no.jpg", "--collect", "photo.jpg")
+        self.refused("build OtherRefused failing assertion.dataHash.mismatch", "photo.jpg", "no.jpg", "--collect", "changed.jpg")
+        self.refused("--anchors or --verdicts is wanted", "photo.jpg", "no.jpg", "--collect", "1.jpg", anchors=())
         before = self.contents(self.folder, "1.jpg")
         self.assertIn("is there already", self.sign("photo.jpg", "1.jpg").stderr)
         self.assertEqual(self.contents(self.folder, "1.jpg"), before)

@@ -39,6 +39,9 @@ FULL_BODY = 63_984
 APP0 = 0xE0
 PADS = ("text", "pad"), ("text", "pad2")
 URI = "self#jumbf="
+PARENT = "parentOf"
+# The labels of a new manifest's ingredients.
+INGREDIENTS = "c2pa.ingredient.v3", "c2pa.ingredient.v3__1"
 
 Fill = namedtuple("Fill", "pad pad2")
 
@@ -57,18 +60,18 @@ def embed(media, definition, signature, judges=()):
     return built(lambda: read_media(media, judges), lambda: definition, lambda: signature)
 
 
-def planned(*calls):
-    """`tbs` and the bytes to be signed, or `build` with the name of the refusal and what it keeps."""
+def planned(*calls, build=None):
+    """`tbs` and the bytes to be signed, or `build` with the name of the refusal and what it keeps. `build` is another class than Build, or a call."""
     try:
-        return "tbs", Build(*calls).tbs
+        return "tbs", (build or Build)(*calls).tbs
     except BuildRefused as refused:
         return "build", *refused.args
 
 
-def built(*calls):
+def built(*calls, build=None):
     """The new file, and start and length of what was put in; or a refusal as `planned` has it."""
     try:
-        return Build(*calls).file()
+        return (build or Build)(*calls).file()
     except BuildRefused as refused:
         return "build", *refused.args
 
@@ -82,7 +85,7 @@ class Build:
         self.definition = read_definition(definition())
         self.message = None if message is None else read_message(message(), self.definition)
         self.base.check()
-        self.carried = carry(old, self.definition)
+        self.carried = self.carry(old)
         self.base.find_place()
         self.length = self.check_sizes()
         self.base.make_room(self.length)
@@ -94,10 +97,17 @@ class Build:
         self.tbs = cbor.encode(array(text("Signature1"), data(self.definition.protected), data(b""), data(claim)))
         self.store = self.store_of(listed, claim, payload)
 
+    def carry(self, old):
+        """What the new store carries, once the old one is accepted, the redacted boxes taken out of it."""
+        if old is None:
+            return carry(None, self.definition)
+        old.check()
+        return carry(old, self.definition, (PARENT, len(old.manifests) - 1))
+
     def listed(self, binding):
         """Labels and boxes of the new manifest's assertions."""
         given = [(new.label, superbox(new.kind.encode(), new.label, box(new.kind.encode(), new.contents))) for new in self.definition.assertions]
-        items = [*self.carried.ingredient, binding]
+        items = [*self.carried.ingredients, binding]
         return given + [(label, superbox(b"cbor", label, item(cbor.encode(value)))) for label, value in items]
 
     def store_of(self, listed, claim, payload):
@@ -106,8 +116,8 @@ class Build:
 
     def check_sizes(self):
         """The length of what is put in, which no digest is needed for."""
-        if self.carried.manifests == MOST_MANIFESTS:
-            raise BuildRefused("TooManyManifests", MOST_MANIFESTS + 1)
+        if self.carried.manifests >= MOST_MANIFESTS:
+            raise BuildRefused("TooManyManifests", self.carried.manifests + 1)
         alg = self.definition.alg
         listed = self.listed(self.base.binding_of(0, 0, alg, bytes(hashing.LENGTHS[alg])))
         size = len(self.store_of(listed, claim_of(self.definition, listed), bytes(self.definition.reserve)))
@@ -253,28 +263,22 @@ def claim_of(definition, listed):
 # The old store
 
 
-class OldStore:
-    """The store that a media file has, and what the rules say of it under the judges."""
+class Older:
+    """Boxes of manifests under one root, of which a new store has those that aren't redacted; the chain says which are reached."""
 
-    def __init__(self, media, judges):
-        self.media, self.store, self.root = media, media.store, jumbf.read(media.store)
-        self.check_list = CheckList(media.store, self.root, lambda identity: verdict_of(judges, identity))
-        self.manifests = self.check_list.manifests
-
-    def check(self):
-        for code, uri in self.check_list.failing(self.media):
-            raise BuildRefused("ParentFails", code, uri)
+    def __init__(self, store, root, chain):
+        self.store, self.root, self.chain, self.manifests = store, root, chain, chain.manifests
 
     def target(self, target):
         """The box of an assertion that a reached manifest lists, or None."""
-        at = self.check_list.places.get(target.manifest)
-        if at not in self.check_list.reached or target.label not in self.manifests[at].listed:
+        at = self.chain.places.get(target.manifest)
+        if at not in self.chain.reached or target.label not in self.manifests[at].listed:
             return None
         return self.manifests[at].labelled.get(target.label)
 
     def is_signed(self, label):
         """Whether each reached ingredient that names a manifest names its signature too."""
-        ingredients = (ingredient for at in self.check_list.reached for ingredient in self.manifests[at].ingredients)
+        ingredients = (ingredient for at in self.chain.reached for ingredient in self.manifests[at].ingredients)
         return all(ingredient.signature is not None for ingredient in ingredients if ingredient.names == label)
 
     def spelled(self, box, gone):
@@ -288,34 +292,47 @@ class OldStore:
             return length.to_bytes(4, "big") + header[4:] + inner
         return header[:8] + length.to_bytes(8, "big") + inner
 
-    def parent(self, gone, alg):
-        """The ingredient that the old active manifest is, by what is left of it: its digests are by the algorithm of the new claim."""
-        active = self.manifests[-1]
-        url, signature = f"/c2pa/{active.label}", active.signature
-        return "c2pa.ingredient.v3", mapping(
-            relationship=text("parentOf"),
-            activeManifest=hashed_uri(url, self.spelled(active.box, gone)[active.box.inside - active.box.start :], alg),
+    def ingredient(self, relationship, at, gone, alg):
+        """The ingredient that a manifest is, by what is left of it: its digests are by the algorithm of the new claim."""
+        named = self.manifests[at]
+        url, signature = f"/c2pa/{named.label}", named.signature
+        return mapping(
+            relationship=text(relationship),
+            activeManifest=hashed_uri(url, self.spelled(named.box, gone)[named.box.inside - named.box.start :], alg),
             claimSignature=hashed_uri(url + "/c2pa.signature", self.store[signature.inside : signature.end], alg),
         )
 
 
-class Carried(namedtuple("Carried", "boxes manifests ingredient", defaults=((), 0, ()))):
-    """What a new store has of an old one: boxes, how many of them are manifests, and the ingredient that the last of these is."""
+class OldStore(Older):
+    """The store that a media file has, and what the rules say of it under the judges."""
+
+    def __init__(self, media, judges):
+        root = jumbf.read(media.store)
+        super().__init__(media.store, root, CheckList(media.store, root, lambda identity: verdict_of(judges, identity)))
+        self.media = media
+
+    def check(self):
+        for code, uri in self.chain.failing(self.media):
+            raise BuildRefused("ParentFails", code, uri)
 
 
-def carry(old, definition):
-    """What a new store carries, the redacted boxes taken out of it."""
-    if old is not None:
-        old.check()
-        if definition.label in old.check_list.places:
-            raise BuildRefused("LabelTaken", definition.label)
+class Carried(namedtuple("Carried", "boxes manifests ingredients", defaults=((), 0, ()))):
+    """What a new store has of older ones: boxes, how many of them are manifests, and the ingredients that some of these are, with their labels."""
+
+
+def carry(older, definition, *named):
+    """What a new store carries of an older one (of none where that is None), the redacted boxes taken out of it; relationships and places of the
+    manifests that are its ingredients, in their order."""
+    if older is not None and definition.label in older.chain.places:
+        raise BuildRefused("LabelTaken", definition.label)
     gone = set()
     for entry in definition.redactions:
-        gone.add(redacted_place(old, entry, definition.label, gone))
-    if old is None:
+        gone.add(redacted_place(older, entry, definition.label, gone))
+    if older is None:
         return Carried()
-    boxes = [old.spelled(box, gone) for box in old.root.children[1:]]
-    return Carried(boxes, len(old.manifests), [old.parent(gone, definition.alg)])
+    boxes = [older.spelled(box, gone) for box in older.root.children[1:]]
+    ingredients = [older.ingredient(*each, gone, definition.alg) for each in named]
+    return Carried(boxes, len(older.manifests), list(zip(INGREDIENTS, ingredients)))
 
 
 def redacted_place(old, entry, label, gone):

@@ -30,7 +30,7 @@ from make import packets, segment
 from make_store import array, box, data, mapping, open_array, sign1, tag, text, uint
 from manifests import manifests_of
 from manifests import Manifest as Read
-from media import media_of
+from media import kept_of, media_of, without
 from rows import Approving
 from store import JUDGE_FAULT, JudgeFault, report, verdicts_in
 from told import tell
@@ -168,10 +168,6 @@ def drawn_message(chance):
 # What a built file must be
 
 
-def without(contents, start, length):
-    return contents[:start] + contents[start + length :]
-
-
 def questions(contents):
     return report("questions", contents, [Approving()])[0].split("\n") if media_of(contents) else []
 
@@ -193,20 +189,6 @@ def wrong_in(media, built, planned):
     claim = Read(found.store, manifests_of(jumbf.read(found.store))[-1]).claim.encoded
     if planned[0] != "tbs" or not planned[1].endswith(b"\x40" + data(claim)):
         yield f"{line_of(planned)[0][:100]} was to be signed"
-
-
-def kept_of(media):
-    """What a media is without its store: in a BMFF file the store's box is taken out, or says nothing."""
-    found = media_of(media)
-    if found is None:
-        return [media]
-    taken = without(media, found.start, found.length)
-    if found.roots is None:
-        return [taken]
-    place = next(box for box in found.roots if box.start == found.start)
-    is_last = [box.kind for box in found.roots if box.start >= place.end] in ([], [b"mfra"])
-    freed = media[: place.start + 4] + b"free" + media[place.start + 8 : place.inside] + bytes(place.end - place.inside) + media[place.end :]
-    return [taken if is_last else freed]
 
 
 # Beside c2

@@ -6,8 +6,8 @@
 KIND is `fresh`, `signed` or `film` for builds as chance_builds.py draws them, or `all` (the default) for each by turns. A row has what `embed`
 says and the new file's length and digest, and how often each judge was asked; the next has what `plan` says. Each new file must be as
 chance_builds.py wants it, or it is told. With `stores` or `film stores` the rows have what `show`, `questions` and `validate` say of files as
-validate.py draws them, and with `pairs` what `compare` says of pairs as chance_pairs.py draws them. Prints how often each answer of `embed`,
-`validate` or `compare` came. In the folder of that crate `rt try` runs the tables:
+validate.py draws them, with `pairs` what `compare` says of pairs as chance_pairs.py draws them, and with `collects` what `embed-collect` and
+`plan-collect` say of pairs as chance_collects.py draws them. Prints how often each answer of `embed`, `validate`, `compare` or `embed-collect` came. In the folder of that crate `rt try` runs the tables:
 
     rt try --data 1.rows=FOLDER/1.rows --data 2.rows=FOLDER/2.rows -- 1.rows 2.rows
 """
@@ -17,6 +17,9 @@ import random
 import sys
 from collections import Counter
 
+import chance_collects
+import collect
+import collect_rows
 import hashing
 import pairs
 from builder import embed, line_of, plan
@@ -103,6 +106,18 @@ def put_pair(lines, first, second):
     return line
 
 
+def put_collect(lines, chance, files, rows):
+    """Appends a row for `embed-collect` and one for `plan-collect`, whose third file isn't due, and gives the line and status of the former."""
+    media, definition, _, other = files
+    built, planned = Call(collect.embed, files, rows), Call(collect.plan, (media, definition, other), rows)
+    names = " V" * len(rows)
+    lines.set(judges=" ".join(map(judge_text, rows)), out=len(built.file or b"") or "none", pieces=chance.choice(("65536", "65536/7", "1009")))
+    for words, call, fault in ("embed-collect J X G O OUT", built, "third 0"), ("plan-collect J X O", planned, "third 1"):
+        lines.set(words=words + names, fault=fault)
+        lines.row(call.text, *(file.hex() for file in files))
+    return built.made
+
+
 class Tables:
     """The tables of a folder, one after the other."""
 
@@ -154,7 +169,18 @@ def compare_pairs(written, chance, count):
     return answers
 
 
-READ = {"stores": read_stores, "film stores": read_films, "pairs": compare_pairs}
+def collect_files(written, chance, count):
+    answers, files = Counter(), []
+    for number in range(count):
+        if number % chance_collects.PAIRS == 0:
+            files = chance_collects.family(chance)
+        given = chance_collects.drawn_pair(chance, files)
+        made = written.put(put_collect, chance, given, chance_collects.verdicts_for(chance, (given[0], given[3])))
+        answers["a judge's fault" if made[0] == "a judge's fault" else collect_rows.kind_of(*line_of(made))] += 1
+    return answers
+
+
+READ = {"stores": read_stores, "film stores": read_films, "pairs": compare_pairs, "collects": collect_files}
 
 
 def main():

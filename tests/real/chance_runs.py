@@ -6,12 +6,12 @@ ingredients and the three algorithms mixed.
 
 Over each store `digest`, `list`, `show`, `questions` and `validate` are run beside store.py, `compare` with a second file beside pairs.py,
 `plan` and `embed` beside builder.py, `plan-front` and `embed-front` beside front.py, over what is left of a film without its store, over a drawn film in
-the place of a JPEG, or over the file itself, and `strip`, `extract` and `validate-external` beside external.py: over the file with its own store or the second file's beside it, and `strip`
+the place of a JPEG, or over the file itself, `plan-collect` and `embed-collect` beside collect.py, into the file or into what `embed` made of it, and `strip`, `extract` and `validate-external` beside external.py: over the file with its own store or the second file's beside it, and `strip`
 over what `embed` made of it. The second file is the first one, or differs from it in what no claim binds, in what only a signature
 vouches for, in a version, or in anything. Prints how often each answer came, how many stores had which versions and how many algorithms, and each
 difference, whose files are kept in the current directory: differs-N and differs-N.verdicts-M of what is read, pair-N.first, pair-N.second and
 pair-N.verdicts-M of `compare`, differs-N.media, differs-N.definition and differs-N.signature of builds, front-N.media, front-N.definition and
-front-N.signature of those in front, external-N.media, external-N.store and external-N.verdicts-M of the last three. The status is 1 where there is a difference.
+front-N.signature of those in front, collect-N.* as chance_collects.py names them, external-N.media, external-N.store and external-N.verdicts-M of the last three. The status is 1 where there is a difference.
 Without C2 (a word `-` in its place) only the answers are counted.
 """
 
@@ -25,6 +25,7 @@ from collections import Counter
 import hashing
 import pairs
 from chance_builds import Builds, drawn_definition, drawn_message, manifests_in
+from chance_collects import Collects, verdicts_for
 from chance_external import Externals, questions_of, taken
 from chance_fronts import Fronts, drawn_media
 from chance_pairs import changed
@@ -241,11 +242,12 @@ class Runs:
     """Runs of all commands over the same stores."""
 
     def __init__(self, program, folder):
-        folders = [os.path.join(folder, name) for name in ("read", "pairs", "builds", "external", "fronts")]
+        folders = [os.path.join(folder, name) for name in ("read", "pairs", "builds", "external", "fronts", "collects")]
         for each in folders:
             os.mkdir(each)
         self.read, self.pairs, self.builds = Comparison(program, folders[0]), Pairs(program, folders[1]), Builds(program, folders[2])
         self.external, self.fronts = Externals(program, folders[3]), Fronts(program, folders[4])
+        self.collects = Collects(program, folders[5])
         self.mixture = Mixture()
 
     def run(self, chance, is_bmff):
@@ -262,9 +264,18 @@ class Runs:
         self.external.compare(chance, first, store, verdict_files(chance, questions_of(store)))
         if isinstance(built[0], bytes):
             self.external.compare_built(first, built[0])
+        self.collect(chance, first, second, built[0] if isinstance(built[0], bytes) and chance.random() < 0.5 else None)
+
+    def collect(self, chance, first, second, built):
+        """Collects the second file, or the first, into the first, or into what was built of it."""
+        media, other = built or first, second if second is not None and chance.random() < 0.7 else first
+        message, said = drawn_message(chance)
+        definition = drawn_definition(chance, [*manifests_in(media), *manifests_in(other)], said)
+        self.collects.compare([media, definition, message, other], verdicts_for(chance, (media, other)))
 
     def answers(self):
         named = {"validate": self.read.answers, "compare": self.pairs.answers, "embed": self.builds.answers, "embed-front": self.fronts.answers}
+        named["embed-collect"] = self.collects.answers
         told = Counter({f"{command}: {answer}": times for command, each in named.items() for answer, times in each.items()})
         return told + self.external.answers + self.mixture.counts
 
@@ -272,10 +283,10 @@ class Runs:
         """How often each command was run, by name."""
         built = sum(self.builds.answers.values())
         counted = Counter({"compare": sum(self.pairs.answers.values()), "plan": built, "embed": built})
-        return Counter(self.read.runs) + counted + self.external.runs + self.fronts.runs
+        return Counter(self.read.runs) + counted + self.external.runs + self.fronts.runs + self.collects.runs
 
     def differences(self):
-        return sum(each.differences for each in (self.read, self.pairs, self.builds, self.external, self.fronts))
+        return sum(each.differences for each in (self.read, self.pairs, self.builds, self.external, self.fronts, self.collects))
 
 
 def main():

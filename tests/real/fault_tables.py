@@ -2,12 +2,14 @@
 
 `faults` lets each source, the new file and the report of each command fail at each of its calls in turn, `judge_faults` each ask of a judge;
 `jpeg_prefixes` and `film_prefixes` have what `validate` says of each prefix of a small built file, and `changed_bytes` its status for each byte
-of a store that is one more. What the runs come to is computed by store.py, pairs.py, builder.py, front.py and external.py; rows.py writes the tables and
-checks them.
+of a store that is one more. What the runs come to is computed by store.py, pairs.py, builder.py, front.py, collect.py and external.py; rows.py writes the
+tables and checks them.
 """
 
 from itertools import chain, count, product
 
+import collect
+import collect_rows
 import compare_rows
 import external
 import front
@@ -18,17 +20,20 @@ from build_rows import Computed, Says
 from build_tables import EMBED, PLAN, Lines, definition_text, new_file, told
 from builder import embed, line_of, plan
 from built_films import film_in_front
+from collect_tables import EMBED as EMBED_COLLECT
+from collect_tables import PLAN as PLAN_COLLECT
 from drafts import Jpeg
 from front_rows import OVERFLOWING, QUESTIONED
 from front_tables import EMBED as EMBED_FRONT
 from front_tables import PLAN as PLAN_FRONT
+from locate import Refused
 from media import media_of
 from rule_rows import shared_rows
 from store import DONE, JUDGE_FAULT, JudgeFault, report
 from tables import Approving, folded
-from worked_builds import DEFINITION, FILM, LATER_DEFINITION, MESSAGE, SMALL
+from worked_builds import DEFINITION, FILM, LATER_DEFINITION, MESSAGE, SMALL, changed
 
-NAMES = {"media": "the media", "second": "the second file", "third": "the message", "out": "the new file", "report": "the report"}
+NAMES = {"media": "the media", "second": "the second file", "third": "the message", "fourth": "the other file", "out": "the new file", "report": "the report"}
 SINKS = "out", "report"
 READING = "digest", "list", "show", "questions", "validate"
 # Those of them that ask judges, and those that read each byte of a file with a store.
@@ -50,7 +55,8 @@ no store
 USAGE = (
     "usage: c2 digest MEDIA [ALG]; list|show MEDIA; questions|validate MEDIA [JUDGE..]; compare MEDIA OTHER [JUDGE..]; "
     "plan MEDIA DEFINITION [JUDGE..]; embed MEDIA DEFINITION SIGNATURE OUT [JUDGE..]; sample N; "
-    "strip|extract MEDIA OUT; validate-external MEDIA STORE [JUDGE..]; plan-front MEDIA DEFINITION; embed-front MEDIA DEFINITION SIGNATURE OUT"
+    "strip|extract MEDIA OUT; validate-external MEDIA STORE [JUDGE..]; plan-front MEDIA DEFINITION; embed-front MEDIA DEFINITION SIGNATURE OUT; "
+    "plan-collect MEDIA DEFINITION OTHER [JUDGE..]; embed-collect MEDIA DEFINITION SIGNATURE OTHER OUT [JUDGE..]"
 )
 
 
@@ -126,7 +132,7 @@ class Run:
 
 def faults():
     lines = lines_of("Each source, the new file and the report of each command fail at each call in turn.", view="each call")
-    for run in chain(read_runs(), compare_runs(), every_build(), every_front(), other_runs(), sidecar_runs()):
+    for run in chain(read_runs(), compare_runs(), every_build(), every_front(), every_collect(), other_runs(), sidecar_runs()):
         run.put(lines)
     single_faults(lines)
     return lines.text
@@ -215,6 +221,44 @@ def front_runs(into, media):
         yield run.reads([0], media=len(media) if status == DONE else 1, **read)
 
 
+def every_collect():
+    first, third, film = built_file(), collect_rows.signed(label=collect_rows.named(3)), built_file(FILM)
+    yield from collect_runs(" into a JPEG", SMALL, first)
+    yield from collect_runs(" of a JPEG into itself", first, first)
+    yield from collect_runs(" of a JPEG into a film with a store", film, third)
+    yield from collect_runs(" of a film into a film", FILM, film)
+    yield from collect_runs(" of a JPEG without a store", first, SMALL)
+    yield from collect_runs(" of a store that clashes", first, collect_rows.signed(changed(SMALL, 19)))
+    yield from collect_runs(" into a changed JPEG", changed(first, 19), third)
+    yield from collect_runs(" into no media", SMALL[:-1], first)
+
+
+def collect_runs(into, media, other):
+    """The runs of `embed-collect` and of `plan-collect`. Of a media that isn't one nothing else is read, of one that is refused behind that the other file
+    isn't. Judges are asked once definition and message are read: of the media's store, and then of the other file's."""
+    files = [folded(media), definition_text(LATER_DEFINITION), folded(MESSAGE), folded(other)]
+    older = asked_of_media(media)
+    for words, call, given in (EMBED_COLLECT, collect.embed, [MESSAGE]), (PLAN_COLLECT, collect.plan, []):
+        judge = Approving()
+        made = call(media, LATER_DEFINITION, *given, other, [judge])
+        text, status = line_of(made)
+        run = Run(words.split()[0] + into, f"{words} V", files, status, text, made[0] if isinstance(made[0], bytes) else None, judge.asked)
+        is_done = status == DONE
+        if "MediaRefused" not in text and "ParentFails" not in text:
+            run.reads([older, judge.asked], fourth=len(other) if is_done else 1)
+        if "MediaRefused" not in text:
+            run.reads([0], **({"second": len(LATER_DEFINITION)} | ({"third": len(MESSAGE)} if given else {})))
+        yield run.reads([0, older, judge.asked], media=len(media) if is_done else 1)
+
+
+def asked_of_media(media):
+    """How often a judge who approves is asked of a media's store; never, where it has none that can be read."""
+    try:
+        return judged("validate", media)[2] if media_of(media) else 0
+    except Refused:
+        return 0
+
+
 def other_runs():
     text, status = samples.expected(1)
     yield Run("sample 1", "sample 1", ["00"], status, text.removesuffix("\n"), asked=1)
@@ -284,6 +328,13 @@ def judge_faults():
     lines.set(out=8_000)
     each_ask(lines, "one judge", EMBED + " V", files, lambda judges: build(embed, *given, judges), ["approved"])
     each_ask(lines, "one judge", PLAN + " V", files[:2], lambda judges: build(plan, *given[:2], judges), ["approved"])
+    given = collect_rows.FIRST, LATER_DEFINITION, MESSAGE, contents
+    files = [given[0].hex(), *files[1:], file]
+    lines.set(out=10_000)
+    each_ask(lines, "one judge", EMBED_COLLECT + " V", files, lambda judges: build(collect.embed, *given, judges), ["approved"])
+    each_ask(lines, "one judge", PLAN_COLLECT + " V", files, lambda judges: build(collect.plan, *given[:2], contents, judges), ["approved"])
+    asking = lambda judges: build(collect.embed, *given, judges)
+    each_ask(lines, "the second of three judges", EMBED_COLLECT + " V W X", files, asking, ["silent", "approved", "invalid"])
     text, status = samples.expected(1)
     each_ask(lines, "one judge", "sample 1", [file], lambda judges: sampled(text, status, judges), ["approved"])
     return lines.text

@@ -40,6 +40,24 @@ def media_of(data):
     return Media(data, box.start, box.length(), store, roots)
 
 
+def without(contents, start, length):
+    return contents[:start] + contents[start + length :]
+
+
+def kept_of(contents):
+    """What a media is without its store: in a BMFF file the store's box is taken out, or says nothing."""
+    found = media_of(contents)
+    if found is None:
+        return [contents]
+    taken = without(contents, found.start, found.length)
+    if found.roots is None:
+        return [taken]
+    place = next(box for box in found.roots if box.start == found.start)
+    is_last = [box.kind for box in found.roots if box.start >= place.end] in ([], [b"mfra"])
+    freed = contents[: place.start + 4] + b"free" + contents[place.start + 8 : place.inside] + bytes(place.end - place.inside) + contents[place.end :]
+    return [taken if is_last else freed]
+
+
 class Binding:
     """A hash assertion of the active manifest, by its item. What it excludes is a list of Exclusion, or of starts and lengths."""
 

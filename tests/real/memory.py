@@ -2,18 +2,18 @@
 """Refuses memory to c2 at each of its requests in turn.
 
     memory.py C2 FILE [VERDICTS]    each command over the file (`compare` over the file and itself, `plan` and `embed` also over a
-                                    small JPEG without a store, with a label that the file hasn't, `plan-front` and `embed-front`
-                                    over small films alone)
-    memory.py C2                    `validate`, `compare`, `plan`, `embed`, `strip`, `extract`, `validate-external`, `plan-front` and
-                                    `embed-front` over small files that are made here: built once and twice, and pairs of different
+                                    small JPEG without a store, with a label that the file hasn't, `plan-collect` and `embed-collect` of
+                                    the file into that JPEG and into itself, `plan-front` and `embed-front` over small films alone)
+    memory.py C2                    `validate`, `compare`, `plan`, `embed`, `strip`, `extract`, `validate-external`, `plan-front`,
+                                    `embed-front`, `plan-collect` and `embed-collect` over small files that are made here: built once and twice, and pairs of different
                                     files, of which one is evidence
     memory.py --rows C2_ROWS        `compare` over pairs that differ under the sum of their bytes, by the program of crates/c2_rows
 
 Each is run first with all the memory that it asks for, then with its first request refused, its second, and so on until a run ends as
 the first did. A run to which memory was refused says so by its status, 8, and has printed nothing or the begin of its report; or it
-prints the whole report, where it could go on. The new file of `embed`, `embed-front`, `strip` and `extract` isn't there then or is empty, since memory is taken
+prints the whole report, where it could go on. The new file of `embed`, `embed-front`, `embed-collect`, `strip` and `extract` isn't there then or is empty, since memory is taken
 before it is begun; or it is whole, where the line of the report alone had no memory. The requests are those to malloc, calloc and realloc of the C
-library. What the whole runs over the files that are made here come to is that of store.py, pairs.py, builder.py, external.py and front.py.
+library. What the whole runs over the files that are made here come to is that of store.py, pairs.py, builder.py, external.py, front.py and collect.py.
 """
 import os
 import re
@@ -22,6 +22,7 @@ import sys
 import tempfile
 
 import builder
+import collect
 import compare_rows
 import external
 import front
@@ -150,6 +151,9 @@ def commands(file, verdicts, directory):
     for command in external.WRITERS:
         yield command, [command, file, out], out, None
     yield from in_front(directory, OTHER)
+    for what, media in ("the file", names[0]), ("the file and itself", file):
+        yield f"plan-collect, {what}", ["plan-collect", media, names[1], file, *verdicts], None, None
+        yield f"embed-collect, {what}", ["embed-collect", media, *names[1:], file, out, *verdicts], out, None
     beside = written(directory, "store", external.answer("extract", contents_of(file))[2] or b"")
     yield "validate-external", ["validate-external", file, beside, *verdicts], None, None
 
@@ -209,6 +213,10 @@ class Small:
             yield from self.taken(what, contents)
             yield self.validated_externally(what, contents)
         yield from in_front(self.directory, DEFINITION)
+        other = builder.embed(FILM, OTHER, MESSAGE)[0]
+        collected = {"a built file": (SMALL, self.first), "itself": (self.first, self.first), "a film": (self.first, other), "no store": (SMALL, SMALL)}
+        for what, files in collected.items():
+            yield from self.collects(what, *files)
 
     def validated(self, what, contents):
         known, verdicts = self.judge(contents)
@@ -245,6 +253,16 @@ class Small:
         made = builder.embed(*files, [known])
         line, status = builder.line_of(made)
         yield f"embed, {what}", ["embed", *names, self.out, verdicts], self.out, (line + "\n", status, made[0])
+
+    def collects(self, what, media, other):
+        known, verdicts = self.judge(*(contents for contents in (media, other) if contents != SMALL))
+        files = {"media": media, "definition": LATER_DEFINITION, "message": MESSAGE, "other": other}
+        media_name, definition, message, other_name = (written(self.directory, *each) for each in files.items())
+        planned = collect.plan(media, LATER_DEFINITION, other, [known])
+        yield f"plan-collect, {what}", ["plan-collect", media_name, definition, other_name, verdicts], None, known_of(planned)
+        made = collect.embed(media, LATER_DEFINITION, MESSAGE, other, [known])
+        words = ["embed-collect", media_name, definition, message, other_name, self.out, verdicts]
+        yield f"embed-collect, {what}", words, self.out, known_of(made)
 
 
 # Pairs of compare_rows.py whose difference is evidence under the sum.

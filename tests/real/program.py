@@ -7,6 +7,7 @@
 import sys
 
 import builder
+import collect
 import external
 import front
 import pairs
@@ -25,6 +26,7 @@ PROGRAMS = {
     **dict.fromkeys(store.COMMANDS, store.answer),
     **dict.fromkeys(builder.NAMES, builder.told),
     **dict.fromkeys(front.NAMES, front.told),
+    **dict.fromkeys(collect.NAMES, collect.told),
     **dict.fromkeys((*external.WRITERS, "validate-external"), external.told),
     "compare": lambda _, *names: pairs.answer(*names),
     "sample": sampled,

@@ -4,8 +4,8 @@
     rows.py write [TABLE..]    writes the tables of crates/c2_rows that are computed, or those that are named: `show`, `questions`
                                without verdict files, `validate` with a judge who approves every question, `films` under
                                `validate`, `manifests`, `pairs` under `compare`, `builds` and `build_refusals` under `plan` and
-                               `embed`, and those of fault_tables.py, front_tables.py, large_tables.py and
-                               sidecar_tables.py
+                               `embed`, and those of collect_tables.py, fault_tables.py, front_tables.py,
+                               large_tables.py and sidecar_tables.py
     rows.py check              fails where one of them isn't the one that would be written
     rows.py files DIRECTORY    writes a JPEG around each of these stores and of those of rule_rows.py, and the verdicts on the latter
 """
@@ -15,6 +15,7 @@ import os
 import sys
 
 import build_tables
+import collect_tables
 import compare_rows
 import fault_tables
 import film_rows
@@ -94,6 +95,7 @@ TABLES = {
     "large": large_tables.large,
     "sidecars": sidecar_tables.sidecars,
     "fronts": front_tables.fronts,
+    "collects": collect_tables.collects,
 }
 
 

@@ -36,14 +36,12 @@ def uri(manifest, *labels):
     return "/".join(["self#jumbf=/c2pa", manifest, *labels])
 
 
-class CheckList:
-    """The rules over a store; `ask` gives the verdict on the id of a question."""
+class Chain:
+    """The manifests of a store by their boxes, and which of them are reached from some, the roots: positions, the last first."""
 
-    def __init__(self, store, root, ask):
-        self.store, self.ask = store, ask
-        self.manifests = [Manifest(store, box) for box in manifests_of(root)]
+    def __init__(self, store, boxes, roots):
+        self.store, self.manifests = store, [Manifest(store, box) for box in boxes]
         self.places = {manifest.label: at for at, manifest in enumerate(self.manifests)}
-        self.active = len(self.manifests) - 1
         # the positions that are reached from each manifest, as bits
         self.below = []
         for at in range(len(self.manifests)):
@@ -51,15 +49,7 @@ class CheckList:
             self.below.append(sum(1 << child for child in children))
             for child in children:
                 self.below[at] |= self.below[child]
-        self.reached = [at for at in reversed(range(len(self.manifests))) if at == self.active or self.reaches(self.active, at)]
-        self.redacted = [set() for _ in self.manifests]
-        for at in self.reached:
-            for label, target in self.redactions_by(at):
-                self.redacted[target].add(label)
-        self.touched = [not manifest.listed.isdisjoint(self.redacted[at]) for at, manifest in enumerate(self.manifests)]
-        self.digests = {}
-        # the covered and the excluded bytes that `valid` tells, once the binding is computed
-        self.counts = None
+        self.reached = [at for at in reversed(range(len(self.manifests))) if at in roots or any(self.reaches(root, at) for root in roots)]
 
     def child(self, at):
         """The child that an ingredient of a manifest names: its position, or None."""
@@ -72,6 +62,23 @@ class CheckList:
 
     def reaches(self, at, other):
         return self.below[at] >> other & 1 == 1
+
+
+class CheckList(Chain):
+    """The rules over a store; `ask` gives the verdict on the id of a question."""
+
+    def __init__(self, store, root, ask):
+        boxes = manifests_of(root)
+        self.ask, self.active = ask, len(boxes) - 1
+        super().__init__(store, boxes, [self.active])
+        self.redacted = [set() for _ in self.manifests]
+        for at in self.reached:
+            for label, target in self.redactions_by(at):
+                self.redacted[target].add(label)
+        self.touched = [not manifest.listed.isdisjoint(self.redacted[at]) for at, manifest in enumerate(self.manifests)]
+        self.digests = {}
+        # the covered and the excluded bytes that `valid` tells, once the binding is computed
+        self.counts = None
 
     def redactions_by(self, at):
         """Labels and positions of manifests below, which the claim of a manifest redacts there."""

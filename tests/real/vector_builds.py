@@ -110,15 +110,23 @@ def many_manifests():
     return [*pieces, (contents[at + 1_023 * len(one) :], 1)], contents
 
 
-def too_large():
-    """A film whose store has room for no manifest more. A new manifest makes the store longer by as much as it does a small one."""
-    around = Bmff(FILM, b"")
-    filled = lambda count: around.file([Manifest("m", Assertion("test.note", bytes(count), b"bidb"), BmffHash(ALL_EXCLUDED))])
+def filled(count):
+    """A film whose store has a note of so many zeros."""
+    return Bmff(FILM, b"").file([Manifest("m", Assertion("test.note", bytes(count), b"bidb"), BmffHash(ALL_EXCLUDED))])
+
+
+def largest():
+    """A film with the longest store that there may be, and by how many bytes a build makes one longer, as it does a small one."""
     small = filled(0)
     size = len(media_of(small).store)
-    more = len(media_of(embed(small, LATER_DEFINITION, MESSAGE, [Approving()])[0]).store) - size
-    known = f"build StoreTooLarge {LARGEST + more}"
-    return Build("a store of more bytes than there may be", filled(LARGEST - size), LATER_DEFINITION, MESSAGE, [JUDGES["approved"]], known)
+    return filled(LARGEST - size), lambda made: len(media_of(made(small)).store) - size
+
+
+def too_large():
+    """A film whose store has room for no manifest more."""
+    media, more = largest()
+    known = f"build StoreTooLarge {LARGEST + more(lambda small: embed(small, LATER_DEFINITION, MESSAGE, [Approving()])[0])}"
+    return Build("a store of more bytes than there may be", media, LATER_DEFINITION, MESSAGE, [JUDGES["approved"]], known)
 
 
 def whole(contents):

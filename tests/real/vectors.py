@@ -4,8 +4,9 @@
     vectors.py write [FOLDER]      writes the vectors into a folder, vectors/ where none is named
     vectors.py check [FOLDER]      fails where a file there isn't the one that would be written, or is missing, or is there besides
 
-The answers are those of store.py, pairs.py, builder.py, front.py and external.py, beside those that are written by hand where the files are made
-(vector_files.py, vector_builds.py, vector_fronts.py, vector_external.py, and the rows that these take), which must be the same. Nothing is asked of c2.
+The answers are those of store.py, pairs.py, builder.py, front.py, collect.py and external.py, beside those that are written by hand where the files are
+made (vector_files.py, vector_builds.py, vector_fronts.py, vector_collects.py, vector_external.py, and the rows that these take), which must be the same.
+Nothing is asked of c2.
 """
 
 import functools
@@ -17,6 +18,7 @@ import sys
 
 import bmff
 import builder
+import collect
 import external
 import front
 import jumbf
@@ -25,10 +27,13 @@ import rule_rows
 import store
 import tables
 import vector_builds
+import vector_collects
 import vector_external
 import vector_files
 import vector_fronts
 from build_rows import Vast
+from collected import wrong_in as wrong_in_collected
+from definition import read as read_definition
 from front_rows import wrong_in
 from locate import LARGEST_STORE, Refused
 from manifests import Manifest as Read
@@ -55,7 +60,7 @@ ALGORITHMS = "sha256", "sha384", "sha512"
 WORDS = "mismatch", "untrusted", "invalid"
 ODD_FILES = "the-first-row-holds", "upper-case-digits", "no-line-feed-at-the-end"
 # The folder of the new files, by that of the media.
-BUILT = {"build": "built", "front": "built-front"}
+BUILT = {"build": "built", "front": "built-front", "collect": "built-collect"}
 # The files that are run under judges of each kind.
 JUDGED = "a data hash alone", "an ingredient"
 USUAL = {DEFINITION: "plain", LATER_DEFINITION: "later", MESSAGE: "plain"}
@@ -138,7 +143,7 @@ class Vectors:
     def __init__(self):
         self.files, self.runs = Files(), []
         # what each shows: the names of its files, and what else it takes
-        self.media, self.pairs, self.builds, self.fronts, self.externals = [], [], [], [], []
+        self.media, self.pairs, self.builds, self.fronts, self.collects, self.externals = [], [], [], [], [], []
         # the verdicts on all questions that any file puts: the judge's, by signature, and those of one who approves
         self.verdicts = {"judge": {}, "approving": {}}
         self.collect()
@@ -149,6 +154,7 @@ class Vectors:
         self.compare()
         self.build()
         self.build_in_front()
+        self.build_collecting()
         self.take_out()
         self.validate_external()
         self.run_words()
@@ -167,6 +173,8 @@ class Vectors:
             self.add_build(each)
         for each in vector_fronts.rows():
             self.add_front(each)
+        for each in vector_collects.rows():
+            self.add_collect(each)
         for what, known, media, contents in vector_external.rows():
             kept = self.files.put("external", what, "jpg" if ending(media) == "jpg" else "mp4", media)
             store_name = self.files.put("external", what, "c2pa", contents)
@@ -216,6 +224,28 @@ class Vectors:
         names, built = self.put_build("front", each, data, new)
         self.fronts.append((each.what, told, names, built))
 
+    def add_collect(self, each):
+        """A build into which another file is collected."""
+        data, new = whole(each.media), None
+        for contents in data, each.other:
+            self.ask(contents)
+        if not str(each.known).startswith("build "):
+            given = data, each.definition, each.other
+            _, _, new = answered(collect.embed, *given[:2], each.message, each.other, [tables.Approving()])
+            if new is not None:
+                self.look_at(each, given, new)
+        names, built = self.put_build("collect", each, data, new)
+        other = self.files.put("collect", f"{each.what} the other one", ending(each.other), each.other)
+        self.collects.append((each, [*names, other], built))
+
+    def look_at(self, each, given, new):
+        """Whether a new file is as collected.py has it."""
+        media, definition, other = given
+        planned = collect.plan(media, definition, other, [tables.Approving()])
+        found = media_of(new)
+        made = new, found.start, found.length
+        assert not list(wrong_in_collected(media, other, made, planned, read_definition(definition).redactions)), each.what
+
     def put_build(self, folder, each, data, new):
         """The names of a build's media, definition and message, and of its new file, whose questions are approved."""
         names = [self.files.put(folder, each.what, ending(data), each.media)]
@@ -260,6 +290,7 @@ class Vectors:
         """The questions of the files that are run under a judge of one word: those of `read_judged`, and media of builds."""
         given = [data for _, _, what, _, data in self.media if what in JUDGED]
         given += [whole(each.media) for each, _, _ in self.builds if judge in each.judges]
+        given += [contents for each, _, _ in self.collects if judge in each.judges for contents in (each.media, each.other) if has_questions(contents)]
         return [identity for data in given for identity, _, _ in questions_of(data)]
 
     # What is said of it
@@ -370,6 +401,55 @@ class Vectors:
         refused = "build BadDefinition label"
         self.run((refused, builder.BUILD_REFUSED), "embed-front", *by_answer[refused][:2], missing[2], "OUT")
 
+    def build_collecting(self):
+        """`plan-collect`, `embed-collect`, and what is said of the new files."""
+        for each, (media, definition, message, other), built in self.collects:
+            data, judges = whole(each.media), self.judges(each.judges)
+            words = ["embed-collect", media, definition, message, other, "OUT", *each.judges]
+            if isinstance(data, bytes) and len(data) > MOST_ASKED:
+                self.run((each.known, builder.BUILD_REFUSED), *words)
+                continue
+            if media not in self.files.pieces:
+                planned = answered(collect.plan, data, each.definition, each.other, judges)[:2]
+                self.run(planned, "plan-collect", media, definition, other, *each.judges)
+            line, status, new = answered(collect.embed, data, each.definition, each.message, each.other, judges)
+            assert each.known in (None, line, status), (each.what, line, each.known)
+            built = None if new is None else built
+            assert new is None or self.files.contents[built] == new, each.what
+            self.run((line, status), *words, new=built)
+        built = [name for name in self.files.contents if name.startswith("built-collect/")]
+        for number, name in enumerate(built):
+            contents = self.files.contents[name]
+            self.judged(contents, name, commands=READERS if number == 0 else READERS[:1])
+            self.judged(contents, name, APPROVING)
+            assert self.runs[-1]["status"] == DONE, name
+        self.collect_in_turn(self.collects[0])
+
+    def collect_in_turn(self, first):
+        """Files whose turn doesn't come needn't be there; those whose turn comes are read."""
+        _, (media, definition, message, other), _ = first
+        missing = "collect/not-there.jpg", "definitions/not-there.json", "messages/not-there.cose", "collect/not-there-either.jpg"
+        there = media, definition, message, other
+        for number, name in enumerate(missing):
+            given = [*there[:number], name, *missing[number + 1 :]]
+            self.run(("", INPUT_FAULT), "embed-collect", *given, "OUT", APPROVING)
+            if number != 2:
+                self.run(("", INPUT_FAULT), "plan-collect", *given[:2], given[3], APPROVING)
+        by_what = {each.what: names for each, names, _ in self.collects}
+        for what, answer, count in (
+            ("no media", "build MediaRefused NotMedia 0", 1),
+            ("an empty object", "build BadDefinition label", 2),
+            ("no message", "build BadSignature form", 3),
+        ):
+            given = [*by_what[what][:count], *missing[count:]]
+            self.run((answer, builder.BUILD_REFUSED), "embed-collect", *given, "OUT", APPROVING)
+            if count < 3:
+                self.run((answer, builder.BUILD_REFUSED), "plan-collect", *given[:2], given[3], APPROVING)
+        changed = by_what["a changed media"][0]
+        (answer,) = {run["report"].strip() for run in self.runs if run["words"][:2] == ["plan-collect", changed]}
+        self.run((answer, builder.BUILD_REFUSED), "embed-collect", changed, definition, message, missing[3], "OUT", APPROVING)
+        self.run((answer, builder.BUILD_REFUSED), "plan-collect", changed, definition, missing[3], APPROVING)
+
     def take_out(self):
         """`strip` and `extract`: of built files what was built into is left; of some files the store is kept; and one file for each refusal of a
         container, and where there is no store."""
@@ -422,8 +502,20 @@ class Vectors:
         for command, given in ("plan-front", names[:2]), ("embed-front", [*names, "OUT"]):
             for more in [], given[:-1], [*given, APPROVING], ["", *given[1:]], [f"-{given[0]}", *given[1:]]:
                 self.run((None, USAGE), command, *more)
+        _, (media, definition, message, other), _ = self.collects[0]
+        for command, given in ("plan-collect", [media, definition, other]), ("embed-collect", [media, definition, message, other, "OUT"]):
+            for more in [], given[:-1], [*given, *(["verdicts/empty"] * 65)], ["", *given[1:]], [*given[:-2], "", given[-1]], [f"-{given[0]}", *given[1:]]:
+                self.run((None, USAGE), command, *more)
         for command in (*READERS, "questions", "validate"):
             self.run(("", INPUT_FAULT), command, "valid/not-there.jpg")
+
+
+def has_questions(contents):
+    """Whether a file has a store that can be read, whose questions are asked."""
+    try:
+        return isinstance(contents, bytes) and media_of(contents) is not None and bool(list(questions_of(contents)))
+    except Refused:
+        return False
 
 
 def questions_of(contents):
@@ -469,6 +561,9 @@ def page(vectors):
     lines += table("Builds", ("Media, definition, message, judges", "Show", "`embed`"), rows)
     rows = [("`" + "` `".join(names) + "`", what, said[-1][0]) for what, said, names, _ in vectors.fronts]
     lines += table("Builds with the store in front", ("Media, definition, message", "Show", "`embed-front`"), rows)
+    reply = lambda each, names: told("embed-collect", *names, "OUT", *each.judges)
+    rows = [("`" + "` `".join((*names, *each.judges)) + "`", each.what, reply(each, names)) for each, names, _ in vectors.collects]
+    lines += table("Builds into which another file is collected", ("Media, definition, message, other file, judges", "Show", "`embed-collect`"), rows)
     return "\n".join(lines) + "\n"
 
 
@@ -532,7 +627,7 @@ def unshown(files):
     checks = (TOP / "docs" / "CHECKS.md").read_text()
     codes = {code for row in re.findall(r"^\|.*\|$", checks, re.MULTILINE) for code in re.findall(r"`([a-zA-Z]+(?:\.[a-zA-Z]+)+)`", row)}
     codes = {code for code in codes if not code.startswith("c2pa.")}
-    reasons = vector_builds.REASONS | {f"build {name}" for name in (*vector_builds.REFUSALS, *vector_fronts.REFUSALS)}
+    reasons = vector_builds.REASONS | {f"build {name}" for name in (*vector_builds.REFUSALS, *vector_fronts.REFUSALS, *vector_collects.REFUSALS)}
     for code in codes:
         if f"failing {code} " not in reports:
             yield code

@@ -3,12 +3,13 @@ use crate::bytes::bytes_of;
 use crate::trouble::Trouble;
 use std::alloc::Global;
 
-/// The files that rows have had at the three places of sources, and how many of them the last row has.
+/// The files that rows have had at the four places of sources, and how many of them the last row has.
 #[derive(Drop)]
 pub struct Given {
     pub first: Vec<u8>,
     pub second: Vec<u8>,
     pub third: Vec<u8>,
+    pub fourth: Vec<u8>,
     pub count: usize,
 }
 
@@ -18,6 +19,7 @@ pub struct Read<'a> {
     pub first: &'a [u8],
     pub second: Option<&'a [u8]>,
     pub third: Option<&'a [u8]>,
+    pub fourth: Option<&'a [u8]>,
     pub pieces: (usize, usize),
 }
 
@@ -28,11 +30,12 @@ impl Given {
             first: Vec::new(alloc),
             second: Vec::new(alloc),
             third: Vec::new(alloc),
+            fourth: Vec::new(alloc),
             count: 0,
         }
     }
 
-    /// Takes in what stands in a row: up to three files with bars between them. A dot stands for the last file at this place.
+    /// Takes in what stands in a row: up to four files with bars between them. A dot stands for the last file at this place.
     pub fn take(&mut self, alloc: Global, text: &str) -> Result<(), Trouble> {
         self.count = 0;
         for file in text.split(" | ") {
@@ -49,6 +52,7 @@ impl Given {
             0 => put(alloc, &mut self.first, file),
             1 => put(alloc, &mut self.second, file),
             2 => put(alloc, &mut self.third, file),
+            3 => put(alloc, &mut self.fourth, file),
             _ => Err(Trouble::BadLine),
         }
     }
@@ -57,17 +61,19 @@ impl Given {
     pub fn with_first<'a>(&'a self, first: &'a [u8], pieces: (usize, usize)) -> Read<'a> {
         Read {
             first,
-            second: if self.count > 1 {
-                Some(self.second.as_slice())
-            } else {
-                None
-            },
-            third: if self.count > 2 {
-                Some(self.third.as_slice())
-            } else {
-                None
-            },
+            second: self.behind(1, &self.second),
+            third: self.behind(2, &self.third),
+            fourth: self.behind(3, &self.fourth),
             pieces,
+        }
+    }
+
+    // This file, where the row has more files than these.
+    fn behind<'a>(&'a self, count: usize, file: &'a Vec<u8>) -> Option<&'a [u8]> {
+        if self.count > count {
+            Some(file.as_slice())
+        } else {
+            None
         }
     }
 }

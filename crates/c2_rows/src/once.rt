@@ -184,6 +184,7 @@ fn run_over<H: Hashing, A: Source>(
 struct Objects {
     second: MemSource,
     third: MemSource,
+    fourth: MemSource,
     out: InPieces<MemSink>,
     report: InPieces<MemSink>,
 }
@@ -199,6 +200,7 @@ fn objects_of(
     Ok(Objects {
         second: source_of(alloc, read.second, other, fault.of(Object::Second))?,
         third: source_of(alloc, read.third, other, fault.of(Object::Third))?,
+        fourth: source_of(alloc, read.fourth, other, fault.of(Object::Fourth))?,
         out: sink_of(alloc, settings.out, most, fault.of(Object::Out))?,
         report: sink_of(alloc, Some(settings.room), most, fault.of(Object::Report))?,
     })
@@ -222,6 +224,7 @@ fn run_before<H: Hashing, A: Source>(
         media,
         &mut objects.second,
         &mut objects.third,
+        &mut objects.fourth,
         &mut objects.out,
         &mut objects.report,
         judges,

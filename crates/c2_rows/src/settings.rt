@@ -43,6 +43,9 @@ pub enum Object {
     /// The third file.
     Third,
 
+    /// The fourth file.
+    Fourth,
+
     /// A judge.
     Judge,
 
@@ -287,6 +290,7 @@ fn object_of(name: &str) -> Result<Object, Trouble> {
         "media" => Ok(Object::Media),
         "second" => Ok(Object::Second),
         "third" => Ok(Object::Third),
+        "fourth" => Ok(Object::Fourth),
         "judge" => Ok(Object::Judge),
         "out" => Ok(Object::Out),
         "report" => Ok(Object::Report),
