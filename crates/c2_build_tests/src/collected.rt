@@ -165,8 +165,11 @@ fn stores_that_clash_are_refused(rt: HostRuntime) -> Result<(), Fail> {
     inputs.media = once_built(alloc)?.media;
 
     // The same definition and message over another picture.
+    let mut media = Vec::from_slice(alloc, MEDIA)?;
+    assert!(rt; 19 < media.len());
+    media[19] = 1;
     let mut second = worked(alloc)?;
-    second.media[19] = 1;
+    second.media = media;
     let mut out = MemSink::with_room(alloc, 2_000, 0)?;
     let came = plainly_built(alloc, &second, NONE, &mut out)?;
     assert!(rt; came.is_ok());
