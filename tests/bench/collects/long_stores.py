@@ -2,9 +2,10 @@
 """Processor time and peak memory of `plan-collect` and `embed-collect` of files with long stores: long_stores.py C2 FOLDER [SCALE [SECONDS MB]].
 
 Two JPEGs and two films with stores of 16 MB, of which the labels differ; one of them and itself, whose manifests are compared; a file without a store
-and one with the longest store; and two files with 1,023 manifests, of which all but the active ones are in both, in one order and in the other one. SCALE
-is in percent of these sizes. Each new file must be that of collect.py, and be valid. The status is 1 where it isn't, or where a command takes more than
-so many seconds (5) or so much memory (120 MB, where the three stores have 64 MB together).
+and one with the longest store; two files with 1,022 manifests, of which all but the active ones are in both, in one order and in the other one, so that
+the new store has as many as a store may; and two with 1,023 and 1,024 manifests of which none is in both, which are refused. SCALE is in percent of these
+sizes. Each new file must be that of collect.py, and be valid, and each refusal that of collect.py. The status is 1 where it isn't, or where a command
+takes more than so many seconds (5) or so much memory (120 MB, where the three stores have 64 MB together).
 """
 
 import os
@@ -22,7 +23,13 @@ from tables import Approving
 from told import write
 from worked_builds import FILM, LATER_DEFINITION, MESSAGE, SMALL
 
-SIZE, LARGEST, MANIFESTS = 16_000_000, 33_554_432, 1_022
+SIZE, LARGEST, MANIFESTS = 16_000_000, 33_554_432, 1_021
+# The files that each command names.
+NAMES = {
+    "plan-collect": ("media", "definition", "other", "verdicts"),
+    "embed-collect": ("media", "definition", "message", "other", "out", "verdicts"),
+    "validate": ("out", "approving"),
+}
 
 
 def film(label, count):
@@ -34,7 +41,7 @@ def jpeg(label, count):
 
 
 def many(label, order):
-    """A JPEG whose active manifest names all the others, in an order."""
+    """A JPEG whose active manifest names all the others, of these numbers, in an order."""
     below = [kept(f"{number:04}") for number in order]
     return picture(*below, active(label, *(draft.label for draft in below)))
 
@@ -51,6 +58,7 @@ def pairs(scale):
     first = many("m", range(count))
     yield "the same manifests", first, many("e", range(count))
     yield "the same in the other order", first, many("e", reversed(range(count)))
+    yield "others, one too many", many("m", range(count + 1)), many("e", range(count + 1, 2 * count + 3))
 
 
 def run(words):
@@ -78,23 +86,28 @@ class Measured:
             write(self.path(name), contents)
         if os.path.exists(self.path("out")):
             os.remove(self.path("out"))
-        known, start, length = collect.embed(media, LATER_DEFINITION, MESSAGE, other, [Approving()])
-        for command, names, line in (
-            ("plan-collect", ("media", "definition", "other", "verdicts"), "tbs "),
-            ("embed-collect", ("media", "definition", "message", "other", "out", "verdicts"), f"embedded {start} {length}"),
-            ("validate", ("out", "approving"), "valid "),
-        ):
-            if command == "validate":
-                write(self.path("approving"), "".join(f"{each} approved\n" for each in questions_in(known)).encode())
-            seconds, memory, told = run([self.program, command, *map(self.path, names)])
-            wrong = "" if told.startswith(line) else f"  {told[:100]}"
-            if command == "embed-collect" and not wrong:
-                with open(self.path("out"), "rb") as file:
-                    wrong = "" if file.read() == known else "  another file"
-            if command != "validate" and (seconds > self.limits[0] or memory > self.limits[1]):
-                wrong += "  above"
-            self.all_right &= not wrong
-            print(f"{what:30} {len(media) / 1e6:6.1f} {len(other) / 1e6:6.1f} MB  {command:13} {seconds:6.2f} s {memory:6.1f} MB{wrong}", flush=True)
+        known, *numbers = collect.embed(media, LATER_DEFINITION, MESSAGE, other, [Approving()])
+        if known == "build":
+            refused = " ".join(map(str, (known, *numbers)))
+            self.tell(what, media, other, "plan-collect", refused)
+            self.tell(what, media, other, "embed-collect", refused)
+            return
+        self.tell(what, media, other, "plan-collect", "tbs ")
+        self.tell(what, media, other, "embed-collect", f"embedded {numbers[0]} {numbers[1]}", known)
+        write(self.path("approving"), "".join(f"{each} approved\n" for each in questions_in(known)).encode())
+        self.tell(what, media, other, "validate", "valid ")
+
+    def tell(self, what, media, other, command, line, known=None):
+        """Runs a command, and says what it took, and what is wrong: its report, its new file, or what it took."""
+        seconds, memory, told = run([self.program, command, *map(self.path, NAMES[command])])
+        wrong = "" if told.startswith(line) else f"  {told[:100]}"
+        if known is not None and not wrong:
+            with open(self.path("out"), "rb") as file:
+                wrong = "" if file.read() == known else "  another file"
+        if command != "validate" and (seconds > self.limits[0] or memory > self.limits[1]):
+            wrong += "  above"
+        self.all_right &= not wrong
+        print(f"{what:30} {len(media) / 1e6:6.1f} {len(other) / 1e6:6.1f} MB  {command:13} {seconds:6.2f} s {memory:6.1f} MB{wrong}", flush=True)
 
 
 def main():
