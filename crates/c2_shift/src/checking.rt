@@ -14,7 +14,7 @@ use c2_base::{Source, fill_at};
 use c2_chunks::{ChunkTable, ShiftError};
 
 // How many fields are read at once.
-const PIECE_FIELDS: u32 = 512;
+const PIECE_FIELDS: u32 = 8_192;
 
 // How many bytes these have.
 const PIECE_LEN: usize = 8 * PIECE_FIELDS as usize;
@@ -44,11 +44,12 @@ fn first_overflow(bytes: &[u8], pos: u64, wide: bool, count: u32, shift: &Shift)
     None
 }
 
-// Whether the moved places of one table fit.
+// Whether the moved places of one table fit. Its fields are read into a buffer, many at once.
 fn check_table<S: Source>(
     source: &mut S,
     table: ChunkTable,
     shift: &Shift,
+    buf: &mut [u8; PIECE_LEN],
 ) -> Result<(), ShiftError>
     requires inside { table.first + table_len table ≤ S.len source.old }
     ensures fits { OnOk result (ForSome (S.known source.old) (λ file.
@@ -58,7 +59,6 @@ fn check_table<S: Source>(
     ensures reads { ReadsSource S.len S.known S.faults (IsCheckCause (S.len source.old))
         source.old source.new result }
 {
-    let mut buf = [0; PIECE_LEN];
     let mut at = table.first;
     let mut left = table.count;
     'pieces: while left > 0 {
@@ -77,7 +77,7 @@ fn check_table<S: Source>(
 
 /// Refuses the first field of these tables whose place, where it is `from` or greater, doesn't fit into the field once it is greater by
 /// `by`: [`ShiftError::Overflow`] names the place where the field begins. [`ShiftError::ReadFault`] comes only where the source failed, and
-/// no other error comes. The fields lie in the source, and are read many at once. Takes no memory.
+/// no other error comes. The fields lie in the source, and up to 8,192 of a table are read at once. Takes no memory.
 pub fn check_shift<S: Source>(
     source: &mut S,
     tables: &Tables,
@@ -93,10 +93,11 @@ pub fn check_shift<S: Source>(
         source.old source.new result }
 {
     let shift = Shift { from, by };
+    let mut buf = [0; PIECE_LEN];
     let mut rest = tables.as_slice();
     'tables: while rest.len() > 0 {
         // Matched and not handed up by `?`: each way out has clauses of its own.
-        match check_table(source, rest[0], &shift) {
+        match check_table(source, rest[0], &shift, &mut buf) {
             Ok(()) => {}
             Err(error) => return Err(error),
         }
