@@ -11,7 +11,7 @@ use Rattle.c2_fronts.specs.Outcomes.{IsFrontMade, NewFile}
 use Rattle.c2_refusals.specs.Kinds.{Effects, IsSourceCause, WithoutFault, kind_of, no_effects}
 use Rattle.c2_refusals.specs.declared.error.BuildError.{BuildError}
 use Rattle.c2_refusals.specs.declared.types.Embedded.{Embedded}
-use Rattle.c2_in_place.specs.Writings.{ending_of}
+use Rattle.c2_endings.specs.Endings.{build_ending}
 use Rattle.c2_build_front.specs.Errors.{IsRefusedWith, error_of}
 
 -- ---- causes
@@ -80,5 +80,5 @@ IsMet hash media definition message (Err e) = ⊤
 pub record EmbedsFront {K : Type 0} (written : K → Option (List ℕ)) (spare : K → Option ℕ) (finished : K → Bool)
     (hash : Alg → List ℕ → List ℕ) (media definition message : List ℕ) (old new : K) (result : Result Embedded BuildError) : Type 0 where
   pub answered : IsRangeOf (IsFrontMade hash media definition message) result
-  pub wrote : WritesFile written spare finished (Writes (IsFrontMade hash media definition message)) old new (ending_of result)
+  pub wrote : WritesFile written spare finished (Writes (IsFrontMade hash media definition message)) old new (build_ending result)
   pub meets : IsMet hash media definition message result

@@ -1,17 +1,16 @@
 -- What `embed` replies and writes, by the call below it.
-use Rattle.std.proofs.Common.{◌≡◌, refl, sym, ap, ◌∙◌, subst, ℕ, Bool, List, Option}
+use Rattle.std.proofs.Common.{◌≡◌, refl, sym, ap, ◌∙◌, ℕ, Bool, List, Option}
 use Rattle.std.specs.Prelude.{IfErr, IfOk, OnOk, Ok, Err}
 use Rattle.std.specs.declared.result.Result.{Result}
 use Rattle.c2_base.specs.declared.values.Question.{Question}
 use Rattle.c2_copying.specs.Writing.{HasWritten}
 use Rattle.c2_spec.specs.declared.digest.Alg.{Alg}
 use Rattle.c2_spec.specs.declared.panel.Verdict.{Verdict}
-use Rattle.c2_refusals.specs.Kinds as kind
-use Rattle.c2_refusals.specs.Kinds.{ComesAs, ErrorKind, kind_of}
+use Rattle.c2_refusals.specs.Kinds.{ComesAs}
 use Rattle.c2_refusals.specs.Sinks.{EndsOut}
 use Rattle.c2_refusals.specs.declared.error.BuildError.{BuildError}
 use Rattle.c2_refusals.specs.declared.types.Embedded.{Embedded}
-use Rattle.c2_in_place.specs.Writings as place
+use Rattle.c2_endings.specs.Endings.{build_ending}
 use Rattle.c2_build.specs.Answers.{EmbedsFile, HasRange, Writes, file_of}
 use Rattle.c2_build.specs.Building.{Built, IsEmbedded}
 use Rattle.c2_build.specs.Meeting.{BuiltMeets, IsMet, OneEmbedding}
@@ -21,7 +20,7 @@ use Rattle.c2_outcome.specs.Reply.{IsFaultOf, IsReplyTo}
 use Rattle.c2_outcome.specs.declared.reply.Fault.{Fault}
 use Rattle.c2_outcome.specs.declared.reply.Reply.{Reply}
 use Rattle.c2_written.specs.Builds.{build_says, embedded_outcome, range_outcome}
-use Rattle.c2_written.proofs.Builds.{WritesNew, build_ending, build_ends, build_fits, build_met, build_outcome, kind_ending, new_bytes}
+use Rattle.c2_written.proofs.Builds.{WritesNew, build_ends, build_fits, build_met, build_outcome, new_bytes}
 use Rattle.c2_written.proofs.Calls.{makes_reply}
 use Rattle.c2_written.proofs.Left.{written_as}
 use Rattle.c2_building_commands.specs.Outcomes.{IsEmbedOutcome, embed_outcome, file_bytes, file_report}
@@ -40,23 +39,6 @@ range_comes Is (Err e) h = h
 file_same : (r : Result Built BuildError) → file_of r ≡ new_bytes file_bytes r
 file_same (Ok b) = refl
 file_same (Err e) = refl
-
--- a call ends with an error of this kind as a build does
-kind_same : (k : ErrorKind) → place.kind_ending k ≡ kind_ending k
-kind_same kind.refusal = refl
-kind_same kind.message_refusal = refl
-kind_same kind.front_refusal = refl
-kind_same kind.older_refusal = refl
-kind_same kind.other_refusal = refl
-kind_same kind.read_fault = refl
-kind_same kind.judge_fault = refl
-kind_same kind.write_fault = refl
-kind_same kind.no_memory = refl
-
--- and so with a result
-ending_same : (r : Result Embedded BuildError) → place.ending_of r ≡ build_ending r
-ending_same (Ok x) = refl
-ending_same (Err e) = kind_same (kind_of e)
 
 -- what the new file meets is met where one is answered
 met_ok : (hash : Alg → List ℕ → List ℕ) (said : Question → Verdict) (media definition message : List ℕ) (r : Result Embedded BuildError) → IsMet hash said media definition message r
@@ -86,4 +68,4 @@ file_made {K} written spare finished law hash said media definition message old 
     wrote : HasWritten written finished (WritesNew file_bytes Is) old new (build_ending r)
     wrote = written_as written finished (Writes Is) (WritesNew file_bytes Is) old new (build_ending r)
         (λ bytes w. (w.0, w.1, w.2 ∙ file_same w.0)) (λ bytes w. (w.0, w.1, w.2 ∙ sym (file_same w.0)))
-        (subst (HasWritten written finished (Writes Is) old new) (ending_same r) h.wrote.wrote)
+        h.wrote.wrote

@@ -1,5 +1,5 @@
 -- What `embed-collect` replies and writes, by the call below it.
-use Rattle.std.proofs.Common.{◌≡◌, refl, subst, ℕ, Bool, List, Option}
+use Rattle.std.proofs.Common.{◌≡◌, refl, ℕ, Bool, List, Option}
 use Rattle.std.specs.Prelude.{IfErr, IfOk, OnOk, Ok, Err}
 use Rattle.std.specs.declared.result.Result.{Result}
 use Rattle.c2_base.specs.declared.values.Question.{Question}
@@ -9,12 +9,10 @@ use Rattle.c2_spec.specs.declared.panel.Verdict.{Verdict}
 use Rattle.c2_collected.specs.Made.{CollectedMeets}
 use Rattle.c2_collected.specs.Order.{CollectRefusal}
 use Rattle.c2_collected.specs.Outcomes.{IsCollectMade, NewFile}
-use Rattle.c2_refusals.specs.Kinds as kind
-use Rattle.c2_refusals.specs.Kinds.{ErrorKind, kind_of}
 use Rattle.c2_refusals.specs.Sinks.{EndsOut}
 use Rattle.c2_refusals.specs.declared.error.BuildError.{BuildError}
 use Rattle.c2_refusals.specs.declared.types.Embedded.{Embedded}
-use Rattle.c2_in_place.specs.Writings as collect
+use Rattle.c2_endings.specs.Endings.{build_ending}
 use Rattle.c2_collect_ground.specs.Errors.{error_of}
 use Rattle.c2_build_collect.specs.Answers.{EmbedsCollected, IsMet, Writes, file_of}
 use Rattle.c2_outcome.specs.Left.{state_of}
@@ -22,30 +20,13 @@ use Rattle.c2_outcome.specs.Reply.{IsFaultOf, IsReplyTo}
 use Rattle.c2_outcome.specs.declared.reply.Fault.{Fault}
 use Rattle.c2_outcome.specs.declared.reply.Reply.{Reply}
 use Rattle.c2_written.specs.Builds.{build_says, embedded_outcome}
-use Rattle.c2_written.proofs.Builds.{WritesNew, build_ending, build_ends, build_fits, build_met, kind_ending}
+use Rattle.c2_written.proofs.Builds.{WritesNew, build_ends, build_fits, build_met}
 use Rattle.c2_written.proofs.Calls.{makes_reply}
 use Rattle.c2_written.proofs.Left.{written_as}
 use Rattle.c2_written.proofs.Refused.{ComesWith, new_writes, writes_new}
 use Rattle.c2_collect_commands.specs.Outcomes.{IsEmbedCollectOutcome, file_bytes}
 use Rattle.c2_collect_commands.specs.Writing.{BuildsCollected}
 use Rattle.c2_collect_commands.proofs.Answered.{collect_outcome, file_same}
-
--- a call ends with an error of this kind as a build does
-kind_same : (k : ErrorKind) → collect.kind_ending k ≡ kind_ending k
-kind_same kind.refusal = refl
-kind_same kind.message_refusal = refl
-kind_same kind.front_refusal = refl
-kind_same kind.older_refusal = refl
-kind_same kind.other_refusal = refl
-kind_same kind.read_fault = refl
-kind_same kind.judge_fault = refl
-kind_same kind.write_fault = refl
-kind_same kind.no_memory = refl
-
--- and so with a result
-ending_same : (r : Result Embedded BuildError) → collect.ending_of r ≡ build_ending r
-ending_same (Ok x) = refl
-ending_same (Err e) = kind_same (kind_of e)
 
 -- what the new file meets is met where one is answered
 met_ok : (hash : Alg → List ℕ → List ℕ) (said : Question → Verdict) (media definition message other : List ℕ) (r : Result Embedded BuildError) → IsMet hash said media definition message other r
@@ -73,4 +54,4 @@ collect_made {K} written spare finished hash said media definition message other
     wrote : HasWritten written finished (WritesNew file_bytes (ComesWith error_of Is)) old new (build_ending r)
     wrote = written_as written finished (Writes Is) (WritesNew file_bytes (ComesWith error_of Is)) old new (build_ending r)
         (writes_new error_of file_bytes Is file_of file_same) (new_writes error_of file_bytes Is file_of file_same)
-        (subst (HasWritten written finished (Writes Is) old new) (ending_same r) h.wrote.wrote)
+        h.wrote.wrote

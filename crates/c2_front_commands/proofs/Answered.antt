@@ -14,7 +14,8 @@ use Rattle.c2_outcome.specs.Reply.{IsReplyTo, outcome_of}
 use Rattle.c2_outcome.specs.declared.reply.Fault.{Fault}
 use Rattle.c2_outcome.specs.declared.reply.Reply.{Reply}
 use Rattle.c2_written.specs.Builds.{build_says, embedded_outcome, range_outcome, result_outcome, tbs_outcome}
-use Rattle.c2_written.proofs.Builds.{WritesNew, build_ending, build_outcome, build_replied, new_bytes}
+use Rattle.c2_endings.specs.Endings.{build_ending}
+use Rattle.c2_written.proofs.Builds.{WritesNew, build_outcome, build_replied, new_bytes}
 use Rattle.c2_written.specs.Refused.{with_error}
 use Rattle.c2_written.proofs.Calls.{IsOutcomeOf}
 use Rattle.c2_written.proofs.Refused.{ComesWith, one_with, refused_comes}

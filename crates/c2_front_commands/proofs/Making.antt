@@ -1,5 +1,5 @@
 -- What `embed-front` replies and writes, by the call below it.
-use Rattle.std.proofs.Common.{◌≡◌, refl, subst, ℕ, Bool, List, Option}
+use Rattle.std.proofs.Common.{◌≡◌, refl, ℕ, Bool, List, Option}
 use Rattle.std.specs.Prelude.{IfErr, IfOk, OnOk, Ok, Err}
 use Rattle.std.specs.declared.result.Result.{Result}
 use Rattle.c2_copying.specs.Writing.{HasWritten}
@@ -7,12 +7,10 @@ use Rattle.c2_spec.specs.declared.digest.Alg.{Alg}
 use Rattle.c2_fronts.specs.Made.{FrontMeets}
 use Rattle.c2_fronts.specs.Order.{FrontRefusal}
 use Rattle.c2_fronts.specs.Outcomes.{IsFrontMade, NewFile}
-use Rattle.c2_refusals.specs.Kinds as kind
-use Rattle.c2_refusals.specs.Kinds.{ErrorKind, kind_of}
 use Rattle.c2_refusals.specs.Sinks.{EndsOut}
 use Rattle.c2_refusals.specs.declared.error.BuildError.{BuildError}
 use Rattle.c2_refusals.specs.declared.types.Embedded.{Embedded}
-use Rattle.c2_in_place.specs.Writings as place
+use Rattle.c2_endings.specs.Endings.{build_ending}
 use Rattle.c2_build_front.specs.Answers.{EmbedsFront, IsMet, Writes, file_of}
 use Rattle.c2_build_front.specs.Errors.{error_of}
 use Rattle.c2_outcome.specs.Left.{state_of}
@@ -20,30 +18,13 @@ use Rattle.c2_outcome.specs.Reply.{IsFaultOf, IsReplyTo}
 use Rattle.c2_outcome.specs.declared.reply.Fault.{Fault}
 use Rattle.c2_outcome.specs.declared.reply.Reply.{Reply}
 use Rattle.c2_written.specs.Builds.{build_says, embedded_outcome}
-use Rattle.c2_written.proofs.Builds.{WritesNew, build_ending, build_ends, build_fits, build_met, kind_ending}
+use Rattle.c2_written.proofs.Builds.{WritesNew, build_ends, build_fits, build_met}
 use Rattle.c2_written.proofs.Calls.{makes_reply}
 use Rattle.c2_written.proofs.Left.{written_as}
 use Rattle.c2_written.proofs.Refused.{ComesWith, new_writes, writes_new}
 use Rattle.c2_front_commands.specs.Outcomes.{IsEmbedFrontOutcome, file_bytes}
 use Rattle.c2_front_commands.specs.Writing.{BuildsFront}
 use Rattle.c2_front_commands.proofs.Answered.{file_same, front_outcome}
-
--- a call ends with an error of this kind as a build does
-kind_same : (k : ErrorKind) → place.kind_ending k ≡ kind_ending k
-kind_same kind.refusal = refl
-kind_same kind.message_refusal = refl
-kind_same kind.front_refusal = refl
-kind_same kind.older_refusal = refl
-kind_same kind.other_refusal = refl
-kind_same kind.read_fault = refl
-kind_same kind.judge_fault = refl
-kind_same kind.write_fault = refl
-kind_same kind.no_memory = refl
-
--- and so with a result
-ending_same : (r : Result Embedded BuildError) → place.ending_of r ≡ build_ending r
-ending_same (Ok x) = refl
-ending_same (Err e) = kind_same (kind_of e)
 
 -- what the new file meets is met where one is answered
 met_ok : (hash : Alg → List ℕ → List ℕ) (media definition message : List ℕ) (r : Result Embedded BuildError) → IsMet hash media definition message r
@@ -70,4 +51,4 @@ front_made {K} written spare finished hash media definition message old new r re
     wrote : HasWritten written finished (WritesNew file_bytes (ComesWith error_of Is)) old new (build_ending r)
     wrote = written_as written finished (Writes Is) (WritesNew file_bytes (ComesWith error_of Is)) old new (build_ending r)
         (writes_new error_of file_bytes Is file_of file_same) (new_writes error_of file_bytes Is file_of file_same)
-        (subst (HasWritten written finished (Writes Is) old new) (ending_same r) h.wrote.wrote)
+        h.wrote.wrote

@@ -13,7 +13,7 @@ use Rattle.c2_refusals.specs.Kinds as kind
 use Rattle.c2_refusals.specs.Sinks.{IsOutCause, KindLeaves}
 use Rattle.c2_refusals.specs.declared.error.BuildError.{BuildError}
 use Rattle.c2_refusals.proofs.Judged.{IsUnjudged}
-use Rattle.c2_in_place.specs.Writings.{kind_ending}
+use Rattle.c2_endings.specs.Endings.{kind_ending}
 
 -- ---- nothing was written
 

@@ -1,5 +1,5 @@
 -- Which test on the numbers of a new file fails first, and how long its store is.
-use Rattle.std.proofs.Common.{◌≡◌, ℕ, ◌+◌, ◌-◌, ◌^◌, ◌<◌, ◌≤◌, min, arith, Bool, false, cond, Option, Some, None, refl, ap, ◌∙◌}
+use Rattle.std.proofs.Common.{◌≡◌, ℕ, ◌+◌, ◌<◌, ◌≤◌, arith, Bool, false, cond, Option, Some, None, refl, ap, ◌∙◌}
 use Rattle.std.specs.Prelude.{nat_lt, nat_le}
 use Rattle.std.proofs.lemmas.Bool.{lt-ltb, le-ltb, le-leb, lt-leb}
 use Rattle.c2_base.specs.declared.limits.TheConstants.{MAX_MANIFESTS, MAX_STORE_LEN, FILE_LEN_LIMIT}
@@ -8,7 +8,7 @@ use Rattle.c2_built.specs.Store.{Content}
 use Rattle.c2_places.specs.Places.{Place, in_boxes, in_segments}
 use Rattle.c2_refusals.specs.Refusals.{box_tests, first_refusal, new_range_len, new_store_len, number_tests, place_tests}
 use Rattle.c2_bound_parts.specs.Bound.{seat_range_len, seat_store_len}
-use Rattle.c2_in_place.specs.Numbers.{IsStoreRefusal, IsToldLen}
+use Rattle.c2_in_place.specs.Numbers.{HasLen, IsToldLen}
 use Rattle.c2_refusals.specs.Seats.{IsSeat}
 use Rattle.c2_refusals.specs.declared.error.BuildError.{BuildError}
 use Rattle.c2_refusals.specs.declared.error.BuildError.TheVariants.{MediaRefused, TooManyManifests, StoreTooLarge}
@@ -69,11 +69,9 @@ numbers_pass size ms c p o is few small short boxes = small_are size ms c p is f
 pub told_small : (s : Seat) (c : Content) (n : ℕ) → IsToldLen s c n → n ≤ MAX_STORE_LEN → n ≡ seat_store_len s c
 told_small s c n told small = omega (arith, told, small)
 
--- one that is too large, and isn't the greatest number, is told as it is
-pub store_refused : (len n : ℕ) → n ≡ min len (2 ^ 64 - 1) → n < 2 ^ 64 - 1 → MAX_STORE_LEN < n → IsStoreRefusal len (StoreTooLarge n)
-store_refused len n told less large =
-    let same : n ≡ len = omega (arith, told, less) in
-    (omega (arith, same, large), ap StoreTooLarge same)
+-- and so is each one that is told, where 64 bits hold the length
+pub told_is : (s : Seat) (c : Content) (n : ℕ) → IsToldLen s c n → HasLen s c → n ≡ seat_store_len s c
+told_is s c n told has = omega (arith, told, has)
 
 -- a store is as long in a place as in its seat
 pub seat_store : (s : Seat) (p : Place) (c : Content) → IsSeat s p → new_store_len p c ≡ seat_store_len s c

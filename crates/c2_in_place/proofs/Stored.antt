@@ -1,5 +1,5 @@
 -- What crates that build cite of a new file in its place: what is bound, what is put in, how long its store is, and what is left of its media.
-use Rattle.std.proofs.Common.{◌≡◌, ◌≤◌, ℕ, List, length, option_map, Some, refl, sym, ap, ◌∙◌, subst, arith}
+use Rattle.std.proofs.Common.{◌≡◌, ◌<◌, ◌≤◌, ◌-◌, ◌^◌, ℕ, List, length, option_map, Some, refl, sym, ap, ◌∙◌, subst, arith}
 use Rattle.c2_base.specs.declared.limits.TheConstants.{MAX_STORE_LEN}
 use Rattle.c2_spec.specs.Container.{is_bmff}
 use Rattle.c2_spec.specs.Digest.{digest_len, zero_digest}
@@ -15,6 +15,7 @@ use Rattle.c2_cleared.specs.Lengths.{cleared_size}
 use Rattle.c2_cleared.specs.declared.clearing.Clearing.{Clearing}
 use Rattle.c2_films.specs.Films.{FilmSizeIsFixed}
 use Rattle.c2_places.specs.Places.{IsPlace, Place, binding_with, bound_text, in_boxes, in_segments, place_binding, place_file, place_start, put_bytes, range_len}
+use Rattle.c2_refusals.specs.Refusals.{new_store_len}
 use Rattle.c2_refusals.specs.Seats.{IsForm, IsSeat}
 use Rattle.c2_refusals.specs.declared.types.Draft.{Draft}
 use Rattle.c2_refusals.specs.declared.types.FileForm.{FileForm}
@@ -23,8 +24,8 @@ use Rattle.c2_refusals.specs.declared.types.Seat.{Seat}
 use Rattle.c2_bound_parts.specs.Bound.{seat_binding, seat_store_len}
 use Rattle.c2_bound_parts.proofs.NewParts.{seat_fixed, seat_size, seat_size_is}
 use Rattle.c2_putting.specs.Puts.{put_of}
-use Rattle.c2_in_place.specs.Numbers.{IsDraft, IsNumbered, IsPut}
-use Rattle.c2_in_place.proofs.Numbered.{seat_range}
+use Rattle.c2_in_place.specs.Numbers.{HasLen, IsDraft, IsNumbered, IsPut}
+use Rattle.c2_in_place.proofs.Numbered.{seat_range, seat_store}
 use Rattle.c2_in_place.specs.Writings.{ready_file}
 use Rattle.c2_in_place.specs.declared.writing.Ready.{Ready}
 
@@ -78,6 +79,10 @@ store_packs law film hash c alg s start len digest message store own digests siz
 pub blank_len : (s : Seat) (c : Content) → bound_len c (seat_binding (new_alg c.definition) s 0 0 (zero_digest (new_alg c.definition))) c.definition.reserve ≡ seat_store_len s c
 blank_len (Seat.Segments start number) c = refl
 blank_len (Seat.Boxes rows) c = refl
+
+-- 64 bits hold that length where they hold it at a place there
+pub place_len : (s : Seat) (p : Place) (c : Content) → IsSeat s p → new_store_len p c < 2 ^ 64 - 1 → HasLen s c
+place_len s p c seat h = subst (λ (n : ℕ). n < 2 ^ 64 - 1) (seat_store s p c seat) h
 
 -- ---- the new file
 

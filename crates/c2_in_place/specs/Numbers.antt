@@ -1,13 +1,14 @@
 -- The numbers of a new file at a place that was found.
 use Rattle.std.specs.Prelude.{◌≡◌, ℕ, ◌-◌, ◌<◌, ◌≤◌, ◌^◌, ⊤, List, min}
 use Rattle.std.specs.declared.option.Option.TheVariants.{Some, None}
+use Rattle.std.specs.declared.result.Result.TheVariants.{Ok}
 use Rattle.c2_base.specs.declared.limits.TheConstants.{MAX_STORE_LEN}
+use Rattle.c2_definition.specs.DefinitionFile.{IsDefinition}
+use Rattle.c2_definition.specs.declared.types.Definition.{Definition}
 use Rattle.c2_built.specs.Store.{Content}
 use Rattle.c2_places.specs.Places.{IsPlace, Place, in_boxes, in_segments, place_start}
 use Rattle.c2_refusals.specs.Refusals.{first_refusal, new_range_len, place_tests}
 use Rattle.c2_refusals.specs.Seats.{IsSeat}
-use Rattle.c2_refusals.specs.declared.error.BuildError.{BuildError}
-use Rattle.c2_refusals.specs.declared.error.BuildError.TheVariants.{StoreTooLarge}
 use Rattle.c2_refusals.specs.declared.types.Draft.{Draft}
 use Rattle.c2_refusals.specs.declared.types.Put.{Put}
 use Rattle.c2_refusals.specs.declared.types.Seat.{Seat}
@@ -34,9 +35,13 @@ pub record IsFitted (at : ℕ) (how : Put) (p : Place) : Type 0 where
 abbrev pub IsToldLen : Seat → Content → ℕ → Type 0
 IsToldLen s c told = told ≡ min (seat_store_len s c) (2 ^ 64 - 1)
 
--- a store of so many bytes is too large, and the error says so
-abbrev pub IsStoreRefusal : ℕ → BuildError → Type 0
-IsStoreRefusal len e = (MAX_STORE_LEN < len) × (e ≡ StoreTooLarge len)
+-- 64 bits hold that length, below the greatest number, so that what they tell is the length
+abbrev pub HasLen : Seat → Content → Type 0
+HasLen s c = seat_store_len s c < 2 ^ 64 - 1
+
+-- some file is this definition, so its texts are no longer than such a file may be
+abbrev pub IsOfFile : Definition → Type 0
+IsOfFile d = (file : List ℕ) × IsDefinition file (Ok d)
 
 -- ---- the new file
 

@@ -8,5 +8,5 @@
 mod numbers;
 mod writing;
 
-pub use numbers::draft_at;
+pub use numbers::{blank_binding, draft_at};
 pub use writing::{Ready, write_file};

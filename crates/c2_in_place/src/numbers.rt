@@ -1,25 +1,45 @@
 // The numbers of a new file, that are known before anything is digested.
-ghost use Rattle.std.specs.Prelude.{◌≡◌, ℕ, ◌-◌, ◌<◌, ◌≤◌, ◌^◌, min, List, IfErr, IfOk, None, Some, OnOk};
+ghost use Rattle.std.specs.Prelude.{◌≡◌, ℕ, ◌<◌, ◌≤◌, List, IfErr, IfOk, None, Some, OnOk};
 ghost use Rattle.c2_base.specs.declared.limits.TheConstants as limits;
+ghost use Rattle.c2_spec.specs.Digest.{zero_digest};
 ghost use Rattle.c2_spec.specs.Jpeg.Writing as jpeg;
 ghost use Rattle.c2_spec.specs.declared.packets.TheConstants.{LEAST_STORE_LEN};
 ghost use Rattle.c2_built.specs.Store.{Content};
 ghost use Rattle.c2_places.specs.Places.{IsPlace, Place};
-ghost use Rattle.c2_refusals.specs.Kinds.{IsOlderQuiet, IsQuiet, WithoutFault};
+ghost use Rattle.c2_refusals.specs.Kinds.{IsOlderQuiet, IsQuiet};
 ghost use Rattle.c2_refusals.specs.Refusals.{box_tests, first_refusal, number_tests, place_tests};
 ghost use Rattle.c2_refusals.specs.Seats.{IsSeat, IsSeatIn};
-ghost use Rattle.c2_bound_parts.specs.Bound.{seat_range_len, seat_store_len};
-ghost use Rattle.c2_in_place.specs.Numbers.{IsDraft, IsFitted, IsStoreRefusal, IsToldLen};
+ghost use Rattle.c2_bound_parts.specs.Bound.{seat_binding, seat_range_len, seat_store_len};
+ghost use Rattle.c2_in_place.specs.Numbers.{HasLen, IsDraft, IsFitted, IsToldLen};
 
-use c2_base::MediaError;
 use c2_base::limits::{FILE_LEN_LIMIT, MAX_MANIFESTS, MAX_ROOT_BOXES, MAX_STORE_LEN};
+use c2_base::{MediaError, NoMemory, Range};
+use c2_bound_parts::binding_at;
 use c2_boxes::insert_place;
+use c2_definition::NewAssertion;
+use c2_hash::{Alg, Digest};
 use c2_jpegseg::segments_len;
 use c2_refusals::{BuildError, Draft, Put, Seat};
 use c2_spec::Reason;
+use std::alloc::Global;
 
 // How many bytes the C2PA box of a store has before the store.
 const BOX_FRAME_LEN: u64 = 45;
+
+// What stands for a range that isn't known yet.
+const NO_RANGE: Range = Range {
+    start: 0,
+    length: 0,
+};
+
+/// The new binding at this place with no range and a digest of zero bytes: it has as many bytes as each new binding by this algorithm there.
+/// `NoMemory` comes where memory ran out.
+pub fn blank_binding(alloc: Global, alg: Alg, seat: &Seat) -> Result<NewAssertion, NoMemory>
+    ensures { IfOk result (λ a. a ≡ seat_binding alg seat.now 0 0 (zero_digest alg)) }
+{
+    let blank = Digest::zeros(alg);
+    binding_at(alloc, alg, seat, NO_RANGE, &blank)
+}
 
 // The place of the first byte that is put in, and what is put in, where something can be put in at this place.
 fn put_at(seat: &Seat) -> Result<(u64, Put), BuildError>
@@ -43,23 +63,6 @@ fn put_at(seat: &Seat) -> Result<(u64, Put), BuildError>
             },
         },
     }
-}
-
-// Refuses a store of so many bytes, as 64 bits tell it, which is too large. The greatest number may stand for a length that 64 bits can't
-// hold.
-fn check_store(told: u64) -> Result<(), BuildError>
-    ensures small { OnOk result (told ≤ limits.MAX_STORE_LEN) }
-    ensures refused { IfErr result (λ e. (len : ℕ) → told ≡ min len (2 ^ 64 - 1)
-        → WithoutFault e (IsStoreRefusal len e)) }
-    ensures quiet { IfErr result IsQuiet }
-{
-    if told == u64::MAX {
-        return Err(BuildError::NoMemory);
-    }
-    if told > MAX_STORE_LEN {
-        return Err(BuildError::StoreTooLarge(told));
-    }
-    Ok(())
 }
 
 // How many bytes are put in of a store of so many.
@@ -98,8 +101,8 @@ fn check_boxes(seat: &Seat) -> Result<(), BuildError>
 /// as 64 bits tell it, where no test on them refuses it.
 ///
 /// In this order: `NoInstance` or `OpenBox`, where nothing can be put in; `TooManyManifests` and `StoreTooLarge` of the store; and
-/// `MediaRefused` where the new file would be too long or have too many root boxes. `NoMemory` comes where 64 bits can't hold the length of
-/// the store. Takes no memory.
+/// `MediaRefused` where the new file would be too long or have too many root boxes. No other error comes, as no memory is taken. The greatest
+/// number of 64 bits stands for each length that is no less: it is refused like any other that is too large.
 pub fn draft_at(seat: &Seat, size: u64, manifests: u64, store_len: u64) -> Result<Draft, BuildError>
     requires short { size < limits.FILE_LEN_LIMIT }
     requires inside { IsSeatIn size seat.now }
@@ -108,8 +111,8 @@ pub fn draft_at(seat: &Seat, size: u64, manifests: u64, store_len: u64) -> Resul
         → IsToldLen seat.now c store_len → IsPlace base p → IsSeat seat.now p
         → first_refusal (number_tests size manifests c p) ≡ None) }
     ensures refused { IfErr result (λ e. (c : Content) (base : List ℕ) (p : Place)
-        → IsToldLen seat.now c store_len → IsPlace base p → IsSeat seat.now p
-        → WithoutFault e (first_refusal (number_tests size manifests c p) ≡ Some e)) }
+        → IsToldLen seat.now c store_len → HasLen seat.now c → IsPlace base p → IsSeat seat.now p
+        → first_refusal (number_tests size manifests c p) ≡ Some e) }
     ensures draft { IfOk result (λ f. (c : Content) → IsToldLen seat.now c store_len
         → IsDraft c seat.now size f) }
     ensures quiet { IfErr result IsOlderQuiet }
@@ -122,9 +125,8 @@ pub fn draft_at(seat: &Seat, size: u64, manifests: u64, store_len: u64) -> Resul
     if manifests > MAX_MANIFESTS as u64 {
         return Err(BuildError::TooManyManifests(manifests));
     }
-    match check_store(store_len) {
-        Ok(()) => {}
-        Err(error) => return Err(error),
+    if store_len > MAX_STORE_LEN {
+        return Err(BuildError::StoreTooLarge(store_len));
     }
     let length = range_len(seat, store_len);
     let file_len = size + length;

@@ -17,7 +17,7 @@ use Rattle.c2_copying.specs.Writing.{FitsSpare, write_fault}
 use Rattle.c2_rules.specs.Asking.{IsJudgeCause}
 use Rattle.c2_refusals.specs.Kinds as kind
 use Rattle.c2_refusals.specs.Kinds.{ErrorKind, IsSourceCause, heard_of}
-use Rattle.c2_in_place.specs.Writings.{kind_ending}
+use Rattle.c2_endings.specs.Endings.{kind_ending}
 use Rattle.c2_build.specs.Answers.{Writes, embed_effects, file_of}
 use Rattle.c2_build.specs.Meeting.{BuiltFileMeets, SomeEmbedding}
 use Rattle.c2_sample.specs.Sample.{IsSureFault, IsSureKind, no_judges, sample_definition, sample_message}

@@ -4,11 +4,12 @@ use Rattle.std.specs.Prelude.{⊤, IfErr, IfOk, IsSome, OnOk, Ok, Err}
 use Rattle.std.specs.declared.result.Result.{Result}
 use Rattle.std.proofs.lemmas.Bool.{false≢true}
 use Rattle.c2_base.specs.Causes.{Rose}
-use Rattle.c2_copying.specs.Writing.{Ending, EndsSink, complete, read_fault, write_fault, untouched}
+use Rattle.c2_copying.specs.Writing.{EndsSink}
 use Rattle.c2_refusals.specs.Kinds as kind
 use Rattle.c2_refusals.specs.Kinds.{ComesAs, ComesTo, Effects, ErrorKind, IsSourceCause, KindSays, MayCome, kind_of}
 use Rattle.c2_refusals.specs.Sinks.{EndsOut, IsOutCause, IsSinkCause, KindLeaves}
 use Rattle.c2_refusals.specs.declared.error.BuildError.{BuildError}
+use Rattle.c2_endings.specs.Endings.{build_ending, kind_ending}
 use Rattle.c2_outcome.specs.Left.{SinkState, state_of}
 use Rattle.c2_outcome.specs.Outcome.{Outcome, reports}
 use Rattle.c2_outcome.specs.Reply.{CausedBy, HasWhole, IsOutputCause, IsReplyTo, outcome_of}
@@ -75,17 +76,6 @@ build_writes report before now (Ok a) quiet cause = quiet
 build_writes report before now (Err e) quiet cause = kind_writes before now (kind_of e) (refused_build e) cause
 
 -- ---- how it ended
-
--- how a build ended that writes a new file, by the kind of its error
-abbrev pub kind_ending : ErrorKind → Ending
-kind_ending kind.read_fault = read_fault
-kind_ending kind.write_fault = write_fault
-kind_ending k = untouched
-
--- by its result
-abbrev pub build_ending : {A : Type 0} → Result A BuildError → Ending
-build_ending (Ok a) = complete
-build_ending (Err e) = kind_ending (kind_of e)
 
 -- what is said of an error of this kind fits how the build ended
 kind_fits : (k : ErrorKind) (line : List ℕ) → FitsEnding (kind_ending k) (unless_fault (kind_fault k) (reports answer.BuildRefused line))

@@ -24,7 +24,8 @@ use Rattle.c2_outcome.specs.declared.reply.Reply.{Reply}
 use Rattle.c2_outcome.specs.declared.types.Answer.TheVariants as answer
 use Rattle.c2_written.specs.Builds.{IsBuildReply, build_says, kind_fault, refused_build, result_outcome, unless_fault}
 use Rattle.c2_written.specs.Written.{WritesOut}
-use Rattle.c2_written.proofs.Builds.{EffectsCause, build_ending, build_ends, build_fits, build_reads, build_writes}
+use Rattle.c2_endings.specs.Endings.{build_ending}
+use Rattle.c2_written.proofs.Builds.{EffectsCause, build_ends, build_fits, build_reads, build_writes}
 use Rattle.c2_written.proofs.Calls.{ends_reply, reads_reply, writes_reply}
 
 -- ---- what is left of a source and of the sink
