@@ -136,22 +136,23 @@ impl<'d, H: Hashing> Collector<'d, H> {
             Ok(redactions) => redactions,
             Err(NoMemory) => return Err(BuildError::NoMemory),
         };
+        // Made before the boxes are joined: what they are digested from is let go before.
+        let further = match self.further(&ours.store, theirs, &redactions) {
+            Ok(further) => further,
+            Err(NoMemory) => return Err(BuildError::NoMemory),
+        };
         let joined = match joined_boxes(self.alloc, &ours.store, theirs, &redactions) {
             Ok(joined) => joined,
             Err(error) => return Err(error),
         };
         match self.check_joined(&ours.store, theirs) {
-            Ok(()) => {}
-            Err(error) => return Err(error),
-        }
-        match self.further(&ours.store, theirs, &redactions) {
-            Ok(further) => Ok(CollectedGround {
+            Ok(()) => Ok(CollectedGround {
                 clearing: ours.clearing,
                 boxes: joined.boxes,
                 further,
                 manifests: joined.manifests,
             }),
-            Err(NoMemory) => Err(BuildError::NoMemory),
+            Err(error) => Err(error),
         }
     }
 }

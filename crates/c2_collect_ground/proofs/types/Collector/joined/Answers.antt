@@ -9,16 +9,16 @@ pub returns-in-Err-joined_boxes-clause-ground : goal.returns-in-Err-joined_boxes
 returns-in-Err-joined_boxes-clause-ground g c = λ hash file m o ours theirs. clash_stage c.args.self.now.definition.now hash file c.args.ours.now c.args.theirs.now m o c.in-Err-joined_boxes.error ours theirs c.in-Err-joined_boxes.ensures.clash
 
 -- a test refuses
-pub returns-in-Err-check_joined-clause-ground : goal.returns-in-Err-check_joined-clause-ground
-returns-in-Err-check_joined-clause-ground g c = λ hash file m o ours theirs.
+pub returns-clause-ground : goal.returns-clause-ground
+returns-clause-ground g c = λ hash file m o ours theirs.
     let d = c.args.self.now.definition.now in
     let e = c.in-Err-check_joined.error in
     let apart = joined_apart hash file _ c.args.ours.now c.args.theirs.now m o c.in-Ok-joined_boxes.joined ours theirs c.in-Ok-joined_boxes.ensures.joined in
     test_stage d m o e apart (tests_refuse c.what_is_joined_is_reached.ensures.reached hash file d c.args.ours.now c.args.theirs.now m o e ours theirs apart c.in-Err-check_joined.ensures.tested)
 
 -- nothing is refused
-pub returns-in-Ok-further-clause-ground : goal.returns-in-Ok-further-clause-ground
-returns-in-Ok-further-clause-ground g c = λ hash file m o ours theirs.
+pub returns-in-Ok-check_joined-clause-ground : goal.returns-in-Ok-check_joined-clause-ground
+returns-in-Ok-check_joined-clause-ground g c = λ hash file m o ours theirs.
     let d = c.args.self.now.definition.now in
     let store = c.args.ours.now.store in
     let same = c.in-Ok.ensures ∙ c.as_slice.ensures in
@@ -29,8 +29,8 @@ returns-in-Ok-further-clause-ground g c = λ hash file m o ours theirs.
     (subst (λ (rs : List (List ℕ)). NameLast (g.H.Hashing.digest_of (new_alg d)) rs (ingredient_stores store c.args.theirs.now) c.in-Ok-further.further.items) same c.in-Ok-further.ensures)
     (tests_pass c.what_is_joined_is_reached.ensures.reached hash file d c.args.ours.now c.args.theirs.now m o ours theirs apart c.in-Ok-check_joined.ensures.tested)
 
-pub returns-in-Ok-further-clause-some : goal.returns-in-Ok-further-clause-some
-returns-in-Ok-further-clause-some g c =
+pub returns-in-Ok-check_joined-clause-some : goal.returns-in-Ok-check_joined-clause-some
+returns-in-Ok-check_joined-clause-some g c =
     let d = c.args.self.now.definition.now in
     let store = c.args.ours.now.store in
     let same = c.in-Ok.ensures ∙ c.as_slice.ensures in
