@@ -12,7 +12,7 @@ use Rattle.c2_spec.specs.Bmff.Store.{HasBmffStore, HoldsBmffStore}
 use Rattle.c2_spec.specs.Bmff.Writing.{AreBaseRoots, IsBmffBase, base_roots, freed, is_file_end, same, without}
 use Rattle.c2_spec.specs.Container.{IsLocated, is_bmff}
 use Rattle.c2_spec.specs.Jpeg.Store as jpeg
-use Rattle.c2_spec.specs.Jumbf.Tree.{Tree}
+use Rattle.c2_spec.specs.Jumbf.Tree.{Tree, tree_bytes}
 use Rattle.c2_spec.specs.Located.{Located, Opening, absent, here, refused}
 use Rattle.c2_spec.specs.PutIn.{taken_out}
 use Rattle.c2_spec.specs.declared.digest.Alg.{Alg}
@@ -138,28 +138,29 @@ film_keeps cut media base roots start len store has h = by h.are
 
 -- ---- the media
 
--- bytes that are opened as a store of manifests in a range stand in that range
-located_here : (l : Located) (start len : ℕ) (t : Tree) → Opens IsManifestStore l (here start len t)
-    → (store : List ℕ) × (l ≡ here start len store)
+-- bytes that are opened as a store of manifests in a range stand in that range, and spell it
+pub located_here : (l : Located) (start len : ℕ) (t : Tree) → Opens IsManifestStore l (here start len t)
+    → (store : List ℕ) × ((l ≡ here start len store) × (store ≡ tree_bytes t))
 located_here (refused reason number) start len t h = absurd (cc (h))
 located_here absent start len t h = absurd (cc (h))
 located_here (here at n store) start len t h = (store, by h.0 h.1 h.2)
   where
     by : (tree : Opening Tree) → IsBoxTree at n store tree → Opens IsManifestTree tree (here start len t)
-        → here at n store ≡ here start len store
+        → (here at n store ≡ here start len store) × (store ≡ tree_bytes t)
     by (refused reason number) a b = absurd (cc (b))
     by absent a b = absurd a
     by (here place count u) a b =
         let begin : at ≡ start = cc (a.1, b.1) in
         let size : n ≡ len = cc (a.1, b.1) in
-        ap₂ (λ (x y : ℕ). here x y store) begin size
+        let tree : u ≡ t = cc (b.1) in
+        (ap₂ (λ (x y : ℕ). here x y store) begin size, a.0.whole ∙ ap tree_bytes tree)
 
 -- what is left of a media file keeps the bytes outside the range of its store
 left_keeps : EndIsCutOut → (media : List ℕ) (start len : ℕ) (t : Tree) (base : List ℕ) → IsOpened media (here start len t)
     → IsLeft media start len base → IsLessStore media start len base
 left_keeps cut media start len t base o left =
     let at = located_here o.0 start len t o.2 in
-    by at.0 (is_bmff media) (subst (IsLocated media) at.1 o.1) left
+    by at.0 (is_bmff media) (subst (IsLocated media) at.1.0 o.1) left
   where
     by : (store : List ℕ) (b : Bool) → MatchBool b (HasBmffStore media start len store) (jpeg.HasJpegStore media start len store)
         → MatchBool b (IsLeftOfBoxes media base) (base ≡ taken_out start len media) → IsLessStore media start len base

@@ -11,6 +11,7 @@ mod WorkedOver
 mod WorkedAgain
 mod Drawn
 mod Placed
+mod Short
 mod NewStores
 mod Causes
 mod Ended

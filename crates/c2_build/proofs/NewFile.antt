@@ -205,7 +205,7 @@ met_over l hash said media d (stored start len t) g p bytes message read digests
 -- ---- all of it
 
 -- what a definition is that was passed
-defined_of : (file : List ℕ) (d : Definition) → IsDefinitionStage file (Ok d) → IsDefinition file (Ok d)
+pub defined_of : (file : List ℕ) (d : Definition) → IsDefinitionStage file (Ok d) → IsDefinition file (Ok d)
 defined_of file d h = read_as h.0 h.1 h.2
   where
     read_as : (r : Result Definition DefinitionField) → IsDefinition file r → Ok d ≡ definition_stage r → IsDefinition file (Ok d)

@@ -24,11 +24,11 @@ use Rattle.c2_cleared.specs.declared.clearing.Clearing.{Clearing}
 use Rattle.c2_films.specs.Films.{FilmSizeIsFixed}
 use Rattle.c2_places.specs.Places.{IsPlace, Place, bound_text, place_binding, place_start, place_store, put_bytes}
 use Rattle.c2_refusals.specs.Kinds.{ComesAs, SaysNothing}
-use Rattle.c2_build.specs.Building.{IsBuilt, IsEmbeddedOn, IsEmbeddedOver, built_of, signed_bytes}
-use Rattle.c2_refusals.specs.Stages.{IsGroundStage, IsPlaceStage, MediaKind}
+use Rattle.c2_build.specs.Building.{Built, IsBuilt, IsEmbeddedOn, IsEmbeddedOver, built_of, signed_bytes}
+use Rattle.c2_refusals.specs.Stages.{IsGroundStage, IsPlaceStage, MediaKind, Then}
 use Rattle.c2_refusals.specs.Refusals.{Ground, IsReserveRefusal, first_refusal, ground_tests, late_tests, refuse_if, reserve_tests}
 use Rattle.c2_bound_parts.specs.Bound.{AreNewParts, IsSmall, seat_binding}
-use Rattle.c2_build.specs.Steps.{IsDrafted, IsPassed, IsPutReady, IsReady}
+use Rattle.c2_build.specs.Steps.{IsBuildFor, IsDrafted, IsPassed, IsPutReady, IsReady, MakesFile}
 use Rattle.c2_ground.specs.Grounds.{IsGround}
 use Rattle.c2_putting.specs.Puts.{put_of}
 use Rattle.c2_refusals.specs.Seats.{IsSeat}
@@ -37,10 +37,12 @@ use Rattle.c2_refusals.specs.declared.types.Drafted.{Drafted}
 use Rattle.c2_in_place.specs.Numbers.{IsNumbered, IsPut}
 use Rattle.c2_in_place.proofs.Stored.{file_is, put_is, same_binding, store_packs}
 use Rattle.c2_in_place.specs.declared.writing.Ready.{Ready}
+use Rattle.c2_build.specs.declared.ready.DraftedBuild.{DraftedBuild}
+use Rattle.c2_build.proofs.Drawn.{place_at}
 use Rattle.c2_refusals.specs.declared.error.BuildError.{BuildError}
 use Rattle.c2_refusals.specs.declared.error.BuildError.TheVariants as build
 use Rattle.c2_refusals.proofs.Stages.{first_passes, then_next, unless_fails, unless_passes}
-use Rattle.c2_refusals.proofs.Outside.{nothing_said}
+use Rattle.c2_refusals.proofs.Outside.{nothing_said, outside_map}
 
 -- ---- what is signed
 
@@ -142,10 +144,29 @@ draft_packs law film hash known len d w parts message store digests new filled s
 
 -- ---- what comes of it
 
+-- what was drafted makes the new file
+pub draft_makes : FillsOrNeedsMore → (hash : Alg → List ℕ → List ℕ) (said : Question → Verdict) (media : List ℕ) (kind : MediaKind) (d : Definition) (parts : SignParts) (w : Drafted) (message : List ℕ) → IsDrafted hash said media d kind w → IsSigned parts d.reserve message
+    → MakesFile hash media (IsEmbeddedOver hash said media kind d parts) (record { definition = d; drafted = w; message = message })
+draft_makes law hash said media kind d parts w message at signed = record {
+  ground = at.ground;
+  place = at.place;
+  over = record { ground = at.is; place = place_at {base = at.ground.base} {p = at.place} at.passed.stage; seat = at.seat; numbers = at.numbers };
+  made = λ bytes put. built_over law hash said media kind d parts at.ground at.place message bytes at.passed at.is.content.definition put signed;
+}
+
+-- so what is drafted behind a stage that passed does
+pub build_next : {A : Type 0} (hash : Alg → List ℕ → List ℕ) (media : List ℕ) (First : Result A BuildError → Type 0) (Next : A → Result Built BuildError → Type 0) (a : A) (r : Result DraftedBuild BuildError) → First (Ok a) → IsBuildFor hash media (Next a) r
+    → IsBuildFor hash media (Then First Next) r
+build_next hash media First Next a (Ok b) first h = record {
+  ground = h.ground;
+  place = h.place;
+  over = h.over;
+  made = λ bytes put. then_next First Next a (Ok (built_of h.ground h.place bytes)) first (h.made bytes put);
+}
+build_next hash media First Next a (Err e) first h = outside_map e (then_next First Next a (Err e) first) h
+
 -- what is ready is the new file
-pub ready_built : FillsOrNeedsMore → (hash : Alg → List ℕ → List ℕ) (said : Question → Verdict) (media : List ℕ) (kind : MediaKind) (d : Definition) (parts : SignParts) (w : Drafted) (at : IsDrafted hash said media d kind w)
-    (message : List ℕ) (r : Result Ready BuildError) → IsSigned parts d.reserve message
-    → IfOk r (λ x. IsPutReady (hash (new_alg d)) media x at.ground at.place message) → IfErr r SaysNothing → ComesAs (IsReady media) (IsEmbeddedOver hash said media kind d parts) r
-ready_built law hash said media kind d parts w at message (Ok x) signed h k =
-    (built_of at.ground at.place h.bytes, built_over law hash said media kind d parts at.ground at.place message h.bytes at.passed at.is.content.definition h.are signed, h.is)
-ready_built law hash said media kind d parts w at message (Err e) signed h k = nothing_said e _ k
+pub ready_made : (hash : Alg → List ℕ → List ℕ) (media : List ℕ) (Is : Result Built BuildError → Type 0) (b : DraftedBuild) (r : Result Ready BuildError) (m : MakesFile hash media Is b) → IfOk r (λ x. IsPutReady (hash (new_alg b.definition)) media x m.ground m.place b.message)
+    → IfErr r SaysNothing → ComesAs (IsReady media) Is r
+ready_made hash media Is b (Ok x) m h k = (built_of m.ground m.place h.bytes, m.made h.bytes h.are, h.is)
+ready_made hash media Is b (Err e) m h k = nothing_said e _ k

@@ -12,7 +12,7 @@ use Rattle.c2_refusals.specs.Kinds.{ComesAs, Effects, IsSourceCause, judge_effec
 use Rattle.c2_refusals.specs.Stages.{HasNothingToAsk, IsDefinitionRefused, IsDefinitionTold, IsMessageTold, IsToldOf, IsToldRefused}
 use Rattle.c2_refusals.specs.declared.error.BuildError.{BuildError}
 use Rattle.c2_refusals.specs.declared.types.Embedded.{Embedded}
-use Rattle.c2_in_place.specs.Writings.{ending_of}
+use Rattle.c2_endings.specs.Endings.{build_ending}
 use Rattle.c2_build.specs.Building.{Built, EmbedAsks, IsEmbedded, PlanAsks}
 use Rattle.c2_build.specs.Meeting.{IsMet}
 
@@ -92,5 +92,5 @@ pub record EmbedsFile {K : Type 0} (written : K → Option (List ℕ)) (spare : 
     (hash : Alg → List ℕ → List ℕ) (said : Question → Verdict) (media definition message : List ℕ) (old new : K)
     (result : Result Embedded BuildError) : Type 0 where
   pub answered : ComesAs HasRange (IsEmbedded hash said media definition message) result
-  pub wrote : WritesFile written spare finished (Writes (IsEmbedded hash said media definition message)) old new (ending_of result)
+  pub wrote : WritesFile written spare finished (Writes (IsEmbedded hash said media definition message)) old new (build_ending result)
   pub meets : IsMet hash said media definition message result

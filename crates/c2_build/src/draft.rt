@@ -15,28 +15,22 @@ ghost use Rattle.c2_refusals.specs.Stages.{MediaKind};
 ghost use Rattle.c2_refusals.specs.Refusals.{first_refusal, number_tests};
 ghost use Rattle.c2_refusals.specs.Seats.{IsSeat, IsSeatIn};
 ghost use Rattle.c2_bound_parts.specs.Bound.{IsSmall};
-ghost use Rattle.c2_in_place.specs.Numbers.{IsDraft, IsToldLen};
+ghost use Rattle.c2_in_place.specs.Numbers.{HasLen, IsDraft, IsOfFile, IsToldLen};
 ghost use Rattle.c2_ground.specs.Grounds.{IsKind, IsReadIn, KindHears};
 ghost use Rattle.c2_build.specs.Steps.{IsDrafted, IsRefusedPlace};
 
-use c2_base::{NoMemory, Range, Source};
-use c2_bound_parts::binding_at;
+use c2_base::{NoMemory, Source};
 use c2_definition::Definition;
 use c2_ground::{MediaRead, form_of, grounded};
-use c2_hash::{Digest, Hashing};
-use c2_in_place::draft_at;
+use c2_hash::Hashing;
+use c2_in_place::{blank_binding, draft_at};
 use c2_judge::Judge;
 use c2_layout::{Carried, bound_size};
+use c2_lengths::the_length_of_a_new_store_fits;
 use c2_place::find_spot;
 use c2_places::each_media_has_a_place;
 use c2_refusals::{BuildError, Draft, Drafted, KeptGround, Seat};
 use std::alloc::Global;
-
-// What stands for a range that isn't known yet.
-const NO_RANGE: Range = Range {
-    start: 0,
-    length: 0,
-};
 
 // The length of the new store at this place; 2^64 - 1 where 64 bits can't hold it.
 fn store_len(
@@ -50,8 +44,7 @@ fn store_len(
         → IsToldLen seat.now c n) }
     ensures least { IfOk result (λ n. LEAST_STORE_LEN ≤ n) }
 {
-    let blank = Digest::zeros(definition.alg);
-    let binding = binding_at(alloc, definition.alg, seat, NO_RANGE, &blank)?;
+    let binding = blank_binding(alloc, definition.alg, seat)?;
     bound_size(alloc, definition, carried, binding)
 }
 
@@ -69,8 +62,8 @@ pub fn numbers_of(
         → IsContent hash definition.now ground.now.carried c → IsPlace base p → IsSeat seat.now p
         → first_refusal (number_tests size ground.now.manifests c p) ≡ None) }
     ensures refused { IfErr result (λ e. (hash : List ℕ → List ℕ) (c : Content) (base : List ℕ)
-        (p : Place) → IsContent hash definition.now ground.now.carried c → IsPlace base p
-        → IsSeat seat.now p → WithoutFault e
+        (p : Place) → IsContent hash definition.now ground.now.carried c → HasLen seat.now c
+        → IsPlace base p → IsSeat seat.now p → WithoutFault e
         (first_refusal (number_tests size ground.now.manifests c p) ≡ Some e)) }
     ensures draft { IfOk result (λ f. (hash : List ℕ → List ℕ) (c : Content)
         → IsContent hash definition.now ground.now.carried c → IsDraft c seat.now size f) }
@@ -103,7 +96,7 @@ pub fn draft_over<A: Source, H: Hashing>(
         → IsDrafted H.digest_of said bytes definition.now kind w)) }
     ensures refused { let said = panel_says (map says judges.old.items) in
         IfErr result (λ e. ForSome (A.known media.old) (λ bytes. (kind : MediaKind)
-        → IsKind bytes file.now kind
+        → IsKind bytes file.now kind → IsOfFile definition.now
         → WithoutFault e (IsRefusedPlace H.digest_of said bytes definition.now kind e))) }
     ensures small { IfOk result (λ w. IsSmall (H.digest_of (new_alg definition.now))
         (cleared_len w.ground.clearing (A.len media.old)) definition.now w) }
@@ -111,8 +104,9 @@ pub fn draft_over<A: Source, H: Hashing>(
     ensures panel { HearsPanel says asked_times judge_faults build_heard
         (KindHears H.digest_of (A.known media.old) file.now) judges.old judges.new result }
 {
-    // Only the prover needs this law.
+    // Only the prover needs these laws.
     each_media_has_a_place();
+    the_length_of_a_new_store_fits();
     let form = form_of(file.container);
     let ground = match grounded(alloc, hashing, media, file, definition, judges) {
         Ok(ground) => ground,

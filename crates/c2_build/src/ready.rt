@@ -1,9 +1,8 @@
 // What is ready to be written, before anything is.
-ghost use Rattle.std.specs.Prelude.{◌≡◌, ◌⊎◌, ℕ, IfErr, IfOk, length, map};
+ghost use Rattle.std.specs.Prelude.{◌⊎◌, IfErr, IfOk, map};
 ghost use Rattle.std.specs.Option.{ForSome};
 ghost use Rattle.c2_base.specs.Causes.{Rose};
 ghost use Rattle.c2_base.specs.Source.{ReadsSource};
-ghost use Rattle.c2_cleared.specs.Clears.{cleared_len};
 ghost use Rattle.c2_spec.specs.C2pa.Message.{CanBePadded};
 ghost use Rattle.c2_spec.specs.C2pa.Sign1.{parts_of};
 ghost use Rattle.c2_spec.specs.Cbor.Item.{Pairs};
@@ -12,22 +11,20 @@ ghost use Rattle.c2_built.specs.Store.{new_alg};
 ghost use Rattle.c2_rules.specs.Asking.{HearsPanel};
 ghost use Rattle.c2_container.specs.Contained.{HasRootsInside};
 ghost use Rattle.c2_definition.specs.DefinitionFile.{IsWellFormed};
-ghost use Rattle.c2_places.specs.Places.{IsPlace, Place};
+ghost use Rattle.c2_places.specs.Places.{Place};
 ghost use Rattle.c2_build.specs.Answers.{AsksEmbedded};
-ghost use Rattle.c2_refusals.specs.Kinds.{ComesAs, IsReadCause, SaysNothing, build_heard};
+ghost use Rattle.c2_refusals.specs.Kinds.{IsReadCause, SaysNothing, build_heard};
 ghost use Rattle.c2_refusals.specs.Stages.{LeavesUndue, MediaKind};
 ghost use Rattle.c2_build.specs.Building.{IsEmbeddedOver};
 ghost use Rattle.c2_refusals.specs.Refusals.{Ground};
-ghost use Rattle.c2_bound_parts.specs.Bound.{IsSmall};
-ghost use Rattle.c2_in_place.specs.Numbers.{IsNumbered};
+ghost use Rattle.c2_in_place.specs.Numbers.{IsOfFile};
 ghost use Rattle.c2_in_place.specs.Writings.{CanWrite};
-ghost use Rattle.c2_build.specs.Steps.{IsPrepareCause, IsPrepared, IsPutReady, IsReady, IsReadyCause};
-ghost use Rattle.c2_ground.specs.Grounds.{IsFoundIn, IsGround, IsKind, IsReadIn, KindHears};
-ghost use Rattle.c2_refusals.specs.Seats.{IsSeat};
+ghost use Rattle.c2_build.specs.Steps.{FitsMedia, IsBuildDrafted, IsBuildFor, IsOver, IsPrepareCause, IsPrepared, IsPutReady, IsReadyCause};
+ghost use Rattle.c2_ground.specs.Grounds.{IsFoundIn, IsKind, IsReadIn, KindHears};
 
 use crate::draft::draft_over;
 use c2_base::limits::PIECE_LEN;
-use c2_base::{NoMemory, Source};
+use c2_base::{Blob, NoMemory, Source};
 use c2_bound_parts::parts_for;
 use c2_built::a_new_store_has_one_length;
 use c2_cbor::one_item;
@@ -46,47 +43,17 @@ use c2_sigstruct::Sign1;
 use c2_validate::one_opening;
 use std::alloc::Global;
 
-// What is to be written, of what was drafted over a media file, with a message.
-fn ready_with<A: Source, H: Hashing>(
-    alloc: Global,
-    hashing: &H,
-    media: &mut A,
-    drafted: Drafted,
-    definition: &Definition,
-    message: &[u8],
-) -> Result<Ready, BuildError>
-    requires formed { IsWellFormed definition.now }
-    requires small { IsSmall (H.digest_of (new_alg definition.now))
-        (cleared_len drafted.ground.clearing (A.len media.old)) definition.now drafted }
-    requires filled { length message.now ≡ definition.now.reserve }
-    ensures ready { IfOk result (λ r. ForSome (A.known media.old) (λ file. (g : Ground) (p : Place)
-        → IsGround (H.digest_of (new_alg definition.now)) file definition.now drafted.ground g
-        → IsPlace g.base p → IsSeat drafted.seat p → IsNumbered drafted.draft g.content p
-        → IsPutReady (H.digest_of (new_alg definition.now)) file r g p message.now)) }
-    ensures nothing { IfErr result SaysNothing }
-    ensures can_write { IfOk result (CanWrite (A.len media.old)) }
-    ensures reads { ReadsSource A.len A.known A.faults IsReadCause media.old media.new result }
-{
-    // Only the prover needs these laws.
-    a_new_store_has_one_length();
-    a_new_film_store_has_one_length();
-    let Ok(mut buffer) = vec![in alloc; 0u8; PIECE_LEN] else {
-        return Err(BuildError::NoMemory);
-    };
-    // Matched and not handed up by `?`, here and below: each way out has clauses of its own.
-    let parts = match parts_for(alloc, hashing, media, definition, &drafted, &mut buffer) {
-        Ok(parts) => parts,
-        Err(error) => return Err(error),
-    };
-    match new_store(alloc, definition, &drafted.ground.carried, &parts, message) {
-        Ok(store) => Ok(Ready {
-            store,
-            draft: drafted.draft,
-            clearing: drafted.ground.clearing,
-            buffer,
-        }),
-        Err(NoMemory) => Err(BuildError::NoMemory),
-    }
+/// What is to be built with a message, over what and of which definition. Nothing of it is borrowed of what was opened.
+#[derive(Debug, Drop)]
+pub struct DraftedBuild {
+    /// The definition.
+    pub definition: Definition,
+
+    /// What is to be built, and over what.
+    pub drafted: Drafted,
+
+    /// The message, padded to what the definition reserves for it.
+    pub message: Blob,
 }
 
 // What builds are made with.
@@ -97,60 +64,93 @@ struct Builder<'h, H> {
 }
 
 impl<'h, H: Hashing> Builder<'h, H> {
-    // What is to be written, where this was read of a media file, with a definition and a message.
-    fn ready_over<A: Source>(
+    // What is to be written, of what was drafted over a media file. What was taken over of its store is let go once the new one holds it.
+    fn ready<A: Source>(&self, media: &mut A, build: DraftedBuild) -> Result<Ready, BuildError>
+        requires { FitsMedia H.digest_of (A.len media.old) build }
+        ensures ready { IfOk result (λ r. ForSome (A.known media.old) (λ file.
+            (g : Ground) (p : Place) → IsOver H.digest_of file build g p
+            → IsPutReady (H.digest_of (new_alg build.definition)) file r g p build.message)) }
+        ensures nothing { IfErr result SaysNothing }
+        ensures can_write { IfOk result (CanWrite (A.len media.old)) }
+        ensures reads { ReadsSource A.len A.known A.faults IsReadCause media.old media.new result }
+    {
+        // Only the prover needs these laws.
+        a_new_store_has_one_length();
+        a_new_film_store_has_one_length();
+        let alloc = self.alloc;
+        let definition = &build.definition;
+        let drafted = &build.drafted;
+        let Ok(mut buffer) = vec![in alloc; 0u8; PIECE_LEN] else {
+            return Err(BuildError::NoMemory);
+        };
+        // Matched and not handed up by `?`, here and below: each way out has clauses of its own.
+        let parts = match parts_for(alloc, self.hashing, media, definition, drafted, &mut buffer) {
+            Ok(parts) => parts,
+            Err(error) => return Err(error),
+        };
+        let message = build.message.as_slice();
+        match new_store(alloc, definition, &drafted.ground.carried, &parts, message) {
+            Ok(store) => Ok(Ready {
+                store,
+                draft: drafted.draft,
+                clearing: drafted.ground.clearing,
+                buffer,
+            }),
+            Err(NoMemory) => Err(BuildError::NoMemory),
+        }
+    }
+
+    // What is to be built, where this was read of a media file, of a definition and with a message.
+    fn with_message<A: Source>(
         &self,
         media: &mut A,
         file: &MediaRead<'_>,
-        definition: &Definition,
+        definition: Definition,
         sign: &Sign1,
         judges: &mut Vec<Box<dyn Judge>>,
-    ) -> Result<Ready, BuildError>
-        requires formed { IsWellFormed definition.now }
+    ) -> Result<DraftedBuild, BuildError>
+        requires formed { IsWellFormed definition }
         requires can { (entries : Pairs) × CanBePadded (parts_of sign.now) entries }
         requires read { IsReadIn (A.len media.old) file.now }
-        ensures ready { let said = panel_says (map says judges.old.items) in
+        ensures build { let said = panel_says (map says judges.old.items) in
             ForSome (A.known media.old) (λ bytes. (kind : MediaKind) → IsKind bytes file.now kind
-            → ComesAs (IsReady bytes) (IsEmbeddedOver H.digest_of said bytes kind definition.now
+            → IsOfFile definition
+            → IsBuildFor H.digest_of bytes (IsEmbeddedOver H.digest_of said bytes kind definition
             (parts_of sign.now)) result) }
-        ensures can_write { IfOk result (CanWrite (A.len media.old)) }
+        ensures fits { IfOk result (FitsMedia H.digest_of (A.len media.old)) }
         ensures reads { ReadsSource A.len A.known A.faults IsReadyCause media.old media.new result }
         ensures panel { HearsPanel says asked_times judge_faults build_heard
             (KindHears H.digest_of (A.known media.old) file.now) judges.old judges.new result }
     {
         // Only the prover needs this law.
         a_message_fills_its_reserve_or_needs_more();
-        let drafted = match draft_over(self.alloc, self.hashing, media, file, definition, judges) {
+        let drafted = match draft_over(self.alloc, self.hashing, media, file, &definition, judges) {
             Ok(drafted) => drafted,
             Err(error) => return Err(error),
         };
-        let message = match padded(self.alloc, sign, definition) {
-            Ok(message) => message,
-            Err(error) => return Err(error),
-        };
-        ready_with(
-            self.alloc,
-            self.hashing,
-            media,
-            drafted,
-            definition,
-            message.as_slice(),
-        )
+        match padded(self.alloc, sign, &definition) {
+            Ok(message) => Ok(DraftedBuild {
+                definition,
+                drafted,
+                message,
+            }),
+            Err(error) => Err(error),
+        }
     }
 
-    // What is to be written, where this was found of a media file, with a definition file and a message file.
-    fn ready_in<A: Source, B: Source, C: Source>(
+    // What is to be built, where this was found of a media file, of a definition file and a message file.
+    fn draft_in<A: Source, B: Source, C: Source>(
         &self,
         media: &mut A,
         file: &MediaFile,
         definition: &mut B,
         signature: &mut C,
         judges: &mut Vec<Box<dyn Judge>>,
-    ) -> Result<Ready, BuildError>
+    ) -> Result<DraftedBuild, BuildError>
         requires inside { HasRootsInside (A.len media.old) file.now.container }
         requires found { ForSome (A.known media.old) (λ bytes. IsFoundIn bytes file.now) }
-        ensures prepared { let said = panel_says (map says judges.old.items) in
-            IsPrepared H.digest_of said (A.known media.old) (B.known definition.old)
+        ensures build { let said = panel_says (map says judges.old.items) in
+            IsBuildDrafted H.digest_of said (A.known media.old) (B.known definition.old)
             (C.known signature.old) (A.len media.old) result }
         ensures not_due { LeavesUndue (A.known media.old) (B.known definition.old)
             definition.old definition.new signature.old signature.new }
@@ -187,11 +187,50 @@ impl<'h, H: Hashing> Builder<'h, H> {
             Ok(sign) => sign,
             Err(error) => return Err(error),
         };
-        self.ready_over(media, &read, &definition, &sign, judges)
+        self.with_message(media, &read, definition, &sign, judges)
+    }
+
+    // What is to be built, made from the three sources. What is opened and read of them is let go.
+    fn draft<A: Source, B: Source, C: Source>(
+        &self,
+        media: &mut A,
+        definition: &mut B,
+        signature: &mut C,
+        judges: &mut Vec<Box<dyn Judge>>,
+    ) -> Result<DraftedBuild, BuildError>
+        requires { Unit {0} }
+        ensures build { let said = panel_says (map says judges.old.items) in
+            IsBuildDrafted H.digest_of said (A.known media.old) (B.known definition.old)
+            (C.known signature.old) (A.len media.old) result }
+        ensures not_due { LeavesUndue (A.known media.old) (B.known definition.old)
+            definition.old definition.new signature.old signature.new }
+        ensures media { ReadsSource A.len A.known A.faults (IsPrepareCause
+            (Rose (B.faults definition.old) (B.faults definition.new)
+            ⊎ Rose (C.faults signature.old) (C.faults signature.new)))
+            media.old media.new result }
+        ensures definition { ReadsSource B.len B.known B.faults (IsPrepareCause
+            (Rose (A.faults media.old) (A.faults media.new)
+            ⊎ Rose (C.faults signature.old) (C.faults signature.new)))
+            definition.old definition.new result }
+        ensures message { ReadsSource C.len C.known C.faults (IsPrepareCause
+            (Rose (A.faults media.old) (A.faults media.new)
+            ⊎ Rose (B.faults definition.old) (B.faults definition.new)))
+            signature.old signature.new result }
+        ensures panel { HearsPanel says asked_times judge_faults build_heard (AsksEmbedded
+            H.digest_of (A.known media.old) (B.known definition.old) (C.known signature.old))
+            judges.old judges.new result }
+    {
+        // Only the prover needs this law.
+        one_opening();
+        let file = match open_media(self.alloc, media) {
+            Ok(file) => file,
+            Err(error) => return Err(error),
+        };
+        self.draft_in(media, &file, definition, signature, judges)
     }
 }
 
-/// What is to be written, made from the three sources.
+/// What is to be written, made from the three sources. The older store isn't in memory any more while the new one is made.
 pub fn prepare<A: Source, B: Source, C: Source, H: Hashing>(
     alloc: Global,
     hashing: &H,
@@ -222,12 +261,10 @@ pub fn prepare<A: Source, B: Source, C: Source, H: Hashing>(
         H.digest_of (A.known media.old) (B.known definition.old) (C.known signature.old))
         judges.old judges.new result }
 {
-    // Only the prover needs this law.
-    one_opening();
     let builder = Builder { alloc, hashing };
-    let file = match open_media(alloc, media) {
-        Ok(file) => file,
+    let build = match builder.draft(media, definition, signature, judges) {
+        Ok(build) => build,
         Err(error) => return Err(error),
     };
-    builder.ready_in(media, &file, definition, signature, judges)
+    builder.ready(media, build)
 }

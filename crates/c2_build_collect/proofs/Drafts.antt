@@ -1,5 +1,5 @@
 -- What is drafted over two files: a place in what is left of the media, and the tests on the numbers there.
-use Rattle.std.proofs.Common.{◌≡◌, inr, ℕ, ◌+◌, List, length, Some, None, refl, sym, ap, ◌∙◌, subst}
+use Rattle.std.proofs.Common.{◌≡◌, inr, ℕ, ◌+◌, ◌-◌, ◌^◌, ◌<◌, List, length, Some, None, refl, sym, ap, ◌∙◌, subst}
 use Rattle.std.specs.Prelude.{Ok}
 use Rattle.c2_base.specs.declared.values.Question.{Question}
 use Rattle.c2_spec.specs.Jumbf.Tree.{Tree}
@@ -7,12 +7,14 @@ use Rattle.c2_spec.specs.Located.{Opening, absent, here, refused}
 use Rattle.c2_spec.specs.declared.digest.Alg.{Alg}
 use Rattle.c2_spec.specs.declared.panel.Verdict.{Verdict}
 use Rattle.c2_rules.specs.Opened.{IsOpened}
+use Rattle.c2_built.specs.Fresh.{GivesDigests}
 use Rattle.c2_built.specs.Store.{Content, new_alg}
 use Rattle.c2_cleared.specs.Clears.{cleared}
 use Rattle.c2_definition.specs.declared.types.Definition.{Definition}
 use Rattle.c2_places.specs.Laws.{LeftHasContainer}
-use Rattle.c2_places.specs.Places.{IsFreePlace, IsPlace, Place}
+use Rattle.c2_places.specs.Places.{IsFreePlace, IsPlace, Place, store_len}
 use Rattle.c2_collected.specs.Files.{collected_content}
+use Rattle.c2_collected.specs.Lengths.{CollectedStoresFit}
 use Rattle.c2_collected.specs.Order.{FilePair, IsMediaFile, MediaFile, pair_readings}
 use Rattle.c2_collected.specs.Outcomes.{CollectGround, IsGroundStage, IsPairStage}
 use Rattle.c2_collected.specs.Outcomes as collect
@@ -26,8 +28,8 @@ use Rattle.c2_refusals.specs.declared.types.FileForm.{FileForm}
 use Rattle.c2_refusals.specs.declared.types.Seat.{Seat}
 use Rattle.c2_refusals.proofs.Outside.{outside_map}
 use Rattle.c2_place.specs.Spots.{HasSeat, TellsNoPlace}
-use Rattle.c2_in_place.specs.Numbers.{IsDraft}
-use Rattle.c2_in_place.proofs.Stored.{form_moves, numbered}
+use Rattle.c2_in_place.specs.Numbers.{HasLen, IsDraft, IsOfFile}
+use Rattle.c2_in_place.proofs.Stored.{form_moves, numbered, place_len}
 use Rattle.c2_collect_ground.specs.Grounds.{IsCollectedGround}
 use Rattle.c2_collect_ground.specs.declared.types.CollectedGround.{CollectedGround}
 use Rattle.c2_build_collect.specs.Steps.{IsContentOf, IsDrafted, IsRefusedDraft}
@@ -124,6 +126,13 @@ module _ (hash : Alg → List ℕ → List ℕ) (said : Question → Verdict) (m
         stage_at,
         numbers_refused at.pair.media.base size content_at d.reserve k.manifests (length (pair_readings at.pair) + 1) at.place at.size_is room_at at.is.manifests e first,
       )) h
+
+  -- 64 bits hold its length, where a file is the definition
+  pub content_len : CollectedStoresFit → GivesDigests hash → IsOfFile d → collect.IsMediaStage media (Ok what) → HasLen s content_at
+  content_len law digests of_file stage =
+      let pair = pair_passed hash said media other what d at.pair stage at.stage in
+      let fits = law hash said media of_file.0 other d at.pair at.is.content at.place digests of_file.1 pair.is_pair at.is.collects in
+      place_len s at.place content_at at.seat (subst (λ (n : ℕ). store_len at.place content_at n < 2 ^ 64 - 1) room_at fits)
 
   -- what goes into it is kept
   pub content_kept : IsContentOf d k content_at

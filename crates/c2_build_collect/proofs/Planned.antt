@@ -20,7 +20,7 @@ use Rattle.c2_layout.specs.Parts.{AreParts, IsUnderLabel}
 use Rattle.c2_layout.specs.declared.parts.NewParts.{NewParts}
 use Rattle.c2_places.specs.Places.{IsPlace, bound_text, place_binding, put_bytes, range_len}
 use Rattle.c2_collected.specs.Order.{CollectRefusal, reserve_refusals}
-use Rattle.c2_collected.specs.Outcomes.{CollectGround, IsGroundStage, IsMadeOn, IsMadeOver, IsNewFile, IsPairStage, IsPlannedOn, IsPlannedOver, NewFile, Then, ground_content, ground_refusals, ground_signed, new_file}
+use Rattle.c2_collected.specs.Outcomes.{CollectGround, IsGroundStage, IsMadeOn, IsMadeOver, IsNewFile, IsPairStage, IsPlannedOn, IsPlannedOver, IsPutIn, NewFile, Then, ground_content, ground_refusals, ground_signed, new_file}
 use Rattle.c2_collected.proofs.Stages.{then_next, unless_passes}
 use Rattle.c2_refusals.specs.Kinds.{SaysNothing}
 use Rattle.c2_refusals.specs.Refusals.{IsReserveRefusal}
@@ -33,8 +33,9 @@ use Rattle.c2_in_place.specs.Numbers.{IsPut}
 use Rattle.c2_in_place.proofs.Stored.{file_is, put_is, same_binding}
 use Rattle.c2_in_place.specs.declared.writing.Ready.{Ready}
 use Rattle.c2_collect_ground.specs.Errors.{IsRefusedWith}
-use Rattle.c2_build_collect.specs.Steps.{AreCollectedParts, IsContentOf, IsFirstError, IsOver, IsPassed, IsPutReady, IsReadyFor, IsRefusedDraft}
+use Rattle.c2_build_collect.specs.Steps.{AreCollectedParts, IsContentOf, IsDrafted, IsFirstError, IsOver, IsPassed, IsPutReady, IsReadyFor, IsRefusedDraft, MakesFile}
 use Rattle.c2_build_collect.specs.declared.drafting.CollectedDraft.{CollectedDraft}
+use Rattle.c2_build_collect.specs.declared.drafting.DraftedBuild.{DraftedBuild}
 use Rattle.c2_build_collect.proofs.Contents.{alg_under, content_is, reserve_under, under_label}
 use Rattle.c2_build_collect.proofs.Refused.{first_before, first_behind, none_behind, reserve_first, reserve_none}
 use Rattle.c2_build_collect.proofs.Stages.{refused_first, refused_next, unless_first}
@@ -92,21 +93,26 @@ module _ (hash : Alg → List ℕ → List ℕ) (said : Question → Verdict) (m
   none_needed (Some n) h = absurd (h n refl)
 
   -- a new file is built of what passed, with a message that fills what is reserved
-  pub passed_file : FillsOrNeedsMore → (parts : SignParts) (g : CollectGround) (message : List ℕ) (r : Ready) → IsPassed hash said media other what d g → IsSigned parts d.reserve message → (h : IsPutReady hash media d g message r)
-      → Then (IsPairStage hash said media other what d) (IsMadeOver hash d parts) (Ok (new_file hash g (length message) h.bytes))
-  passed_file fills parts g message r passed signed h =
-      let file : NewFile = new_file hash g (length message) h.bytes in
+  passed_file : FillsOrNeedsMore → (parts : SignParts) (g : CollectGround) (message : List ℕ) → IsPassed hash said media other what d g → IsSigned parts d.reserve message → (bytes : List ℕ) → IsPutIn hash d g message bytes
+      → Then (IsPairStage hash said media other what d) (IsMadeOver hash d parts) (Ok (new_file hash g (length message) bytes))
+  passed_file fills parts g message passed signed bytes put =
+      let file : NewFile = new_file hash g (length message) bytes in
       let enough : reserve_needed d.reserve (length (bare_bytes parts)) ≡ None = none_needed _ (λ n e. fills.never_both parts d.reserve message signed (n, e)) in
       let none = none_behind (ground_refusals hash d g) (reserve_refusals d parts) passed.unrefused (reserve_none d parts enough) in
       then_next (IsPairStage hash said media other what d) (IsMadeOver hash d parts) g.pair (Ok file) passed.pair
       (then_next (IsGroundStage d g.pair) (IsMadeOn hash d parts) g (Ok file) passed.stage
-      (unless_passes (ground_refusals hash d g ++ reserve_refusals d parts) (IsNewFile hash d parts g) (Ok file) none (message, signed, (h.bytes, h.put, refl))))
+      (unless_passes (ground_refusals hash d g ++ reserve_refusals d parts) (IsNewFile hash d parts g) (Ok file) none (message, signed, (bytes, put, refl))))
 
-  -- so what is ready is the new file
-  pub ready_made : FillsOrNeedsMore → (parts : SignParts) (g : CollectGround) (message : List ℕ) (r : Result Ready BuildError) → IsPassed hash said media other what d g → IsSigned parts d.reserve message
-      → IfOk r (IsPutReady hash media d g message) → IfErr r SaysNothing → IsReadyFor media (Then (IsPairStage hash said media other what d) (IsMadeOver hash d parts)) r
-  ready_made fills parts g message (Ok r) passed signed h k = (new_file hash g (length message) h.bytes, passed_file fills parts g message r passed signed h, h.is)
-  ready_made fills parts g message (Err e) passed signed h k = nothing_said e _ k
+  -- so what was drafted makes it
+  pub draft_makes : FillsOrNeedsMore → (parts : SignParts) (w : CollectedDraft) (message : List ℕ) → IsDrafted hash said media other what d w → IsSigned parts d.reserve message
+      → MakesFile hash media (Then (IsPairStage hash said media other what d) (IsMadeOver hash d parts)) (record { definition = d; drafted = w; message = message })
+  draft_makes fills parts w message at signed = record { ground = at.ground; over = at.over; made = passed_file fills parts at.ground message at.passed signed }
+
+-- what is ready of what was drafted is the new file that it makes
+pub ready_made : (hash : Alg → List ℕ → List ℕ) (media : List ℕ) (Is : Result NewFile CollectRefusal → Type 0) (b : DraftedBuild) (r : Result Ready BuildError) (m : MakesFile hash media Is b) → IfOk r (IsPutReady hash media b.definition m.ground b.message) → IfErr r SaysNothing
+    → IsReadyFor media Is r
+ready_made hash media Is b (Ok r) m h k = (new_file hash m.ground (length b.message) h.bytes, m.made h.bytes h.put, h.is)
+ready_made hash media Is b (Err e) m h k = nothing_said e _ k
 
 -- ---- the parts
 

@@ -5,6 +5,7 @@ use Rattle.c2_base.specs.declared.values.Question.{Question}
 use Rattle.c2_spec.specs.C2pa.Sign1.{SignParts}
 use Rattle.c2_spec.specs.Jumbf.Tree.{Tree}
 use Rattle.c2_spec.specs.Located.{Opening, absent, here, refused}
+use Rattle.c2_spec.specs.declared.digest.Alg.{Alg}
 use Rattle.c2_rules.specs.Opened.{IsOpened}
 use Rattle.c2_definition.specs.DefinitionFile.{IsDefinition}
 use Rattle.c2_definition.specs.declared.types.Definition.{Definition}
@@ -20,10 +21,10 @@ use Rattle.c2_refusals.specs.declared.error.BuildError.{BuildError}
 use Rattle.c2_refusals.proofs.Inputs.{OneDefinition, OneItem, OneOpened, one_message}
 use Rattle.c2_refusals.proofs.Outside.{outside_map}
 use Rattle.c2_refusals.proofs.Passing.{opened_absent, opened_here}
-use Rattle.c2_in_place.specs.declared.writing.Ready.{Ready}
 use Rattle.c2_collect_ground.specs.Errors.{IsAnswerTo, IsRefusedWith}
 use Rattle.c2_collect_ground.specs.Grounds.{opening_of}
-use Rattle.c2_build_collect.specs.Steps.{IsReadyFor}
+use Rattle.c2_build_collect.specs.Steps.{IsBuildFor}
+use Rattle.c2_build_collect.specs.declared.drafting.DraftedBuild.{DraftedBuild}
 
 -- ---- the media
 
@@ -118,10 +119,11 @@ pub answer_next : {A B : Type 0} (First : Result A CollectRefusal → Type 0) (N
 answer_next First Next a (Ok b) first h = record { first = Ok a; is_first = first; next = h }
 answer_next First Next a (Err e) first h = outside_map e (refused_next First Next a e first) h
 
--- what is ready behind a stage that passed
-pub ready_next : {A : Type 0} (media : List ℕ) (First : Result A CollectRefusal → Type 0) (Next : A → Result NewFile CollectRefusal → Type 0) (a : A) (r : Result Ready BuildError) → First (Ok a) → IsReadyFor media (Next a) r → IsReadyFor media (Then First Next) r
-ready_next media First Next a (Ok r) first h = (h.0, record { first = Ok a; is_first = first; next = h.1 }, h.2)
-ready_next media First Next a (Err e) first h = outside_map e (refused_next First Next a e first) h
+-- what is drafted behind a stage that passed
+pub build_next : {A : Type 0} (hash : Alg → List ℕ → List ℕ) (media : List ℕ) (First : Result A CollectRefusal → Type 0) (Next : A → Result NewFile CollectRefusal → Type 0) (a : A) (r : Result DraftedBuild BuildError) → First (Ok a) → IsBuildFor hash media (Next a) r
+    → IsBuildFor hash media (Then First Next) r
+build_next hash media First Next a (Ok b) first h = record { ground = h.ground; over = h.over; made = λ bytes put. record { first = Ok a; is_first = first; next = h.made bytes put } }
+build_next hash media First Next a (Err e) first h = outside_map e (refused_next First Next a e first) h
 
 -- the first of a list is what refuses
 pub unless_first : {A : Type 0} (es : List CollectRefusal) (Next : Result A CollectRefusal → Type 0) (refusal : CollectRefusal) (others : List CollectRefusal) → es ≡ refusal ∷ others → Unless es Next (Err refusal)

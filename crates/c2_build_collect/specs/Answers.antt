@@ -22,7 +22,7 @@ use Rattle.c2_refusals.specs.Sinks.{EndsOut, IsOutCause}
 use Rattle.c2_refusals.specs.Stages.{IsDefinitionRefused, IsDefinitionTold, IsMediaRefused, IsMessageRefused, IsMessageTold, IsToldOf, IsToldRefused, LeavesUndue}
 use Rattle.c2_refusals.specs.declared.error.BuildError.{BuildError}
 use Rattle.c2_refusals.specs.declared.types.Embedded.{Embedded}
-use Rattle.c2_in_place.specs.Writings.{ending_of}
+use Rattle.c2_endings.specs.Endings.{build_ending}
 use Rattle.c2_collect_ground.specs.Errors.{IsRefusedWith}
 use Rattle.c2_collect_ground.specs.Grounds.{IsParentRefused, ground_effects}
 
@@ -166,7 +166,7 @@ pub record EmbedsCollected {K : Type 0} (written : K → Option (List ℕ)) (spa
     (hash : Alg → List ℕ → List ℕ) (said : Question → Verdict) (media definition message other : List ℕ) (old new : K)
     (result : Result Embedded BuildError) : Type 0 where
   pub answered : IsRangeOf (IsCollectMade hash said media definition message other) result
-  pub wrote : WritesFile written spare finished (Writes (IsCollectMade hash said media definition message other)) old new (ending_of result)
+  pub wrote : WritesFile written spare finished (Writes (IsCollectMade hash said media definition message other)) old new (build_ending result)
   pub meets : IsMet hash said media definition message other result
 
 -- What `embed_collect` does to its sink, whatever is known of its sources: what is known of it stays so, and its own fault comes only where its count

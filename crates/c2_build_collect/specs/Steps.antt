@@ -14,7 +14,7 @@ use Rattle.c2_spec.specs.declared.panel.Verdict.{Verdict}
 use Rattle.c2_definition.specs.DefinitionFile.{IsWellFormed}
 use Rattle.c2_definition.specs.declared.types.Definition.{Definition}
 use Rattle.c2_built.specs.Store.{Content, new_alg}
-use Rattle.c2_cleared.specs.Clears.{cleared}
+use Rattle.c2_cleared.specs.Clears.{cleared, cleared_len}
 use Rattle.c2_layout.specs.Parts.{AreParts, HasFurther, HasWrittenLabel}
 use Rattle.c2_layout.specs.declared.parts.NewParts.{NewParts}
 use Rattle.c2_places.specs.Places.{IsPlace, Place, bound_text}
@@ -29,7 +29,7 @@ use Rattle.c2_ground.specs.Grounds.{IsFoundIn, IsKind, IsReadIn}
 use Rattle.c2_ground.specs.declared.media.MediaFile.{MediaFile}
 use Rattle.c2_ground.specs.declared.media.MediaRead.{MediaRead}
 use Rattle.c2_bound_parts.specs.Bound.{seat_binding, seat_store_len}
-use Rattle.c2_in_place.specs.Numbers.{IsNumbered}
+use Rattle.c2_in_place.specs.Numbers.{IsNumbered, IsOfFile}
 use Rattle.c2_in_place.specs.Writings.{CanWrite, ready_file}
 use Rattle.c2_in_place.specs.declared.writing.Ready.{Ready}
 use Rattle.c2_collect_ground.specs.Errors.{IsRefusedWith, error_of}
@@ -37,6 +37,7 @@ use Rattle.c2_collect_ground.specs.Grounds.{IsGathered, IsOtherTold, IsParentRef
 use Rattle.c2_collect_ground.specs.declared.types.CollectedGround.{CollectedGround}
 use Rattle.c2_build_collect.specs.Answers.{ForEmbedInputs}
 use Rattle.c2_build_collect.specs.declared.drafting.CollectedDraft.{CollectedDraft}
+use Rattle.c2_build_collect.specs.declared.drafting.DraftedBuild.{DraftedBuild}
 
 -- ---- errors
 
@@ -104,10 +105,10 @@ IsRefusedDraft hash said media other what d e =
     IsRefusedWith (IsPairStage hash said media other what d) e
     ⊎ ((g : CollectGround) × IsPairStage hash said media other what d (Ok g.pair) × IsGroundStage d g.pair (Ok g) × IsFirstError (ground_refusals hash d g) e)
 
--- what is drafted over two files, or what is refused
+-- what is drafted over two files, or what is refused, where a file is the definition
 abbrev pub IsDraftOf : (Alg → List ℕ → List ℕ) → (Question → Verdict) → List ℕ → List ℕ → Opening Tree → Definition → Result CollectedDraft BuildError → Type 0
 IsDraftOf hash said media other what d (Ok w) = IsDrafted hash said media other what d w
-IsDraftOf hash said media other what d (Err e) = WithoutFault e (IsRefusedDraft hash said media other what d e)
+IsDraftOf hash said media other what d (Err e) = IsOfFile d → WithoutFault e (IsRefusedDraft hash said media other what d e)
 
 -- What was drafted fits a base of this length, whatever is known of both files: the new store isn't too large, the labels of its ingredients may
 -- be written, and the place and its first byte lie in the base.
@@ -119,6 +120,33 @@ pub record IsSmall (len : ℕ) (d : Definition) (w : CollectedDraft) : Type 0 wh
   pub size : w.draft.size ≡ len
   pub inside : w.draft.start ≤ len
   pub seat : IsSeatIn len w.seat
+
+-- ---- what is drafted with a message
+
+-- What was drafted with a message fits a media file of this length, whatever is known of both files: the definition is well formed, the message fills
+-- what that reserves, and the rest fits what is left of the media.
+pub record FitsMedia (len : ℕ) (b : DraftedBuild) : Type 0 where
+  pub formed : IsWellFormed b.definition
+  pub small : IsSmall (cleared_len b.drafted.ground.clearing len) b.definition b.drafted
+  pub filled : length b.message ≡ b.definition.reserve
+
+-- What was drafted over this media file makes a new file that these inputs come to, whatever is put in of its store.
+pub record MakesFile (hash : Alg → List ℕ → List ℕ) (media : List ℕ) (Is : Result NewFile CollectRefusal → Type 0) (b : DraftedBuild) : Type 0 where
+  pub ground : CollectGround
+  pub over : IsOver hash media b.definition b.drafted ground
+  pub made : (bytes : List ℕ) → IsPutIn hash b.definition ground b.message bytes → Is (Ok (new_file hash ground (length b.message) bytes))
+
+-- over inputs that come to something a new file that they come to was drafted over this media file, or the error is that of what is refused first
+abbrev pub IsBuildFor : (Alg → List ℕ → List ℕ) → List ℕ → (Result NewFile CollectRefusal → Type 0) → Result DraftedBuild BuildError → Type 0
+IsBuildFor hash media Is (Ok b) = MakesFile hash media Is b
+IsBuildFor hash media Is (Err e) = WithoutFault e (IsRefusedWith Is e)
+
+-- What was drafted over a media file of this length, of a definition file, of a message file and of another file: over known bytes a new file that they
+-- come to, and that the texts of the definition are texts; and over all files what fits the media.
+pub record IsBuildDrafted (hash : Alg → List ℕ → List ℕ) (said : Question → Verdict) (media definition message other : Option (List ℕ)) (len : ℕ) (result : Result DraftedBuild BuildError) : Type 0 where
+  pub build : ForEmbedInputs hash said media definition message other (λ file bytes signed others. IsBuildFor hash file (IsCollectMade hash said file bytes signed others) result)
+  pub texts : ForSome definition (λ bytes. OnOk result (HasTextsIn bytes))
+  pub fits : IfOk result (FitsMedia len)
 
 -- ---- the parts
 

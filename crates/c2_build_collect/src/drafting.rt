@@ -11,8 +11,9 @@ ghost use Rattle.c2_collect_ground.specs.Grounds.{IsGroundCause, PairHears};
 ghost use Rattle.c2_build_collect.specs.Steps.{ForFiles, IsDraftOf, IsSmall, LeavesOther};
 
 use crate::sizes::numbers_of;
-use c2_base::Source;
+use c2_base::{Blob, Source};
 use c2_collect_ground::{CollectedGround, Collector};
+use c2_collected::the_length_of_a_collected_store_fits;
 use c2_definition::Definition;
 use c2_ground::{MediaRead, form_of};
 use c2_hash::Hashing;
@@ -36,6 +37,19 @@ pub(crate) struct CollectedDraft {
     pub(crate) draft: Draft,
 }
 
+/// What is to be built, with a message: all that a new file is made of besides the media, and nothing that was opened.
+#[derive(Debug, Drop)]
+pub(crate) struct DraftedBuild {
+    /// The definition.
+    pub(crate) definition: Definition,
+
+    /// What is to be built, and over what.
+    pub(crate) drafted: CollectedDraft,
+
+    /// The message, padded to what the definition reserves for it.
+    pub(crate) message: Blob,
+}
+
 /// What a build is made of, once the media file and the definition are read.
 #[derive(Drop)]
 pub(crate) struct Build<'b, 't, H> {
@@ -49,7 +63,7 @@ pub(crate) struct Build<'b, 't, H> {
     pub(crate) file: &'b MediaRead<'t>,
 
     /// The definition.
-    pub(crate) definition: &'b Definition,
+    pub(crate) definition: Definition,
 }
 
 impl<'b, 't, H: Hashing> Build<'b, 't, H> {
@@ -62,14 +76,14 @@ impl<'b, 't, H: Hashing> Build<'b, 't, H> {
     ) -> Result<CollectedDraft, BuildError>
         requires { IsReadIn (A.len media.old) self.now.file.now }
         ensures drafted { let said = panel_says (map says judges.old.items) in
-            let d = self.now.definition.now in
+            let d = self.now.definition in
             ForFiles H.digest_of said (A.known media.old) (D.known other.old) self.now.file.now
             (λ bytes what others. IsDraftOf H.digest_of said bytes others what d result) }
         ensures not_due { let said = panel_says (map says judges.old.items) in
             LeavesOther H.digest_of said (A.known media.old) self.now.file.now
             other.old other.new }
         ensures small { IfOk result (λ w. IsSmall
-            (cleared_len w.ground.clearing (A.len media.old)) self.now.definition.now w) }
+            (cleared_len w.ground.clearing (A.len media.old)) self.now.definition w) }
         ensures media { ReadsSource A.len A.known A.faults
             (IsGroundCause (Rose (D.faults other.old) (D.faults other.new)))
             media.old media.new result }
@@ -83,11 +97,12 @@ impl<'b, 't, H: Hashing> Build<'b, 't, H> {
         // Only the prover needs these laws.
         each_media_has_a_place();
         ingredient_labels_may_be_written();
+        the_length_of_a_collected_store_fits();
         let form = form_of(self.file.container);
         let collector = Collector {
             alloc: self.alloc,
             hashing: self.hashing,
-            definition: self.definition,
+            definition: &self.definition,
         };
         // Matched and not handed up by `?`, here and below: each way out has clauses of its own.
         let ground = match collector.ground(media, self.file, other, judges) {
@@ -98,7 +113,7 @@ impl<'b, 't, H: Hashing> Build<'b, 't, H> {
             Ok(spot) => spot,
             Err(error) => return Err(error),
         };
-        match numbers_of(self.alloc, self.definition, &ground, &spot) {
+        match numbers_of(self.alloc, &self.definition, &ground, &spot) {
             Ok(draft) => Ok(CollectedDraft {
                 ground,
                 seat: spot.seat,

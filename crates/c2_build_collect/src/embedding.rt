@@ -6,9 +6,10 @@ ghost use Rattle.c2_spec.specs.Judges.Panel.{panel_says};
 ghost use Rattle.c2_rules.specs.Asking.{HearsPanel};
 ghost use Rattle.c2_refusals.specs.Kinds.{build_heard};
 ghost use Rattle.c2_build_collect.specs.Answers.{AsksEmbedded, EmbedsCollected, ForEmbedInputs, IsEmbedCause, IsPrepareCause, LeavesBuildUndue, WritesOut};
-ghost use Rattle.c2_build_collect.specs.Steps.{IsPrepared};
+ghost use Rattle.c2_build_collect.specs.Steps.{IsBuildDrafted, IsPrepared};
 
-use crate::ready::Builder;
+use crate::drafting::DraftedBuild;
+use crate::ready::{Builder, Maker};
 use c2_base::{Sink, Source};
 use c2_collected::{a_collected_build_comes_to_one_thing, a_made_collected_file_meets_the_rules};
 use c2_definition::each_definition_is_read_one_way;
@@ -21,26 +22,19 @@ use c2_refusals::{BuildError, Embedded};
 use c2_validate::one_opening;
 use std::alloc::Global;
 
-// What media files are opened with.
-#[derive(Drop)]
-struct Opener<'h, H> {
-    alloc: Global,
-    hashing: &'h H,
-}
-
-impl<'h, H: Hashing> Opener<'h, H> {
-    // What is to be written, made from the four sources.
-    fn prepare<A: Source, B: Source, C: Source, D: Source>(
+impl<'h, H: Hashing> Maker<'h, H> {
+    // What is to be built with a message, made from the four sources. What is opened and read of them is let go.
+    fn draft<A: Source, B: Source, C: Source, D: Source>(
         &self,
         media: &mut A,
         definition: &mut B,
         signature: &mut C,
         other: &mut D,
         judges: &mut Vec<Box<dyn Judge>>,
-    ) -> Result<Ready, BuildError>
+    ) -> Result<DraftedBuild, BuildError>
         requires { Unit {0} }
-        ensures prepared { let said = panel_says (map says judges.old.items) in
-            IsPrepared H.digest_of said (A.known media.old) (B.known definition.old)
+        ensures build { let said = panel_says (map says judges.old.items) in
+            IsBuildDrafted H.digest_of said (A.known media.old) (B.known definition.old)
             (C.known signature.old) (D.known other.old) (A.len media.old) result }
         ensures not_due { let said = panel_says (map says judges.old.items) in
             LeavesBuildUndue H.digest_of said (A.known media.old) (B.known definition.old)
@@ -81,7 +75,55 @@ impl<'h, H: Hashing> Opener<'h, H> {
             hashing: self.hashing,
             file: &file,
         };
-        builder.prepare(media, definition, signature, other, judges)
+        builder.draft(media, definition, signature, other, judges)
+    }
+
+    // What is to be written, made from the four sources. No store of them is in memory any more while the new one is made.
+    fn prepare<A: Source, B: Source, C: Source, D: Source>(
+        &self,
+        media: &mut A,
+        definition: &mut B,
+        signature: &mut C,
+        other: &mut D,
+        judges: &mut Vec<Box<dyn Judge>>,
+    ) -> Result<Ready, BuildError>
+        requires { Unit {0} }
+        ensures prepared { let said = panel_says (map says judges.old.items) in
+            IsPrepared H.digest_of said (A.known media.old) (B.known definition.old)
+            (C.known signature.old) (D.known other.old) (A.len media.old) result }
+        ensures not_due { let said = panel_says (map says judges.old.items) in
+            LeavesBuildUndue H.digest_of said (A.known media.old) (B.known definition.old)
+            (C.known signature.old) definition.old definition.new signature.old signature.new
+            other.old other.new }
+        ensures media { ReadsSource A.len A.known A.faults (IsPrepareCause
+            (Rose (B.faults definition.old) (B.faults definition.new)
+            ⊎ (Rose (C.faults signature.old) (C.faults signature.new)
+            ⊎ Rose (D.faults other.old) (D.faults other.new))))
+            media.old media.new result }
+        ensures definition { ReadsSource B.len B.known B.faults (IsPrepareCause
+            (Rose (A.faults media.old) (A.faults media.new)
+            ⊎ (Rose (C.faults signature.old) (C.faults signature.new)
+            ⊎ Rose (D.faults other.old) (D.faults other.new))))
+            definition.old definition.new result }
+        ensures message { ReadsSource C.len C.known C.faults (IsPrepareCause
+            (Rose (A.faults media.old) (A.faults media.new)
+            ⊎ (Rose (B.faults definition.old) (B.faults definition.new)
+            ⊎ Rose (D.faults other.old) (D.faults other.new))))
+            signature.old signature.new result }
+        ensures other { ReadsSource D.len D.known D.faults (IsPrepareCause
+            (Rose (A.faults media.old) (A.faults media.new)
+            ⊎ (Rose (B.faults definition.old) (B.faults definition.new)
+            ⊎ Rose (C.faults signature.old) (C.faults signature.new))))
+            other.old other.new result }
+        ensures panel { HearsPanel says asked_times judge_faults build_heard (AsksEmbedded
+            H.digest_of (A.known media.old) (B.known definition.old) (C.known signature.old)
+            (D.known other.old)) judges.old judges.new result }
+    {
+        let build = match self.draft(media, definition, signature, other, judges) {
+            Ok(build) => build,
+            Err(error) => return Err(error),
+        };
+        self.ready(media, build)
     }
 }
 
@@ -153,8 +195,8 @@ pub fn embed_collect<A: Source, B: Source, C: Source, D: Source, K: Sink, H: Has
     a_made_collected_file_meets_the_rules();
     one_opening();
     each_definition_is_read_one_way();
-    let opener = Opener { alloc, hashing };
-    let ready = match opener.prepare(media, definition, signature, other, judges) {
+    let maker = Maker { alloc, hashing };
+    let ready = match maker.prepare(media, definition, signature, other, judges) {
         Ok(ready) => ready,
         Err(error) => return Err(error),
     };

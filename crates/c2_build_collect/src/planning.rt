@@ -6,6 +6,7 @@ ghost use Rattle.c2_spec.specs.Judges.Panel.{panel_says};
 ghost use Rattle.c2_rules.specs.Asking.{HearsPanel};
 ghost use Rattle.c2_collected.specs.Outcomes.{IsCollectPlanned, IsPairStage, IsPlannedOver, Then};
 ghost use Rattle.c2_refusals.specs.Kinds.{build_heard};
+ghost use Rattle.c2_in_place.specs.Numbers.{IsOfFile};
 ghost use Rattle.c2_collect_ground.specs.Errors.{IsAnswerTo};
 ghost use Rattle.c2_collect_ground.specs.Grounds.{IsGroundCause, PairHears};
 ghost use Rattle.c2_build_collect.specs.Answers.{AsksPlanned, ForPlanInputs, LeavesPlanUndue};
@@ -32,11 +33,11 @@ impl<'b, 't, H: Hashing> Build<'b, 't, H> {
         other: &mut D,
         judges: &mut Vec<Box<dyn Judge>>,
     ) -> Result<Blob, BuildError>
-        requires { IsBuildRead (A.len media.old) self.now.file.now self.now.definition.now }
+        requires { IsBuildRead (A.len media.old) self.now.file.now self.now.definition }
         ensures planned { let said = panel_says (map says judges.old.items) in
-            let d = self.now.definition.now in
-            ForFiles H.digest_of said (A.known media.old) (D.known other.old) self.now.file.now
-            (λ bytes what others. IsAnswerTo (Then
+            let d = self.now.definition in
+            IsOfFile d → ForFiles H.digest_of said (A.known media.old) (D.known other.old)
+            self.now.file.now (λ bytes what others. IsAnswerTo (Then
             (IsPairStage H.digest_of said bytes others what d) (IsPlannedOver H.digest_of d))
             result) }
         ensures not_due { let said = panel_says (map says judges.old.items) in
@@ -64,14 +65,14 @@ impl<'b, 't, H: Hashing> Build<'b, 't, H> {
             self.alloc,
             self.hashing,
             media,
-            self.definition,
+            &self.definition,
             &drafted,
             &mut buf,
         ) {
             Ok(parts) => parts,
             Err(error) => return Err(error),
         };
-        match signed_over(self.alloc, self.definition, parts.claim.as_slice()) {
+        match signed_over(self.alloc, &self.definition, parts.claim.as_slice()) {
             Ok(tbs) => Ok(tbs),
             Err(NoMemory) => Err(BuildError::NoMemory),
         }
@@ -126,7 +127,7 @@ impl<'b, H: Hashing> Builder<'b, H> {
             alloc: self.alloc,
             hashing: self.hashing,
             file: &read,
-            definition: &definition,
+            definition,
         };
         build.planned(media, other, judges)
     }

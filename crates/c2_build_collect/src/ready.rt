@@ -1,5 +1,5 @@
 // What is ready to be written, before anything is.
-ghost use Rattle.std.specs.Prelude.{◌≡◌, ◌⊎◌, IfErr, IfOk, length, map};
+ghost use Rattle.std.specs.Prelude.{◌⊎◌, IfErr, IfOk, map};
 ghost use Rattle.c2_base.specs.Causes.{Rose};
 ghost use Rattle.c2_base.specs.Source.{ReadsSource};
 ghost use Rattle.c2_spec.specs.C2pa.Message.{CanBePadded};
@@ -7,16 +7,15 @@ ghost use Rattle.c2_spec.specs.C2pa.Sign1.{parts_of};
 ghost use Rattle.c2_spec.specs.Cbor.Item.{Pairs};
 ghost use Rattle.c2_spec.specs.Judges.Panel.{panel_says};
 ghost use Rattle.c2_rules.specs.Asking.{HearsPanel};
-ghost use Rattle.c2_cleared.specs.Clears.{cleared_len};
 ghost use Rattle.c2_collected.specs.Outcomes.{IsMadeOver, IsPairStage, Then};
-ghost use Rattle.c2_definition.specs.DefinitionFile.{IsWellFormed};
 ghost use Rattle.c2_refusals.specs.Kinds.{IsReadCause, SaysNothing, build_heard};
+ghost use Rattle.c2_in_place.specs.Numbers.{IsOfFile};
 ghost use Rattle.c2_in_place.specs.Writings.{CanWrite};
 ghost use Rattle.c2_collect_ground.specs.Grounds.{PairHears};
 ghost use Rattle.c2_build_collect.specs.Answers.{AsksEmbedded, IsPrepareCause, LeavesBuildUndue};
-ghost use Rattle.c2_build_collect.specs.Steps.{ForFiles, IsBuildRead, IsFileFound, IsPrepared, IsReadyFor, IsReadyWith, IsSmall, LeavesOther};
+ghost use Rattle.c2_build_collect.specs.Steps.{FitsMedia, ForFiles, IsBuildDrafted, IsBuildFor, IsBuildRead, IsFileFound, IsReadyWith, LeavesOther};
 
-use crate::drafting::{Build, CollectedDraft};
+use crate::drafting::{Build, DraftedBuild};
 use crate::parts::collected_parts;
 use c2_base::limits::PIECE_LEN;
 use c2_base::{NoMemory, Source};
@@ -50,20 +49,27 @@ pub(crate) struct Builder<'b, H> {
     pub(crate) file: &'b MediaFile,
 }
 
-impl<'b, 't, H: Hashing> Build<'b, 't, H> {
-    // What is to be written, of what was drafted, with a message.
-    fn ready_with<A: Source>(
+/// What new files are made ready with.
+#[derive(Drop)]
+pub(crate) struct Maker<'h, H> {
+    /// What takes memory.
+    pub(crate) alloc: Global,
+
+    /// What makes digests.
+    pub(crate) hashing: &'h H,
+}
+
+impl<'h, H: Hashing> Maker<'h, H> {
+    /// What is to be written, of what was drafted with a message. The boxes that stand before the new manifest are let go once the new store
+    /// holds them.
+    pub(crate) fn ready<A: Source>(
         &self,
         media: &mut A,
-        drafted: CollectedDraft,
-        message: &[u8],
+        build: DraftedBuild,
     ) -> Result<Ready, BuildError>
-        requires formed { IsWellFormed self.now.definition.now }
-        requires small { IsSmall (cleared_len drafted.ground.clearing (A.len media.old))
-            self.now.definition.now drafted }
-        requires filled { length message.now ≡ self.now.definition.now.reserve }
+        requires { FitsMedia (A.len media.old) build }
         ensures ready { IfOk result (IsReadyWith H.digest_of (A.known media.old)
-            self.now.definition.now drafted message.now) }
+            build.definition build.drafted build.message) }
         ensures nothing { IfErr result SaysNothing }
         ensures can_write { IfOk result (CanWrite (A.len media.old)) }
         ensures reads { ReadsSource A.len A.known A.faults IsReadCause media.old media.new result }
@@ -72,7 +78,8 @@ impl<'b, 't, H: Hashing> Build<'b, 't, H> {
         a_new_store_has_one_length();
         a_new_film_store_has_one_length();
         let alloc = self.alloc;
-        let definition = self.definition;
+        let definition = &build.definition;
+        let drafted = &build.drafted;
         let Ok(mut buffer) = vec![in alloc; 0u8; PIECE_LEN] else {
             return Err(BuildError::NoMemory);
         };
@@ -82,13 +89,14 @@ impl<'b, 't, H: Hashing> Build<'b, 't, H> {
             self.hashing,
             media,
             definition,
-            &drafted,
+            drafted,
             &mut buffer,
         ) {
             Ok(parts) => parts,
             Err(error) => return Err(error),
         };
         let boxes = drafted.ground.boxes.as_slice();
+        let message = build.message.as_slice();
         match gathered_store(alloc, definition, boxes, &parts, message) {
             Ok(store) => Ok(Ready {
                 store,
@@ -99,27 +107,29 @@ impl<'b, 't, H: Hashing> Build<'b, 't, H> {
             Err(NoMemory) => Err(BuildError::NoMemory),
         }
     }
+}
 
-    // What is to be written, over both files, with a message.
-    fn ready<A: Source, D: Source>(
-        &self,
+impl<'b, 't, H: Hashing> Build<'b, 't, H> {
+    // What is to be built over both files, with a message.
+    fn with_message<A: Source, D: Source>(
+        self,
         media: &mut A,
         sign: &Sign1,
         other: &mut D,
         judges: &mut Vec<Box<dyn Judge>>,
-    ) -> Result<Ready, BuildError>
-        requires read { IsBuildRead (A.len media.old) self.now.file.now self.now.definition.now }
+    ) -> Result<DraftedBuild, BuildError>
+        requires read { IsBuildRead (A.len media.old) self.file.now self.definition }
         requires can { (entries : Pairs) × CanBePadded (parts_of sign.now) entries }
-        ensures ready { let said = panel_says (map says judges.old.items) in
-            let d = self.now.definition.now in
-            ForFiles H.digest_of said (A.known media.old) (D.known other.old) self.now.file.now
-            (λ bytes what others. IsReadyFor bytes (Then
-            (IsPairStage H.digest_of said bytes others what d)
-            (IsMadeOver H.digest_of d (parts_of sign.now))) result) }
+        ensures build { let said = panel_says (map says judges.old.items) in
+            IsOfFile self.entry.definition → ForFiles H.digest_of said (A.known media.old)
+            (D.known other.old) self.entry.file.now (λ bytes what others.
+            IsBuildFor H.digest_of bytes (Then
+            (IsPairStage H.digest_of said bytes others what self.entry.definition)
+            (IsMadeOver H.digest_of self.entry.definition (parts_of sign.now))) result) }
         ensures not_due { let said = panel_says (map says judges.old.items) in
-            LeavesOther H.digest_of said (A.known media.old) self.now.file.now
+            LeavesOther H.digest_of said (A.known media.old) self.entry.file.now
             other.old other.new }
-        ensures can_write { IfOk result (CanWrite (A.len media.old)) }
+        ensures fits { IfOk result (FitsMedia (A.len media.old)) }
         ensures media { ReadsSource A.len A.known A.faults
             (IsPrepareCause (Rose (D.faults other.old) (D.faults other.new)))
             media.old media.new result }
@@ -127,7 +137,7 @@ impl<'b, 't, H: Hashing> Build<'b, 't, H> {
             (IsPrepareCause (Rose (A.faults media.old) (A.faults media.new)))
             other.old other.new result }
         ensures panel { HearsPanel says asked_times judge_faults build_heard
-            (PairHears H.digest_of (A.known media.old) (D.known other.old) self.now.file.now)
+            (PairHears H.digest_of (A.known media.old) (D.known other.old) self.entry.file.now)
             judges.old judges.new result }
     {
         // Only the prover needs this law.
@@ -136,27 +146,30 @@ impl<'b, 't, H: Hashing> Build<'b, 't, H> {
             Ok(drafted) => drafted,
             Err(error) => return Err(error),
         };
-        let message = match padded(self.alloc, sign, self.definition) {
-            Ok(message) => message,
-            Err(error) => return Err(error),
-        };
-        self.ready_with(media, drafted, message.as_slice())
+        match padded(self.alloc, sign, &self.definition) {
+            Ok(message) => Ok(DraftedBuild {
+                definition: self.definition,
+                drafted,
+                message,
+            }),
+            Err(error) => Err(error),
+        }
     }
 }
 
 impl<'b, H: Hashing> Builder<'b, H> {
-    /// What is to be written, made from the other three sources.
-    pub(crate) fn prepare<A: Source, B: Source, C: Source, D: Source>(
+    /// What is to be built with a message, made from the other three sources.
+    pub(crate) fn draft<A: Source, B: Source, C: Source, D: Source>(
         &self,
         media: &mut A,
         definition: &mut B,
         signature: &mut C,
         other: &mut D,
         judges: &mut Vec<Box<dyn Judge>>,
-    ) -> Result<Ready, BuildError>
+    ) -> Result<DraftedBuild, BuildError>
         requires { IsFileFound (A.len media.old) (A.known media.old) self.now.file.now }
-        ensures prepared { let said = panel_says (map says judges.old.items) in
-            IsPrepared H.digest_of said (A.known media.old) (B.known definition.old)
+        ensures build { let said = panel_says (map says judges.old.items) in
+            IsBuildDrafted H.digest_of said (A.known media.old) (B.known definition.old)
             (C.known signature.old) (D.known other.old) (A.len media.old) result }
         ensures not_due { let said = panel_says (map says judges.old.items) in
             LeavesBuildUndue H.digest_of said (A.known media.old) (B.known definition.old)
@@ -207,8 +220,8 @@ impl<'b, H: Hashing> Builder<'b, H> {
             alloc: self.alloc,
             hashing: self.hashing,
             file: &read,
-            definition: &definition,
+            definition,
         };
-        build.ready(media, &sign, other, judges)
+        build.with_message(media, &sign, other, judges)
     }
 }

@@ -7,25 +7,17 @@ ghost use Rattle.c2_places.specs.Places.{IsPlace, Place};
 ghost use Rattle.c2_refusals.specs.Kinds.{IsOlderQuiet, WithoutFault};
 ghost use Rattle.c2_refusals.specs.Refusals.{first_refusal, number_tests};
 ghost use Rattle.c2_refusals.specs.Seats.{IsSeat, IsSeatIn};
-ghost use Rattle.c2_in_place.specs.Numbers.{IsDraft, IsToldLen};
+ghost use Rattle.c2_in_place.specs.Numbers.{HasLen, IsDraft, IsToldLen};
 ghost use Rattle.c2_build_collect.specs.Steps.{IsContentOf};
 
-use c2_base::{NoMemory, Range};
-use c2_bound_parts::binding_at;
+use c2_base::NoMemory;
 use c2_collect_ground::CollectedGround;
 use c2_definition::Definition;
-use c2_hash::Digest;
-use c2_in_place::draft_at;
+use c2_in_place::{blank_binding, draft_at};
 use c2_layout::gathered_size;
 use c2_place::Spot;
 use c2_refusals::{BuildError, Draft, Seat};
 use std::alloc::Global;
-
-// What stands for a range that isn't known yet.
-const NO_RANGE: Range = Range {
-    start: 0,
-    length: 0,
-};
 
 // The length of the new store at this place; 2^64 - 1 where 64 bits can't hold it.
 fn store_len(
@@ -38,8 +30,7 @@ fn store_len(
         → IsToldLen seat.now c n) }
     ensures least { IfOk result (λ n. LEAST_STORE_LEN ≤ n) }
 {
-    let blank = Digest::zeros(definition.alg);
-    let binding = binding_at(alloc, definition.alg, seat, NO_RANGE, &blank)?;
+    let binding = blank_binding(alloc, definition.alg, seat)?;
     let further = ground.further.as_slice();
     gathered_size(
         alloc,
@@ -63,8 +54,8 @@ pub(crate) fn numbers_of(
         → IsContentOf definition.now ground.now c → IsPlace base p → IsSeat spot.now.seat p
         → first_refusal (number_tests spot.now.size ground.now.manifests c p) ≡ None) }
     ensures refused { IfErr result (λ e. (c : Content) (base : List ℕ) (p : Place)
-        → IsContentOf definition.now ground.now c → IsPlace base p → IsSeat spot.now.seat p
-        → WithoutFault e
+        → IsContentOf definition.now ground.now c → HasLen spot.now.seat c → IsPlace base p
+        → IsSeat spot.now.seat p → WithoutFault e
         (first_refusal (number_tests spot.now.size ground.now.manifests c p) ≡ Some e)) }
     ensures draft { IfOk result (λ f. (c : Content) → IsContentOf definition.now ground.now c
         → IsDraft c spot.now.seat spot.now.size f) }

@@ -9,6 +9,7 @@ use Rattle.c2_refusals.proofs.Judged.{hears_behind, hears_failed, older_result, 
 use Rattle.c2_refusals.proofs.Outside.{nothing_said, outside_map, reads_behind, reads_quietly}
 use Rattle.c2_in_place.proofs.Stored.{cleared_length}
 use Rattle.c2_build.proofs.Placed.{ground_form, place_passed, place_refused, placed}
+use Rattle.c2_build.proofs.Short.{ground_len}
 use Rattle.c2_build.proofs.SomeBuild.{PlaceLaws, free_place}
 use Rattle.c2_refusals.specs.Kinds.{judge_effects, no_effects}
 use Rattle.c2_build.proofs.draft.draft_over.Goals as goal
@@ -16,7 +17,7 @@ use Rattle.c2_built.specs.Store.{new_alg}
 
 -- what it is built over is refused
 pub returns-in-Err-clause-refused : goal.returns-in-Err-clause-refused
-returns-in-Err-clause-refused g c = λ bytes known kind is. outside_map c.in-Err.error (λ h. inl h) (c.in-Err.ensures.ground bytes known kind is)
+returns-in-Err-clause-refused g c = λ bytes known kind is of_file. outside_map c.in-Err.error (λ h. inl h) (c.in-Err.ensures.ground bytes known kind is)
 
 pub returns-in-Err-clause-reads : goal.returns-in-Err-clause-reads
 returns-in-Err-clause-reads g c = record { stays = c.in-Err.ensures.reads.stays; quiet = tt; cause = c.in-Err.ensures.reads.cause }
@@ -26,7 +27,7 @@ returns-in-Err-clause-panel g c = hears_failed c.args.judges.now c.grounded.new.
 
 -- the walk to the place can't refuse what is left of a media file, which has a free place
 pub returns-in-Err-find_spot-clause-refused : goal.returns-in-Err-find_spot-clause-refused
-returns-in-Err-find_spot-clause-refused g c = λ bytes known kind is.
+returns-in-Err-find_spot-clause-refused g c = λ bytes known kind is of_file.
     let said = panel_says (map (λ j. (goal.Judge-dyn g (j.vtable, j.value)).says j.value) c.args.judges.now.items) in
     let hash = g.H.Hashing.digest_of in
     let over = c.in-Ok.ensures.ground bytes known kind is in
@@ -44,7 +45,7 @@ returns-in-Err-find_spot-clause-panel g c = hears_behind c.args.judges.now c.gro
 
 -- a test at the place fails
 pub returns-in-Err-numbers_of-clause-refused : goal.returns-in-Err-numbers_of-clause-refused
-returns-in-Err-numbers_of-clause-refused g c = λ bytes known kind is.
+returns-in-Err-numbers_of-clause-refused g c = λ bytes known kind is of_file.
     let said = panel_says (map (λ j. (goal.Judge-dyn g (j.vtable, j.value)).says j.value) c.args.judges.now.items) in
     let hash = g.H.Hashing.digest_of in
     let k = c.in-Ok.ground in
@@ -55,7 +56,9 @@ returns-in-Err-numbers_of-clause-refused g c = λ bytes known kind is.
     let size = c.in-Ok-find_spot.ensures.spot.size ∙ ap (cleared_len k.clearing) (c.in-Ok.ensures.reads.stays.same_len ∙ sym len) ∙ sym (cleared_length k.clearing bytes) in
     let s = c.in-Ok-find_spot.spot in
     let at = placed hash said bytes c.args.definition.now kind k s.seat s.size over.0 over.1 over.2 seat size in
-    place_refused hash said bytes c.args.definition.now kind k s.seat s.size at c.in-Err-numbers_of.error (c.in-Err-numbers_of.ensures.refused (hash (new_alg c.args.definition.now)) at.ground.content at.ground.base at.place at.is.content at.is_place at.seat)
+    let has = ground_len c.the_length_of_a_new_store_fits.ensures hash said bytes c.args.definition.now kind at.ground s.seat of_file is.stage at.stage in
+    place_refused hash said bytes c.args.definition.now kind k s.seat s.size at c.in-Err-numbers_of.error
+    (c.in-Err-numbers_of.ensures.refused (hash (new_alg c.args.definition.now)) at.ground.content at.ground.base at.place at.is.content has at.is_place at.seat)
 
 pub returns-in-Err-numbers_of-clause-reads : goal.returns-in-Err-numbers_of-clause-reads
 returns-in-Err-numbers_of-clause-reads g c =

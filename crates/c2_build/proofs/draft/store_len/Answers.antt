@@ -14,6 +14,6 @@ pub returns-clause-len : goal.returns-clause-len
 returns-clause-len c =
     let s = c.args.seat.now in
     IfOk-weaker c.bound_size.result _ _ (λ n said hash content is. said hash content is
-    ∙ ap (λ (b : NewAssertion). min (bound_len content b c.args.definition.now.reserve) (2 ^ 64 - 1)) (c.in_ok-binding.ensures ∙ ap (seat_binding (new_alg c.args.definition.now) s 0 0) c.zeros-blank.ensures)
+    ∙ ap (λ (b : NewAssertion). min (bound_len content b c.args.definition.now.reserve) (2 ^ 64 - 1)) c.in_ok-binding.ensures
     ∙ ap (λ (d : Definition). min (bound_len content (seat_binding (new_alg d) s 0 0 (zero_digest (new_alg d))) d.reserve) (2 ^ 64 - 1)) (sym is.definition)
     ∙ ap (λ (m : ℕ). min m (2 ^ 64 - 1)) (blank_len s content)) c.bound_size.ensures.len

@@ -7,6 +7,7 @@ use Rattle.c2_refusals.proofs.Stages.{comes_first, comes_next}
 use Rattle.c2_refusals.proofs.Judged.{hears_as, hears_none, quiet_unheard, read_unheard}
 use Rattle.c2_refusals.proofs.Inputs.{not_both_media, told_where_due}
 use Rattle.c2_refusals.proofs.Outside.{alone, plain_cause, quiet_cause, reads_among, reads_earlier}
+use Rattle.c2_build.proofs.NewFile.{defined_of}
 use Rattle.c2_build.proofs.Unasked.{planned_asks, refused_plan, undefined_plan}
 use Rattle.c2_refusals.specs.Kinds.{judge_effects, no_effects}
 use Rattle.c2_build.proofs.planning.plan_in.Goals as goal
@@ -69,9 +70,11 @@ pub returns-clause-planned : goal.returns-clause-planned
 returns-clause-planned g c = λ file known bytes due.
     let media = c.in-Ok.ensures.stage file (c.requires.found file known) in
     let told = told_where_due due (λ refused. not_both_media c.one_opening.ensures.file file media.0 media.1 refused) in
+    let d = c.in-Ok-read_definition_file.definition in
+    let stage = c.in-Ok-read_definition_file.ensures.stage bytes told in
     comes_next (IsMediaStage file) _ media.0 c.plan_over.result media.1
-    (comes_next (IsDefinitionStage bytes) _ c.in-Ok-read_definition_file.definition c.plan_over.result (c.in-Ok-read_definition_file.ensures.stage bytes told)
-    (c.plan_over.ensures.planned file known media.0 media.2))
+    (comes_next (IsDefinitionStage bytes) _ d c.plan_over.result stage
+    (c.plan_over.ensures.planned file known media.0 media.2 (bytes, defined_of bytes d stage)))
 
 pub returns-clause-not_due : goal.returns-clause-not_due
 returns-clause-not_due g c = λ file known refused.

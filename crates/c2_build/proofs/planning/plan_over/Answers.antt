@@ -13,18 +13,18 @@ use Rattle.c2_build.proofs.planning.plan_over.Goals as goal
 
 -- the place is refused
 pub returns-in-Err-clause-planned : goal.returns-in-Err-clause-planned
-returns-in-Err-clause-planned g c = λ bytes known kind is.
+returns-in-Err-clause-planned g c = λ bytes known kind is of_file.
     let said = panel_says (map (λ j. (goal.Judge-dyn g (j.vtable, j.value)).says j.value) c.args.judges.now.items) in
     let hash = g.H.Hashing.digest_of in
-    outside_map c.in-Err.error (refused_plan hash said bytes kind c.args.definition.now c.in-Err.error) (c.in-Err.ensures.refused bytes known kind is)
+    outside_map c.in-Err.error (refused_plan hash said bytes kind c.args.definition.now c.in-Err.error) (c.in-Err.ensures.refused bytes known kind is of_file)
 
 -- the media failed, or memory did
 pub returns-in-Err-parts_for-clause-planned : goal.returns-in-Err-parts_for-clause-planned
-returns-in-Err-parts_for-clause-planned g c = λ bytes known kind is. nothing_said c.in-Err-parts_for.error _ c.in-Err-parts_for.ensures.nothing
+returns-in-Err-parts_for-clause-planned g c = λ bytes known kind is of_file. nothing_said c.in-Err-parts_for.error _ c.in-Err-parts_for.ensures.nothing
 
 -- this is to be signed
 pub returns-in-Ok-signed_over-clause-planned : goal.returns-in-Ok-signed_over-clause-planned
-returns-in-Ok-signed_over-clause-planned g c = λ bytes known kind is.
+returns-in-Ok-signed_over-clause-planned g c = λ bytes known kind is of_file.
     let said = panel_says (map (λ j. (goal.Judge-dyn g (j.vtable, j.value)).says j.value) c.args.judges.now.items) in
     let hash = g.H.Hashing.digest_of in
     let at = c.in-Ok.ensures.passed bytes known kind is in

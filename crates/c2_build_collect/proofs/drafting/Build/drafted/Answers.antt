@@ -12,14 +12,14 @@ use Rattle.c2_refusals.specs.Kinds.{no_effects}
 use Rattle.c2_build_collect.specs.declared.drafting.CollectedDraft.{CollectedDraft}
 use Rattle.c2_build_collect.proofs.Contents.{content_is, labels_of}
 use Rattle.c2_in_place.proofs.Stored.{cleared_length}
-use Rattle.c2_build_collect.proofs.Drafts.{content_kept, ground_form, ground_free, place_passed, place_refused, placed}
+use Rattle.c2_build_collect.proofs.Drafts.{content_kept, content_len, ground_form, ground_free, place_passed, place_refused, placed}
 use Rattle.c2_build_collect.proofs.Stages.{opened_as, opened_kind}
 use Rattle.c2_build_collect.proofs.drafting.Build.drafted.Goals as goal
 
 -- ---- something of both files is refused
 
 pub returns-in-Err-clause-drafted : goal.returns-in-Err-clause-drafted
-returns-in-Err-clause-drafted g c = λ bytes known kind is others told. outside_map c.in-Err.error (λ h. inl h) (c.in-Err.ensures.ground bytes known kind is others told)
+returns-in-Err-clause-drafted g c = λ bytes known kind is others told of_file. outside_map c.in-Err.error (λ h. inl h) (c.in-Err.ensures.ground bytes known kind is others told)
 
 pub returns-in-Err-clause-media : goal.returns-in-Err-clause-media
 returns-in-Err-clause-media g c = record { stays = c.in-Err.ensures.media.stays; quiet = tt; cause = c.in-Err.ensures.media.cause }
@@ -33,10 +33,10 @@ returns-in-Err-clause-panel g c = hears_failed c.args.judges.now c.ground.new.ju
 -- ---- the walk to the place can't refuse what is left of a media file, which has a free place
 
 pub returns-in-Err-find_spot-clause-drafted : goal.returns-in-Err-find_spot-clause-drafted
-returns-in-Err-find_spot-clause-drafted g c = λ bytes known kind is others told.
+returns-in-Err-find_spot-clause-drafted g c = λ bytes known kind is others told of_file.
     let said = panel_says (map (λ j. (goal.Judge-dyn g (j.vtable, j.value)).says j.value) c.args.judges.now.items) in
     let hash = g.H.Hashing.digest_of in
-    let d = c.args.self.now.definition.now in
+    let d = c.args.self.now.definition in
     let k = c.in-Ok.ground in
     let over = c.in-Ok.ensures.ground bytes known kind is others told in
     let opened = opened_kind bytes kind is.stage in
@@ -61,10 +61,10 @@ returns-in-Err-find_spot-clause-panel g c = hears_behind c.args.judges.now c.gro
 -- ---- a test at the place fails
 
 pub returns-in-Err-numbers_of-clause-drafted : goal.returns-in-Err-numbers_of-clause-drafted
-returns-in-Err-numbers_of-clause-drafted g c = λ bytes known kind is others told.
+returns-in-Err-numbers_of-clause-drafted g c = λ bytes known kind is others told of_file.
     let said = panel_says (map (λ j. (goal.Judge-dyn g (j.vtable, j.value)).says j.value) c.args.judges.now.items) in
     let hash = g.H.Hashing.digest_of in
-    let d = c.args.self.now.definition.now in
+    let d = c.args.self.now.definition in
     let k = c.in-Ok.ground in
     let s = c.in-Ok-find_spot.spot in
     let over = c.in-Ok.ensures.ground bytes known kind is others told in
@@ -76,7 +76,8 @@ returns-in-Err-numbers_of-clause-drafted g c = λ bytes known kind is others tol
     let size = c.in-Ok-find_spot.ensures.spot.size ∙ ap (cleared_len k.clearing) (c.in-Ok.ensures.media.stays.same_len ∙ sym len) ∙ sym (cleared_length k.clearing bytes) in
     let at = placed hash said bytes others (opening_of kind) d k s.seat s.size over.0 over.1 over.2 seat size in
     let kept = content_kept hash said bytes others (opening_of kind) d k s.seat s.size at in
-    place_refused hash said bytes others (opening_of kind) d k s.seat s.size at c.in-Err-numbers_of.error (c.in-Err-numbers_of.ensures.refused _ at.pair.media.base at.place kept at.is_place at.seat)
+    let has = content_len hash said bytes others (opening_of kind) d k s.seat s.size at c.the_length_of_a_collected_store_fits.ensures.fits g.met.H.Hashing.is_digest of_file stage in
+    place_refused hash said bytes others (opening_of kind) d k s.seat s.size at c.in-Err-numbers_of.error (c.in-Err-numbers_of.ensures.refused _ at.pair.media.base at.place kept has at.is_place at.seat)
 
 pub returns-in-Err-numbers_of-clause-media : goal.returns-in-Err-numbers_of-clause-media
 returns-in-Err-numbers_of-clause-media g c =
@@ -97,7 +98,7 @@ pub returns-in-Ok-numbers_of-clause-drafted : goal.returns-in-Ok-numbers_of-clau
 returns-in-Ok-numbers_of-clause-drafted g c = λ bytes known kind is others told.
     let said = panel_says (map (λ j. (goal.Judge-dyn g (j.vtable, j.value)).says j.value) c.args.judges.now.items) in
     let hash = g.H.Hashing.digest_of in
-    let d = c.args.self.now.definition.now in
+    let d = c.args.self.now.definition in
     let k = c.in-Ok.ground in
     let s = c.in-Ok-find_spot.spot in
     let over = c.in-Ok.ensures.ground bytes known kind is others told in
@@ -114,7 +115,7 @@ returns-in-Ok-numbers_of-clause-drafted g c = λ bytes known kind is others told
 pub returns-in-Ok-numbers_of-clause-small : goal.returns-in-Ok-numbers_of-clause-small
 returns-in-Ok-numbers_of-clause-small g c =
     let hash = g.H.Hashing.digest_of in
-    let d = c.args.self.now.definition.now in
+    let d = c.args.self.now.definition in
     let k = c.in-Ok.ground in
     let some = c.in-Ok.ensures.some in
     let kept = content_is hash d k some.content some.gathered in

@@ -15,9 +15,9 @@ use Rattle.c2_build_collect.proofs.drafting.Build.planned.Goals as goal
 -- ---- something is refused
 
 pub returns-in-Err-clause-planned : goal.returns-in-Err-clause-planned
-returns-in-Err-clause-planned g c = λ bytes known kind is others told.
+returns-in-Err-clause-planned g c = λ of_file bytes known kind is others told.
     let said = panel_says (map (λ j. (goal.Judge-dyn g (j.vtable, j.value)).says j.value) c.args.judges.now.items) in
-    outside_map c.in-Err.error (planned_refused g.H.Hashing.digest_of said bytes others (opening_of kind) c.args.self.now.definition.now c.in-Err.error) (c.in-Err.ensures.drafted bytes known kind is others told)
+    outside_map c.in-Err.error (planned_refused g.H.Hashing.digest_of said bytes others (opening_of kind) c.args.self.now.definition c.in-Err.error) (c.in-Err.ensures.drafted bytes known kind is others told of_file)
 
 pub returns-in-Err-clause-media : goal.returns-in-Err-clause-media
 returns-in-Err-clause-media g c = record { stays = c.in-Err.ensures.media.stays; quiet = tt; cause = c.in-Err.ensures.media.cause }
@@ -42,10 +42,10 @@ returns-in_default-clause-panel g c = hears_behind c.args.judges.now c.drafted.n
 -- ---- the media failed, or memory did
 
 pub collected_parts-requires-clause-small : goal.collected_parts-requires-clause-small
-collected_parts-requires-clause-small g c = subst (λ (n : ℕ). IsSmall (cleared_len c.in-Ok.drafted.ground.clearing n) c.args.self.now.definition.now c.in-Ok.drafted) (sym c.in-Ok.ensures.media.stays.same_len) c.in-Ok.ensures.small
+collected_parts-requires-clause-small g c = subst (λ (n : ℕ). IsSmall (cleared_len c.in-Ok.drafted.ground.clearing n) c.args.self.now.definition c.in-Ok.drafted) (sym c.in-Ok.ensures.media.stays.same_len) c.in-Ok.ensures.small
 
 pub returns-in-Err-collected_parts-clause-planned : goal.returns-in-Err-collected_parts-clause-planned
-returns-in-Err-collected_parts-clause-planned g c = λ bytes known kind is others told. nothing_said c.in-Err-collected_parts.error _ c.in-Err-collected_parts.ensures.nothing
+returns-in-Err-collected_parts-clause-planned g c = λ of_file bytes known kind is others told. nothing_said c.in-Err-collected_parts.error _ c.in-Err-collected_parts.ensures.nothing
 
 pub returns-in-Err-collected_parts-clause-media : goal.returns-in-Err-collected_parts-clause-media
 returns-in-Err-collected_parts-clause-media g c =
@@ -64,10 +64,10 @@ returns-in-Err-collected_parts-clause-panel g c =
 -- ---- this is to be signed
 
 pub returns-in-Ok-signed_over-clause-planned : goal.returns-in-Ok-signed_over-clause-planned
-returns-in-Ok-signed_over-clause-planned g c = λ bytes known kind is others told.
+returns-in-Ok-signed_over-clause-planned g c = λ of_file bytes known kind is others told.
     let said = panel_says (map (λ j. (goal.Judge-dyn g (j.vtable, j.value)).says j.value) c.args.judges.now.items) in
     let hash = g.H.Hashing.digest_of in
-    let d = c.args.self.now.definition.now in
+    let d = c.args.self.now.definition in
     let w = c.in-Ok.drafted in
     let what = opening_of kind in
     let at = c.in-Ok.ensures.drafted bytes known kind is others told in

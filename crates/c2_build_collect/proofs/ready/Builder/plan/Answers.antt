@@ -3,6 +3,7 @@ use Rattle.std.specs.Prelude.{Err}
 use Rattle.c2_spec.specs.Judges.Panel.{panel_says}
 use Rattle.c2_calls.proofs.SourceLemmas.{reads_nothing, stays_as_it_was}
 use Rattle.c2_collected.specs.Outcomes as collect
+use Rattle.c2_collected.proofs.SomeOutcome.{defined_of}
 use Rattle.c2_collect_ground.specs.Grounds.{ground_effects, opening_of}
 use Rattle.c2_refusals.specs.Kinds.{no_effects}
 use Rattle.c2_refusals.specs.Stages.{IsDefinitionRefused}
@@ -89,9 +90,10 @@ returns-clause-planned g c = λ file known bytes due others undue.
     let media = c.in-Ok.ensures.stage file (c.requires.found file known) in
     let told = definition_told one hash said file media.0 media.2.stage (g.B.Source.known c.args.definition.now) bytes due in
     let stage = c.in-Ok-read_definition_file.ensures.stage bytes told in
+    let as_read = defined_as bytes d stage in
     let own = other_told one hash said file media.0 media.2.stage {NotDue = IsDefinitionRefused bytes} (g.D.Source.known c.args.other.now) others (undefined defined d bytes stage) undue in
     answer_next (collect.IsMediaStage file) _ (opening_of media.0) c.planned.result (opened_as file media.0 media.2.stage)
-    (answer_next (collect.IsDefinitionStage bytes) _ d c.planned.result (defined_as bytes d stage) (c.planned.ensures.planned file known media.0 media.2 others own))
+    (answer_next (collect.IsDefinitionStage bytes) _ d c.planned.result as_read (c.planned.ensures.planned (bytes, defined_of bytes d as_read) file known media.0 media.2 others own))
 
 pub returns-clause-not_due : goal.returns-clause-not_due
 returns-clause-not_due g c =

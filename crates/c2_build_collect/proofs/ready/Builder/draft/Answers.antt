@@ -5,6 +5,7 @@ use Rattle.c2_spec.specs.Judges.Panel.{panel_says}
 use Rattle.c2_calls.proofs.SourceLemmas.{reads_nothing, stays_as_it_was}
 use Rattle.c2_collected.specs.Outcomes.{IsMadeOver, IsPairStage, Then}
 use Rattle.c2_collected.specs.Outcomes as collect
+use Rattle.c2_collected.proofs.SomeOutcome.{defined_of}
 use Rattle.c2_collect_ground.specs.Grounds.{opening_of}
 use Rattle.c2_refusals.specs.Kinds.{WithoutFault, message_effects, no_effects}
 use Rattle.c2_refusals.specs.Stages.{IsDefinitionRefused, IsMessageRefused, IsMessageStage}
@@ -12,20 +13,20 @@ use Rattle.c2_refusals.proofs.Inputs.{not_both_definitions, not_both_media}
 use Rattle.c2_refusals.proofs.Judged.{hears_as, hears_none, quiet_unheard, read_unheard}
 use Rattle.c2_refusals.proofs.Outside.{alone, on_any, outside_map, plain_cause, quiet_cause, read_cause, reads_among, reads_earlier}
 use Rattle.c2_build_collect.specs.Answers.{prepare_effects}
-use Rattle.c2_build_collect.specs.Steps.{IsReadyFor}
+use Rattle.c2_build_collect.specs.Steps.{IsBuildFor}
 use Rattle.c2_build_collect.proofs.Causes.{first_or_third, message_prepares}
 use Rattle.c2_build_collect.proofs.Due.{definition_told, message_told, not_accepted, other_told, undefined, unsigned, untold}
-use Rattle.c2_build_collect.proofs.Stages.{defined_as, definition_error, media_error, message_as, message_error, opened_as, ready_next, refused_first, refused_next}
+use Rattle.c2_build_collect.proofs.Stages.{build_next, defined_as, definition_error, media_error, message_as, message_error, opened_as, refused_first, refused_next}
 use Rattle.c2_build_collect.proofs.Unasked.{embedded_asks, refused_embed, undefined_embed, unsigned_embed}
-use Rattle.c2_build_collect.proofs.ready.Builder.prepare.Goals as goal
+use Rattle.c2_build_collect.proofs.ready.Builder.draft.Goals as goal
 
 -- ---- the store is refused
 
-pub returns-in-Err-clause-prepared : goal.returns-in-Err-clause-prepared
-returns-in-Err-clause-prepared g c = record {
-  ready = λ file known bytes due signed due' others undue. outside_map c.in-Err.error (λ s. refused_first (collect.IsMediaStage file) _ c.in-Err.error (media_error file c.in-Err.error s)) (c.in-Err.ensures.stage file (c.requires.found file known));
+pub returns-in-Err-clause-build : goal.returns-in-Err-clause-build
+returns-in-Err-clause-build g c = record {
+  build = λ file known bytes due signed due' others undue. outside_map c.in-Err.error (λ s. refused_first (collect.IsMediaStage file) _ c.in-Err.error (media_error file c.in-Err.error s)) (c.in-Err.ensures.stage file (c.requires.found file known));
   texts = λ bytes known. tt;
-  can_write = tt;
+  fits = tt;
 }
 
 pub returns-in-Err-clause-not_due : goal.returns-in-Err-clause-not_due
@@ -57,9 +58,9 @@ returns-in-Err-clause-panel g c =
 
 -- ---- the definition is refused
 
-pub returns-in-Err-read_definition_file-clause-prepared : goal.returns-in-Err-read_definition_file-clause-prepared
-returns-in-Err-read_definition_file-clause-prepared g c = record {
-  ready = λ file known bytes due signed due' others undue.
+pub returns-in-Err-read_definition_file-clause-build : goal.returns-in-Err-read_definition_file-clause-build
+returns-in-Err-read_definition_file-clause-build g c = record {
+  build = λ file known bytes due signed due' others undue.
       let said = panel_says (map (λ j. (goal.Judge-dyn g (j.vtable, j.value)).says j.value) c.args.judges.now.items) in
       let e = c.in-Err-read_definition_file.error in
       let media = c.in-Ok.ensures.stage file (c.requires.found file known) in
@@ -67,7 +68,7 @@ returns-in-Err-read_definition_file-clause-prepared g c = record {
       outside_map e (λ s. refused_next (collect.IsMediaStage file) _ (opening_of media.0) e (opened_as file media.0 media.2.stage)
       (refused_first (collect.IsDefinitionStage bytes) _ e (definition_error bytes e s))) (c.in-Err-read_definition_file.ensures.stage bytes told);
   texts = λ bytes known. tt;
-  can_write = tt;
+  fits = tt;
 }
 
 pub returns-in-Err-read_definition_file-clause-not_due : goal.returns-in-Err-read_definition_file-clause-not_due
@@ -106,9 +107,9 @@ returns-in-Err-read_definition_file-clause-panel g c =
 
 -- ---- the message is refused
 
-pub returns-in-Err-read_message_file-clause-prepared : goal.returns-in-Err-read_message_file-clause-prepared
-returns-in-Err-read_message_file-clause-prepared g c = record {
-  ready = λ file known bytes due signed due' others undue.
+pub returns-in-Err-read_message_file-clause-build : goal.returns-in-Err-read_message_file-clause-build
+returns-in-Err-read_message_file-clause-build g c = record {
+  build = λ file known bytes due signed due' others undue.
       let said = panel_says (map (λ j. (goal.Judge-dyn g (j.vtable, j.value)).says j.value) c.args.judges.now.items) in
       let hash = g.H.Hashing.digest_of in
       let one = c.one_opening.ensures.file in
@@ -124,7 +125,7 @@ returns-in-Err-read_message_file-clause-prepared g c = record {
       (refused_next (collect.IsDefinitionStage bytes) _ d e (defined_as bytes d read)
       (refused_first (collect.IsMessageStage d.protected signed) _ e (message_error d.protected signed e s)))) stage;
   texts = λ bytes known. tt;
-  can_write = tt;
+  fits = tt;
 }
 
 pub returns-in-Err-read_message_file-clause-not_due : goal.returns-in-Err-read_message_file-clause-not_due
@@ -167,32 +168,34 @@ returns-in-Err-read_message_file-clause-panel g c =
 
 -- ---- all inputs are read, and then comes what is behind them
 
-pub ready-requires-clause-read : goal.ready-requires-clause-read
-ready-requires-clause-read g c = record { read = c.in-Ok.ensures.inside (g.A.Source.len c.args.media.now) c.requires.inside; formed = c.in-Ok-read_definition_file.ensures.formed }
+pub with_message-requires-clause-read : goal.with_message-requires-clause-read
+with_message-requires-clause-read g c = record { read = c.in-Ok.ensures.inside (g.A.Source.len c.args.media.now) c.requires.inside; formed = c.in-Ok-read_definition_file.ensures.formed }
 
-pub returns-clause-prepared : goal.returns-clause-prepared
-returns-clause-prepared g c = record {
-  ready = λ file known bytes due signed due' others undue.
+pub returns-clause-build : goal.returns-clause-build
+returns-clause-build g c = record {
+  build = λ file known bytes due signed due' others undue.
       let said = panel_says (map (λ j. (goal.Judge-dyn g (j.vtable, j.value)).says j.value) c.args.judges.now.items) in
       let hash = g.H.Hashing.digest_of in
       let one = c.one_opening.ensures.file in
       let defined = c.each_definition_is_read_one_way.ensures.one in
       let d = c.in-Ok-read_definition_file.definition in
-      let r = c.ready.result in
+      let r = c.with_message.result in
       let media = c.in-Ok.ensures.stage file (c.requires.found file known) in
       let told = definition_told one hash said file media.0 media.2.stage (g.B.Source.known c.args.definition.now) bytes due in
       let read = c.in-Ok-read_definition_file.ensures.stage bytes told in
       let spoken = message_told one hash said file media.0 media.2.stage defined d bytes read (g.C.Source.known c.args.signature.now) signed due' in
+      let as_read = defined_as bytes d read in
       let m = c.in-Ok-read_message_file.ensures.stage signed spoken in
       let stage = subst (λ (x : List ℕ). IsMessageStage x signed (Ok m.0)) c.as_slice.ensures.value m.1 in
       let own = other_told one hash said file media.0 media.2.stage {NotDue = IsDefinitionRefused bytes ⊎ IsMessageRefused bytes signed} (g.D.Source.known c.args.other.now) others
       (unsigned defined c.one_item.ensures c.each_message_is_accepted_or_refused_for_one_test.ensures d m.0 bytes signed read stage) undue in
-      let over = subst (λ (p : SignParts). IsReadyFor file (Then (IsPairStage hash said file others (opening_of media.0) d) (IsMadeOver hash d p)) r) m.2 (c.ready.ensures.ready file known media.0 media.2 others own) in
-      ready_next file (collect.IsMediaStage file) _ (opening_of media.0) r (opened_as file media.0 media.2.stage)
-      (ready_next file (collect.IsDefinitionStage bytes) _ d r (defined_as bytes d read)
-      (ready_next file (collect.IsMessageStage d.protected signed) _ m.0 r (message_as d.protected signed m.0 stage) over));
-  texts = λ bytes known. on_any c.ready.result (c.in-Ok-read_definition_file.ensures.texts bytes known);
-  can_write = c.ready.ensures.can_write;
+      let over = subst (λ (p : SignParts). IsBuildFor hash file (Then (IsPairStage hash said file others (opening_of media.0) d) (IsMadeOver hash d p)) r) m.2
+      (c.with_message.ensures.build (bytes, defined_of bytes d as_read) file known media.0 media.2 others own) in
+      build_next hash file (collect.IsMediaStage file) _ (opening_of media.0) r (opened_as file media.0 media.2.stage)
+      (build_next hash file (collect.IsDefinitionStage bytes) _ d r as_read
+      (build_next hash file (collect.IsMessageStage d.protected signed) _ m.0 r (message_as d.protected signed m.0 stage) over));
+  texts = λ bytes known. on_any c.with_message.result (c.in-Ok-read_definition_file.ensures.texts bytes known);
+  fits = c.with_message.ensures.fits;
 }
 
 pub returns-clause-not_due : goal.returns-clause-not_due
@@ -209,7 +212,7 @@ returns-clause-not_due g c =
         message_unread = λ bytes known refused. not_both_definitions defined bytes d (c.in-Ok-read_definition_file.ensures.stage bytes known) refused;
       };
       other_unread_first = λ file known refused. let media = c.in-Ok.ensures.stage file (c.requires.found file known) in
-          c.ready.ensures.not_due file known media.0 media.2 (not_accepted one hash said file media.0 media.2.stage refused);
+          c.with_message.ensures.not_due file known media.0 media.2 (not_accepted one hash said file media.0 media.2.stage refused);
       other_unread_then = λ bytes known refused. absurd (undefined defined d bytes (c.in-Ok-read_definition_file.ensures.stage bytes known) refused);
       other_unread = λ refused. absurd (untold defined c.one_item.ensures c.each_message_is_accepted_or_refused_for_one_test.ensures d (parts_of c.in-Ok-read_message_file.sign) (g.B.Source.known c.args.definition.now) (g.C.Source.known c.args.signature.now)
           (λ bytes known. c.in-Ok-read_definition_file.ensures.stage bytes known)
@@ -218,26 +221,26 @@ returns-clause-not_due g c =
     }
 
 pub returns-clause-media : goal.returns-clause-media
-returns-clause-media g c = reads_among prepare_effects c.args.media.now c.ready.new.media c.ready.result (λ failed. inr (inr failed)) c.ready.ensures.media
+returns-clause-media g c = reads_among prepare_effects c.args.media.now c.with_message.new.media c.with_message.result (λ failed. inr (inr failed)) c.with_message.ensures.media
 
 pub returns-clause-definition : goal.returns-clause-definition
 returns-clause-definition g c =
-    reads_earlier prepare_effects c.args.definition.now c.read_definition_file.new.file _ _ c.ready.result c.in-Ok-read_definition_file.ensures.stays c.in-Ok-read_definition_file.ensures.count first_or_third c.ready.ensures.media.cause
+    reads_earlier prepare_effects c.args.definition.now c.read_definition_file.new.file _ _ c.with_message.result c.in-Ok-read_definition_file.ensures.stays c.in-Ok-read_definition_file.ensures.count first_or_third c.with_message.ensures.media.cause
 
 pub returns-clause-message : goal.returns-clause-message
 returns-clause-message g c =
-    reads_earlier prepare_effects c.args.signature.now c.read_message_file.new.file _ _ c.ready.result c.in-Ok-read_message_file.ensures.stays c.in-Ok-read_message_file.ensures.count first_or_third c.ready.ensures.media.cause
+    reads_earlier prepare_effects c.args.signature.now c.read_message_file.new.file _ _ c.with_message.result c.in-Ok-read_message_file.ensures.stays c.in-Ok-read_message_file.ensures.count first_or_third c.with_message.ensures.media.cause
 
 pub returns-clause-other : goal.returns-clause-other
-returns-clause-other g c = reads_among prepare_effects c.args.other.now c.ready.new.other c.ready.result inl c.ready.ensures.other
+returns-clause-other g c = reads_among prepare_effects c.args.other.now c.with_message.new.other c.with_message.result inl c.with_message.ensures.other
 
 pub returns-clause-panel : goal.returns-clause-panel
 returns-clause-panel g c =
     let said = panel_says (map (λ j. (goal.Judge-dyn g (j.vtable, j.value)).says j.value) c.args.judges.now.items) in
     let d = c.in-Ok-read_definition_file.definition in
-    hears_as c.args.judges.now c.ready.new.judges c.ready.result
+    hears_as c.args.judges.now c.with_message.new.judges c.with_message.result
     (embedded_asks c.one_opening.ensures.file g.H.Hashing.digest_of said (g.A.Source.known c.args.media.now) (g.B.Source.known c.args.definition.now) (g.C.Source.known c.args.signature.now) (g.D.Source.known c.args.other.now) c.each_definition_is_read_one_way.ensures.one c.in-Ok.read
     (λ file known. let media = c.in-Ok.ensures.stage file (c.requires.found file known) in (media.0, media.2)) c.one_item.ensures c.each_message_is_accepted_or_refused_for_one_test.ensures d
     (λ bytes known. c.in-Ok-read_definition_file.ensures.stage bytes known) (parts_of c.in-Ok-read_message_file.sign)
     (λ signed known. let m = c.in-Ok-read_message_file.ensures.stage signed known in
-    subst (λ (p : SignParts). IsMessageStage d.protected signed (Ok p)) (sym m.2) (subst (λ (x : List ℕ). IsMessageStage x signed (Ok m.0)) c.as_slice.ensures.value m.1))) c.ready.ensures.panel
+    subst (λ (p : SignParts). IsMessageStage d.protected signed (Ok p)) (sym m.2) (subst (λ (x : List ℕ). IsMessageStage x signed (Ok m.0)) c.as_slice.ensures.value m.1))) c.with_message.ensures.panel

@@ -7,22 +7,22 @@ use Rattle.c2_spec.specs.Judges.Panel.{panel_says}
 use Rattle.c2_calls.proofs.SourceLemmas.{reads_next, stays_as_it_was}
 use Rattle.c2_container.specs.Contained.{HasRootsInside}
 use Rattle.c2_collected.specs.Outcomes as collect
-use Rattle.c2_in_place.specs.Writings.{CanWrite}
 use Rattle.c2_refusals.specs.Kinds.{no_effects}
 use Rattle.c2_refusals.proofs.Judged.{hears_none, hears_told, read_unheard}
 use Rattle.c2_refusals.proofs.Outside.{alone, outside_map, plain_cause, reads_earlier}
 use Rattle.c2_build_collect.specs.Answers.{AsksEmbedded, IsPrepareCause, prepare_effects}
+use Rattle.c2_build_collect.specs.Steps.{FitsMedia}
 use Rattle.c2_build_collect.proofs.Stages.{media_error, refused_first}
 use Rattle.c2_build_collect.proofs.Unasked.{refused_embed}
-use Rattle.c2_build_collect.proofs.embedding.Opener.prepare.Goals as goal
+use Rattle.c2_build_collect.proofs.ready.Maker.draft.Goals as goal
 
 -- ---- the container is refused
 
-pub returns-in-Err-clause-prepared : goal.returns-in-Err-clause-prepared
-returns-in-Err-clause-prepared g c = record {
-  ready = λ file known bytes due signed due' others undue. outside_map c.in-Err.error (λ s. refused_first (collect.IsMediaStage file) _ c.in-Err.error (media_error file c.in-Err.error s)) (c.in-Err.ensures.refused file known);
+pub returns-in-Err-clause-build : goal.returns-in-Err-clause-build
+returns-in-Err-clause-build g c = record {
+  build = λ file known bytes due signed due' others undue. outside_map c.in-Err.error (λ s. refused_first (collect.IsMediaStage file) _ c.in-Err.error (media_error file c.in-Err.error s)) (c.in-Err.ensures.refused file known);
   texts = λ bytes known. tt;
-  can_write = tt;
+  fits = tt;
 }
 
 pub returns-in-Err-clause-not_due : goal.returns-in-Err-clause-not_due
@@ -56,22 +56,22 @@ returns-in-Err-clause-panel g c =
 
 -- ---- what comes behind it
 
-pub prepare-requires : goal.prepare-requires
-prepare-requires g c = record {
+pub draft-requires : goal.draft-requires
+draft-requires g c = record {
   inside = subst (λ (n : ℕ). HasRootsInside n c.in-Ok.file.container) (sym c.in-Ok.ensures.reads.stays.same_len) c.in-Ok.ensures.inside;
   found = λ file known. c.in-Ok.ensures.found file (sym c.in-Ok.ensures.reads.stays.same_bytes ∙ known);
 }
 
-pub returns-clause-prepared : goal.returns-clause-prepared
-returns-clause-prepared g c = record {
-  ready = λ file known bytes due signed due' others undue. c.prepare.ensures.prepared.ready file (c.in-Ok.ensures.reads.stays.same_bytes ∙ known) bytes due signed due' others undue;
-  texts = c.prepare.ensures.prepared.texts;
-  can_write = IfOk-weaker c.prepare.result _ _ (λ r can. subst (λ (n : ℕ). CanWrite n r) c.in-Ok.ensures.reads.stays.same_len can) c.prepare.ensures.prepared.can_write;
+pub returns-clause-build : goal.returns-clause-build
+returns-clause-build g c = record {
+  build = λ file known bytes due signed due' others undue. c.draft.ensures.build.build file (c.in-Ok.ensures.reads.stays.same_bytes ∙ known) bytes due signed due' others undue;
+  texts = c.draft.ensures.build.texts;
+  fits = IfOk-weaker c.draft.result _ _ (λ b fits. subst (λ (n : ℕ). FitsMedia n b) c.in-Ok.ensures.reads.stays.same_len fits) c.draft.ensures.build.fits;
 }
 
 pub returns-clause-not_due : goal.returns-clause-not_due
 returns-clause-not_due g c =
-    let due = c.prepare.ensures.not_due in
+    let due = c.draft.ensures.not_due in
     record {
       inputs = record {
         definition_unread = λ file known refused. due.inputs.definition_unread file (c.in-Ok.ensures.reads.stays.same_bytes ∙ known) refused;
@@ -84,24 +84,24 @@ returns-clause-not_due g c =
     }
 
 pub returns-clause-media : goal.returns-clause-media
-returns-clause-media g c = reads_next _ _ _ _ _ c.args.media.now c.open_media.new.media c.prepare.new.media c.in-Ok.file c.prepare.result c.in-Ok.ensures.reads c.prepare.ensures.media
+returns-clause-media g c = reads_next _ _ _ _ _ c.args.media.now c.open_media.new.media c.draft.new.media c.in-Ok.file c.draft.result c.in-Ok.ensures.reads c.draft.ensures.media
 
 pub returns-clause-definition : goal.returns-clause-definition
 returns-clause-definition g c =
-    subst (λ (n : ℕ). ReadsSource g.B.Source.len g.B.Source.known g.B.Source.faults (IsPrepareCause (Rose n (g.A.Source.faults c.prepare.new.media) ⊎ (Rose (g.C.Source.faults c.args.signature.now) (g.C.Source.faults c.prepare.new.signature) ⊎ Rose (g.D.Source.faults c.args.other.now) (g.D.Source.faults c.prepare.new.other))))
-    c.args.definition.now c.prepare.new.definition c.prepare.result) c.in-Ok.ensures.reads.quiet c.prepare.ensures.definition
+    subst (λ (n : ℕ). ReadsSource g.B.Source.len g.B.Source.known g.B.Source.faults (IsPrepareCause (Rose n (g.A.Source.faults c.draft.new.media) ⊎ (Rose (g.C.Source.faults c.args.signature.now) (g.C.Source.faults c.draft.new.signature) ⊎ Rose (g.D.Source.faults c.args.other.now) (g.D.Source.faults c.draft.new.other))))
+    c.args.definition.now c.draft.new.definition c.draft.result) c.in-Ok.ensures.reads.quiet c.draft.ensures.definition
 
 pub returns-clause-message : goal.returns-clause-message
 returns-clause-message g c =
-    subst (λ (n : ℕ). ReadsSource g.C.Source.len g.C.Source.known g.C.Source.faults (IsPrepareCause (Rose n (g.A.Source.faults c.prepare.new.media) ⊎ (Rose (g.B.Source.faults c.args.definition.now) (g.B.Source.faults c.prepare.new.definition) ⊎ Rose (g.D.Source.faults c.args.other.now) (g.D.Source.faults c.prepare.new.other))))
-    c.args.signature.now c.prepare.new.signature c.prepare.result) c.in-Ok.ensures.reads.quiet c.prepare.ensures.message
+    subst (λ (n : ℕ). ReadsSource g.C.Source.len g.C.Source.known g.C.Source.faults (IsPrepareCause (Rose n (g.A.Source.faults c.draft.new.media) ⊎ (Rose (g.B.Source.faults c.args.definition.now) (g.B.Source.faults c.draft.new.definition) ⊎ Rose (g.D.Source.faults c.args.other.now) (g.D.Source.faults c.draft.new.other))))
+    c.args.signature.now c.draft.new.signature c.draft.result) c.in-Ok.ensures.reads.quiet c.draft.ensures.message
 
 pub returns-clause-other : goal.returns-clause-other
 returns-clause-other g c =
-    subst (λ (n : ℕ). ReadsSource g.D.Source.len g.D.Source.known g.D.Source.faults (IsPrepareCause (Rose n (g.A.Source.faults c.prepare.new.media) ⊎ (Rose (g.B.Source.faults c.args.definition.now) (g.B.Source.faults c.prepare.new.definition) ⊎ Rose (g.C.Source.faults c.args.signature.now) (g.C.Source.faults c.prepare.new.signature))))
-    c.args.other.now c.prepare.new.other c.prepare.result) c.in-Ok.ensures.reads.quiet c.prepare.ensures.other
+    subst (λ (n : ℕ). ReadsSource g.D.Source.len g.D.Source.known g.D.Source.faults (IsPrepareCause (Rose n (g.A.Source.faults c.draft.new.media) ⊎ (Rose (g.B.Source.faults c.args.definition.now) (g.B.Source.faults c.draft.new.definition) ⊎ Rose (g.C.Source.faults c.args.signature.now) (g.C.Source.faults c.draft.new.signature))))
+    c.args.other.now c.draft.new.other c.draft.result) c.in-Ok.ensures.reads.quiet c.draft.ensures.other
 
 pub returns-clause-panel : goal.returns-clause-panel
 returns-clause-panel g c =
-    hears_told (λ (known : Option (List ℕ)). AsksEmbedded g.H.Hashing.digest_of known (g.B.Source.known c.args.definition.now) (g.C.Source.known c.args.signature.now) (g.D.Source.known c.args.other.now)) (g.A.Source.known c.args.media.now) (g.A.Source.known c.open_media.new.media) c.args.judges.now c.prepare.new.judges
-    c.prepare.result c.in-Ok.ensures.reads.stays.same_bytes c.prepare.ensures.panel
+    hears_told (λ (known : Option (List ℕ)). AsksEmbedded g.H.Hashing.digest_of known (g.B.Source.known c.args.definition.now) (g.C.Source.known c.args.signature.now) (g.D.Source.known c.args.other.now)) (g.A.Source.known c.args.media.now) (g.A.Source.known c.open_media.new.media) c.args.judges.now c.draft.new.judges
+    c.draft.result c.in-Ok.ensures.reads.stays.same_bytes c.draft.ensures.panel

@@ -3,26 +3,28 @@ use Rattle.std.specs.Prelude.{Err, Ok}
 use Rattle.c2_spec.specs.C2pa.Sign1.{SignParts, parts_of}
 use Rattle.c2_spec.specs.Judges.Panel.{panel_says}
 use Rattle.c2_calls.proofs.SourceLemmas.{reads_nothing, stays_as_it_was}
-use Rattle.c2_refusals.specs.Kinds.{ComesAs, WithoutFault, message_effects, no_effects}
+use Rattle.c2_refusals.specs.Kinds.{WithoutFault, message_effects, no_effects}
 use Rattle.c2_build.specs.Building.{IsEmbeddedOver}
 use Rattle.c2_refusals.specs.Stages.{IsDefinitionStage, IsMediaStage, IsMessageStage}
-use Rattle.c2_build.specs.Steps.{IsReady}
+use Rattle.c2_build.specs.Steps.{IsBuildFor}
 use Rattle.c2_refusals.proofs.Outside.{alone, on_any, plain_cause, quiet_cause, read_cause, reads_among, reads_earlier}
-use Rattle.c2_refusals.proofs.Stages.{as_next, comes_first, comes_next}
+use Rattle.c2_refusals.proofs.Stages.{comes_first, comes_next}
 use Rattle.c2_refusals.proofs.Judged.{hears_as, hears_none, quiet_unheard, read_unheard}
 use Rattle.c2_refusals.proofs.Inputs.{not_both_definitions, not_both_media, told_where_both, told_where_due}
 use Rattle.c2_build.proofs.Causes.{message_prepares}
+use Rattle.c2_build.proofs.NewFile.{defined_of}
+use Rattle.c2_build.proofs.NewStores.{build_next}
 use Rattle.c2_build.proofs.Unasked.{embedded_asks, refused_embed, undefined_embed, unsigned_embed}
 use Rattle.c2_build.specs.Answers.{prepare_effects}
-use Rattle.c2_build.proofs.ready.Builder.ready_in.Goals as goal
+use Rattle.c2_build.proofs.ready.Builder.draft_in.Goals as goal
 
 -- ---- the store is refused
 
-pub returns-in-Err-clause-prepared : goal.returns-in-Err-clause-prepared
-returns-in-Err-clause-prepared g c = record {
-  ready = λ file known bytes due message due'. comes_first (IsMediaStage file) _ c.in-Err.error (c.in-Err.ensures.stage file (c.requires.found file known));
+pub returns-in-Err-clause-build : goal.returns-in-Err-clause-build
+returns-in-Err-clause-build g c = record {
+  build = λ file known bytes due message due'. comes_first (IsMediaStage file) _ c.in-Err.error (c.in-Err.ensures.stage file (c.requires.found file known));
   texts = λ bytes known. tt;
-  can_write = tt;
+  fits = tt;
 }
 
 pub returns-in-Err-clause-not_due : goal.returns-in-Err-clause-not_due
@@ -45,15 +47,15 @@ returns-in-Err-clause-panel g c =
 
 -- ---- the definition is refused
 
-pub returns-in-Err-read_definition_file-clause-prepared : goal.returns-in-Err-read_definition_file-clause-prepared
-returns-in-Err-read_definition_file-clause-prepared g c = record {
-  ready = λ file known bytes due message due'.
+pub returns-in-Err-read_definition_file-clause-build : goal.returns-in-Err-read_definition_file-clause-build
+returns-in-Err-read_definition_file-clause-build g c = record {
+  build = λ file known bytes due message due'.
       let media = c.in-Ok.ensures.stage file (c.requires.found file known) in
       let told = told_where_due due (λ refused. not_both_media c.one_opening.ensures.file file media.0 media.1 refused) in
       comes_next (IsMediaStage file) _ media.0 (Err c.in-Err-read_definition_file.error) media.1
       (comes_first (IsDefinitionStage bytes) _ c.in-Err-read_definition_file.error (c.in-Err-read_definition_file.ensures.stage bytes told));
   texts = λ bytes known. tt;
-  can_write = tt;
+  fits = tt;
 }
 
 pub returns-in-Err-read_definition_file-clause-not_due : goal.returns-in-Err-read_definition_file-clause-not_due
@@ -83,9 +85,9 @@ returns-in-Err-read_definition_file-clause-panel g c =
 
 -- ---- the message is refused
 
-pub returns-in-Err-read_message_file-clause-prepared : goal.returns-in-Err-read_message_file-clause-prepared
-returns-in-Err-read_message_file-clause-prepared g c = record {
-  ready = λ file known bytes due message due'.
+pub returns-in-Err-read_message_file-clause-build : goal.returns-in-Err-read_message_file-clause-build
+returns-in-Err-read_message_file-clause-build g c = record {
+  build = λ file known bytes due message due'.
       let e = c.in-Err-read_message_file.error in
       let d = c.in-Ok-read_definition_file.definition in
       let media = c.in-Ok.ensures.stage file (c.requires.found file known) in
@@ -96,7 +98,7 @@ returns-in-Err-read_message_file-clause-prepared g c = record {
       (comes_next (IsDefinitionStage bytes) _ d (Err e) (c.in-Ok-read_definition_file.ensures.stage bytes told)
       (comes_first (IsMessageStage d.protected message) _ e stage));
   texts = λ bytes known. tt;
-  can_write = tt;
+  fits = tt;
 }
 
 pub returns-in-Err-read_message_file-clause-not_due : goal.returns-in-Err-read_message_file-clause-not_due
@@ -130,27 +132,28 @@ returns-in-Err-read_message_file-clause-panel g c =
 
 -- ---- all inputs are read, and then comes what is behind them
 
-pub ready_over-requires-clause-read : goal.ready_over-requires-clause-read
-ready_over-requires-clause-read g c = c.in-Ok.ensures.inside (g.A.Source.len c.args.media.now) c.requires.inside
+pub with_message-requires-clause-read : goal.with_message-requires-clause-read
+with_message-requires-clause-read g c = c.in-Ok.ensures.inside (g.A.Source.len c.args.media.now) c.requires.inside
 
-pub returns-clause-prepared : goal.returns-clause-prepared
-returns-clause-prepared g c = record {
-  ready = λ file known bytes due message due'.
+pub returns-clause-build : goal.returns-clause-build
+returns-clause-build g c = record {
+  build = λ file known bytes due message due'.
       let said = panel_says (map (λ j. (goal.Judge-dyn g (j.vtable, j.value)).says j.value) c.args.judges.now.items) in
       let d = c.in-Ok-read_definition_file.definition in
-      let r = c.ready_over.result in
+      let r = c.with_message.result in
       let media = c.in-Ok.ensures.stage file (c.requires.found file known) in
       let told = told_where_due due (λ refused. not_both_media c.one_opening.ensures.file file media.0 media.1 refused) in
-      let spoken = told_where_both due' (λ refused. not_both_media c.one_opening.ensures.file file media.0 media.1 refused) (λ refused. not_both_definitions c.each_definition_is_read_one_way.ensures.one bytes d (c.in-Ok-read_definition_file.ensures.stage bytes told) refused) in
+      let read = c.in-Ok-read_definition_file.ensures.stage bytes told in
+      let spoken = told_where_both due' (λ refused. not_both_media c.one_opening.ensures.file file media.0 media.1 refused) (λ refused. not_both_definitions c.each_definition_is_read_one_way.ensures.one bytes d read refused) in
       let m = c.in-Ok-read_message_file.ensures.stage message spoken in
       let stage = subst (λ (x : List ℕ). IsMessageStage x message (Ok m.0)) c.as_slice.ensures.value m.1 in
-      let over = c.ready_over.ensures.ready file known media.0 media.2 in
-      let own = subst (λ (p : SignParts). ComesAs (IsReady file) (IsEmbeddedOver g.H.Hashing.digest_of said file media.0 d p) r) m.2 over in
-      as_next (IsReady file) (IsMediaStage file) _ media.0 r media.1
-      (as_next (IsReady file) (IsDefinitionStage bytes) _ d r (c.in-Ok-read_definition_file.ensures.stage bytes told)
-      (as_next (IsReady file) (IsMessageStage d.protected message) _ m.0 r stage own));
-  texts = λ bytes known. on_any c.ready_over.result (c.in-Ok-read_definition_file.ensures.texts bytes known);
-  can_write = c.ready_over.ensures.can_write;
+      let over = c.with_message.ensures.build file known media.0 media.2 (bytes, defined_of bytes d read) in
+      let own = subst (λ (p : SignParts). IsBuildFor g.H.Hashing.digest_of file (IsEmbeddedOver g.H.Hashing.digest_of said file media.0 d p) r) m.2 over in
+      build_next g.H.Hashing.digest_of file (IsMediaStage file) _ media.0 r media.1
+      (build_next g.H.Hashing.digest_of file (IsDefinitionStage bytes) _ d r read
+      (build_next g.H.Hashing.digest_of file (IsMessageStage d.protected message) _ m.0 r stage own));
+  texts = λ bytes known. on_any c.with_message.result (c.in-Ok-read_definition_file.ensures.texts bytes known);
+  fits = c.with_message.ensures.fits;
 }
 
 pub returns-clause-not_due : goal.returns-clause-not_due
@@ -161,22 +164,22 @@ returns-clause-not_due g c = record {
 }
 
 pub returns-clause-media : goal.returns-clause-media
-returns-clause-media g c = reads_among prepare_effects c.args.media.now c.ready_over.new.media c.ready_over.result (λ none. absurd none) c.ready_over.ensures.reads
+returns-clause-media g c = reads_among prepare_effects c.args.media.now c.with_message.new.media c.with_message.result (λ none. absurd none) c.with_message.ensures.reads
 
 pub returns-clause-definition : goal.returns-clause-definition
 returns-clause-definition g c =
-    reads_earlier prepare_effects c.args.definition.now c.read_definition_file.new.file _ _ c.ready_over.result c.in-Ok-read_definition_file.ensures.stays c.in-Ok-read_definition_file.ensures.count (alone inl) c.ready_over.ensures.reads.cause
+    reads_earlier prepare_effects c.args.definition.now c.read_definition_file.new.file _ _ c.with_message.result c.in-Ok-read_definition_file.ensures.stays c.in-Ok-read_definition_file.ensures.count (alone inl) c.with_message.ensures.reads.cause
 
 pub returns-clause-message : goal.returns-clause-message
 returns-clause-message g c =
-    reads_earlier prepare_effects c.args.signature.now c.read_message_file.new.file _ _ c.ready_over.result c.in-Ok-read_message_file.ensures.stays c.in-Ok-read_message_file.ensures.count (alone inl) c.ready_over.ensures.reads.cause
+    reads_earlier prepare_effects c.args.signature.now c.read_message_file.new.file _ _ c.with_message.result c.in-Ok-read_message_file.ensures.stays c.in-Ok-read_message_file.ensures.count (alone inl) c.with_message.ensures.reads.cause
 
 pub returns-clause-panel : goal.returns-clause-panel
 returns-clause-panel g c =
     let said = panel_says (map (λ j. (goal.Judge-dyn g (j.vtable, j.value)).says j.value) c.args.judges.now.items) in
     let d = c.in-Ok-read_definition_file.definition in
-    hears_as c.args.judges.now c.ready_over.new.judges c.ready_over.result
+    hears_as c.args.judges.now c.with_message.new.judges c.with_message.result
     (embedded_asks c.one_opening.ensures.file g.H.Hashing.digest_of said (g.A.Source.known c.args.media.now) (g.B.Source.known c.args.definition.now) (g.C.Source.known c.args.signature.now) c.each_definition_is_read_one_way.ensures.one c.in-Ok.read
     (λ file known. let media = c.in-Ok.ensures.stage file (c.requires.found file known) in (media.0, media.2)) c.one_item.ensures c.each_message_is_accepted_or_refused_for_one_test.ensures d
     (λ bytes known. c.in-Ok-read_definition_file.ensures.stage bytes known) (parts_of c.in-Ok-read_message_file.sign)
-    (λ signed known. let m = c.in-Ok-read_message_file.ensures.stage signed known in subst (λ (p : SignParts). IsMessageStage d.protected signed (Ok p)) (sym m.2) (subst (λ (x : List ℕ). IsMessageStage x signed (Ok m.0)) c.as_slice.ensures.value m.1))) c.ready_over.ensures.panel
+    (λ signed known. let m = c.in-Ok-read_message_file.ensures.stage signed known in subst (λ (p : SignParts). IsMessageStage d.protected signed (Ok p)) (sym m.2) (subst (λ (x : List ℕ). IsMessageStage x signed (Ok m.0)) c.as_slice.ensures.value m.1))) c.with_message.ensures.panel

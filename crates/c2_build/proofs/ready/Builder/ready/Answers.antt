@@ -1,0 +1,39 @@
+use Rattle.std.proofs.Common.{List, ◌<◌, ap, length, refl, arith, option_map, subst, ℕ}
+use Rattle.c2_cleared.specs.Clears.{cleared, cleared_len}
+use Rattle.c2_build.proofs.NewStores.{IsMade, ready_is, draft_packs}
+use Rattle.c2_build.proofs.ready.Builder.ready.Goals as goal
+use Rattle.c2_built.specs.Store.{new_alg}
+
+-- the store isn't too large
+pub new_store-requires-clause-small : goal.new_store-requires-clause-small
+new_store-requires-clause-small g c =
+    let s = c.requires.small in
+    omega (arith, ap length c.as_slice-message.ensures.value, c.in-Ok-parts_for.ensures.size s.content s.is, s.small, c.requires.filled)
+
+-- this is to be written
+pub returns-in-Ok-new_store-clause-ready : goal.returns-in-Ok-new_store-clause-ready
+returns-in-Ok-new_store-clause-ready g c = λ file known ground place over.
+    let d = c.args.build.definition in
+    let w = c.args.build.drafted in
+    let parts = c.in-Ok-parts_for.parts in
+    let made = subst (λ (m : List ℕ). IsMade d w.ground.carried parts m c.in-Ok-new_store.store) c.as_slice-message.ensures.value c.in-Ok-new_store.ensures in
+    ready_is g.H.Hashing.digest_of file d w parts (option_map (cleared w.ground.clearing) (g.A.Source.known c.args.media.now)) c.args.build.message _ refl refl c.in-Ok-parts_for.ensures.parts (ap (option_map (cleared w.ground.clearing)) known)
+    c.requires.filled made ground place over.ground over.place over.seat over.numbers
+
+-- and can be
+pub returns-in-Ok-new_store-clause-can_write : goal.returns-in-Ok-new_store-clause-can_write
+returns-in-Ok-new_store-clause-can_write g c =
+    let d = c.args.build.definition in
+    let w = c.args.build.drafted in
+    let parts = c.in-Ok-parts_for.parts in
+    let small = c.requires.small in
+    let made = subst (λ (m : List ℕ). IsMade d w.ground.carried parts m c.in-Ok-new_store.store) c.as_slice-message.ensures.value c.in-Ok-new_store.ensures in
+    record {
+      can = record {
+        store = draft_packs c.a_new_store_has_one_length.ensures c.a_new_film_store_has_one_length.ensures.store (g.H.Hashing.digest_of (new_alg d)) (option_map (cleared w.ground.clearing) (g.A.Source.known c.args.media.now))
+            (cleared_len w.ground.clearing (g.A.Source.len c.args.media.now)) d w parts c.args.build.message c.in-Ok-new_store.store (λ text. (g.met.H.Hashing.is_digest (new_alg d) text).sized) c.in-Ok-parts_for.ensures.parts c.requires.filled small made;
+        size = small.size;
+        inside = small.inside;
+      };
+      room = let some : 0 < c.in-Ok.buffer.len = omega (arith, c.in-Ok.ensures.len) in some;
+    }
