@@ -5,7 +5,7 @@ Two JPEGs and two films with stores of 16 MB, of which the labels differ; one of
 and one with the longest store; two files with 1,022 manifests, of which all but the active ones are in both, in one order and in the other one, so that
 the new store has as many as a store may; and two with 1,023 and 1,024 manifests of which none is in both, which are refused. SCALE is in percent of these
 sizes. Each new file must be that of collect.py, and be valid, and each refusal that of collect.py. The status is 1 where it isn't, or where a command
-takes more than so many seconds (5) or so much memory (120 MB, where the three stores have 64 MB together).
+takes more than so many seconds (5) or so much memory (75 MB, where the three stores have 64 MB together).
 """
 
 import os
@@ -61,10 +61,14 @@ def pairs(scale):
     yield "others, one too many", many("m", range(count + 1)), many("e", range(count + 1, 2 * count + 3))
 
 
+# The C library keeps freed blocks below a size of its own choice, which would be measured as if they were in use.
+GIVEN_BACK = {"MALLOC_MMAP_THRESHOLD_": "65536", "MALLOC_TRIM_THRESHOLD_": "65536"}
+
+
 def run(words):
     """Processor seconds, peak memory in MB, and what a program prints."""
     with tempfile.NamedTemporaryFile() as told:
-        done = subprocess.run(["/usr/bin/time", "-q", "-f", "%U %S %M", "-o", told.name, *words], stdout=subprocess.PIPE, check=False)
+        done = subprocess.run(["/usr/bin/time", "-q", "-f", "%U %S %M", "-o", told.name, *words], stdout=subprocess.PIPE, env=os.environ | GIVEN_BACK, check=False)
         user, system, memory = told.read().split()
     return float(user) + float(system), int(memory) * 1024 / 1e6, done.stdout.decode().strip()
 
@@ -112,7 +116,7 @@ class Measured:
 
 def main():
     program, folder, *more = sys.argv[1:]
-    scale, *limits = [*map(float, more), *(100, 5, 120)[len(more) :]]
+    scale, *limits = [*map(float, more), *(100, 5, 75)[len(more) :]]
     with tempfile.TemporaryDirectory(dir=folder) as work:
         measured = Measured(os.path.abspath(program), work, limits)
         for each in pairs(scale):

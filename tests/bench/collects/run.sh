@@ -1,6 +1,6 @@
 #!/bin/bash
 # Measures `plan-collect` and `embed-collect` of files with long stores and with many manifests. Fails where one takes more than 5 s of processor time or
-# 120 MB, or where an answer or a new file is another than it must be.
+# 75 MB, or where an answer or a new file is another than it must be.
 #
 #   run.sh [SCALE [PROGRAM]]      SCALE is in percent of the full sizes; without a program, ./c2 of the checkout is built
 set -eu
