@@ -4,9 +4,10 @@
     imports.py            a line for each such name: its file, its line and the name; then how many there are. Ends with 1 where there is one
 
 A name of a `use` (of code, and of a `ghost use`) counts as used where it stands anywhere else in its file outside comments. An operator, whose places for
-what it joins are written as circles, counts as used where its signs stand.
+what it joins are written as circles, counts as used where its signs stand; and a trait of the crates where one of its methods is called.
 """
 
+import glob
 import os
 import re
 import sys
@@ -14,6 +15,8 @@ import sys
 TOP = os.path.join(os.path.dirname(os.path.abspath(__file__)), "..")
 USE = re.compile(r"(?m)^[ ]*(?:pub )?(?:ghost )?use ([^;{\n]*(?:\{[^}]*\})?[^;{\n]*);?[ ]*$")
 WORD = r"[\w']"
+TRAIT = re.compile(r"(?m)^pub trait (\w+).*\n((?:(?!\}).*\n)*)")
+METHOD = re.compile(r"(?m)^    fn (\w+)")
 
 
 def names_of(text):
@@ -34,6 +37,19 @@ def uses(name, text):
     return name in text
 
 
+def methods_of_traits():
+    """The methods of each public trait of the crates."""
+    found = {}
+    for path in sorted(glob.glob(os.path.join(TOP, "crates", "*", "src", "**", "*.rt"), recursive=True)):
+        with open(path, encoding="utf-8") as file:
+            for name, body in TRAIT.findall(file.read()):
+                found[name] = METHOD.findall(body)
+    return found
+
+
+METHODS = methods_of_traits()
+
+
 def unused(path):
     with open(path, encoding="utf-8") as file:
         text = file.read()
@@ -44,7 +60,8 @@ def unused(path):
         if found.group(0).startswith("pub use"):
             continue
         for name in names_of(found.group(1)):
-            if name not in ("self", "*", "_") and not uses(name, rest):
+            called = code and any(f".{method}(" in rest for method in METHODS.get(name, []))
+            if name not in ("self", "*", "_") and not called and not uses(name, rest):
                 yield text.count("\n", 0, found.start()) + 1, name
 
 

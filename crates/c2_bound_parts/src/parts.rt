@@ -163,7 +163,8 @@ fn parts_with<H: Hashing>(
         length: drafted.draft.length,
     };
     let binding = binding_at(alloc, definition.alg, &drafted.seat, range, digest)?;
-    bound_parts(alloc, hashing, definition, &drafted.ground.carried, binding)
+    let carried = &drafted.ground.carried;
+    bound_parts(alloc, hashing, definition, carried, &binding)
 }
 
 /// The parts of a new manifest over a media file, whose base is digested through a buffer that isn't empty. `ReadFault` comes only where the

@@ -180,7 +180,7 @@ met_over l hash said media d fresh g p bytes message read digests m h w few can 
       older = [];
       asked = (absent, opened_absent media m, refl);
       approved = tt;
-      meets = l.fresh hash g.content message g.base bytes p read digests (subst IsFresh (sym own) (record { carried = refl; parent = refl; redact = no_redactions l.first d is.0 }))
+      meets = l.fresh hash g.content message g.base bytes p read digests (subst IsFresh (sym own) (record { carried = refl; ingredients = refl; redact = no_redactions l.first d is.0 }))
           (subst (λ (c : Content). CanBeWritten c.definition) (sym own) w) can spelled put;
     }
 met_over l hash said media d (stored start len t) g p bytes message read digests m h w few can spelled put =

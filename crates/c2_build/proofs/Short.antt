@@ -1,7 +1,8 @@
 -- How long the new store of a ground is: 64 bits hold its length, as what it carries of an older store has no more bytes than that store.
-use Rattle.std.proofs.Common.{◌≡◌, ℕ, zero, suc, ◌+◌, ◌-◌, ◌*◌, ◌^◌, ◌<◌, ◌≤◌, Bool, true, false, List, [], ◌∷◌, ◌++◌, length, Option, Some, slice_get, sym, ap, subst, arith, lit≤, length-append}
+use Rattle.std.proofs.Common.{◌≡◌, ℕ, zero, suc, ◌+◌, ◌-◌, ◌*◌, ◌≤◌, Bool, true, false, List, [], ◌∷◌, ◌++◌, length, Option, Some, slice_get, sym, ap, subst, arith, lit≤, length-append}
 use Rattle.std.specs.Bool.{MatchBool}
-use Rattle.std.specs.Prelude.{IfSome, Ok}
+use Rattle.std.specs.List.{AllByRecursion}
+use Rattle.std.specs.Prelude.{Ok}
 use Rattle.std.proofs.lemmas.Option.{same_Some}
 use Rattle.c2_base.specs.declared.limits.TheConstants.{MAX_STORE_LEN}
 use Rattle.c2_base.specs.declared.values.Question.{Question}
@@ -22,7 +23,9 @@ use Rattle.c2_definition.specs.DefinitionFile.{IsDefinition}
 use Rattle.c2_definition.specs.declared.types.Definition.{Definition}
 use Rattle.c2_built.specs.Fresh.{fresh_content}
 use Rattle.c2_built.specs.Manifests.{supers_in}
-use Rattle.c2_built.specs.Store.{Content, Parent}
+use Rattle.c2_built.specs.Store.{Content, NewIngredient}
+use Rattle.c2_built.specs.Written.{AreIngredients}
+use Rattle.c2_built.proofs.Ingredients.{no_ingredients, parent_alone}
 use Rattle.c2_carried.specs.Parents.{IsContentOver}
 use Rattle.c2_carried.specs.Redacting.{boxes_in, redacted_boxes}
 use Rattle.c2_lengths.specs.Lengths.{Fits, IsShortOver, StoresFit}
@@ -91,10 +94,11 @@ over_short : (media : List ℕ) (start len : ℕ) (t : Tree) (d : Definition) (c
 over_short media start len t d c opened over =
     let last = over.is_parent in
     let small : length (trees_bytes c.carried) ≤ MAX_STORE_LEN = omega (arith, ap (λ (ts : Trees). length (trees_bytes ts)) over.carried, carried_small media start len t opened d.redact) in
-    let label : length over.parent.label ≤ MAX_STORE_LEN = omega (arith, label_within last.active over.parent.label last.label, manifest_within c.carried _ last.active last.is_active, small) in
+    let label : length over.parent.label ≤ 2 * MAX_STORE_LEN = omega (arith, label_within last.active over.parent.label last.label, manifest_within c.carried _ last.active last.is_active, small) in
     record {
       boxes = omega (arith, small);
-      parent = subst (λ (o : Option Parent). IfSome o (λ p. length p.label ≤ MAX_STORE_LEN)) (sym over.has_parent) label;
+      ingredients = subst AreIngredients (sym over.ingredients) (parent_alone over.parent);
+      labels = subst (AllByRecursion (λ (g : NewIngredient). length g.of.label ≤ 2 * MAX_STORE_LEN)) (sym over.ingredients) (label, tt);
     }
 
 -- so 64 bits hold the length of the new store of a ground, where a file is the definition
@@ -102,7 +106,7 @@ ground_fits : StoresFit → (hash : Alg → List ℕ → List ℕ) (said : Quest
 ground_fits law hash said media d fresh g of_file m h =
     let is = unless_passed (first_refusal (redaction_tests d [])) (λ r. r ≡ Ok (fresh_ground media d)) g h in
     let same : fresh_ground media d ≡ g = cc (is.1) in
-    subst (λ (x : Ground). Fits x.content) same (law of_file.0 (fresh_content d) of_file.1 (record { boxes = lit≤ tt; parent = tt }))
+    subst (λ (x : Ground). Fits x.content) same (law of_file.0 (fresh_content d) of_file.1 (record { boxes = lit≤ tt; ingredients = no_ingredients; labels = tt }))
 ground_fits law hash said media d (stored start len t) g of_file m h =
     let is = unless_passed (first_refusal (older_tests d h.0.readings (first_failing (check_list hash said h.0)))) (IsGroundOver media d start len t h.0.readings) g h.2 in
     let over : IsContentOver d t is.1.0 = is.1.1 in

@@ -38,7 +38,7 @@ use Rattle.c2_built.specs.Built.{HasDigestLen, no_digest}
 use Rattle.c2_built.specs.Fresh.{GivesDigests, Meets, fresh_content}
 use Rattle.c2_built.specs.FreshBoxes.{contents_of, item_box, store_box}
 use Rattle.c2_built.specs.Manifests.{manifest_of}
-use Rattle.c2_built.specs.Store.{Content, Parent, data_binding, new_alg, new_manifest}
+use Rattle.c2_built.specs.Store.{Content, NamedManifest, data_binding, new_alg, new_manifest, parent_ingredient}
 use Rattle.c2_built.specs.Written.{HasTexts}
 use Rattle.c2_built.proofs.ByIndex.{same_manifests}
 use Rattle.c2_built.proofs.StoreSize.{store_len as store_len_is}
@@ -160,19 +160,19 @@ range_of (in_segments segments number) size = segments_len size
 range_of (in_boxes roots) size = c2pa_frame_len + size
 
 -- a parent with the first label, of which nothing else counts for lengths
-abbrev any_parent : Parent
+abbrev any_parent : NamedManifest
 any_parent = record { label = defined.label; contents = []; signed = [] }
 
 -- what goes into a store with this parent, over this manifest
-abbrev content : Parent → Tree → Content
-content p m = record { definition = second; carried = more m none; parent = Some p }
+abbrev content : NamedManifest → Tree → Content
+content p m = record { definition = second; carried = more m none; ingredients = parent_ingredient p ∷ [] }
 
 -- the first manifest without digests
 abbrev first_manifest : NewAssertion → Tree
 first_manifest b = new_manifest (no_digest Sha256) first b (replicate 64 0)
 
 -- the second manifest without digests, which doesn't depend on what is carried
-abbrev second_manifest : NewAssertion → Parent → Tree → Tree
+abbrev second_manifest : NewAssertion → NamedManifest → Tree → Tree
 second_manifest b p m = new_manifest (no_digest Sha256) (content p m) b (replicate 64 0)
 
 -- how many bytes the second store has
@@ -219,7 +219,7 @@ record IsFirst (hash : Alg → List ℕ → List ℕ) (file : List ℕ) (p : Pla
 older_meets : OverLaws → (hash : Alg → List ℕ → List ℕ) → GivesDigests hash → {film : Bool} {file : List ℕ} {p : Place} → IsWorked film file p → (padded bytes : List ℕ) (f : IsFirst hash file p padded bytes)
     → Meets hash (place_file file p bytes) (place_start p) (range_len p first (length padded)) (older (hash Sha256) padded file p) (place_question (hash Sha256) first (length padded) file p (padded_read parts (fill_pairs f.signed.fill)) ∷ [])
 older_meets l hash digests {film} {file} {p} w padded bytes f =
-    l.meets hash first padded file bytes p (padded_read parts (fill_pairs f.signed.fill)) digests (record { carried = refl; parent = refl; redact = refl })
+    l.meets hash first padded file bytes p (padded_read parts (fill_pairs f.signed.fill)) digests (record { carried = refl; ingredients = refl; redact = refl })
     (record { formed = l.formed definition_file defined is_defined; texts = texts }) (can_put w padded f.signed.filled) f.signed.spelled f.put
 
 -- ---- its check
@@ -259,7 +259,7 @@ abbrev signature : List ℕ → Tree
 signature padded = item_box (codes "c2cs") (codes "c2pa.signature") padded
 
 -- the parent, as it stands in the new store
-abbrev parent : (List ℕ → List ℕ) → List ℕ → List ℕ → Place → Parent
+abbrev parent : (List ℕ → List ℕ) → List ℕ → List ℕ → Place → NamedManifest
 parent hash padded file p = record { label = defined.label; contents = contents_of (manifest hash padded file p); signed = contents_of (signature padded) }
 
 -- what goes into the second store
@@ -276,7 +276,7 @@ is_over hash padded file p = record {
   definition = refl;
   carried = carried_is hash padded file p;
   parent = parent hash padded file p;
-  has_parent = refl;
+  ingredients = refl;
   is_parent = record { active = manifest hash padded file p; is_active = refl; label = refl; contents = refl; signature = signature padded; is_signature = refl; signed = refl };
 }
 
@@ -293,7 +293,7 @@ range_is (in_segments segments number) c reserve = refl
 range_is (in_boxes roots) c reserve = refl
 
 -- the second manifest's length doesn't depend on the first one's bytes
-second_len : (b : NewAssertion) (p : Parent) (m : Tree) → p.label ≡ defined.label → length (tree_bytes (second_manifest b p m)) ≡ length (tree_bytes (second_manifest b any_parent (first_manifest b)))
+second_len : (b : NewAssertion) (p : NamedManifest) (m : Tree) → p.label ≡ defined.label → length (tree_bytes (second_manifest b p m)) ≡ length (tree_bytes (second_manifest b any_parent (first_manifest b)))
 second_len b p m label = ap (λ (x : List ℕ). length (tree_bytes (second_manifest b (record { label = x; contents = []; signed = [] }) (first_manifest b)))) label
 
 -- the first manifest is as long as one without digests
@@ -311,7 +311,7 @@ over_size : PlaceSizeIsFixed → (hash : Alg → List ℕ → List ℕ) → Give
 over_size law hash digests padded file p filled =
     length_in p (over (hash Sha256) padded file p) 64 ∙ by (no_binding p) (parent (hash Sha256) padded file p) (manifest (hash Sha256) padded file p) refl (first_len law hash digests padded file p filled)
   where
-    by : (b : NewAssertion) (q : Parent) (m : Tree) → q.label ≡ defined.label → length (tree_bytes m) ≡ length (tree_bytes (first_manifest b)) → length (tree_bytes (store_box (more m none) (second_manifest b q m))) ≡ total b
+    by : (b : NewAssertion) (q : NamedManifest) (m : Tree) → q.label ≡ defined.label → length (tree_bytes m) ≡ length (tree_bytes (first_manifest b)) → length (tree_bytes (store_box (more m none) (second_manifest b q m))) ≡ total b
     by b q m label e =
         let all : length (tree_bytes (store_box (more m none) (second_manifest b q m))) ≡ 38 + length (tree_bytes m ++ []) + length (tree_bytes (second_manifest b q m)) = store_len_is (more m none) (second_manifest b q m) in
         let one : length (tree_bytes m ++ []) ≡ length (tree_bytes m) = ap length (append-nil (tree_bytes m)) in

@@ -45,7 +45,7 @@ fn store_len(
     ensures least { IfOk result (λ n. LEAST_STORE_LEN ≤ n) }
 {
     let binding = blank_binding(alloc, definition.alg, seat)?;
-    bound_size(alloc, definition, carried, binding)
+    bound_size(alloc, definition, carried, &binding)
 }
 
 /// The numbers of a new file over a ground, at a place that was found in a base of so many bytes, where no test on them refuses it.

@@ -7,13 +7,11 @@ use Rattle.c2_spec.specs.Located.{Opening, absent, here, refused}
 use Rattle.c2_spec.specs.declared.digest.Alg.{Alg}
 use Rattle.c2_spec.specs.declared.panel.Verdict.{Verdict}
 use Rattle.c2_rules.specs.Opened.{IsOpened}
-use Rattle.c2_built.specs.Fresh.{GivesDigests}
 use Rattle.c2_built.specs.Store.{Content, new_alg}
 use Rattle.c2_cleared.specs.Clears.{cleared}
 use Rattle.c2_definition.specs.declared.types.Definition.{Definition}
 use Rattle.c2_places.specs.Laws.{LeftHasContainer}
 use Rattle.c2_places.specs.Places.{IsFreePlace, IsPlace, Place, store_len}
-use Rattle.c2_collected.specs.Files.{collected_content}
 use Rattle.c2_collected.specs.Lengths.{CollectedStoresFit}
 use Rattle.c2_collected.specs.Order.{FilePair, IsMediaFile, MediaFile, pair_readings}
 use Rattle.c2_collected.specs.Outcomes.{CollectGround, IsGroundStage, IsPairStage}
@@ -25,15 +23,14 @@ use Rattle.c2_refusals.specs.Seats.{IsForm, IsSeat}
 use Rattle.c2_refusals.specs.declared.error.BuildError.{BuildError}
 use Rattle.c2_refusals.specs.declared.types.Draft.{Draft}
 use Rattle.c2_refusals.specs.declared.types.FileForm.{FileForm}
+use Rattle.c2_refusals.specs.declared.types.KeptGround.{KeptGround}
 use Rattle.c2_refusals.specs.declared.types.Seat.{Seat}
 use Rattle.c2_refusals.proofs.Outside.{outside_map}
 use Rattle.c2_place.specs.Spots.{HasSeat, TellsNoPlace}
 use Rattle.c2_in_place.specs.Numbers.{HasLen, IsDraft, IsOfFile}
 use Rattle.c2_in_place.proofs.Stored.{form_moves, numbered, place_len}
 use Rattle.c2_collect_ground.specs.Grounds.{IsCollectedGround}
-use Rattle.c2_collect_ground.specs.declared.types.CollectedGround.{CollectedGround}
-use Rattle.c2_build_collect.specs.Steps.{IsContentOf, IsDrafted, IsRefusedDraft}
-use Rattle.c2_build_collect.proofs.Contents.{content_is}
+use Rattle.c2_build_collect.specs.Steps.{IsDrafted, IsRefusedDraft}
 use Rattle.c2_build_collect.proofs.Refused.{numbers_passed, numbers_refused}
 
 -- ---- what is left of the media
@@ -44,7 +41,7 @@ left_form law hash said file (refused reason number) m f opened is form = absurd
 left_form law hash said file absent m f opened is form = subst (λ (x : MediaFile). IsForm x.base f) (sym is) form
 left_form law hash said file (here start len t) m f opened is form = form_moves f file m.base (law file start len t m.base opened is.left) form
 
-module _ (hash : Alg → List ℕ → List ℕ) (said : Question → Verdict) (media other : List ℕ) (what : Opening Tree) (d : Definition) (k : CollectedGround) (p : FilePair)
+module _ (hash : Alg → List ℕ → List ℕ) (said : Question → Verdict) (media other : List ℕ) (what : Opening Tree) (d : Definition) (k : KeptGround) (p : FilePair)
     (opened : IsOpened media what) (stage : collect.IsMediaStage media (Ok what)) (pair : IsPairStage hash said media other what d (Ok p)) (is : IsCollectedGround (hash (new_alg d)) media d k p) where
   -- it has the form of the media
   pub ground_form : LeftHasContainer → (f : FileForm) → IsForm media f → IsForm (cleared k.clearing media) f
@@ -59,7 +56,7 @@ module _ (hash : Alg → List ℕ → List ℕ) (said : Question → Verdict) (m
 -- ---- the place
 
 -- What was found over two files: what is built over, and a place in what is left of the media.
-pub record IsPlaced (hash : Alg → List ℕ → List ℕ) (said : Question → Verdict) (media other : List ℕ) (what : Opening Tree) (d : Definition) (k : CollectedGround) (s : Seat) (size : ℕ) : Type 0 where
+pub record IsPlaced (hash : Alg → List ℕ → List ℕ) (said : Question → Verdict) (media other : List ℕ) (what : Opening Tree) (d : Definition) (k : KeptGround) (s : Seat) (size : ℕ) : Type 0 where
   pub pair : FilePair
   pub stage : IsPairStage hash said media other what d (Ok pair)
   pub is : IsCollectedGround (hash (new_alg d)) media d k pair
@@ -69,7 +66,7 @@ pub record IsPlaced (hash : Alg → List ℕ → List ℕ) (said : Question → 
   pub size_is : size ≡ length pair.media.base
 
 -- so it is found
-pub placed : (hash : Alg → List ℕ → List ℕ) (said : Question → Verdict) (media other : List ℕ) (what : Opening Tree) (d : Definition) (k : CollectedGround) (s : Seat) (size : ℕ) (p : FilePair)
+pub placed : (hash : Alg → List ℕ → List ℕ) (said : Question → Verdict) (media other : List ℕ) (what : Opening Tree) (d : Definition) (k : KeptGround) (s : Seat) (size : ℕ) (p : FilePair)
     → IsPairStage hash said media other what d (Ok p) → IsCollectedGround (hash (new_alg d)) media d k p → HasSeat (cleared k.clearing media) s → size ≡ length (cleared k.clearing media)
     → IsPlaced hash said media other what d k s size
 placed hash said media other what d k s size p stage is seat long = record {
@@ -82,14 +79,14 @@ placed hash said media other what d k s size p stage is seat long = record {
   size_is = long ∙ ap length (sym is.base);
 }
 
-module _ (hash : Alg → List ℕ → List ℕ) (said : Question → Verdict) (media other : List ℕ) (what : Opening Tree) (d : Definition) (k : CollectedGround) (s : Seat) (size : ℕ) (at : IsPlaced hash said media other what d k s size) where
+module _ (hash : Alg → List ℕ → List ℕ) (said : Question → Verdict) (media other : List ℕ) (what : Opening Tree) (d : Definition) (k : KeptGround) (s : Seat) (size : ℕ) (at : IsPlaced hash said media other what d k s size) where
   -- what the new file is built of
   abbrev ground_at : CollectGround
   ground_at = record { pair = at.pair; content = at.is.content; place = at.place }
 
   -- what goes into its store
   abbrev content_at : Content
-  content_at = collected_content hash at.is.content
+  content_at = at.is.content
 
   -- which the definition gives, whose place is the media's
   stage_at : IsGroundStage d at.pair (Ok ground_at)
@@ -97,7 +94,7 @@ module _ (hash : Alg → List ℕ → List ℕ) (said : Question → Verdict) (m
 
   -- so many bytes are reserved for its message
   room_at : d.reserve ≡ content_at.definition.reserve
-  room_at = ap (λ (x : Definition). x.reserve) (sym at.is.gathered.definition)
+  room_at = ap (λ (x : Definition). x.reserve) (sym at.is.is.definition)
 
   -- no test fails on its numbers
   pub place_passed : (f : Draft) → first_refusal (number_tests size k.manifests content_at at.place) ≡ None → IsDraft content_at s size f → IsDrafted hash said media other what d (record { ground = k; seat = s; draft = f })
@@ -110,7 +107,7 @@ module _ (hash : Alg → List ℕ → List ℕ) (said : Question → Verdict) (m
     };
     over = record {
       base = at.is.base;
-      gathered = at.is.gathered;
+      content = at.is.is;
       place = at.is_place;
       seat = at.seat;
       numbers = numbered content_at s size f at.pair.media.base at.place draft at.is_place at.seat;
@@ -128,12 +125,8 @@ module _ (hash : Alg → List ℕ → List ℕ) (said : Question → Verdict) (m
       )) h
 
   -- 64 bits hold its length, where a file is the definition
-  pub content_len : CollectedStoresFit → GivesDigests hash → IsOfFile d → collect.IsMediaStage media (Ok what) → HasLen s content_at
-  content_len law digests of_file stage =
+  pub content_len : CollectedStoresFit → IsOfFile d → collect.IsMediaStage media (Ok what) → HasLen s content_at
+  content_len law of_file stage =
       let pair = pair_passed hash said media other what d at.pair stage at.stage in
-      let fits = law hash said media of_file.0 other d at.pair at.is.content at.place digests of_file.1 pair.is_pair at.is.collects in
+      let fits = law hash said media of_file.0 other d at.pair at.is.content at.place of_file.1 pair.is_pair at.is.collects in
       place_len s at.place content_at at.seat (subst (λ (n : ℕ). store_len at.place content_at n < 2 ^ 64 - 1) room_at fits)
-
-  -- what goes into it is kept
-  pub content_kept : IsContentOf d k content_at
-  content_kept = content_is hash d k at.is.content at.is.gathered

@@ -1,6 +1,5 @@
 mod Stages
 mod Refused
-mod Contents
 mod Drafts
 mod Planned
 mod Due

@@ -1,42 +1,38 @@
 -- For private clauses: what the steps of a build come to whose new store collects from two files.
-use Rattle.std.specs.Prelude.{◌≡◌, ◌⊎◌, ℕ, ◌≤◌, List, [], ◌∷◌, All, IfOk, OnOk, length}
+use Rattle.std.specs.Prelude.{◌≡◌, ◌⊎◌, ℕ, List, [], ◌∷◌, IfOk, OnOk, length}
 use Rattle.std.specs.declared.option.Option.{Option}
 use Rattle.std.specs.declared.result.Result.{Result}
 use Rattle.std.specs.declared.result.Result.TheVariants.{Ok, Err}
 use Rattle.std.specs.Option.{ForSome}
-use Rattle.c2_base.specs.declared.limits.TheConstants.{MAX_STORE_LEN}
 use Rattle.c2_base.specs.declared.values.Question.{Question}
-use Rattle.c2_spec.specs.Digest.{digest_len}
-use Rattle.c2_spec.specs.Jumbf.Tree.{Tree, trees_bytes}
+use Rattle.c2_spec.specs.Jumbf.Tree.{Tree}
 use Rattle.c2_spec.specs.Located.{Opening}
 use Rattle.c2_spec.specs.declared.digest.Alg.{Alg}
 use Rattle.c2_spec.specs.declared.panel.Verdict.{Verdict}
 use Rattle.c2_definition.specs.DefinitionFile.{IsWellFormed}
 use Rattle.c2_definition.specs.declared.types.Definition.{Definition}
-use Rattle.c2_built.specs.Store.{Content, new_alg}
+use Rattle.c2_built.specs.Store.{new_alg}
 use Rattle.c2_cleared.specs.Clears.{cleared, cleared_len}
-use Rattle.c2_layout.specs.Parts.{AreParts, HasFurther, HasWrittenLabel}
-use Rattle.c2_layout.specs.declared.parts.NewParts.{NewParts}
-use Rattle.c2_places.specs.Places.{IsPlace, Place, bound_text}
+use Rattle.c2_layout.specs.Parts.{IsContent}
+use Rattle.c2_places.specs.Places.{IsPlace}
 use Rattle.c2_collected.specs.Order.{CollectRefusal}
-use Rattle.c2_collected.specs.Outcomes.{CollectGround, IsCollectMade, IsGroundStage, IsPairStage, IsPutIn, NewFile, ground_content, ground_refusals, new_file}
+use Rattle.c2_collected.specs.Outcomes.{CollectGround, IsCollectMade, IsGroundStage, IsPairStage, IsPutIn, NewFile, ground_refusals, new_file}
 use Rattle.c2_container.specs.Contained.{HasRootsInside}
 use Rattle.c2_refusals.specs.Kinds.{WithoutFault}
-use Rattle.c2_refusals.specs.Seats.{IsSeat, IsSeatIn}
+use Rattle.c2_refusals.specs.Seats.{IsSeat}
 use Rattle.c2_refusals.specs.Stages.{HasTextsIn, MediaKind}
 use Rattle.c2_refusals.specs.declared.error.BuildError.{BuildError}
+use Rattle.c2_refusals.specs.declared.types.Drafted.{Drafted}
 use Rattle.c2_ground.specs.Grounds.{IsFoundIn, IsKind, IsReadIn}
 use Rattle.c2_ground.specs.declared.media.MediaFile.{MediaFile}
 use Rattle.c2_ground.specs.declared.media.MediaRead.{MediaRead}
-use Rattle.c2_bound_parts.specs.Bound.{seat_binding, seat_store_len}
+use Rattle.c2_bound_parts.specs.Bound.{IsSmall}
 use Rattle.c2_in_place.specs.Numbers.{IsNumbered, IsOfFile}
 use Rattle.c2_in_place.specs.Writings.{CanWrite, ready_file}
 use Rattle.c2_in_place.specs.declared.writing.Ready.{Ready}
 use Rattle.c2_collect_ground.specs.Errors.{IsRefusedWith, error_of}
-use Rattle.c2_collect_ground.specs.Grounds.{IsGathered, IsOtherTold, IsParentRefused, opening_of}
-use Rattle.c2_collect_ground.specs.declared.types.CollectedGround.{CollectedGround}
+use Rattle.c2_collect_ground.specs.Grounds.{IsOtherTold, IsParentRefused, opening_of}
 use Rattle.c2_build_collect.specs.Answers.{ForEmbedInputs}
-use Rattle.c2_build_collect.specs.declared.drafting.CollectedDraft.{CollectedDraft}
 use Rattle.c2_build_collect.specs.declared.drafting.DraftedBuild.{DraftedBuild}
 
 -- ---- errors
@@ -70,31 +66,24 @@ abbrev pub LeavesOther : {O : Type 0} → (Alg → List ℕ → List ℕ) → (Q
 LeavesOther hash said media m o o' =
     ForSome media (λ bytes. (kind : MediaKind) → IsKind bytes m kind → IsParentRefused hash said bytes (opening_of kind) → o' ≡ o)
 
--- ---- what goes into the new store
-
--- This goes into a new store of a definition and of what is kept: its boxes, and the assertions of ingredients.
-pub record IsContentOf (d : Definition) (k : CollectedGround) (c : Content) : Type 0 where
-  pub has : HasFurther d k.further.items c
-  pub boxes : k.boxes ≡ trees_bytes c.carried
-
 -- ---- what is drafted
 
 -- Nothing is refused of a new file over this, whose store collects from these two files, where the media is opened so.
 pub record IsPassed (hash : Alg → List ℕ → List ℕ) (said : Question → Verdict) (media other : List ℕ) (what : Opening Tree) (d : Definition) (g : CollectGround) : Type 0 where
   pub pair : IsPairStage hash said media other what d (Ok g.pair)
   pub stage : IsGroundStage d g.pair (Ok g)
-  pub unrefused : ground_refusals hash d g ≡ []
+  pub unrefused : ground_refusals d g ≡ []
 
 -- What was drafted stands for this: what is left of this media file, what goes into the new store, its place, and the numbers of the new file.
-pub record IsOver (hash : Alg → List ℕ → List ℕ) (media : List ℕ) (d : Definition) (w : CollectedDraft) (g : CollectGround) : Type 0 where
+pub record IsOver (hash : Alg → List ℕ → List ℕ) (media : List ℕ) (d : Definition) (w : Drafted) (g : CollectGround) : Type 0 where
   pub base : g.pair.media.base ≡ cleared w.ground.clearing media
-  pub gathered : IsGathered (hash (new_alg d)) d w.ground g.content
+  pub content : IsContent (hash (new_alg d)) d w.ground.carried g.content
   pub place : IsPlace g.pair.media.base g.place
   pub seat : IsSeat w.seat g.place
-  pub numbers : IsNumbered w.draft (ground_content hash g) g.place
+  pub numbers : IsNumbered w.draft g.content g.place
 
 -- What was drafted over two files, where the media is opened so: nothing is refused.
-pub record IsDrafted (hash : Alg → List ℕ → List ℕ) (said : Question → Verdict) (media other : List ℕ) (what : Opening Tree) (d : Definition) (w : CollectedDraft) : Type 0 where
+pub record IsDrafted (hash : Alg → List ℕ → List ℕ) (said : Question → Verdict) (media other : List ℕ) (what : Opening Tree) (d : Definition) (w : Drafted) : Type 0 where
   pub ground : CollectGround
   pub passed : IsPassed hash said media other what d ground
   pub over : IsOver hash media d w ground
@@ -103,38 +92,27 @@ pub record IsDrafted (hash : Alg → List ℕ → List ℕ) (said : Question →
 abbrev pub IsRefusedDraft : (Alg → List ℕ → List ℕ) → (Question → Verdict) → List ℕ → List ℕ → Opening Tree → Definition → BuildError → Type 0
 IsRefusedDraft hash said media other what d e =
     IsRefusedWith (IsPairStage hash said media other what d) e
-    ⊎ ((g : CollectGround) × IsPairStage hash said media other what d (Ok g.pair) × IsGroundStage d g.pair (Ok g) × IsFirstError (ground_refusals hash d g) e)
+    ⊎ ((g : CollectGround) × IsPairStage hash said media other what d (Ok g.pair) × IsGroundStage d g.pair (Ok g) × IsFirstError (ground_refusals d g) e)
 
 -- what is drafted over two files, or what is refused, where a file is the definition
-abbrev pub IsDraftOf : (Alg → List ℕ → List ℕ) → (Question → Verdict) → List ℕ → List ℕ → Opening Tree → Definition → Result CollectedDraft BuildError → Type 0
+abbrev pub IsDraftOf : (Alg → List ℕ → List ℕ) → (Question → Verdict) → List ℕ → List ℕ → Opening Tree → Definition → Result Drafted BuildError → Type 0
 IsDraftOf hash said media other what d (Ok w) = IsDrafted hash said media other what d w
 IsDraftOf hash said media other what d (Err e) = IsOfFile d → WithoutFault e (IsRefusedDraft hash said media other what d e)
-
--- What was drafted fits a base of this length, whatever is known of both files: the new store isn't too large, the labels of its ingredients may
--- be written, and the place and its first byte lie in the base.
-pub record IsSmall (len : ℕ) (d : Definition) (w : CollectedDraft) : Type 0 where
-  pub content : Content
-  pub is : IsContentOf d w.ground content
-  pub labels : All HasWrittenLabel w.ground.further.items
-  pub small : seat_store_len w.seat content ≤ MAX_STORE_LEN
-  pub size : w.draft.size ≡ len
-  pub inside : w.draft.start ≤ len
-  pub seat : IsSeatIn len w.seat
 
 -- ---- what is drafted with a message
 
 -- What was drafted with a message fits a media file of this length, whatever is known of both files: the definition is well formed, the message fills
 -- what that reserves, and the rest fits what is left of the media.
-pub record FitsMedia (len : ℕ) (b : DraftedBuild) : Type 0 where
+pub record FitsMedia (hash : Alg → List ℕ → List ℕ) (len : ℕ) (b : DraftedBuild) : Type 0 where
   pub formed : IsWellFormed b.definition
-  pub small : IsSmall (cleared_len b.drafted.ground.clearing len) b.definition b.drafted
+  pub small : IsSmall (hash (new_alg b.definition)) (cleared_len b.drafted.ground.clearing len) b.definition b.drafted
   pub filled : length b.message ≡ b.definition.reserve
 
 -- What was drafted over this media file makes a new file that these inputs come to, whatever is put in of its store.
 pub record MakesFile (hash : Alg → List ℕ → List ℕ) (media : List ℕ) (Is : Result NewFile CollectRefusal → Type 0) (b : DraftedBuild) : Type 0 where
   pub ground : CollectGround
   pub over : IsOver hash media b.definition b.drafted ground
-  pub made : (bytes : List ℕ) → IsPutIn hash b.definition ground b.message bytes → Is (Ok (new_file hash ground (length b.message) bytes))
+  pub made : (bytes : List ℕ) → IsPutIn hash b.definition ground b.message bytes → Is (Ok (new_file ground (length b.message) bytes))
 
 -- over inputs that come to something a new file that they come to was drafted over this media file, or the error is that of what is refused first
 abbrev pub IsBuildFor : (Alg → List ℕ → List ℕ) → List ℕ → (Result NewFile CollectRefusal → Type 0) → Result DraftedBuild BuildError → Type 0
@@ -146,17 +124,7 @@ IsBuildFor hash media Is (Err e) = WithoutFault e (IsRefusedWith Is e)
 pub record IsBuildDrafted (hash : Alg → List ℕ → List ℕ) (said : Question → Verdict) (media definition message other : Option (List ℕ)) (len : ℕ) (result : Result DraftedBuild BuildError) : Type 0 where
   pub build : ForEmbedInputs hash said media definition message other (λ file bytes signed others. IsBuildFor hash file (IsCollectMade hash said file bytes signed others) result)
   pub texts : ForSome definition (λ bytes. OnOk result (HasTextsIn bytes))
-  pub fits : IfOk result (FitsMedia len)
-
--- ---- the parts
-
--- The parts of the new manifest, made with a digest that is the one of what is bound of the base, where that is known.
-pub record AreCollectedParts (hash : List ℕ → List ℕ) (known : Option (List ℕ)) (d : Definition) (w : CollectedDraft) (p : NewParts) : Type 0 where
-  pub digest : List ℕ
-  pub sized : length digest ≡ digest_len (new_alg d)
-  pub parts : (c : Content) → HasFurther d w.ground.further.items c
-      → AreParts hash c (seat_binding (new_alg d) w.seat w.draft.start w.draft.length digest) p
-  pub is_digest : ForSome known (λ base. (place : Place) → IsPlace base place → IsSeat w.seat place → digest ≡ hash (bound_text base place))
+  pub fits : IfOk result (FitsMedia hash len)
 
 -- ---- what is ready to be written
 
@@ -170,10 +138,10 @@ pub record IsReady (media : List ℕ) (r : Ready) (b : NewFile) : Type 0 where
 pub record IsPutReady (hash : Alg → List ℕ → List ℕ) (media : List ℕ) (d : Definition) (g : CollectGround) (message : List ℕ) (r : Ready) : Type 0 where
   pub bytes : List ℕ
   pub put : IsPutIn hash d g message bytes
-  pub is : IsReady media r (new_file hash g (length message) bytes)
+  pub is : IsReady media r (new_file g (length message) bytes)
 
 -- so it is ready over whatever was drafted so, where the bytes of the media are known
-abbrev pub IsReadyWith : (Alg → List ℕ → List ℕ) → Option (List ℕ) → Definition → CollectedDraft → List ℕ → Ready → Type 0
+abbrev pub IsReadyWith : (Alg → List ℕ → List ℕ) → Option (List ℕ) → Definition → Drafted → List ℕ → Ready → Type 0
 IsReadyWith hash media d w message r = ForSome media (λ file. (g : CollectGround) → IsOver hash file d w g → IsPutReady hash file d g message r)
 
 -- over inputs that come to something a new file is ready to be written over this media file, or the error is that of what is refused first

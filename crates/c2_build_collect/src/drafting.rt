@@ -1,41 +1,29 @@
 // What is to be built over two files, by what is known before anything is digested.
-ghost use Rattle.std.specs.Prelude.{◌≡◌, IfOk, map};
+ghost use Rattle.std.specs.Prelude.{IfOk, map};
 ghost use Rattle.c2_base.specs.Causes.{Rose};
 ghost use Rattle.c2_base.specs.Source.{ReadsSource};
 ghost use Rattle.c2_spec.specs.Judges.Panel.{panel_says};
 ghost use Rattle.c2_rules.specs.Asking.{HearsPanel};
+ghost use Rattle.c2_built.specs.Store.{new_alg};
 ghost use Rattle.c2_cleared.specs.Clears.{cleared_len};
 ghost use Rattle.c2_refusals.specs.Kinds.{build_heard};
 ghost use Rattle.c2_ground.specs.Grounds.{IsReadIn};
 ghost use Rattle.c2_collect_ground.specs.Grounds.{IsGroundCause, PairHears};
-ghost use Rattle.c2_build_collect.specs.Steps.{ForFiles, IsDraftOf, IsSmall, LeavesOther};
+ghost use Rattle.c2_bound_parts.specs.Bound.{IsSmall};
+ghost use Rattle.c2_build_collect.specs.Steps.{ForFiles, IsDraftOf, LeavesOther};
 
 use crate::sizes::numbers_of;
 use c2_base::{Blob, Source};
-use c2_collect_ground::{CollectedGround, Collector};
+use c2_collect_ground::Collector;
 use c2_collected::the_length_of_a_collected_store_fits;
 use c2_definition::Definition;
 use c2_ground::{MediaRead, form_of};
 use c2_hash::Hashing;
 use c2_judge::Judge;
-use c2_layout::ingredient_labels_may_be_written;
 use c2_place::find_spot;
 use c2_places::each_media_has_a_place;
-use c2_refusals::{BuildError, Draft, Seat};
+use c2_refusals::{BuildError, Drafted};
 use std::alloc::Global;
-
-/// What is to be built, and over what.
-#[derive(Debug, Drop)]
-pub(crate) struct CollectedDraft {
-    /// What it is built over.
-    pub(crate) ground: CollectedGround,
-
-    /// The place in what is left of the media.
-    pub(crate) seat: Seat,
-
-    /// Its numbers.
-    pub(crate) draft: Draft,
-}
 
 /// What is to be built, with a message: all that a new file is made of besides the media, and nothing that was opened.
 #[derive(Debug, Drop)]
@@ -44,7 +32,7 @@ pub(crate) struct DraftedBuild {
     pub(crate) definition: Definition,
 
     /// What is to be built, and over what.
-    pub(crate) drafted: CollectedDraft,
+    pub(crate) drafted: Drafted,
 
     /// The message, padded to what the definition reserves for it.
     pub(crate) message: Blob,
@@ -73,7 +61,7 @@ impl<'b, 't, H: Hashing> Build<'b, 't, H> {
         media: &mut A,
         other: &mut D,
         judges: &mut Vec<Box<dyn Judge>>,
-    ) -> Result<CollectedDraft, BuildError>
+    ) -> Result<Drafted, BuildError>
         requires { IsReadIn (A.len media.old) self.now.file.now }
         ensures drafted { let said = panel_says (map says judges.old.items) in
             let d = self.now.definition in
@@ -82,8 +70,9 @@ impl<'b, 't, H: Hashing> Build<'b, 't, H> {
         ensures not_due { let said = panel_says (map says judges.old.items) in
             LeavesOther H.digest_of said (A.known media.old) self.now.file.now
             other.old other.new }
-        ensures small { IfOk result (λ w. IsSmall
-            (cleared_len w.ground.clearing (A.len media.old)) self.now.definition w) }
+        ensures small { let d = self.now.definition in
+            IfOk result (λ w. IsSmall (H.digest_of (new_alg d))
+            (cleared_len w.ground.clearing (A.len media.old)) d w) }
         ensures media { ReadsSource A.len A.known A.faults
             (IsGroundCause (Rose (D.faults other.old) (D.faults other.new)))
             media.old media.new result }
@@ -96,7 +85,6 @@ impl<'b, 't, H: Hashing> Build<'b, 't, H> {
     {
         // Only the prover needs these laws.
         each_media_has_a_place();
-        ingredient_labels_may_be_written();
         the_length_of_a_collected_store_fits();
         let form = form_of(self.file.container);
         let collector = Collector {
@@ -114,7 +102,7 @@ impl<'b, 't, H: Hashing> Build<'b, 't, H> {
             Err(error) => return Err(error),
         };
         match numbers_of(self.alloc, &self.definition, &ground, &spot) {
-            Ok(draft) => Ok(CollectedDraft {
+            Ok(draft) => Ok(Drafted {
                 ground,
                 seat: spot.seat,
                 draft,

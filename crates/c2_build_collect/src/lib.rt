@@ -8,7 +8,6 @@
 mod asking;
 mod drafting;
 mod embedding;
-mod parts;
 mod planning;
 mod ready;
 mod sizes;

@@ -1,5 +1,5 @@
 // What is to be signed of a new manifest whose store collects.
-ghost use Rattle.std.specs.Prelude.{◌≡◌, ◌⊎◌, map};
+ghost use Rattle.std.specs.Prelude.{◌⊎◌, map};
 ghost use Rattle.c2_base.specs.Causes.{Rose};
 ghost use Rattle.c2_base.specs.Source.{ReadsSource};
 ghost use Rattle.c2_spec.specs.Judges.Panel.{panel_says};
@@ -13,10 +13,10 @@ ghost use Rattle.c2_build_collect.specs.Answers.{AsksPlanned, ForPlanInputs, Lea
 ghost use Rattle.c2_build_collect.specs.Steps.{ForFiles, IsBuildRead, IsFileFound, LeavesOther};
 
 use crate::drafting::Build;
-use crate::parts::collected_parts;
 use crate::ready::Builder;
 use c2_base::limits::PIECE_LEN;
 use c2_base::{Blob, NoMemory, Source};
+use c2_bound_parts::parts_for;
 use c2_definition::each_definition_is_read_one_way;
 use c2_ground::{open_media, read_media};
 use c2_hash::Hashing;
@@ -61,7 +61,7 @@ impl<'b, 't, H: Hashing> Build<'b, 't, H> {
         let Ok(mut buf) = vec![in self.alloc; 0u8; PIECE_LEN] else {
             return Err(BuildError::NoMemory);
         };
-        let parts = match collected_parts(
+        let parts = match parts_for(
             self.alloc,
             self.hashing,
             media,

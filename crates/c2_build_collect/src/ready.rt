@@ -16,9 +16,9 @@ ghost use Rattle.c2_build_collect.specs.Answers.{AsksEmbedded, IsPrepareCause, L
 ghost use Rattle.c2_build_collect.specs.Steps.{FitsMedia, ForFiles, IsBuildDrafted, IsBuildFor, IsBuildRead, IsFileFound, IsReadyWith, LeavesOther};
 
 use crate::drafting::{Build, DraftedBuild};
-use crate::parts::collected_parts;
 use c2_base::limits::PIECE_LEN;
 use c2_base::{NoMemory, Source};
+use c2_bound_parts::parts_for;
 use c2_built::a_new_store_has_one_length;
 use c2_cbor::one_item;
 use c2_definition::each_definition_is_read_one_way;
@@ -27,7 +27,7 @@ use c2_ground::{MediaFile, read_media};
 use c2_hash::Hashing;
 use c2_in_place::Ready;
 use c2_judge::Judge;
-use c2_layout::gathered_store;
+use c2_layout::new_store;
 use c2_message::{
     a_message_fills_its_reserve_or_needs_more, each_message_is_accepted_or_refused_for_one_test,
 };
@@ -67,7 +67,7 @@ impl<'h, H: Hashing> Maker<'h, H> {
         media: &mut A,
         build: DraftedBuild,
     ) -> Result<Ready, BuildError>
-        requires { FitsMedia (A.len media.old) build }
+        requires { FitsMedia H.digest_of (A.len media.old) build }
         ensures ready { IfOk result (IsReadyWith H.digest_of (A.known media.old)
             build.definition build.drafted build.message) }
         ensures nothing { IfErr result SaysNothing }
@@ -84,20 +84,12 @@ impl<'h, H: Hashing> Maker<'h, H> {
             return Err(BuildError::NoMemory);
         };
         // Matched and not handed up by `?`, here and below: each way out has clauses of its own.
-        let parts = match collected_parts(
-            alloc,
-            self.hashing,
-            media,
-            definition,
-            drafted,
-            &mut buffer,
-        ) {
+        let parts = match parts_for(alloc, self.hashing, media, definition, drafted, &mut buffer) {
             Ok(parts) => parts,
             Err(error) => return Err(error),
         };
-        let boxes = drafted.ground.boxes.as_slice();
         let message = build.message.as_slice();
-        match gathered_store(alloc, definition, boxes, &parts, message) {
+        match new_store(alloc, definition, &drafted.ground.carried, &parts, message) {
             Ok(store) => Ok(Ready {
                 store,
                 draft: drafted.draft,
@@ -129,7 +121,7 @@ impl<'b, 't, H: Hashing> Build<'b, 't, H> {
         ensures not_due { let said = panel_says (map says judges.old.items) in
             LeavesOther H.digest_of said (A.known media.old) self.entry.file.now
             other.old other.new }
-        ensures fits { IfOk result (FitsMedia (A.len media.old)) }
+        ensures fits { IfOk result (FitsMedia H.digest_of (A.len media.old)) }
         ensures media { ReadsSource A.len A.known A.faults
             (IsPrepareCause (Rose (D.faults other.old) (D.faults other.new)))
             media.old media.new result }

@@ -1,8 +1,7 @@
 -- What is answered, and what is written, once a new file is ready or isn't.
-use Rattle.std.proofs.Common.{◌≡◌, inl, inr, ℕ, ◌<◌, Bool, List, [], length, Option, refl, sym, ap, ◌∙◌, subst, append-nil}
+use Rattle.std.proofs.Common.{◌≡◌, inl, inr, ℕ, ◌<◌, Bool, List, length, Option, refl, sym, ap, ◌∙◌, subst}
 use Rattle.std.specs.Prelude.{Result, Ok, Err}
-use Rattle.std.specs.declared.option.Option.TheVariants.{Some, None}
-use Rattle.c2_base.specs.Sink.{then_written}
+use Rattle.std.specs.declared.option.Option.TheVariants.{Some}
 use Rattle.c2_spec.specs.Jumbf.Tree.{Tree}
 use Rattle.c2_spec.specs.Located.{Opening, refused, absent, here}
 use Rattle.c2_spec.specs.declared.digest.Alg.{Alg}
@@ -17,10 +16,9 @@ use Rattle.c2_fronts.specs.Order.{FrontRefusal}
 use Rattle.c2_fronts.specs.Outcomes.{IsFrontMade, IsMadeOver, IsOpenedOnce, NewFile}
 use Rattle.c2_fronts.specs.Outcomes as front
 use Rattle.c2_fronts.proofs.Stages.{passed}
-use Rattle.c2_refusals.specs.Kinds.{ErrorKind, IsSourceCause, kind_of}
+use Rattle.c2_refusals.specs.Kinds.{kind_of}
 use Rattle.c2_refusals.specs.Sinks.{IsOutCause, KindLeaves}
 use Rattle.c2_refusals.specs.declared.error.BuildError.{BuildError}
-use Rattle.c2_refusals.specs.Kinds as kind
 use Rattle.c2_refusals.specs.Stages.{IsDefinitionTold, IsMediaStage, MediaKind, fresh, stored}
 use Rattle.c2_refusals.proofs.Inputs.{OneOpened, not_both_media, told_where_due}
 use Rattle.c2_refusals.specs.declared.types.Embedded.{Embedded}

@@ -1,6 +1,6 @@
 -- The new store of a definition alone, and its length.
 use Rattle.std.specs.Prelude.{Ok}
-use Rattle.std.proofs.Common.{◌≡◌, inr, lit≤, arith, ℕ, ◌+◌, List, [], length, replicate, Option, None, refl, sym, ap, ◌∙◌, subst}
+use Rattle.std.proofs.Common.{◌≡◌, inr, lit≤, arith, ℕ, ◌+◌, List, [], length, replicate, refl, ap, ◌∙◌}
 use Rattle.std.proofs.lemmas.List.{length-replicate}
 use Rattle.c2_spec.specs.Digest.{digest_len}
 use Rattle.c2_spec.specs.Jumbf.Tree.{tree_bytes}
@@ -11,10 +11,10 @@ use Rattle.c2_built.specs.Built.{HasDigestLen, bound_len, no_digest}
 use Rattle.c2_built.specs.Fresh.{fresh_content}
 use Rattle.c2_built.specs.Store.{new_alg, new_store}
 use Rattle.c2_built.specs.Unbound.{IsKnownBinding}
+use Rattle.c2_built.proofs.Ingredients.{no_ingredients}
 use Rattle.c2_films.specs.Films.{FilmSizeIsFixed, film_binding, film_store_size}
-use Rattle.c2_layout.specs.Parts.{HasRefs, IsContent}
+use Rattle.c2_layout.specs.Parts.{IsContent}
 use Rattle.c2_layout.specs.declared.carried.Carried.{Carried}
-use Rattle.c2_layout.specs.declared.carried.ParentRefs.{ParentRefs}
 use Rattle.c2_lengths.specs.Lengths.{StoresFit}
 use Rattle.c2_fronts.proofs.SomeOutcome.{defined_of}
 use Rattle.c2_refusals.specs.Stages.{IsDefinitionStage}
@@ -22,8 +22,8 @@ use Rattle.c2_build_front.proofs.Stages.{defined_as}
 use Rattle.c2_build_front.specs.Steps.{HasSize, store_size}
 
 -- the content of a definition alone
-pub fresh_is : (hash : List ℕ → List ℕ) (d : Definition) (k : Carried) → k.boxes ≡ [] → k.parent ≡ None → IsContent hash d k (fresh_content d)
-fresh_is hash d k boxes parent = record { definition = refl; boxes = boxes; parent = subst (λ (o : Option ParentRefs). HasRefs hash None o) (sym parent) tt }
+pub fresh_is : (hash : List ℕ → List ℕ) (d : Definition) (k : Carried) → k.boxes ≡ [] → k.ingredients.items ≡ [] → HasDigestLen (new_alg d) hash → IsContent hash d k (fresh_content d)
+fresh_is hash d k boxes ingredients digests = record { definition = refl; boxes = boxes; assertions = ingredients; ingredients = no_ingredients; digests = digests }
 
 -- its binding is of a kind that is known
 pub known_binding : (alg : Alg) (digest : List ℕ) → IsKnownBinding (film_binding alg digest)
@@ -46,4 +46,4 @@ sized_is boxes parts size none all = omega (arith, none, all)
 
 -- 64 bits hold the length of the new store of a definition that a file is
 pub has_size : StoresFit → (file : List ℕ) (d : Definition) → IsDefinitionStage file (Ok d) → HasSize d
-has_size law file d stage = (law file (fresh_content d) (defined_of file d (defined_as file d stage)) (record { boxes = lit≤ tt; parent = tt })).film
+has_size law file d stage = (law file (fresh_content d) (defined_of file d (defined_as file d stage)) (record { boxes = lit≤ tt; ingredients = no_ingredients; labels = tt })).film

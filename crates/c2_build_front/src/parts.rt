@@ -46,7 +46,7 @@ fn parts_with<H: Hashing>(
     a_new_film_store_has_one_length();
     let binding = film_binding(alloc, definition.alg, digest.as_slice())?;
     let nothing = Carried::nothing(alloc);
-    bound_parts(alloc, hashing, definition, &nothing, binding)
+    bound_parts(alloc, hashing, definition, &nothing, &binding)
 }
 
 /// The parts of the new manifest of what was drafted over a media file, which is digested once, with moved chunk offsets, through a buffer

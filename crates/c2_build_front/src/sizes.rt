@@ -22,7 +22,7 @@ fn told_store_len(alloc: Global, definition: &Definition) -> Result<u64, NoMemor
     let blank = Digest::zeros(definition.alg);
     let binding = film_binding(alloc, definition.alg, blank.as_slice())?;
     let nothing = Carried::nothing(alloc);
-    bound_size(alloc, definition, &nothing, binding)
+    bound_size(alloc, definition, &nothing, &binding)
 }
 
 /// The length of the new store of a definition, where it isn't too large.

@@ -1,5 +1,5 @@
 -- Worked builds, computed: a definition with one assertion of actions, without a title, and 256 bytes reserved for the message.
-use Rattle.std.proofs.Common.{◌≡◌, ℕ, false, List, [], ◌∷◌, ◌++◌, length, replicate, Some, None, refl, codes}
+use Rattle.std.proofs.Common.{◌≡◌, ℕ, false, List, [], ◌∷◌, ◌++◌, length, replicate, None, refl, codes}
 use Rattle.std.specs.Prelude.{take}
 use Rattle.c2_spec.specs.C2pa.Sign1.{sig_structure}
 use Rattle.c2_spec.specs.Cbor.Deterministic.{shortest_head, deterministic}
@@ -14,7 +14,7 @@ use Rattle.c2_spec.specs.declared.digest.Alg.{Alg}
 use Rattle.c2_spec.specs.declared.digest.Alg.TheVariants.{Sha256, Sha384, Sha512}
 use Rattle.c2_built.specs.Built.{built_len, no_digest, store_size}
 use Rattle.c2_built.specs.FreshBoxes.{fresh_box, item_box}
-use Rattle.c2_built.specs.Store.{Content, Parent, assertion_box, assertion_boxes, data_binding, new_assertions, new_claim, new_manifest, parent_ingredient}
+use Rattle.c2_built.specs.Store.{Content, NamedManifest, assertion_box, assertion_boxes, data_binding, new_assertions, new_claim, new_manifest, parent_ingredient, written_ingredient}
 
 -- one action: the asset was created
 unfoldable pub actions : NewAssertion
@@ -46,7 +46,7 @@ binding alg len = data_binding alg 20 len (zero_digest alg)
 
 -- what goes into a store by this algorithm
 unfoldable fresh : Alg → Content
-fresh alg = record { definition = defined alg (codes "0"); carried = none; parent = None }
+fresh alg = record { definition = defined alg (codes "0"); carried = none; ingredients = [] }
 
 -- the item of the actions takes 31 bytes
 actions_item : length actions.bytes ≡ 31
@@ -152,7 +152,7 @@ longer_ranges = (refl, refl)
 -- ---- over a store with one manifest of 1,091 bytes, which is the parent
 
 -- of the parent only the label counts here, since each digest is of zero bytes
-unfoldable parent : Parent
+unfoldable parent : NamedManifest
 parent = record { label = codes "urn:c2pa:00000000-0000-4000-8000-000000000000"; contents = []; signed = [] }
 
 -- what goes into the store over it
@@ -160,11 +160,11 @@ unfoldable second : Content
 second = record {
   definition = defined Sha256 (codes "1");
   carried = more (leaf (record { kind = 0; wide = false; payload = replicate 1083 0 })) none;
-  parent = Some parent;
+  ingredients = parent_ingredient parent ∷ [];
 }
 
 -- the item of the ingredient that the parent is takes 284 bytes
-ingredient : length (deterministic (ingredient_item (parent_ingredient (no_digest Sha256) parent))) ≡ 284
+ingredient : length (deterministic (ingredient_item (written_ingredient (no_digest Sha256) (parent_ingredient parent)))) ≡ 284
 unfolding parent shortest_head
 ingredient = refl
 

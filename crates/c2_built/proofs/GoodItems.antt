@@ -1,7 +1,7 @@
 -- Items that are written are read back: items of texts, bytes and numbers, lists of such, and maps whose keys have different bytes.
 use Rattle.std.specs.Prelude.{not, ◌&&◌}
 use Rattle.std.proofs.Common.{◌≡◌, ⊎_elim, ℕ, suc, ◌^◌, ◌<◌, ◌≤◌, Bool, true, List, [], ◌∷◌, ◌++◌, length, map, refl, sym, ap, ◌∙◌, subst, arith, bytes_eq}
-use Rattle.std.specs.List.{AllByRecursion}
+use Rattle.std.specs.List.{AllByRecursion, list_all}
 use Rattle.std.specs.Str.{IsUtf8}
 use Rattle.std.proofs.lemmas.Bool.{and_parts, not-true, false≢true}
 use Rattle.std.proofs.lemmas.List.{take_at}
@@ -14,8 +14,11 @@ use Rattle.c2_spec.specs.Cbor.Legal.{depth, items_depth, pairs_depth, IsNew, Has
 use Rattle.c2_spec.specs.Cbor.Plain.{DiffersFrom, HasPlainKeys, ItemsHavePlainKeys, PairsHavePlainKeys, IsPlain}
 use Rattle.c2_spec.specs.Cbor.Spelling.{Spells}
 use Rattle.c2_spec.specs.Cbor.View.{items_of, pairs_of}
+use Rattle.c2_spec.specs.Cbor.Writing.{field}
+use Rattle.c2_built.proofs.BoxLemmas.{is_plain_byte}
 use Rattle.c2_built.proofs.Spelled.{Fits, FitItems, FitPairs, spelled}
 use Rattle.c2_built.proofs.StoreSize.{KeepsLength}
+use Rattle.c2_built.proofs.Texts.{plain_text}
 
 -- ---- legal
 
@@ -151,6 +154,14 @@ good_map d fs h differ = record { fits = fit fs h; plain = plain fs h differ; sh
     deep : (fs : List (Item × Item)) → AllByRecursion (IsGoodField d) fs → pairs_depth (pairs_of fs) ≤ d
     deep [] h = omega arith
     deep (f ∷ fs) h = omega (arith, h.0.key.shallow, h.0.value.shallow, deep fs h.1)
+
+-- a field whose key is of letters
+pub named_field : (d : ℕ) (key : List ℕ) (v : Item) → list_all is_plain_byte key ≡ true → 1 ≤ d → Good d v → IsGoodField d (field key v)
+named_field d key v h l g = good_field d key v l (plain_text key h) g
+
+-- an item that is good to some depth is good to a greater one
+pub more_deep : (d e : ℕ) (v : Item) → Good d v → d ≤ e → Good e v
+more_deep d e v g l = record { fits = g.fits; plain = g.plain; shallow = omega (arith, g.shallow, l) }
 
 -- ---- read back
 

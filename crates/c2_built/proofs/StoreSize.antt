@@ -9,7 +9,7 @@ use Rattle.c2_spec.specs.Cbor.View.{items_of, pairs_of}
 use Rattle.c2_spec.specs.Cbor.Writing.{field, field_if, ref_item}
 use Rattle.c2_spec.specs.Jumbf.Tree.{Tree, Trees, none, more, tree_bytes, trees_bytes}
 use Rattle.c2_spec.specs.declared.cbor.Ref.{Ref}
-use Rattle.c2_assertion.specs.Written.{ingredient_item}
+use Rattle.c2_assertion.specs.Written.{ingredient_item, relationship_word}
 use Rattle.c2_claim.specs.Written.{claim_item, redactions_field, generator_item, signature_uri}
 use Rattle.c2_claim.specs.declared.writing.ClaimParts.{ClaimParts}
 use Rattle.c2_definition.specs.declared.types.NewAssertion.{NewAssertion}
@@ -17,7 +17,7 @@ use Rattle.c2_definition.specs.declared.types.Payload.{Payload}
 use Rattle.c2_definition.specs.declared.types.Payload.TheVariants as payload
 use Rattle.c2_built.specs.Built.{HasDigestLen}
 use Rattle.c2_built.specs.FreshBoxes.{fresh_leaf, fresh_box, item_box, store_box, trees_then}
-use Rattle.c2_built.specs.Store.{Content, Parent, assertion_box, assertion_boxes, entry_of, parent_ingredient, parent_ref, parent_assertions, new_assertions, claim_parts, new_claim, manifest_box, new_manifest, new_store, new_alg}
+use Rattle.c2_built.specs.Store.{Content, NewIngredient, assertion_box, assertion_boxes, entry_of, ingredient_assertion, written_ingredient, target_ref, new_assertions, claim_parts, new_claim, manifest_box, new_manifest, new_store, new_alg}
 use Rattle.c2_built.proofs.BoxLemmas.{fresh_len, then_len}
 
 -- ---- items of one size
@@ -209,39 +209,45 @@ same_entries alg f g (a ∷ as_) (b ∷ bs) hf hg h = (
   same_entries alg f g as_ bs hf hg h.1,
 )
 
--- a reference into the parent's manifest has one length, whichever hash gives its digest
-same_by : (alg : Alg) (f g : List ℕ → List ℕ) → HasDigestLen alg f → HasDigestLen alg g → (label : List ℕ) (target : PlainTarget) (contents : List ℕ) → SameLen (ref_item (parent_ref f label target contents)) (ref_item (parent_ref g label target contents))
-same_by alg f g hf hg label target contents = same_ref (parent_ref f label target contents) (parent_ref g label target contents) (record { url = refl; alg = refl; hash = same_digests alg f g hf hg contents contents })
+-- a reference into a manifest has one length, whichever hash gives its digest
+same_by : (alg : Alg) (f g : List ℕ → List ℕ) → HasDigestLen alg f → HasDigestLen alg g → (label : List ℕ) (target : PlainTarget) (contents : List ℕ) → SameLen (ref_item (target_ref f label target contents)) (ref_item (target_ref g label target contents))
+same_by alg f g hf hg label target contents = same_ref (target_ref f label target contents) (target_ref g label target contents) (record { url = refl; alg = refl; hash = same_digests alg f g hf hg contents contents })
 
--- the fields of the ingredient that a parent is
-parent_fields : (List ℕ → List ℕ) → Parent → List (Item × Item)
-parent_fields f p = field (codes "relationship") (text (codes "parentOf")) ∷ field (codes "activeManifest") (ref_item (parent_ref f p.label whole p.contents)) ∷ field (codes "claimSignature") (ref_item (parent_ref f p.label signature p.signed)) ∷ []
+-- the fields of an ingredient
+fields_of : (List ℕ → List ℕ) → NewIngredient → List (Item × Item)
+fields_of f i =
+    field (codes "relationship") (text (relationship_word i.relationship))
+    ∷ field (codes "activeManifest") (ref_item (target_ref f i.of.label whole i.of.contents))
+    ∷ field (codes "claimSignature") (ref_item (target_ref f i.of.label signature i.of.signed)) ∷ []
 
--- the item of a parent's ingredient is the map of these fields
-parent_is : (f : List ℕ → List ℕ) (p : Parent) → ingredient_item (parent_ingredient f p) ≡ dict (pairs_of (parent_fields f p))
-unfolding parent_fields
-parent_is f p = refl
+-- the item of an ingredient is the map of these fields
+ingredient_is : (f : List ℕ → List ℕ) (i : NewIngredient) → ingredient_item (written_ingredient f i) ≡ dict (pairs_of (fields_of f i))
+unfolding fields_of
+ingredient_is f i = refl
 
 -- these fields are as long and as many, whichever hash gives the digests
-parents_same : (alg : Alg) (f g : List ℕ → List ℕ) (p : Parent) → HasDigestLen alg f → HasDigestLen alg g → SamePairs (pairs_of (parent_fields f p)) (pairs_of (parent_fields g p))
-unfolding parent_fields
-parents_same alg f g p hf hg =
-    same_pair (text (codes "relationship")) (text (codes "parentOf")) (text (codes "parentOf")) _ _ refl
-    (same_pair (text (codes "activeManifest")) (ref_item (parent_ref f p.label whole p.contents)) (ref_item (parent_ref g p.label whole p.contents)) _ _ (same_by alg f g hf hg p.label whole p.contents)
-    (same_pair (text (codes "claimSignature")) (ref_item (parent_ref f p.label signature p.signed)) (ref_item (parent_ref g p.label signature p.signed)) _ _ (same_by alg f g hf hg p.label signature p.signed) (same_all (pairs_of []))))
+ingredients_same : (alg : Alg) (f g : List ℕ → List ℕ) (i : NewIngredient) → HasDigestLen alg f → HasDigestLen alg g → SamePairs (pairs_of (fields_of f i)) (pairs_of (fields_of g i))
+unfolding fields_of
+ingredients_same alg f g i hf hg =
+    let word : Item = text (relationship_word i.relationship) in
+    same_pair (text (codes "relationship")) word word _ _ refl
+    (same_pair (text (codes "activeManifest")) (ref_item (target_ref f i.of.label whole i.of.contents)) (ref_item (target_ref g i.of.label whole i.of.contents)) _ _ (same_by alg f g hf hg i.of.label whole i.of.contents)
+    (same_pair (text (codes "claimSignature")) (ref_item (target_ref f i.of.label signature i.of.signed)) (ref_item (target_ref g i.of.label signature i.of.signed)) _ _ (same_by alg f g hf hg i.of.label signature i.of.signed) (same_all (pairs_of []))))
 
--- the bytes of the ingredient that a parent is are as many, whichever hash gives the digests
-ingredient_len : KeepsLength → (alg : Alg) (f g : List ℕ → List ℕ) (p : Parent) → HasDigestLen alg f → HasDigestLen alg g → length (deterministic (ingredient_item (parent_ingredient f p))) ≡ length (deterministic (ingredient_item (parent_ingredient g p)))
-ingredient_len keeps alg f g p hf hg =
-    keeps (ingredient_item (parent_ingredient f p)) ∙ ap (λ v. length (preferred v)) (parent_is f p)
-    ∙ same_dict (pairs_of (parent_fields f p)) (pairs_of (parent_fields g p)) (parents_same alg f g p hf hg)
-    ∙ ap (λ v. length (preferred v)) (sym (parent_is g p)) ∙ sym (keeps (ingredient_item (parent_ingredient g p)))
+-- the bytes of an ingredient are as many, whichever hash gives the digests
+ingredient_len : KeepsLength → (alg : Alg) (f g : List ℕ → List ℕ) (i : NewIngredient) → HasDigestLen alg f → HasDigestLen alg g
+    → length (deterministic (ingredient_item (written_ingredient f i))) ≡ length (deterministic (ingredient_item (written_ingredient g i)))
+ingredient_len keeps alg f g i hf hg =
+    keeps (ingredient_item (written_ingredient f i)) ∙ ap (λ v. length (preferred v)) (ingredient_is f i)
+    ∙ same_dict (pairs_of (fields_of f i)) (pairs_of (fields_of g i)) (ingredients_same alg f g i hf hg)
+    ∙ ap (λ v. length (preferred v)) (sym (ingredient_is g i)) ∙ sym (keeps (ingredient_item (written_ingredient g i)))
 
--- the parent's assertion and a binding of one label and size are such, whichever hash gives the digests
-same_own : KeepsLength → (alg : Alg) (f g : List ℕ → List ℕ) (p : Option Parent) (a b : NewAssertion) → HasDigestLen alg f → HasDigestLen alg g → SameAssertion a b → SameAssertions (parent_assertions f p ++ a ∷ []) (parent_assertions g p ++ b ∷ [])
+-- the assertions of ingredients and a binding of one label and size are such, whichever hash gives the digests
+same_own : KeepsLength → (alg : Alg) (f g : List ℕ → List ℕ) (is : List NewIngredient) (a b : NewAssertion) → HasDigestLen alg f → HasDigestLen alg g → SameAssertion a b
+    → SameAssertions (map (ingredient_assertion f) is ++ a ∷ []) (map (ingredient_assertion g) is ++ b ∷ [])
 unfolding SameAssertions
-same_own keeps alg f g None a b hf hg h = (h, tt)
-same_own keeps alg f g (Some p) a b hf hg h = (record { label = refl; size = ingredient_len keeps alg f g p hf hg }, (h, tt))
+same_own keeps alg f g [] a b hf hg h = (h, tt)
+same_own keeps alg f g (i ∷ is) a b hf hg h = (record { label = refl; size = ingredient_len keeps alg f g i hf hg }, same_own keeps alg f g is a b hf hg h)
 
 -- with the same assertions in front of both, such lists stay so
 same_more : (xs as_ bs : List NewAssertion) → SameAssertions as_ bs → SameAssertions (xs ++ as_) (xs ++ bs)
@@ -279,7 +285,7 @@ pub same_size : KeepsLength → (f g : List ℕ → List ℕ) (c : Content) (a b
 same_size keeps f g c a b m n hf hg el eb em =
     let as_ : List NewAssertion = new_assertions f c a in
     let bs : List NewAssertion = new_assertions g c b in
-    let same : SameAssertions as_ bs = same_more c.definition.assertions _ _ (same_own keeps (new_alg c.definition) f g c.parent a b hf hg (record { label = el; size = eb })) in
+    let same : SameAssertions as_ bs = same_more c.definition.assertions _ _ (same_own keeps (new_alg c.definition) f g c.ingredients a b hf hg (record { label = el; size = eb })) in
     let claims : length (new_claim f c a) ≡ length (new_claim g c b) = claim_len keeps (claim_parts f c a) (map (entry_of f) as_) (map (entry_of g) bs) (same_entries (new_alg c.definition) f g as_ bs hf hg same) in
     let one = manifest_len c.definition.label as_ (new_claim f c a) m in
     let two = manifest_len c.definition.label bs (new_claim g c b) n in

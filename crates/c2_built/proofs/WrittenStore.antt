@@ -1,6 +1,6 @@
 -- A new store is a legal tree and a store, and its manifests are those that are carried and the one that was written.
 use Rattle.std.specs.Prelude.{⊤, not}
-use Rattle.std.proofs.Common.{◌≡◌, ◌≢◌, ℕ, ◌+◌, ◌^◌, ◌<◌, ◌≤◌, Bool, true, false, cond, List, [], ◌∷◌, ◌++◌, length, map, Option, Some, None, refl, sym, ap, ◌∙◌, subst, arith, length-append, codes, bytes_eq, lit<, lit≤}
+use Rattle.std.proofs.Common.{◌≡◌, ◌≢◌, ℕ, ◌+◌, ◌^◌, ◌<◌, ◌≤◌, Bool, true, false, cond, List, [], ◌∷◌, ◌++◌, length, map, Some, refl, sym, ap, ◌∙◌, subst, arith, length-append, codes, bytes_eq, lit<, lit≤}
 use Rattle.std.specs.List.{AllByRecursion, list_any}
 use Rattle.std.specs.Int.{w32, from_be_bytes}
 use Rattle.std.proofs.lemmas.Bool.{and_parts, not-true, or_parts, false≢true}
@@ -19,10 +19,11 @@ use Rattle.c2_definition.specs.declared.types.Payload.{Payload}
 use Rattle.c2_definition.specs.declared.types.Payload.TheVariants as payload
 use Rattle.c2_built.specs.FreshBoxes.{contents_of, item_box, fresh_box, fresh_leaf, trees_then}
 use Rattle.c2_built.specs.Manifests.{is_super, supers_in, supers_of, superbox_of, manifest_of}
-use Rattle.c2_built.specs.Store.{Content, Parent, assertion_box, assertion_boxes, manifest_box, parent_assertions, new_assertions, new_claim, new_manifest, new_store}
-use Rattle.c2_built.specs.Written.{IsText, CanBeWritten, IsStoreBox, IsNewBinding, written_assertion, written_box, written_manifest, NewStoreIsRead}
+use Rattle.c2_built.specs.Store.{Content, NewIngredient, assertion_box, assertion_boxes, ingredient_assertion, manifest_box, new_assertions, new_claim, new_manifest, new_store}
+use Rattle.c2_built.specs.Written.{AreIngredients, IsText, CanBeWritten, IsStoreBox, IsNewBinding, LabelsApart, written_assertion, written_box, written_manifest, NewStoreIsRead}
 use Rattle.c2_built.proofs.BoxLemmas.{plain_label, fresh_len, leaf_legal, fresh_legal, then_len, then_legal, then_distinct}
 use Rattle.c2_built.proofs.ByIndex.{same_manifests}
+use Rattle.c2_built.proofs.Ingredients.{AreLabelled, good_label}
 use Rattle.c2_built.proofs.Labels.{label_of, manifest_label, can_be_named, new_label}
 use Rattle.c2_built.proofs.Lists.{each-append}
 use Rattle.c2_built.proofs.StoreTests.{store_passes}
@@ -53,11 +54,11 @@ tested (a ∷ others) h =
     (none_has a.label others (not-true (list_any (file.has_label a.label) others) both.0), tested others both.1)
 
 -- an assertion that the builder adds itself: of no kind that a definition may have
-abbrev IsOwn : NewAssertion → Type 0
+abbrev pub IsOwn : NewAssertion → Type 0
 IsOwn a = file.is_new_kind (kind_of a.label) ≡ false
 
 -- an assertion whose label a definition may give
-abbrev IsNew : NewAssertion → Type 0
+abbrev pub IsNew : NewAssertion → Type 0
 IsNew a = file.is_new_label a.label ≡ true
 
 -- a label of a kind that a definition may have differs from those of the builder's own assertions
@@ -88,21 +89,39 @@ binding_own kinds.Ordinary h = absurd (false≢true h)
 binding_apart : (k : Kind) → is_binding k ≡ true → k ≡ kinds.Ingredient → ⊥
 binding_apart k h e = false≢true (sym (ap is_binding e) ∙ h)
 
--- the parent's assertion and the binding are the builder's own, and their labels differ
-own_assertions : (hash : List ℕ → List ℕ) (p : Option Parent) (binding : NewAssertion) → is_binding (kind_of binding.label) ≡ true → (AllByRecursion IsOwn (parent_assertions hash p ++ binding ∷ [])) × AreDifferent (parent_assertions hash p ++ binding ∷ [])
-own_assertions hash None binding h = ((binding_own (kind_of binding.label) h, tt), (tt, tt))
-own_assertions hash (Some p) binding h = ((refl, (binding_own (kind_of binding.label) h, tt)), ((λ e. binding_apart (kind_of binding.label) h (ap kind_of e), tt), (tt, tt)))
+-- the assertions that the builder adds: those of the ingredients, and the binding
+abbrev pub own_assertions : (List ℕ → List ℕ) → List NewIngredient → NewAssertion → List NewAssertion
+own_assertions hash gs binding = map (ingredient_assertion hash) gs ++ binding ∷ []
+
+-- they are of kinds that a definition may not have
+own_kinds : (hash : List ℕ → List ℕ) (gs : List NewIngredient) (binding : NewAssertion) → AreLabelled gs → is_binding (kind_of binding.label) ≡ true → AllByRecursion IsOwn (own_assertions hash gs binding)
+own_kinds hash [] binding h k = (binding_own (kind_of binding.label) k, tt)
+own_kinds hash (g ∷ gs) binding h k = (ap file.is_new_kind (good_label g.label h.0).kind, own_kinds hash gs binding h.1 k)
+
+-- a label that differs from those of ingredients and from the binding's differs from those of their assertions
+own_from : (hash : List ℕ → List ℕ) (label : List ℕ) (gs : List NewIngredient) (binding : NewAssertion) → AllByRecursion (λ (h : NewIngredient). h.label ≢ label) gs → binding.label ≢ label
+    → DiffersFrom label (own_assertions hash gs binding)
+own_from hash label [] binding h k = (k, tt)
+own_from hash label (g ∷ gs) binding h k = (h.0, own_from hash label gs binding h.1 k)
+
+-- their labels differ
+own_apart : (hash : List ℕ → List ℕ) (gs : List NewIngredient) (binding : NewAssertion) → AreLabelled gs → LabelsApart gs → is_binding (kind_of binding.label) ≡ true → AreDifferent (own_assertions hash gs binding)
+own_apart hash [] binding h a k = (tt, tt)
+own_apart hash (g ∷ gs) binding h a k = (
+  own_from hash g.label gs binding a.0 (λ e. binding_apart (kind_of binding.label) k (ap kind_of e ∙ (good_label g.label h.0).kind)),
+  own_apart hash gs binding h.1 a.1 k,
+)
 
 -- the labels of a new manifest's assertions differ
-pub all_different : (hash : List ℕ → List ℕ) (c : Content) (binding : NewAssertion) → CanBeWritten c.definition → IsNewBinding binding → AreDifferent (new_assertions hash c binding)
-all_different hash c binding w h =
-    let own = own_assertions hash c.parent binding h.kind in
-    different_append c.definition.assertions (parent_assertions hash c.parent ++ binding ∷ []) (tested c.definition.assertions w.formed.differ) own.1 w.formed.labels own.0
+pub all_different : (hash : List ℕ → List ℕ) (c : Content) (binding : NewAssertion) → CanBeWritten c.definition → AreIngredients c.ingredients → IsNewBinding binding → AreDifferent (new_assertions hash c binding)
+all_different hash c binding w gs h =
+    different_append c.definition.assertions (own_assertions hash c.ingredients binding) (tested c.definition.assertions w.formed.differ) (own_apart hash c.ingredients binding gs.labels gs.apart h.kind) w.formed.labels
+    (own_kinds hash c.ingredients binding gs.labels h.kind)
 
 -- ---- labels in boxes
 
 -- an assertion whose label can stand in a box
-abbrev HasLabel : NewAssertion → Type 0
+abbrev pub HasLabel : NewAssertion → Type 0
 HasLabel a = IsLabel a.label
 
 -- the labels of a definition's assertions can stand in boxes
@@ -110,14 +129,15 @@ new_labels : (as_ : List NewAssertion) → AllByRecursion IsNew as_ → AllByRec
 new_labels [] h k = tt
 new_labels (a ∷ others) h k = (label_of a.label k.0.utf8 (new_label a.label h.0).text.named, new_labels others h.1 k.1)
 
--- so can those of the parent's assertion and of the binding
-own_labels : (hash : List ℕ → List ℕ) (p : Option Parent) (binding : NewAssertion) → IsLabel binding.label → AllByRecursion HasLabel (parent_assertions hash p ++ binding ∷ [])
-own_labels hash None binding h = (h, tt)
-own_labels hash (Some p) binding h = (plain_label (codes "c2pa.ingredient.v3") refl, (h, tt))
+-- so can those of the ingredients' assertions and of the binding
+own_labels : (hash : List ℕ → List ℕ) (gs : List NewIngredient) (binding : NewAssertion) → AreLabelled gs → IsLabel binding.label → AllByRecursion HasLabel (own_assertions hash gs binding)
+own_labels hash [] binding h k = (k, tt)
+own_labels hash (g ∷ gs) binding h k = ((good_label g.label h.0).label, own_labels hash gs binding h.1 k)
 
 -- so can those of all assertions of a new manifest
-pub all_labelled : (hash : List ℕ → List ℕ) (c : Content) (binding : NewAssertion) → CanBeWritten c.definition → IsNewBinding binding → AllByRecursion HasLabel (new_assertions hash c binding)
-all_labelled hash c binding w h = each-append HasLabel c.definition.assertions (parent_assertions hash c.parent ++ binding ∷ []) (new_labels c.definition.assertions w.formed.labels w.texts.labels) (own_labels hash c.parent binding h.label)
+pub all_labelled : (hash : List ℕ → List ℕ) (c : Content) (binding : NewAssertion) → CanBeWritten c.definition → AreIngredients c.ingredients → IsNewBinding binding → AllByRecursion HasLabel (new_assertions hash c binding)
+all_labelled hash c binding w gs h =
+    each-append HasLabel c.definition.assertions (own_assertions hash c.ingredients binding) (new_labels c.definition.assertions w.formed.labels w.texts.labels) (own_labels hash c.ingredients binding gs.labels h.label)
 
 -- ---- assertion boxes
 
@@ -209,7 +229,7 @@ manifest_read label as_ claim message =
 -- ---- the store
 
 -- a superbox behind boxes is the last of the superboxes among them
-supers_then : (boxes : Trees) (t : Tree) → is_super t ≡ true → supers_in (trees_then boxes t) ≡ supers_in boxes ++ t ∷ []
+pub supers_then : (boxes : Trees) (t : Tree) → is_super t ≡ true → supers_in (trees_then boxes t) ≡ supers_in boxes ++ t ∷ []
 supers_then none t h = ap (λ b. cond b (t ∷ []) []) h
 supers_then (more s ss) t h = step (is_super s) s ss t (supers_then ss t h)
   where
@@ -219,7 +239,7 @@ supers_then (more s ss) t h = step (is_super s) s ss t (supers_then ss t h)
 
 -- a new store that isn't too large is a legal tree and a store, with the manifests that are carried and then the new one
 pub store_read : NewStoreIsRead
-store_read hash c binding message w carried h small =
+store_read hash c binding message w carried gs h small =
     let d : Definition = c.definition in
     let as_ : List NewAssertion = new_assertions hash c binding in
     let m : Tree = new_manifest hash c binding message in
@@ -227,7 +247,7 @@ store_read hash c binding message w carried h small =
     let n = fresh_len (codes "c2pa") (codes "c2pa") (trees_then c.carried m) refl in
     let k = then_len c.carried m in
     let name = manifest_label d.label w.formed.label in
-    let own : IsLegalTree 2 m = manifest_legal d.label as_ (new_claim hash c binding) message (label_of d.label w.texts.label.utf8 name.named) (all_labelled hash c binding w h) (all_different hash c binding w h) (omega (arith, n, k, small)) in
+    let own : IsLegalTree 2 m = manifest_legal d.label as_ (new_claim hash c binding) message (label_of d.label w.texts.label.utf8 name.named) (all_labelled hash c binding w gs h) (all_different hash c binding w gs h) (omega (arith, n, k, small)) in
     let supers : supers_of t ≡ supers_in c.carried ++ m ∷ [] = supers_then c.carried m refl in
     let count : length (supers_of t) ≡ length (supers_in c.carried) + 1 = ap length supers ∙ length-append (supers_in c.carried) (m ∷ []) in
     record {

@@ -1,5 +1,5 @@
 -- What a file meets that was built of a JPEG file without a store.
-use Rattle.std.specs.Prelude.{◌≡◌, ℕ, List, [], None}
+use Rattle.std.specs.Prelude.{◌≡◌, ℕ, List, []}
 use Rattle.c2_base.specs.declared.values.Question.{Question}
 use Rattle.c2_spec.specs.Digest.{IsDigest}
 use Rattle.c2_spec.specs.Jumbf.Tree.{Tree, none}
@@ -12,14 +12,14 @@ use Rattle.c2_rules.specs.Validated.{IsFileReading}
 use Rattle.c2_definition.specs.declared.types.Definition.{Definition}
 use Rattle.c2_built.specs.Store.{Content}
 
--- what goes into a store of a definition alone: nothing is carried, and there is no parent
+-- what goes into a store of a definition alone: nothing is carried, and there are no ingredients
 abbrev pub fresh_content : Definition → Content
-fresh_content d = record { definition = d; carried = none; parent = None }
+fresh_content d = record { definition = d; carried = none; ingredients = [] }
 
--- nothing is carried, there is no parent, and nothing is redacted
+-- nothing is carried, there are no ingredients, and nothing is redacted
 pub record IsFresh (c : Content) : Type 0 where
   pub carried : c.carried ≡ none
-  pub parent : c.parent ≡ None
+  pub ingredients : c.ingredients ≡ []
   pub redact : c.definition.redact ≡ []
 
 -- a hash gives digests

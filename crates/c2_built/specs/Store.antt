@@ -1,14 +1,14 @@
--- The store that is written, as a box tree: the manifests that are carried of an older store, and a new one (C2PA Technical
+-- The store that is written, as a box tree: the manifests that are carried of older stores, and a new one (C2PA Technical
 -- Specification 2.x, "Manifest store" and "Manifests"). Its bytes are those that spell the tree. So a box that is carried keeps its
 -- bytes, and a box around others has the length of what it holds.
 use Rattle.std.specs.Prelude.{ℕ, List, [], ◌∷◌, ◌++◌, map, codes, Some, None}
-use Rattle.std.specs.declared.option.Option.{Option}
 use Rattle.c2_base.specs.declared.values.Range.{Range}
 use Rattle.c2_spec.specs.C2pa.Uri.{PlainTarget, whole, assertion, signature, uri_text}
 use Rattle.c2_spec.specs.Cbor.Deterministic.{deterministic}
 use Rattle.c2_spec.specs.Digest.{alg_name}
 use Rattle.c2_spec.specs.Jumbf.Tree.{Tree, Trees, none, more}
 use Rattle.c2_spec.specs.declared.assertion.Ingredient.{Ingredient}
+use Rattle.c2_spec.specs.declared.assertion.Relationship.{Relationship}
 use Rattle.c2_spec.specs.declared.assertion.Relationship.TheVariants.{ParentOf}
 use Rattle.c2_spec.specs.declared.cbor.Ref.{Ref}
 use Rattle.c2_spec.specs.declared.digest.Alg.{Alg}
@@ -59,52 +59,63 @@ data_binding alg start len digest = record {
   bytes = deterministic (data_hash_item (one_exclusion (Some (alg_name alg)) digest (range_at start len)));
 }
 
--- ---- the parent
+-- ---- ingredients
 
--- The manifest that the new one is made from, as it stands in the new store: its label, its contents, and those of its signature
+-- A manifest that an ingredient of the new one names, as it stands in the new store: its label, its contents, and those of its signature
 -- box.
-pub record Parent : Type 0 where
+pub record NamedManifest : Type 0 where
   pub label : List ℕ
   pub contents : List ℕ
   pub signed : List ℕ
 
+-- An ingredient of a new manifest (C2PA Technical Specification 2.x, "Ingredient"): the label of its assertion, how it relates to the new
+-- manifest, and the manifest that it is.
+pub record NewIngredient : Type 0 where
+  pub label : List ℕ
+  pub relationship : Relationship
+  pub of : NamedManifest
+
 -- a reference to this target in the manifest with this label, with the digest of these contents
-abbrev pub parent_ref : (List ℕ → List ℕ) → List ℕ → PlainTarget → List ℕ → Ref
-parent_ref hash label target contents = record {
+abbrev pub target_ref : (List ℕ → List ℕ) → List ℕ → PlainTarget → List ℕ → Ref
+target_ref hash label target contents = record {
   url = uri_text (record { manifest = Some label; target = target });
   hash = hash contents;
   alg = None;
 }
 
--- the ingredient that the parent is
-abbrev pub parent_ingredient : (List ℕ → List ℕ) → Parent → Ingredient
-parent_ingredient hash p = record {
-  relationship = ParentOf;
-  manifest = Some (parent_ref hash p.label whole p.contents);
-  signature = Some (parent_ref hash p.label signature p.signed);
+-- what is written of an ingredient
+abbrev pub written_ingredient : (List ℕ → List ℕ) → NewIngredient → Ingredient
+written_ingredient hash g = record {
+  relationship = g.relationship;
+  manifest = Some (target_ref hash g.of.label whole g.of.contents);
+  signature = Some (target_ref hash g.of.label signature g.of.signed);
 }
 
--- its assertion, where there is a parent
-abbrev pub parent_assertions : (List ℕ → List ℕ) → Option Parent → List NewAssertion
-parent_assertions hash None = []
-parent_assertions hash (Some p) = record {
-  label = codes "c2pa.ingredient.v3";
+-- its assertion
+abbrev pub ingredient_assertion : (List ℕ → List ℕ) → NewIngredient → NewAssertion
+ingredient_assertion hash g = record {
+  label = g.label;
   kind = payload.Cbor;
-  bytes = deterministic (ingredient_item (parent_ingredient hash p));
-} ∷ []
+  bytes = deterministic (ingredient_item (written_ingredient hash g));
+}
+
+-- the ingredient that the parent is
+abbrev pub parent_ingredient : NamedManifest → NewIngredient
+parent_ingredient p = record { label = codes "c2pa.ingredient.v3"; relationship = ParentOf; of = p }
 
 -- ---- the new manifest
 
--- What goes into a new store beside the binding and the signed message: the definition, the boxes that are carried of the old store, and
--- the parent, where there is one.
+-- What goes into a new store beside the binding and the signed message: the definition, the boxes that are carried of older stores, and
+-- the ingredients.
 pub record Content : Type 0 where
   pub definition : Definition
   pub carried : Trees
-  pub parent : Option Parent
+  pub ingredients : List NewIngredient
 
--- the new assertions: the definition's, the parent, the binding
+-- the new assertions: the definition's, those of the ingredients, the binding
 abbrev pub new_assertions : (List ℕ → List ℕ) → Content → NewAssertion → List NewAssertion
-new_assertions hash c binding = c.definition.assertions ++ (parent_assertions hash c.parent ++ binding ∷ [])
+new_assertions hash c binding =
+    c.definition.assertions ++ (map (ingredient_assertion hash) c.ingredients ++ binding ∷ [])
 
 -- the algorithm of each digest in the new manifest of a definition
 abbrev pub new_alg : Definition → Alg

@@ -1,10 +1,8 @@
 -- What a new store meets beside its binding to a media file: so a file that holds the store meets all rules but verdicts, once the
 -- binding is met in it.
-use Rattle.std.specs.Prelude.{◌≡◌, ◌⊎◌, ℕ, ◌≤◌, List, [], ◌∷◌, length, codes, Some, None, Ok}
-use Rattle.c2_base.specs.declared.limits.TheConstants.{MAX_STORE_LEN}
+use Rattle.std.specs.Prelude.{◌≡◌, ◌⊎◌, ℕ, List, codes, Some, None, Ok}
 use Rattle.c2_base.specs.declared.values.Question.{Question}
 use Rattle.c2_spec.specs.C2pa.Manifest.{manifests_of, store_refusal}
-use Rattle.c2_spec.specs.C2pa.Sign1.{SignParts, SpellsMessage, question_of}
 use Rattle.c2_spec.specs.Cbor.Fields.{HasItem}
 use Rattle.c2_spec.specs.Cbor.Item.{Item}
 use Rattle.c2_spec.specs.Container.{IsLocated}
@@ -20,9 +18,7 @@ use Rattle.c2_rules.specs.Rules.{label_kind, unjudged_tests}
 use Rattle.c2_rules.specs.Tests.{AllHold}
 use Rattle.c2_definition.specs.declared.types.NewAssertion.{NewAssertion}
 use Rattle.c2_definition.specs.declared.types.Payload.TheVariants as payload
-use Rattle.c2_built.specs.Fresh.{IsFresh, Meets}
-use Rattle.c2_built.specs.Store.{Content, new_claim, new_store, new_alg}
-use Rattle.c2_built.specs.Written.{CanBeWritten}
+use Rattle.c2_built.specs.Fresh.{Meets}
 
 -- the label of a binding of a kind that is known: to ranges of a file, or to its boxes
 abbrev pub IsKnownLabel : List ℕ → Type 0
@@ -63,10 +59,3 @@ abbrev pub BoundFileMeets : Type 0
 BoundFileMeets = (hash : Alg → List ℕ → List ℕ) (file : List ℕ) (start len : ℕ) (t : Tree) (binding : NewAssertion) (qs : List Question)
     → MeetsUnbound hash t binding qs → IsLocated file (here start len (tree_bytes t)) → IsMet hash binding file
     → Meets hash file start len t qs
-
--- A new store of a definition alone meets all but its binding, and asks one question. The message may be any that spells its parts.
-abbrev pub FreshStoreMeets : Type 0
-FreshStoreMeets = (hash : Alg → List ℕ → List ℕ) (c : Content) (binding : NewAssertion) (message : List ℕ) (p : SignParts)
-    → IsFresh c → CanBeWritten c.definition → IsKnownBinding binding
-    → length (tree_bytes (new_store (hash (new_alg c.definition)) c binding message)) ≤ MAX_STORE_LEN → SpellsMessage message p
-    → MeetsUnbound hash (new_store (hash (new_alg c.definition)) c binding message) binding (question_of p (new_claim (hash (new_alg c.definition)) c binding) ∷ [])

@@ -1,5 +1,5 @@
 -- What a new store is read as: one legal tree, which is a store, with the manifests that are carried and then the new one.
-use Rattle.std.specs.Prelude.{◌≡◌, ℕ, ◌<◌, ◌≤◌, ◌^◌, true, false, ◌∷◌, [], List, ◌++◌, length, map, codes, Some, None, IfSome}
+use Rattle.std.specs.Prelude.{◌≡◌, ◌≢◌, ◌⊎◌, ℕ, ◌<◌, ◌≤◌, ◌^◌, ⊤, true, false, ◌∷◌, [], List, ◌++◌, filter, length, map, codes, Some, None, IfSome}
 use Rattle.std.specs.declared.option.Option.{Option}
 use Rattle.std.specs.List.{AllByRecursion}
 use Rattle.std.specs.Str.{IsUtf8}
@@ -8,7 +8,7 @@ use Rattle.c2_spec.specs.C2pa.Assertion.{kind_of}
 use Rattle.c2_spec.specs.C2pa.Manifest.{Superbox, Manifest, is_manifest, is_manifest_label, store_refusal, manifests_of}
 use Rattle.c2_spec.specs.Jumbf.Boxes.{node, any_label}
 use Rattle.c2_spec.specs.Jumbf.Tree.{Tree, Trees, tree_bytes, tree_labels, SpellsTree, IsLabel, AreLegalTrees, AreDistinctLabels, IsNewLabel}
-use Rattle.c2_rules.specs.Rules.{is_binding}
+use Rattle.c2_rules.specs.Rules.{is_binding, is_parent_word}
 use Rattle.c2_definition.specs.DefinitionFile.{IsWellFormed}
 use Rattle.c2_definition.specs.declared.types.Definition.{Definition}
 use Rattle.c2_definition.specs.declared.types.NewAssertion.{NewAssertion}
@@ -16,7 +16,7 @@ use Rattle.c2_definition.specs.declared.types.Payload.{Payload}
 use Rattle.c2_definition.specs.declared.types.Payload.TheVariants as payload
 use Rattle.c2_built.specs.FreshBoxes.{contents_of, item_box}
 use Rattle.c2_built.specs.Manifests.{supers_in, manifest_of}
-use Rattle.c2_built.specs.Store.{Content, assertion_box, manifest_box, new_assertions, new_claim, new_store}
+use Rattle.c2_built.specs.Store.{Content, NewIngredient, assertion_box, manifest_box, new_assertions, new_claim, new_store}
 
 -- ---- what is asked of what is written
 
@@ -56,6 +56,21 @@ pub record CanBeCarried (label : List ℕ) (boxes : Trees) : Type 0 where
 pub record IsNewBinding (binding : NewAssertion) : Type 0 where
   pub label : IsLabel binding.label
   pub kind : is_binding (kind_of binding.label) ≡ true
+
+-- the label of an ingredient assertion: of the first in a manifest, and of the second ("Multiple instances" of assertions)
+abbrev pub IsIngredientLabel : List ℕ → Type 0
+IsIngredientLabel label = (label ≡ codes "c2pa.ingredient.v3") ⊎ (label ≡ codes "c2pa.ingredient.v3__1")
+
+-- each has another label
+abbrev pub LabelsApart : List NewIngredient → Type 0
+LabelsApart [] = ⊤
+LabelsApart (g ∷ gs) = AllByRecursion (λ (h : NewIngredient). h.label ≢ g.label) gs × LabelsApart gs
+
+-- Ingredients that a manifest may have: under such labels, that differ, and at most one of them the parent.
+pub record AreIngredients (gs : List NewIngredient) : Type 0 where
+  pub labels : AllByRecursion (λ (g : NewIngredient). IsIngredientLabel g.label) gs
+  pub apart : LabelsApart gs
+  pub parents : length (filter (λ (g : NewIngredient). is_parent_word g.relationship) gs) ≤ 1
 
 -- ---- what is read
 
@@ -97,6 +112,6 @@ pub record IsRead (carried : Trees) (last : Manifest) (t : Tree) : Type 0 where
 -- So a new store is read, which isn't too large.
 abbrev pub NewStoreIsRead : Type 0
 NewStoreIsRead = (hash : List ℕ → List ℕ) (c : Content) (binding : NewAssertion) (message : List ℕ)
-    → CanBeWritten c.definition → CanBeCarried c.definition.label c.carried → IsNewBinding binding
+    → CanBeWritten c.definition → CanBeCarried c.definition.label c.carried → AreIngredients c.ingredients → IsNewBinding binding
     → length (tree_bytes (new_store hash c binding message)) ≤ MAX_STORE_LEN
     → IsRead c.carried (new_written hash c binding message) (new_store hash c binding message)

@@ -2,13 +2,11 @@
 
 ghost use Rattle.c2_built.specs.Built.{StoreSizeIsFixed, StoreSizesAreSame};
 ghost use Rattle.c2_built.specs.Manifests.{ManifestsAreBoxes};
-ghost use Rattle.c2_built.specs.Unbound.{BoundFileMeets, FreshStoreMeets};
+ghost use Rattle.c2_built.specs.Unbound.{BoundFileMeets};
 ghost use Rattle.c2_built.specs.Written.{NewStoreIsRead};
 
 use c2_assertion::a_written_data_hash_has_one_length;
-use c2_cbor::{round_trip, sorting_keeps_the_length};
-use c2_claim::a_written_claim_is_read;
-use c2_uri::written_uris_are_read;
+use c2_cbor::sorting_keeps_the_length;
 
 /// The manifests of a tree are the same, told by the indices of its boxes or by the boxes themselves.
 pub fn manifests_are_boxes()
@@ -37,19 +35,8 @@ pub fn new_stores_have_one_length()
     sorting_keeps_the_length();
 }
 
-/// A new store of a definition alone meets each rule but the verdict on its message and the one on its binding, whichever the binding
-/// is, and asks one question: that of its message over its claim.
-pub fn a_fresh_store_meets_the_rules()
-    ensures { FreshStoreMeets }
-{
-    // Only the prover needs these laws.
-    sorting_keeps_the_length();
-    round_trip();
-    a_written_claim_is_read();
-    written_uris_are_read();
-}
-
-/// A file in which such a store is found meets each rule but verdicts, once the store's binding is met in it.
+/// A file in which a store is found that meets each rule but the verdict on its message and the one on its binding meets each but
+/// verdicts, once the store's binding is met in it.
 pub fn a_bound_file_meets_the_rules()
     ensures { BoundFileMeets }
 {}

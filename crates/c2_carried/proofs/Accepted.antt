@@ -23,8 +23,8 @@ use Rattle.c2_rules.proofs.ListLemmas.{both_true, from_below, from_passes, in_be
 use Rattle.c2_rules.proofs.ReachLemmas.{placed}
 use Rattle.c2_rules.proofs.TestLemmas.{first_failing_append}
 use Rattle.c2_older.specs.Older.{has_signature, is_kept}
+use Rattle.c2_built.proofs.Conditions.{Holds, all_hold}
 use Rattle.c2_built.proofs.Lists.{each-append, each-back, each-front}
-use Rattle.c2_built.proofs.NewRules.{Holds, all_hold}
 use Rattle.c2_carried.specs.Carrying.{FirstIsRefused, RedactionsAreAccepted}
 use Rattle.c2_carried.specs.Less.{SignsTaken}
 use Rattle.c2_carried.specs.Redacting.{takes_out}

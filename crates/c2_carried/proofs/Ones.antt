@@ -1,6 +1,6 @@
 -- The parent of a new manifest is one, and so is what goes into a new store over an older one; and what is left of a JPEG file
 -- without its store has none.
-use Rattle.std.proofs.Common.{◌≡◌, ℕ, ◌+◌, false, List, ◌∷◌, ◌++◌, length, take, drop, Option, Some, find, sym, ap, ◌∙◌, subst, arith, append_assoc, length-append}
+use Rattle.std.proofs.Common.{◌≡◌, ℕ, ◌+◌, false, List, [], ◌∷◌, ◌++◌, length, take, drop, find, sym, ap, ◌∙◌, subst, arith, append_assoc, length-append}
 use Rattle.std.proofs.lemmas.List.{take_at, drop_at}
 use Rattle.std.proofs.lemmas.List.Concat.{flat_map-append}
 use Rattle.std.proofs.lemmas.Option.{same_Some}
@@ -12,7 +12,7 @@ use Rattle.c2_spec.specs.Jumbf.Tree.{Tree, Trees}
 use Rattle.c2_definition.specs.declared.types.Definition.{Definition}
 use Rattle.c2_built.specs.FreshBoxes.{contents_of}
 use Rattle.c2_built.specs.Manifests.{is_signature_box, supers_in, supers_of}
-use Rattle.c2_built.specs.Store.{Parent}
+use Rattle.c2_built.specs.Store.{NamedManifest, NewIngredient, parent_ingredient}
 use Rattle.c2_built.proofs.Lists.{each-append, each-back, each-front}
 use Rattle.c2_carried.specs.Carrying.{BaseHasNoStore, ContentIsOne, ParentIsOne}
 use Rattle.c2_carried.specs.Parents.{IsParentOf}
@@ -34,9 +34,9 @@ pub content_one : ContentIsOne
 content_one d old b c h k =
     let carried : b.carried ≡ c.carried = h.carried ∙ sym k.carried in
     let parent : h.parent ≡ k.parent = parent_one (supers_in c.carried) h.parent k.parent (subst (λ (x : Trees). IsParentOf h.parent (supers_in x)) carried h.is_parent) k.is_parent in
-    ap (λ (x : Definition). record { definition = x; carried = b.carried; parent = b.parent }) (h.definition ∙ sym k.definition)
-    ∙ ap (λ (x : Trees). record { definition = c.definition; carried = x; parent = b.parent }) carried
-    ∙ ap (λ (x : Option Parent). record { definition = c.definition; carried = c.carried; parent = x }) (h.has_parent ∙ ap Some parent ∙ sym k.has_parent)
+    ap (λ (x : Definition). record { definition = x; carried = b.carried; ingredients = b.ingredients }) (h.definition ∙ sym k.definition)
+    ∙ ap (λ (x : Trees). record { definition = c.definition; carried = x; ingredients = b.ingredients }) carried
+    ∙ ap (λ (x : List NewIngredient). record { definition = c.definition; carried = c.carried; ingredients = x }) (h.ingredients ∙ ap (λ (p : NamedManifest). parent_ingredient p ∷ []) parent ∙ sym k.ingredients)
 
 -- what is left of a file without its store
 pub base_is : BaseHasNoStore

@@ -26,7 +26,7 @@ use Rattle.c2_rules.specs.declared.code.Code.TheVariants.{ProfileRedactionTarget
 use Rattle.c2_joined.specs.Rooted.{ReadsKinds}
 use Rattle.c2_definition.specs.declared.types.Definition.{Definition}
 use Rattle.c2_built.specs.Manifests.{manifest_of, supers_in}
-use Rattle.c2_built.specs.Store.{Content, Parent}
+use Rattle.c2_built.specs.Store.{Content, NamedManifest}
 use Rattle.c2_built.specs.Written.{CanBeCarried}
 use Rattle.c2_carried.specs.Less.{AreLess, CanRedact}
 use Rattle.c2_carried.specs.Parents.{IsContentOver, IsParentOf}
@@ -62,7 +62,7 @@ FirstIsRefused = (own text : List ℕ) (others : List (List ℕ))
 
 -- the parent is one
 abbrev pub ParentIsOne : Type 0
-ParentIsOne = (manifests : List Tree) (p q : Parent) → IsParentOf p manifests → IsParentOf q manifests → p ≡ q
+ParentIsOne = (manifests : List Tree) (p q : NamedManifest) → IsParentOf p manifests → IsParentOf q manifests → p ≡ q
 
 -- and what goes into a new store over an older one
 abbrev pub ContentIsOne : Type 0
@@ -82,7 +82,7 @@ pub record IsTakenOver (hash : Alg → List ℕ → List ℕ) (c : Content) (rs 
   pub redactions : RedactionsPass c.definition.label c.definition.redact
 
 -- The parent is the last manifest of `ss`, as it stands there; in `rs` it stands at the same place, under its label.
-pub record IsLast (p : Parent) (rs ss : List Reading) : Type 0 where
+pub record IsLast (p : NamedManifest) (rs ss : List Reading) : Type 0 where
   pub place : place_of rs p.label ≡ Some (length rs - 1)
   pub some : 0 < length rs
   pub active : Reading
@@ -106,7 +106,7 @@ pub record CanStandOver (hash : Alg → List ℕ → List ℕ) (said : Question 
 pub record IsCarried (hash : Alg → List ℕ → List ℕ) (c : Content) (rs : List Reading) : Type 0 where
   pub readings : List Reading
   pub over : IsTakenOver hash c rs readings
-  pub last : (p : Parent) → IsParentOf p (supers_in c.carried) → IsLast p rs readings
+  pub last : (p : NamedManifest) → IsParentOf p (supers_in c.carried) → IsLast p rs readings
 
 -- So it is with what goes into a new store over such an older one, where there is room for one more manifest.
 abbrev pub ValidStoreIsCarried : Type 0

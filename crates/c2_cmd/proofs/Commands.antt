@@ -7,7 +7,7 @@ use Rattle.std.specs.declared.vec.Vec.{Vec}
 use Rattle.std.proofs.lemmas.Bool.{false≢true}
 use Rattle.c2_base.specs.Source.{IsKnownWhereDue}
 use Rattle.c2_base.specs.declared.values.Question.{Question}
-use Rattle.c2_refusals.specs.Stages.{IsDefinitionRefused, IsMediaRefused, IsMessageRefused, IsToldRefused}
+use Rattle.c2_refusals.specs.Stages.{IsMessageRefused, IsToldRefused}
 use Rattle.c2_calls.specs.Asks.{AsksKnown}
 use Rattle.c2_calls.proofs.PanelLemmas.{asked_none}
 use Rattle.c2_spec.specs.Judges.Panel.{Judges, judges_of, panel_says}

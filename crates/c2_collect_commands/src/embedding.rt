@@ -1,5 +1,5 @@
 // The command `embed-collect`.
-ghost use Rattle.std.specs.Prelude.{◌⊎◌, ℕ, List, map};
+ghost use Rattle.std.specs.Prelude.{◌⊎◌, map};
 ghost use Rattle.c2_base.specs.Causes.{Rose};
 ghost use Rattle.c2_base.specs.Source.{ReadsSource};
 ghost use Rattle.c2_build_collect.specs.Answers.{AsksEmbedded, ForEmbedInputs, LeavesBuildUndue, embed_effects};

@@ -1,5 +1,5 @@
 // The command `plan-collect`.
-ghost use Rattle.std.specs.Prelude.{◌⊎◌, ℕ, List, map, IfOk};
+ghost use Rattle.std.specs.Prelude.{◌⊎◌, map, IfOk};
 ghost use Rattle.c2_base.specs.Causes.{Rose};
 ghost use Rattle.c2_base.specs.Source.{ReadsSource};
 ghost use Rattle.c2_build_collect.specs.Answers.{AsksPlanned, ForPlanInputs, LeavesPlanUndue};

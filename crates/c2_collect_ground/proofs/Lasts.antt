@@ -17,7 +17,7 @@ use Rattle.c2_joined.specs.Joined.{place_in}
 use Rattle.c2_joined.specs.Rooted.{last_roots}
 use Rattle.c2_joined.proofs.Places.{at_contains, contains_at, get_left, member_of, picked_at, some_at, to_right}
 use Rattle.c2_built.specs.Manifests.{is_super, supers_in}
-use Rattle.c2_built.specs.Store.{Parent}
+use Rattle.c2_built.specs.Store.{NamedManifest}
 use Rattle.c2_built.specs.Written.{IsStoreBox}
 use Rattle.c2_carried.specs.Parents.{IsParentOf}
 use Rattle.c2_carried.specs.Redacting.{redacted_box}
@@ -168,7 +168,7 @@ left_last : (redacts : List (List ℕ)) (boxes : Trees) (t : Tree) → slice_get
 left_last redacts boxes t is = ap (λ k. slice_get (left_in redacts boxes) (k - 1)) (left_len redacts boxes) ∙ left_at redacts boxes (length (supers_in boxes) - 1) t is
 
 -- what an ingredient names is the last manifest of a store where both places have one manifest
-named_last : (ms ns : List Tree) (root : ℕ) (p : Parent) (t : Tree) → slice_get ms root ≡ Some t → slice_get ns (length ns - 1) ≡ Some t → IsNamedAt p ms root → IsParentOf p ns
+named_last : (ms ns : List Tree) (root : ℕ) (p : NamedManifest) (t : Tree) → slice_get ms root ≡ Some t → slice_get ns (length ns - 1) ≡ Some t → IsNamedAt p ms root → IsParentOf p ns
 named_last ms ns root p t at last h =
     let same : h.manifest ≡ t = same_Some h.manifest t (sym h.is_manifest ∙ at) in
     record {
@@ -182,21 +182,21 @@ named_last ms ns root p t at last h =
     }
 
 -- a manifest is the last one of a store, less what is redacted of it
-abbrev pub IsLastLeft : List (List ℕ) → Parent → Trees → Type 0
+abbrev pub IsLastLeft : List (List ℕ) → NamedManifest → Trees → Type 0
 IsLastLeft redacts p boxes = IsParentOf p (left_in redacts boxes)
 
 -- an ingredient names a manifest of the joined store, less what is redacted of it
-abbrev pub IsNamedLeft : List (List ℕ) → Trees → Trees → List Reading → Parent → ℕ → Type 0
+abbrev pub IsNamedLeft : List (List ℕ) → Trees → Trees → List Reading → NamedManifest → ℕ → Type 0
 IsNamedLeft redacts old other other_rs p root = IsNamedAt p (left_in redacts (collected_boxes old other other_rs)) root
 
 -- what an ingredient names at the last root is the last manifest of the other store
-other_last : (redacts : List (List ℕ)) (old other : Trees) (old_rs other_rs : List Reading) (p : Parent) → (root : IsLastRoot old other old_rs other_rs) → IsNamedLeft redacts old other other_rs p root.place → IsLastLeft redacts p other
+other_last : (redacts : List (List ℕ)) (old other : Trees) (old_rs other_rs : List Reading) (p : NamedManifest) → (root : IsLastRoot old other old_rs other_rs) → IsNamedLeft redacts old other other_rs p root.place → IsLastLeft redacts p other
 other_last redacts old other old_rs other_rs p root h =
     let boxes : Trees = collected_boxes old other other_rs in
     named_last (left_in redacts boxes) (left_in redacts other) root.place p (redacted_box redacts root.tree) (left_at redacts boxes root.place root.tree root.stands) (left_last redacts other root.tree root.last) h
 
 -- and at the root of the first store its last
-old_last : (redacts : List (List ℕ)) (old other : Trees) (other_rs : List Reading) (p : Parent) → 0 < length (supers_in old) → IsNamedLeft redacts old other other_rs p (length (supers_in old) - 1) → IsLastLeft redacts p old
+old_last : (redacts : List (List ℕ)) (old other : Trees) (other_rs : List Reading) (p : NamedManifest) → 0 < length (supers_in old) → IsNamedLeft redacts old other other_rs p (length (supers_in old) - 1) → IsLastLeft redacts p old
 old_last redacts old other other_rs p some h =
     let boxes : Trees = collected_boxes old other other_rs in
     let end : ℕ = length (supers_in old) - 1 in
@@ -204,7 +204,7 @@ old_last redacts old other other_rs p some h =
     named_last (left_in redacts boxes) (left_in redacts old) end p (redacted_box redacts t.0) (left_at redacts boxes end t.0 (stands_left old other (is_reached other_rs) end t.0 t.1)) (left_last redacts old t.0 t.1) h
 
 -- Two ingredients name the last manifests of both stores.
-pub both_last : JoiningLaws → (hash : Alg → List ℕ → List ℕ) (redacts : List (List ℕ)) (old other : Trees) (old_rs other_rs : List Reading) (ps : List Parent) → CanJoin hash old other old_rs other_rs → 0 < length old_rs
+pub both_last : JoiningLaws → (hash : Alg → List ℕ → List ℕ) (redacts : List (List ℕ)) (old other : Trees) (old_rs other_rs : List Reading) (ps : List NamedManifest) → CanJoin hash old other old_rs other_rs → 0 < length old_rs
     → AllZip (IsNamedLeft redacts old other other_rs) ps (collected_roots old_rs other_rs) → AllZip (IsLastLeft redacts) ps (old ∷ other ∷ [])
 both_last laws hash redacts old other old_rs other_rs ps can some h =
     by ps (subst (AllZip (IsNamedLeft redacts old other other_rs) ps) (root.roots ∙ ap (λ (ns : List ℕ). ns ++ root.place ∷ []) (one_last old_rs some ∙ ap (λ k. (k - 1) ∷ []) (sym count))) h)
@@ -215,14 +215,14 @@ both_last laws hash redacts old other old_rs other_rs ps can some h =
     count : length (supers_in old) ≡ length old_rs
     count = read_len (supers_in old) old_rs can.old_store.reads
 
-    by : (qs : List Parent) → AllZip (IsNamedLeft redacts old other other_rs) qs ((length (supers_in old) - 1) ∷ root.place ∷ []) → AllZip (IsLastLeft redacts) qs (old ∷ other ∷ [])
+    by : (qs : List NamedManifest) → AllZip (IsNamedLeft redacts old other other_rs) qs ((length (supers_in old) - 1) ∷ root.place ∷ []) → AllZip (IsLastLeft redacts) qs (old ∷ other ∷ [])
     by [] k = absurd k
     by (p ∷ []) k = absurd k.1
     by (p ∷ q ∷ []) k = (old_last redacts old other other_rs p (subst (λ n. 0 < n) (sym count) some) k.0, (other_last redacts old other old_rs other_rs q root k.1.0, tt))
     by (p ∷ q ∷ x ∷ xs) k = absurd k.1.1
 
 -- One alone names the last of the other, where the first has none.
-pub one_last_alone : JoiningLaws → (hash : Alg → List ℕ → List ℕ) (redacts : List (List ℕ)) (old other : Trees) (old_rs other_rs : List Reading) (ps : List Parent) → CanJoin hash old other old_rs other_rs → old_rs ≡ []
+pub one_last_alone : JoiningLaws → (hash : Alg → List ℕ → List ℕ) (redacts : List (List ℕ)) (old other : Trees) (old_rs other_rs : List Reading) (ps : List NamedManifest) → CanJoin hash old other old_rs other_rs → old_rs ≡ []
     → AllZip (IsNamedLeft redacts old other other_rs) ps (collected_roots old_rs other_rs) → AllZip (IsLastLeft redacts) ps (other ∷ [])
 one_last_alone laws hash redacts old other old_rs other_rs ps can empty h =
     by ps (subst (AllZip (IsNamedLeft redacts old other other_rs) ps) (root.roots ∙ ap (λ (rs : List Reading). last_roots rs ++ root.place ∷ []) empty) h)
@@ -230,7 +230,7 @@ one_last_alone laws hash redacts old other old_rs other_rs ps can empty h =
     root : IsLastRoot old other old_rs other_rs
     root = last_root laws hash old other old_rs other_rs can
 
-    by : (qs : List Parent) → AllZip (IsNamedLeft redacts old other other_rs) qs (root.place ∷ []) → AllZip (IsLastLeft redacts) qs (other ∷ [])
+    by : (qs : List NamedManifest) → AllZip (IsNamedLeft redacts old other other_rs) qs (root.place ∷ []) → AllZip (IsLastLeft redacts) qs (other ∷ [])
     by [] k = absurd k
     by (p ∷ []) k = (other_last redacts old other old_rs other_rs p root k.0, tt)
     by (p ∷ q ∷ qs) k = absurd k.1

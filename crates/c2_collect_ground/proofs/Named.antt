@@ -4,19 +4,19 @@ use Rattle.std.specs.List.{AllZip}
 use Rattle.c2_spec.specs.Jumbf.Tree.{Trees}
 use Rattle.c2_spec.specs.declared.assertion.Relationship.TheVariants.{ComponentOf, ParentOf}
 use Rattle.c2_definition.specs.declared.types.NewAssertion.{NewAssertion}
-use Rattle.c2_built.specs.Store.{Parent}
+use Rattle.c2_built.specs.Store.{NamedManifest}
 use Rattle.c2_carried.specs.Parents.{IsParentOf}
 use Rattle.c2_collect_ground.specs.Steps.{IsLastIngredient, NameLast, left_in}
 
 -- the last manifests of stores, less what is redacted of them
-abbrev Lasts : List (List ℕ) → List Parent → List Trees → Type 0
-Lasts redacts ps stores = AllZip (λ (p : Parent) (boxes : Trees). IsParentOf p (left_in redacts boxes)) ps stores
+abbrev Lasts : List (List ℕ) → List NamedManifest → List Trees → Type 0
+Lasts redacts ps stores = AllZip (λ (p : NamedManifest) (boxes : Trees). IsParentOf p (left_in redacts boxes)) ps stores
 
 -- a component
 pub one_named : (hash : List ℕ → List ℕ) (redacts : List (List ℕ)) (other : Trees) (a : NewAssertion) → IsLastIngredient hash (left_in redacts other) (codes "c2pa.ingredient.v3") ComponentOf a → NameLast hash redacts (other ∷ []) (a ∷ [])
 one_named hash redacts other a h = record { named = h.parent ∷ []; are = ap (λ x. x ∷ []) h.is; only = only }
   where
-    only : (ps : List Parent) → Lasts redacts ps (other ∷ []) → ps ≡ h.parent ∷ []
+    only : (ps : List NamedManifest) → Lasts redacts ps (other ∷ []) → ps ≡ h.parent ∷ []
     only [] z = absurd z
     only (p ∷ []) z = ap (λ x. x ∷ []) (h.only p z.0)
     only (p ∷ q ∷ ps) z = absurd z.1
@@ -26,7 +26,7 @@ pub two_named : (hash : List ℕ → List ℕ) (redacts : List (List ℕ)) (old 
     → IsLastIngredient hash (left_in redacts other) (codes "c2pa.ingredient.v3__1") ComponentOf b → NameLast hash redacts (old ∷ other ∷ []) (a ∷ b ∷ [])
 two_named hash redacts old other a b h k = record { named = h.parent ∷ k.parent ∷ []; are = ap₂ (λ x y. x ∷ y ∷ []) h.is k.is; only = only }
   where
-    only : (ps : List Parent) → Lasts redacts ps (old ∷ other ∷ []) → ps ≡ h.parent ∷ k.parent ∷ []
+    only : (ps : List NamedManifest) → Lasts redacts ps (old ∷ other ∷ []) → ps ≡ h.parent ∷ k.parent ∷ []
     only [] z = absurd z
     only (p ∷ []) z = absurd z.1
     only (p ∷ q ∷ []) z = ap₂ (λ x y. x ∷ y ∷ []) (h.only p z.0) (k.only q z.1.0)

@@ -25,6 +25,7 @@ use Rattle.c2_collected.proofs.Stages.{then_next}
 use Rattle.c2_refusals.specs.Kinds.{ErrorKind, IsAskCause, IsReadKind, IsSourceCause, WithoutFault, front_refusal, judge_effects, judge_fault, kind_of, message_refusal, no_memory, older_refusal, other_refusal, read_fault, refusal, write_fault}
 use Rattle.c2_refusals.specs.Stages.{MediaKind}
 use Rattle.c2_refusals.specs.declared.error.BuildError.{BuildError}
+use Rattle.c2_refusals.specs.declared.types.KeptGround.{KeptGround}
 use Rattle.c2_refusals.proofs.Outside.{outside_map, said_each}
 use Rattle.c2_refusals.proofs.Inputs.{OneOpened}
 use Rattle.c2_refusals.proofs.Judged.{IsUnheard, IsUnjudged}
@@ -38,7 +39,6 @@ use Rattle.c2_validate.specs.declared.checking.OpenedStore.{OpenedStore}
 use Rattle.c2_collect_ground.specs.Errors.{IsRefusedWith}
 use Rattle.c2_collect_ground.specs.Grounds.{IsGroundOf, IsOtherTold, IsParentRefused, PairHears, ground_effects, opening_of}
 use Rattle.c2_collect_ground.specs.Steps.{IsInner, IsInnerKind, IsOpeningError, IsOtherCause, IsReadThere, other_effects}
-use Rattle.c2_collect_ground.specs.declared.types.CollectedGround.{CollectedGround}
 use Rattle.c2_collect_ground.proofs.Files.{OneReadings, unopened_asks}
 use Rattle.c2_collect_ground.proofs.Heard.{AreBoth, BeginsWith, IsUnwritten}
 
@@ -50,7 +50,7 @@ pub ground_first : {A : Type 0} (of : List ℕ → List ℕ) (file : List ℕ) (
 ground_first of file d First Next e h = outside_map e (λ (r : IsRefusedWith First e). (r.0, record { first = Err r.0; is_first = r.1; next = refl }, r.2)) h
 
 -- what the second comes to behind it, both do
-pub ground_next : {A : Type 0} (of : List ℕ → List ℕ) (file : List ℕ) (d : Definition) (First : Result A CollectRefusal → Type 0) (Next : A → Result FilePair CollectRefusal → Type 0) (a : A) (r : Result CollectedGround BuildError)
+pub ground_next : {A : Type 0} (of : List ℕ → List ℕ) (file : List ℕ) (d : Definition) (First : Result A CollectRefusal → Type 0) (Next : A → Result FilePair CollectRefusal → Type 0) (a : A) (r : Result KeptGround BuildError)
     → First (Ok a) → IsGroundOf of file d (Next a) r → IsGroundOf of file d (Then First Next) r
 ground_next of file d First Next a (Ok k) h n = (n.0, then_next First Next a (Ok n.0) h n.1, n.2)
 ground_next of file d First Next a (Err e) h n = outside_map e (λ (x : IsRefusedWith (Next a) e). (x.0, then_next First Next a (Err x.0) h x.1, x.2)) n

@@ -13,10 +13,11 @@ use Rattle.c2_joined.specs.Rooted.{is_reached_from}
 use Rattle.c2_definition.specs.declared.types.Definition.{Definition}
 use Rattle.c2_definition.specs.declared.types.NewAssertion.{NewAssertion}
 use Rattle.c2_built.specs.Manifests.{supers_in}
-use Rattle.c2_built.specs.Store.{Parent}
+use Rattle.c2_built.specs.Built.{HasDigestLen}
+use Rattle.c2_built.specs.Store.{Content, NamedManifest, ingredient_assertion, new_alg}
+use Rattle.c2_built.specs.Written.{AreIngredients}
 use Rattle.c2_carried.specs.Redacting.{redacted_boxes}
 use Rattle.c2_cleared.specs.declared.clearing.Clearing.{Clearing}
-use Rattle.c2_gathered.specs.Gathered.{AreIngredients, Gathered, ingredient_assertion}
 use Rattle.c2_collected.specs.Collected.{CanCollect, CanJoin, CollectsFrom, IsNamedAt, JoinedIsReached, JoinedReaches, SomeContentCollects, collected_boxes, collected_ingredients, collected_readings, collected_roots}
 use Rattle.c2_collected.specs.Order.{CollectRefusal, MediaFile, OtherFile, label_clash, label_refusals, label_taken, redaction_refused}
 use Rattle.c2_collected.specs.Outcomes.{IsJoinedStage, Unless, pair_of}
@@ -28,14 +29,15 @@ use Rattle.c2_collected.proofs.Stages.{unless_passes}
 use Rattle.c2_collected.proofs.Stores.{JoiningLaws}
 use Rattle.c2_refusals.specs.Kinds.{WithoutFault}
 use Rattle.c2_refusals.specs.declared.error.BuildError.{BuildError}
+use Rattle.c2_refusals.specs.declared.types.KeptGround.{KeptGround}
 use Rattle.c2_refusals.proofs.Outside.{outside_map}
+use Rattle.c2_ground.specs.Grounds.{IsSomeGround}
 use Rattle.c2_collect_ground.specs.Errors.{IsRefusedWith}
-use Rattle.c2_collect_ground.specs.Grounds.{IsGroundOf, IsSomeCollected}
+use Rattle.c2_collect_ground.specs.Grounds.{IsGroundOf}
 use Rattle.c2_collect_ground.specs.Steps.{AreJoined, IsClashError, IsFirstError, IsOurs, IsReadOrNone, IsTheirs, NameLast, boxes_of, ingredient_stores, joined_tests, old_boxes, old_readings, readings_of}
 use Rattle.c2_collect_ground.specs.declared.joining.JoinedBoxes.{JoinedBoxes}
 use Rattle.c2_collect_ground.specs.declared.stores.Ours.{Ours}
 use Rattle.c2_collect_ground.specs.declared.stores.ReadStore.{ReadStore}
-use Rattle.c2_collect_ground.specs.declared.types.CollectedGround.{CollectedGround}
 use Rattle.c2_collect_ground.proofs.Boxed.{some_read}
 use Rattle.c2_collect_ground.proofs.Lasts.{IsLastLeft, IsNamedLeft, both_last, one_last_alone}
 
@@ -125,7 +127,7 @@ joined_apart hash file redacts ours s m o j h k joined = (at_files (λ old old_r
 -- ---- ingredients
 
 -- the ingredients of the new store name the last manifests of the stores that were read
-names_lasts : JoiningLaws → (hash : Alg → List ℕ → List ℕ) (redacts : List (List ℕ)) (old : Option ReadStore) (s : ReadStore) (m : MediaFile) (o : OtherFile) (ps : List Parent) → CanJoin hash m.boxes o.boxes m.readings o.readings
+names_lasts : JoiningLaws → (hash : Alg → List ℕ → List ℕ) (redacts : List (List ℕ)) (old : Option ReadStore) (s : ReadStore) (m : MediaFile) (o : OtherFile) (ps : List NamedManifest) → CanJoin hash m.boxes o.boxes m.readings o.readings
     → m.boxes ≡ old_boxes old → m.readings ≡ old_readings old → o.boxes ≡ boxes_of s → IsReadOrNone old
     → AllZip (IsNamedLeft redacts m.boxes o.boxes o.readings) ps (collected_roots m.readings o.readings) → AllZip (IsLastLeft redacts) ps (ingredient_stores old s)
 names_lasts laws hash redacts None s m o ps can boxes readings theirs read h =
@@ -138,34 +140,35 @@ names_lasts laws hash redacts (Some old) s m o ps can boxes readings theirs read
 -- ---- the ground
 
 -- what is kept of these
-abbrev pub kept_of : Clearing → JoinedBoxes → Vec NewAssertion Global → CollectedGround
-kept_of clearing j further = record { clearing = clearing; boxes = j.boxes; further = further; manifests = j.manifests }
+abbrev pub kept_of : Clearing → JoinedBoxes → Vec NewAssertion Global → KeptGround
+kept_of clearing j made = record { clearing = clearing; carried = record { boxes = j.boxes; ingredients = made }; manifests = j.manifests }
 
 -- what is built over, whatever is known of both files
-pub some_kept : (of : List ℕ → List ℕ) (d : Definition) (clearing : Clearing) (ours : Ours) (s : ReadStore) (j : JoinedBoxes) (further : Vec NewAssertion Global)
-    → AreJoined d.redact (old_boxes ours.store) (old_readings ours.store) (boxes_of s) (readings_of s) j → NameLast of d.redact (ingredient_stores ours.store s) further.items → IsSomeCollected of d (kept_of clearing j further)
-some_kept of d clearing ours s j further joined names = record {
+pub some_kept : (of : List ℕ → List ℕ) (d : Definition) (clearing : Clearing) (ours : Ours) (s : ReadStore) (j : JoinedBoxes) (made : Vec NewAssertion Global) → HasDigestLen (new_alg d) of
+    → AreJoined d.redact (old_boxes ours.store) (old_readings ours.store) (boxes_of s) (readings_of s) j → NameLast of d.redact (ingredient_stores ours.store s) made.items → IsSomeGround of d (kept_of clearing j made)
+some_kept of d clearing ours s j made digests joined names = record {
   content = record { definition = d; carried = redacted_boxes d.redact (collected_boxes (old_boxes ours.store) (boxes_of s) (readings_of s)); ingredients = collected_ingredients names.named };
-  gathered = record { definition = refl; boxes = joined.boxes; further = names.are; ingredients = ingredients_ok names.named };
+  is = record { definition = refl; boxes = joined.boxes; assertions = names.are; ingredients = ingredients_ok names.named; digests = digests };
 }
 
 -- and over both files, which may be collected
-pub joined_ground : JoiningLaws → SomeContentCollects → (of : List ℕ → List ℕ) (hash : Alg → List ℕ → List ℕ) (file : List ℕ) (d : Definition) (ours : Ours) (s : ReadStore) (m : MediaFile) (o : OtherFile) (j : JoinedBoxes) (further : Vec NewAssertion Global)
-    → IsOurs hash file ours m → IsTheirs hash s o → IsReadOrNone ours.store → AreJoined d.redact (old_boxes ours.store) (old_readings ours.store) (boxes_of s) (readings_of s) j
-    → NameLast of d.redact (ingredient_stores ours.store s) further.items → file_tests d m o ≡ [] → IsGroundOf of file d (IsJoinedStage d m o) (Ok (kept_of ours.clearing j further))
-joined_ground laws some of hash file d ours s m o j further h k read joined names none = (
+pub joined_ground : JoiningLaws → SomeContentCollects → (of : List ℕ → List ℕ) (hash : Alg → List ℕ → List ℕ) (file : List ℕ) (d : Definition) (ours : Ours) (s : ReadStore) (m : MediaFile) (o : OtherFile) (j : JoinedBoxes) (made : Vec NewAssertion Global)
+    → HasDigestLen (new_alg d) of → IsOurs hash file ours m → IsTheirs hash s o → IsReadOrNone ours.store → AreJoined d.redact (old_boxes ours.store) (old_readings ours.store) (boxes_of s) (readings_of s) j
+    → NameLast of d.redact (ingredient_stores ours.store s) made.items → file_tests d m o ≡ [] → IsGroundOf of file d (IsJoinedStage d m o) (Ok (kept_of ours.clearing j made))
+joined_ground laws some of hash file d ours s m o j made digests h k read joined names none = (
   pair_of m o None,
   passed_stage d m o here.apart none,
   record {
     base = h.base;
     content = content.0;
     collects = content.1;
-    gathered = record {
+    is = record {
       definition = content.1.definition;
       boxes = here.boxes ∙ ap trees_bytes (sym content.1.carried);
-      further = names.are ∙ ap (λ (ps : List Parent). map (ingredient_assertion of) (collected_ingredients ps)) (sym same)
+      assertions = names.are ∙ ap (λ (ps : List NamedManifest). map (ingredient_assertion of) (collected_ingredients ps)) (sym same)
           ∙ ap (map (ingredient_assertion of)) (sym content.1.ingredients);
       ingredients = subst (λ gs. AreIngredients gs) (sym content.1.ingredients) (ingredients_ok content.1.named);
+      digests = digests;
     };
     manifests = here.count;
   },
@@ -177,11 +180,11 @@ joined_ground laws some of hash file d ours s m o j further h k read joined name
     can : CanCollect hash d m.boxes o.boxes m.readings o.readings
     can = can_collect hash d m o (can_join hash file ours s m o h k here.apart) none
 
-    content : (c : Gathered) × CollectsFrom d m.boxes o.boxes m.readings o.readings c
+    content : (c : Content) × CollectsFrom d m.boxes o.boxes m.readings o.readings c
     content = some hash d m.boxes o.boxes m.readings o.readings can
 
     same : content.1.named ≡ names.named
     same =
         names.only content.1.named
         (names_lasts laws hash d.redact ours.store s m o content.1.named can.joins h.boxes h.readings k.boxes read
-        (subst (λ (x : Trees). AllZip (λ (p : Parent) root. IsNamedAt p (supers_in x) root) content.1.named (collected_roots m.readings o.readings)) content.1.carried content.1.are))
+        (subst (λ (x : Trees). AllZip (λ (p : NamedManifest) root. IsNamedAt p (supers_in x) root) content.1.named (collected_roots m.readings o.readings)) content.1.carried content.1.are))

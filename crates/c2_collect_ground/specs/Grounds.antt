@@ -1,17 +1,18 @@
 -- What a new file is built over whose new store collects from a media file and from another file.
-use Rattle.std.specs.Prelude.{◌≡◌, ℕ, ◌+◌, true, List, length, map}
+use Rattle.std.specs.Prelude.{◌≡◌, ℕ, ◌+◌, true, List, length}
 use Rattle.std.specs.declared.option.Option.{Option}
 use Rattle.std.specs.declared.option.Option.TheVariants.{Some}
 use Rattle.std.specs.declared.result.Result.{Result}
 use Rattle.std.specs.declared.result.Result.TheVariants.{Ok, Err}
 use Rattle.c2_base.specs.Source.{IsKnownWhereDue}
 use Rattle.c2_base.specs.declared.values.Question.{Question}
-use Rattle.c2_spec.specs.Jumbf.Tree.{Tree, trees_bytes}
+use Rattle.c2_spec.specs.Jumbf.Tree.{Tree}
 use Rattle.c2_spec.specs.Located.{Opening, absent, here}
 use Rattle.c2_spec.specs.declared.digest.Alg.{Alg}
 use Rattle.c2_spec.specs.declared.panel.Verdict.{Verdict}
 use Rattle.c2_definition.specs.declared.types.Definition.{Definition}
-use Rattle.c2_gathered.specs.Gathered.{AreIngredients, Gathered, ingredient_assertion}
+use Rattle.c2_built.specs.Store.{Content}
+use Rattle.c2_layout.specs.Parts.{IsContent}
 use Rattle.c2_cleared.specs.Clears.{cleared}
 use Rattle.c2_collected.specs.Collected.{CollectsFrom}
 use Rattle.c2_collected.specs.Order.{CollectRefusal, FilePair, pair_readings}
@@ -19,10 +20,10 @@ use Rattle.c2_collected.specs.Outcomes.{IsParentStage, PairAsks}
 use Rattle.c2_refusals.specs.Kinds.{Effects, IsSourceCause, WithoutFault, judge_effects, kind_of}
 use Rattle.c2_refusals.specs.Stages.{MediaKind, fresh, stored}
 use Rattle.c2_refusals.specs.declared.error.BuildError.{BuildError}
+use Rattle.c2_refusals.specs.declared.types.KeptGround.{KeptGround}
 use Rattle.c2_ground.specs.Grounds.{IsKind}
 use Rattle.c2_ground.specs.declared.media.MediaRead.{MediaRead}
 use Rattle.c2_collect_ground.specs.Errors.{IsRefusedWith}
-use Rattle.c2_collect_ground.specs.declared.types.CollectedGround.{CollectedGround}
 
 -- ---- the media file and the other one
 
@@ -65,29 +66,16 @@ pub record PairHears (hash : Alg → List ℕ → List ℕ) (media other : Optio
 
 -- ---- the ground
 
--- This is kept of what goes into a new store of a definition: its boxes, and the assertions of its ingredients, which a manifest may have
--- beside those of a definition.
-pub record IsGathered (hash : List ℕ → List ℕ) (d : Definition) (k : CollectedGround) (c : Gathered) : Type 0 where
-  pub definition : c.definition ≡ d
-  pub boxes : k.boxes ≡ trees_bytes c.carried
-  pub further : k.further.items ≡ map (ingredient_assertion hash) c.ingredients
-  pub ingredients : AreIngredients c.ingredients
-
 -- This is what a new file of a definition is built over, of this media file and of these two files: what is left of the media; what goes into
 -- the new store, which collects from both; and how many manifests that has.
-pub record IsCollectedGround (hash : List ℕ → List ℕ) (media : List ℕ) (d : Definition) (k : CollectedGround) (p : FilePair) : Type 0 where
+pub record IsCollectedGround (hash : List ℕ → List ℕ) (media : List ℕ) (d : Definition) (k : KeptGround) (p : FilePair) : Type 0 where
   pub base : p.media.base ≡ cleared k.clearing media
-  pub content : Gathered
+  pub content : Content
   pub collects : CollectsFrom d p.media.boxes p.other.boxes p.media.readings p.other.readings content
-  pub gathered : IsGathered hash d k content
+  pub is : IsContent hash d k.carried content
   pub manifests : k.manifests ≡ length (pair_readings p) + 1
 
 -- it is built over what both files come to, or refused with the error of what is refused of them first
-abbrev pub IsGroundOf : (List ℕ → List ℕ) → List ℕ → Definition → (Result FilePair CollectRefusal → Type 0) → Result CollectedGround BuildError → Type 0
+abbrev pub IsGroundOf : (List ℕ → List ℕ) → List ℕ → Definition → (Result FilePair CollectRefusal → Type 0) → Result KeptGround BuildError → Type 0
 IsGroundOf hash media d Is (Ok k) = (p : FilePair) × Is (Ok p) × IsCollectedGround hash media d k p
 IsGroundOf hash media d Is (Err e) = WithoutFault e (IsRefusedWith Is e)
-
--- What is built over, whatever is known of both files.
-pub record IsSomeCollected (hash : List ℕ → List ℕ) (d : Definition) (k : CollectedGround) : Type 0 where
-  pub content : Gathered
-  pub gathered : IsGathered hash d k content

@@ -23,15 +23,14 @@ use Rattle.c2_rules.specs.declared.answer.Answer.TheVariants as answers
 use Rattle.c2_definition.specs.declared.types.Definition.{Definition}
 use Rattle.c2_definition.specs.declared.types.NewAssertion.{NewAssertion}
 use Rattle.c2_built.specs.Manifests.{supers_in}
-use Rattle.c2_built.specs.Store.{Parent}
+use Rattle.c2_built.specs.Store.{NamedManifest, ingredient_assertion}
 use Rattle.c2_carried.specs.Parents.{IsParentOf}
 use Rattle.c2_carried.specs.declared.refused.RefusedRedaction.{RefusedRedaction}
 use Rattle.c2_parent.specs.Both.{IsFirstRefusedOfBoth}
 use Rattle.c2_carried.specs.Redacting.{boxes_in, redacted_boxes}
-use Rattle.c2_gathered.specs.Gathered.{ingredient_assertion}
 use Rattle.c2_joined.specs.Rooted.{last_roots}
 use Rattle.c2_layout.specs.Parts.{AreRefs}
-use Rattle.c2_layout.specs.declared.carried.ParentRefs.{ParentRefs}
+use Rattle.c2_layout.specs.declared.carried.ManifestRefs.{ManifestRefs}
 use Rattle.c2_cleared.specs.Clears.{cleared}
 use Rattle.c2_collect.specs.Marked.{flag_at}
 use Rattle.c2_collected.specs.Collected.{collected_boxes, collected_ingredients, collected_readings}
@@ -175,16 +174,16 @@ joined_tests d rs is_in =
 -- ---- ingredients
 
 -- References to the last of these manifests, by digests: they are those of something; where an ingredient may name the manifest, it is that.
-pub record AreLastRefs (hash : List ℕ → List ℕ) (manifests : List Tree) (refs : ParentRefs) : Type 0 where
-  pub parent : Parent
+pub record AreLastRefs (hash : List ℕ → List ℕ) (manifests : List Tree) (refs : ManifestRefs) : Type 0 where
+  pub parent : NamedManifest
   pub are : AreRefs hash parent refs
-  pub only : (p : Parent) → IsParentOf p manifests → p ≡ parent
+  pub only : (p : NamedManifest) → IsParentOf p manifests → p ≡ parent
 
 -- The assertion of an ingredient with this label and relationship, which is the last of these manifests, where an ingredient may name that.
 pub record IsLastIngredient (hash : List ℕ → List ℕ) (manifests : List Tree) (label : List ℕ) (relationship : Relationship) (a : NewAssertion) : Type 0 where
-  pub parent : Parent
+  pub parent : NamedManifest
   pub is : a ≡ ingredient_assertion hash (record { label = label; relationship = relationship; of = parent })
-  pub only : (p : Parent) → IsParentOf p manifests → p ≡ parent
+  pub only : (p : NamedManifest) → IsParentOf p manifests → p ≡ parent
 
 -- the manifests of a store less what is redacted of them
 abbrev pub left_in : List (List ℕ) → Trees → List Tree
@@ -196,10 +195,10 @@ ingredient_stores None s = boxes_of s ∷ []
 ingredient_stores (Some old) s = boxes_of old ∷ boxes_of s ∷ []
 
 -- The assertions of ingredients that name the last manifests of these stores, less what is redacted of them.
-pub record NameLast (hash : List ℕ → List ℕ) (redacts : List (List ℕ)) (stores : List Trees) (further : List NewAssertion) : Type 0 where
-  pub named : List Parent
-  pub are : further ≡ map (ingredient_assertion hash) (collected_ingredients named)
-  pub only : (ps : List Parent) → AllZip (λ (p : Parent) (boxes : Trees). IsParentOf p (left_in redacts boxes)) ps stores → ps ≡ named
+pub record NameLast (hash : List ℕ → List ℕ) (redacts : List (List ℕ)) (stores : List Trees) (assertions : List NewAssertion) : Type 0 where
+  pub named : List NamedManifest
+  pub are : assertions ≡ map (ingredient_assertion hash) (collected_ingredients named)
+  pub only : (ps : List NamedManifest) → AllZip (λ (p : NamedManifest) (boxes : Trees). IsParentOf p (left_in redacts boxes)) ps stores → ps ≡ named
 
 -- ---- both files
 

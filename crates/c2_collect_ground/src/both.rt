@@ -4,17 +4,17 @@ ghost use Rattle.c2_built.specs.Store.{new_alg};
 ghost use Rattle.c2_collected.specs.Collected.{JoinedReaches, collected_readings};
 ghost use Rattle.c2_collected.specs.Order.{MediaFile, OtherFile};
 ghost use Rattle.c2_collected.specs.Outcomes.{IsJoinedStage};
-ghost use Rattle.c2_collected.specs.Refusals.{redaction_refusal_by};
 ghost use Rattle.c2_joined.specs.Joined as joined;
 ghost use Rattle.c2_refusals.specs.declared.error.BuildError.TheVariants.{LabelTaken};
 ghost use Rattle.c2_refusals.specs.Kinds.{WithoutFault};
 ghost use Rattle.c2_spec.specs.declared.digest.Alg.{Alg as AnyAlg};
-ghost use Rattle.c2_collect_ground.specs.Grounds.{IsGroundOf, IsSomeCollected};
+ghost use Rattle.c2_ground.specs.Grounds.{IsSomeGround};
+ghost use Rattle.c2_collect_ground.specs.Grounds.{IsGroundOf};
 ghost use Rattle.c2_collect_ground.specs.Steps.{AreTested, IsFirstRefusedOf, IsInner, IsOurs, IsReadOrNone, IsReadStore, IsTheirs, joined_tests, old_readings, readings_of};
 
 use crate::joining::joined_boxes;
 use crate::stores::{Ours, ReadStore};
-use crate::types::{CollectedGround, Collector};
+use crate::types::Collector;
 use c2_base::{NoMemory, Text};
 use c2_carried::RefusedRedaction;
 use c2_chain::{labels_of_a_store_differ, one_reading};
@@ -22,10 +22,11 @@ use c2_collected::{what_is_collected_is_one, what_is_joined_is_reached};
 use c2_hash::Hashing;
 use c2_joined::chains_join;
 use c2_jumbf::{count, each_list_is_a_tree_or_not};
+use c2_layout::Carried;
 use c2_parent::{
     has_joined_manifest, has_reached_manifest, redactions_of, refused_in_both, refused_in_carried,
 };
-use c2_refusals::BuildError;
+use c2_refusals::{BuildError, KeptGround};
 
 impl<'d, H: Hashing> Collector<'d, H> {
     // Whether one of the joined manifests has the new label.
@@ -115,7 +116,7 @@ impl<'d, H: Hashing> Collector<'d, H> {
         &self,
         ours: &Ours<'_, '_, '_>,
         theirs: &ReadStore<'_, '_, '_>,
-    ) -> Result<CollectedGround, BuildError>
+    ) -> Result<KeptGround, BuildError>
         requires ours { IsReadOrNone ours.now.store }
         requires theirs { IsReadStore theirs.now }
         ensures ground { let d = self.now.definition.now in
@@ -123,7 +124,7 @@ impl<'d, H: Hashing> Collector<'d, H> {
             → IsOurs hash file ours.now m → IsTheirs hash theirs.now o
             → IsGroundOf (H.digest_of (new_alg d)) file d (IsJoinedStage d m o) result }
         ensures some { let d = self.now.definition.now in
-            IfOk result (IsSomeCollected (H.digest_of (new_alg d)) d) }
+            IfOk result (IsSomeGround (H.digest_of (new_alg d)) d) }
         ensures inner { IfErr result IsInner }
     {
         // Only the prover needs these laws.
@@ -137,8 +138,8 @@ impl<'d, H: Hashing> Collector<'d, H> {
             Err(NoMemory) => return Err(BuildError::NoMemory),
         };
         // Made before the boxes are joined: what they are digested from is let go before.
-        let further = match self.further(&ours.store, theirs, &redactions) {
-            Ok(further) => further,
+        let ingredients = match self.ingredients(&ours.store, theirs, &redactions) {
+            Ok(ingredients) => ingredients,
             Err(NoMemory) => return Err(BuildError::NoMemory),
         };
         let joined = match joined_boxes(self.alloc, &ours.store, theirs, &redactions) {
@@ -146,10 +147,12 @@ impl<'d, H: Hashing> Collector<'d, H> {
             Err(error) => return Err(error),
         };
         match self.check_joined(&ours.store, theirs) {
-            Ok(()) => Ok(CollectedGround {
+            Ok(()) => Ok(KeptGround {
                 clearing: ours.clearing,
-                boxes: joined.boxes,
-                further,
+                carried: Carried {
+                    boxes: joined.boxes,
+                    ingredients,
+                },
                 manifests: joined.manifests,
             }),
             Err(error) => Err(error),

@@ -13,14 +13,14 @@ ghost use Rattle.c2_collected.specs.Outcomes.{IsJoinedStage, IsOtherStage, IsPai
 ghost use Rattle.c2_container.specs.Contained.{HasRootsInside};
 ghost use Rattle.c2_refusals.specs.Kinds.{build_heard};
 ghost use Rattle.c2_refusals.specs.Stages.{MediaKind};
-ghost use Rattle.c2_ground.specs.Grounds.{IsKind, IsReadIn};
+ghost use Rattle.c2_ground.specs.Grounds.{IsKind, IsReadIn, IsSomeGround};
 ghost use Rattle.c2_validate.specs.Validation.{FileAsks};
-ghost use Rattle.c2_collect_ground.specs.Grounds.{IsGroundCause, IsGroundOf, IsOtherTold, IsParentRefused, IsSomeCollected, PairHears, opening_of};
+ghost use Rattle.c2_collect_ground.specs.Grounds.{IsGroundCause, IsGroundOf, IsOtherTold, IsParentRefused, PairHears, opening_of};
 ghost use Rattle.c2_collect_ground.specs.Steps.{IsFoundThere, IsOurs, IsReadOrNone, IsReadThere};
 
 use crate::other::{check_other, open_other, read_other};
 use crate::stores::{Ours, store_with};
-use crate::types::{CollectedGround, Collector};
+use crate::types::Collector;
 use c2_base::{NoMemory, Source};
 use c2_chain::{of_store, one_reading};
 use c2_ground::{MediaRead, OlderStore, check_parent, opened_in};
@@ -28,7 +28,7 @@ use c2_hash::Hashing;
 use c2_joined::a_store_is_rooted_at_its_last_manifest;
 use c2_judge::Judge;
 use c2_opening::types::Media;
-use c2_refusals::BuildError;
+use c2_refusals::{BuildError, KeptGround};
 use c2_validate::{Container, a_store_answers_for_its_file, one_opening};
 
 impl<'d, H: Hashing> Collector<'d, H> {
@@ -40,7 +40,7 @@ impl<'d, H: Hashing> Collector<'d, H> {
         container: &Container,
         read: &OlderStore<'_>,
         judges: &mut Vec<Box<dyn Judge>>,
-    ) -> Result<CollectedGround, BuildError>
+    ) -> Result<KeptGround, BuildError>
         requires ours { IsReadOrNone ours.now.store }
         requires inside { HasRootsInside (D.len other.old) container.now }
         requires boxes { IsStoreOf read.now.tree read.now.store }
@@ -52,7 +52,7 @@ impl<'d, H: Hashing> Collector<'d, H> {
             → IsOurs H.digest_of file ours.now m → IsGroundOf (H.digest_of (new_alg d)) file d
             (Then (IsOtherStage H.digest_of said others) (IsJoinedStage d m)) result) }
         ensures some { let d = self.now.definition.now in
-            IfOk result (IsSomeCollected (H.digest_of (new_alg d)) d) }
+            IfOk result (IsSomeGround (H.digest_of (new_alg d)) d) }
         ensures reads { ReadsSource D.len D.known D.faults (IsGroundCause ⊥)
             other.old other.new result }
         ensures panel { HearsPanel says asked_times judge_faults build_heard
@@ -84,7 +84,7 @@ impl<'d, H: Hashing> Collector<'d, H> {
         other: &mut D,
         found: &Media,
         judges: &mut Vec<Box<dyn Judge>>,
-    ) -> Result<CollectedGround, BuildError>
+    ) -> Result<KeptGround, BuildError>
         requires ours { IsReadOrNone ours.now.store }
         requires inside { HasRootsInside (D.len other.old) found.now.container }
         requires found { ForSome (D.known other.old) (λ file. IsFoundThere file found.now) }
@@ -94,7 +94,7 @@ impl<'d, H: Hashing> Collector<'d, H> {
             → IsOurs H.digest_of file ours.now m → IsGroundOf (H.digest_of (new_alg d)) file d
             (Then (IsOtherStage H.digest_of said others) (IsJoinedStage d m)) result) }
         ensures some { let d = self.now.definition.now in
-            IfOk result (IsSomeCollected (H.digest_of (new_alg d)) d) }
+            IfOk result (IsSomeGround (H.digest_of (new_alg d)) d) }
         ensures reads { ReadsSource D.len D.known D.faults (IsGroundCause ⊥)
             other.old other.new result }
         ensures panel { HearsPanel says asked_times judge_faults build_heard
@@ -116,7 +116,7 @@ impl<'d, H: Hashing> Collector<'d, H> {
         ours: &Ours<'_, '_, '_>,
         other: &mut D,
         judges: &mut Vec<Box<dyn Judge>>,
-    ) -> Result<CollectedGround, BuildError>
+    ) -> Result<KeptGround, BuildError>
         requires { IsReadOrNone ours.now.store }
         ensures ground { let said = panel_says (map says judges.old.items) in
             let d = self.now.definition.now in
@@ -124,7 +124,7 @@ impl<'d, H: Hashing> Collector<'d, H> {
             → IsOurs H.digest_of file ours.now m → IsGroundOf (H.digest_of (new_alg d)) file d
             (Then (IsOtherStage H.digest_of said others) (IsJoinedStage d m)) result) }
         ensures some { let d = self.now.definition.now in
-            IfOk result (IsSomeCollected (H.digest_of (new_alg d)) d) }
+            IfOk result (IsSomeGround (H.digest_of (new_alg d)) d) }
         ensures reads { ReadsSource D.len D.known D.faults (IsGroundCause ⊥)
             other.old other.new result }
         ensures panel { HearsPanel says asked_times judge_faults build_heard
@@ -148,7 +148,7 @@ impl<'d, H: Hashing> Collector<'d, H> {
         older: &OlderStore<'_>,
         other: &mut D,
         judges: &mut Vec<Box<dyn Judge>>,
-    ) -> Result<CollectedGround, BuildError>
+    ) -> Result<KeptGround, BuildError>
         requires read { IsReadIn (A.len media.old) file.now }
         requires older { file.now.older ≡ Some older.now }
         ensures ground { let said = panel_says (map says judges.old.items) in
@@ -163,7 +163,7 @@ impl<'d, H: Hashing> Collector<'d, H> {
             → IsParentRefused H.digest_of said bytes (opening_of kind)
             → other.new ≡ other.old) }
         ensures some { let d = self.now.definition.now in
-            IfOk result (IsSomeCollected (H.digest_of (new_alg d)) d) }
+            IfOk result (IsSomeGround (H.digest_of (new_alg d)) d) }
         ensures media { ReadsSource A.len A.known A.faults
             (IsGroundCause (Rose (D.faults other.old) (D.faults other.new)))
             media.old media.new result }
@@ -211,7 +211,7 @@ impl<'d, H: Hashing> Collector<'d, H> {
         file: &MediaRead<'_>,
         other: &mut D,
         judges: &mut Vec<Box<dyn Judge>>,
-    ) -> Result<CollectedGround, BuildError>
+    ) -> Result<KeptGround, BuildError>
         requires { IsReadIn (A.len media.old) file.now }
         // Where the bytes are known that are due: this is what both files come to.
         ensures ground { let said = panel_says (map says judges.old.items) in
@@ -228,7 +228,7 @@ impl<'d, H: Hashing> Collector<'d, H> {
 
         // These hold of every two files.
         ensures some { let d = self.now.definition.now in
-            IfOk result (IsSomeCollected (H.digest_of (new_alg d)) d) }
+            IfOk result (IsSomeGround (H.digest_of (new_alg d)) d) }
         ensures media { ReadsSource A.len A.known A.faults
             (IsGroundCause (Rose (D.faults other.old) (D.faults other.new)))
             media.old media.new result }

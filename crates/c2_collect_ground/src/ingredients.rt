@@ -8,7 +8,7 @@ use crate::types::Collector;
 use c2_base::{NoMemory, Text};
 use c2_definition::NewAssertion;
 use c2_hash::Hashing;
-use c2_layout::{ParentRefs, ingredient};
+use c2_layout::{ManifestRefs, ingredient};
 use c2_parent::{Redactions, parent_digests};
 use c2_spec::Relationship;
 
@@ -18,7 +18,7 @@ impl<'d, H: Hashing> Collector<'d, H> {
         &self,
         store: &ReadStore<'s, '_, '_>,
         redactions: &Redactions<'s>,
-    ) -> Result<ParentRefs, NoMemory>
+    ) -> Result<ManifestRefs, NoMemory>
         requires { IsReadStore store.now }
         ensures { IfOk result (AreLastRefs (H.digest_of (new_alg self.now.definition.now))
             (left_in redactions.now (boxes_of store.now))) }
@@ -33,7 +33,7 @@ impl<'d, H: Hashing> Collector<'d, H> {
             &store.older.store,
             redactions,
         ) {
-            Ok(last) => Ok(ParentRefs {
+            Ok(last) => Ok(ManifestRefs {
                 label: Text::copied(self.alloc, last.label)?,
                 contents: last.contents,
                 signed: last.signed,
@@ -99,7 +99,7 @@ impl<'d, H: Hashing> Collector<'d, H> {
 
     /// The assertions of the new manifest's ingredients: of the parent, which is the last manifest of the media file's store, where it has
     /// one, and of the component, which is the last of the other file's, as they stand in the new store.
-    pub(crate) fn further<'s>(
+    pub(crate) fn ingredients<'s>(
         &self,
         ours: &Option<ReadStore<'s, '_, '_>>,
         theirs: &ReadStore<'s, '_, '_>,

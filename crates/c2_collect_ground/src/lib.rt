@@ -14,4 +14,4 @@ mod stores;
 mod types;
 
 pub use laws::each_collect_refusal_has_its_error;
-pub use types::{CollectedGround, Collector};
+pub use types::Collector;

@@ -20,8 +20,8 @@ use Rattle.c2_rules.specs.Tests.{Test, each, first_failing}
 use Rattle.c2_rules.proofs.ListLemmas.{both_true, from_below, from_passes, in_below, or_cases}
 use Rattle.c2_rules.proofs.ReachLemmas.{placed}
 use Rattle.c2_older.specs.Older.{has_signature, is_kept}
+use Rattle.c2_built.proofs.Conditions.{Holds, all_hold}
 use Rattle.c2_built.proofs.Lists.{each-append, each-back, each-front}
-use Rattle.c2_built.proofs.NewRules.{Holds, all_hold}
 use Rattle.c2_carried.specs.Less.{SignsTaken}
 use Rattle.c2_carried.specs.Redacting.{takes_out}
 use Rattle.c2_carried.specs.Refusing.{entry_tests, has_assertion, is_target, names_unsigned, new_claim_uri, refusal_after, refused_by}

@@ -22,12 +22,12 @@ use Rattle.c2_joined.proofs.Places.{contains_left, contains_right, from_right, g
 use Rattle.c2_definition.specs.declared.types.Definition.{Definition}
 use Rattle.c2_definition.specs.declared.types.NewAssertion.{NewAssertion}
 use Rattle.c2_built.specs.Manifests.{supers_in}
-use Rattle.c2_built.specs.Store.{Parent, new_alg}
-use Rattle.c2_built.specs.Written.{CanBeWritten}
+use Rattle.c2_built.specs.Store.{Content, NamedManifest, NewIngredient, new_alg, new_store}
+use Rattle.c2_built.specs.Written.{AreIngredients, CanBeWritten}
 use Rattle.c2_built.proofs.Lists.{each-append}
 use Rattle.c2_carried.specs.Less.{IsReadLess, RedactedStoreIsRead}
 use Rattle.c2_carried.specs.Redacting.{redacted_boxes}
-use Rattle.c2_gathered.specs.Gathered.{AreIngredients, Gathered, GatheredStoreMeets, GatheredStoreReaches, IsOverRoots, NewIngredient, ReachesRoots, gathered_store}
+use Rattle.c2_gathered.specs.Gathered.{GatheredStoreMeets, GatheredStoreReaches, IsOverRoots, ReachesRoots}
 use Rattle.c2_gathered.specs.Taken.{IsRoot, IsTakenFrom, question_from, questions_from}
 use Rattle.c2_collected.specs.Collected.{CanJoin, CollectedStoreMeets, CollectedStoreReaches, CollectsFrom, IsCollected, IsNamedAt, IsOfEither, IsStored, JoinedIsReached, JoinedReaches}
 use Rattle.c2_collected.specs.Collected.{QuestionsAreApproved, QuestionsAreOfEither, ReachesCollected, WasReached, collected_boxes, collected_ingredients, collected_readings, collected_roots}
@@ -39,13 +39,13 @@ use Rattle.c2_collected.proofs.Stores.{JoiningLaws, none_clashes, taken_less}
 -- ---- the store
 
 -- what the new store is: over the joined chain, with an ingredient for each of its roots
-record IsMade (hash : Alg → List ℕ → List ℕ) (old_rs other_rs : List Reading) (c : Gathered) (binding : NewAssertion) (message : List ℕ) (p : SignParts) : Type 0 where
+record IsMade (hash : Alg → List ℕ → List ℕ) (old_rs other_rs : List Reading) (c : Content) (binding : NewAssertion) (message : List ℕ) (p : SignParts) : Type 0 where
   left : List Reading
   over : IsOverRoots hash c binding message p (collected_roots old_rs other_rs) (collected_readings old_rs other_rs) left
 
 -- it is that
 made : JoiningLaws → RedactedStoreIsRead
-    → (hash : Alg → List ℕ → List ℕ) (d : Definition) (old other : Trees) (old_rs other_rs : List Reading) (c : Gathered)
+    → (hash : Alg → List ℕ → List ℕ) (d : Definition) (old other : Trees) (old_rs other_rs : List Reading) (c : Content)
     (binding : NewAssertion) (message : List ℕ) (p : SignParts)
     → IsCollected hash d old other old_rs other_rs c → IsStored hash c binding message p
     → IsMade hash old_rs other_rs c binding message p
@@ -61,7 +61,7 @@ made laws less hash d old other old_rs other_rs c binding message p is stored =
     let zips : AllZip (λ (g : NewIngredient) root. IsRoot js k.ss g.of root) (collected_ingredients from.named) roots =
     ingredients_zip (IsRoot js k.ss) from.named roots (two_roots old_rs other_rs)
     (roots_are hash d.redact boxes roots js from.named roots k s.rooted s.rooted.within
-    (subst (λ (x : Trees). AllZip (λ (q : Parent) root. IsNamedAt q (supers_in x) root) from.named roots) from.carried from.are)) in
+    (subst (λ (x : Trees). AllZip (λ (q : NamedManifest) root. IsNamedAt q (supers_in x) root) from.named roots) from.carried from.are)) in
     record {
       left = k.ss;
       over = record {
@@ -188,7 +188,7 @@ collected_reaches laws less gathers one hash d old other old_rs other_rs c bindi
     let g = gathers hash c binding message p roots js m.left m.over in
     let r : ReachesRoots js roots g.0 = g.2 in
     let k : JoinedReaches old_rs other_rs (is_reached_from js roots) = joined_reaches laws hash old other old_rs other_rs is.can.joins in
-    subst (ReachesCollected old_rs other_rs) (one (manifests_of (gathered_store (hash (new_alg c.definition)) c binding message)) g.0 all g.1 reads)
+    subst (ReachesCollected old_rs other_rs) (one (manifests_of (new_store (hash (new_alg c.definition)) c binding message)) g.0 all g.1 reads)
     (record { count = r.count; new = r.new; older = older_reaches old_rs other_rs (is_reached_from js roots) (is_reached g.0) r.older k })
 
 -- ---- questions

@@ -25,15 +25,14 @@ use Rattle.c2_joined.proofs.Rooting.{last_active}
 use Rattle.c2_definition.specs.declared.types.Definition.{Definition}
 use Rattle.c2_built.specs.FreshBoxes.{contents_of}
 use Rattle.c2_built.specs.Manifests.{is_signature_box, manifest_of, superbox_of, supers_in, supers_of}
-use Rattle.c2_built.specs.Store.{Parent}
+use Rattle.c2_built.specs.Store.{NamedManifest, NewIngredient}
+use Rattle.c2_built.specs.Written.{AreIngredients}
+use Rattle.c2_built.proofs.Conditions.{Holds, all_each}
 use Rattle.c2_built.proofs.Lists.{each-front}
-use Rattle.c2_built.proofs.NewRules.{Holds}
 use Rattle.c2_carried.specs.Less.{IsReadLess, RedactedStoreIsRead}
 use Rattle.c2_carried.specs.Redacting.{redacted_boxes}
 use Rattle.c2_carried.proofs.Places.{LessAt, less_at, less_label, less_len}
 use Rattle.c2_carried.proofs.Stores.{label_some, legal_at, read_label, read_len}
-use Rattle.c2_carried.proofs.Valid.{all_each}
-use Rattle.c2_gathered.specs.Gathered.{AreIngredients, NewIngredient}
 use Rattle.c2_gathered.specs.Taken.{IsRoot}
 use Rattle.c2_collected.specs.Collected.{CanJoin, CollectedContentIsOne, IsNamedAt, SomeContentCollects, collected_boxes, collected_ingredients, collected_readings, collected_roots}
 use Rattle.c2_collected.specs.Sides.{DoNotClash, joined_boxes}
@@ -120,7 +119,7 @@ at_root redacts boxes rs t root k within is =
 
 -- the manifest at a root is one that an ingredient may name
 root_is : (hash : Alg → List ℕ → List ℕ) (redacts : List (List ℕ)) (boxes : Trees) (all : List ℕ) (rs : List Reading)
-    (p : Parent) (root : ℕ)
+    (p : NamedManifest) (root : ℕ)
     → (k : IsReadLess redacts boxes rs) → IsRooted hash rs all → root < length rs
     → IsNamedAt p (supers_in (redacted_boxes redacts boxes)) root → IsRoot rs k.ss p root
 root_is hash redacts boxes all rs p root k rooted within h =
@@ -144,10 +143,10 @@ root_is hash redacts boxes all rs p root k rooted within h =
 
 -- so those at all roots are
 pub roots_are : (hash : Alg → List ℕ → List ℕ) (redacts : List (List ℕ)) (boxes : Trees) (all : List ℕ) (rs : List Reading)
-    (ps : List Parent) (roots : List ℕ)
+    (ps : List NamedManifest) (roots : List ℕ)
     → (k : IsReadLess redacts boxes rs) → IsRooted hash rs all
     → AllByRecursion (λ c. c < length rs) roots
-    → AllZip (λ (p : Parent) root. IsNamedAt p (supers_in (redacted_boxes redacts boxes)) root) ps roots
+    → AllZip (λ (p : NamedManifest) root. IsNamedAt p (supers_in (redacted_boxes redacts boxes)) root) ps roots
     → AllZip (IsRoot rs k.ss) ps roots
 roots_are hash redacts boxes all rs [] [] k rooted within h = tt
 roots_are hash redacts boxes all rs [] (n ∷ ns) k rooted within h = absurd h
@@ -162,25 +161,25 @@ second_label : (l : List ℕ) → l ≡ codes "c2pa.ingredient.v3__1" → l ≢ 
 second_label l e f = false≢true ((bytes_eq-Decides (codes "c2pa.ingredient.v3__1") (codes "c2pa.ingredient.v3")).1 (sym e ∙ f))
 
 -- two ingredients under labels that differ, of which the second is no parent
-two_ok : (l m : List ℕ) (p q : Parent) → l ≡ codes "c2pa.ingredient.v3" → m ≡ codes "c2pa.ingredient.v3__1"
+two_ok : (l m : List ℕ) (p q : NamedManifest) → l ≡ codes "c2pa.ingredient.v3" → m ≡ codes "c2pa.ingredient.v3__1"
     → AreIngredients
     (record { label = l; relationship = ParentOf; of = p } ∷ record { label = m; relationship = ComponentOf; of = q } ∷ [])
 two_ok l m p q e f =
     record { labels = (inl e, (inr f, tt)); apart = ((λ g. second_label m f (g ∙ e), tt), (tt, tt)); parents = lit≤ tt }
 
 -- one ingredient
-one_ok : (l : List ℕ) (q : Parent) → l ≡ codes "c2pa.ingredient.v3"
+one_ok : (l : List ℕ) (q : NamedManifest) → l ≡ codes "c2pa.ingredient.v3"
     → AreIngredients (record { label = l; relationship = ComponentOf; of = q } ∷ [])
 one_ok l q e = record { labels = (inl e, tt); apart = (tt, tt); parents = lit≤ tt }
 
 -- those of one or two manifests may be had
-pub ingredients_ok : (ps : List Parent) → AreIngredients (collected_ingredients ps)
+pub ingredients_ok : (ps : List NamedManifest) → AreIngredients (collected_ingredients ps)
 ingredients_ok [] = record { labels = tt; apart = tt; parents = lit≤ tt }
 ingredients_ok (q ∷ []) = one_ok (codes "c2pa.ingredient.v3") q refl
 ingredients_ok (p ∷ q ∷ others) = two_ok (codes "c2pa.ingredient.v3") (codes "c2pa.ingredient.v3__1") p q refl refl
 
 -- what holds of one or two manifests holds of their ingredients
-pub ingredients_zip : (P : Parent → ℕ → Type 0) (ps : List Parent) (roots : List ℕ) → length roots ≤ 2
+pub ingredients_zip : (P : NamedManifest → ℕ → Type 0) (ps : List NamedManifest) (roots : List ℕ) → length roots ≤ 2
     → AllZip P ps roots → AllZip (λ (g : NewIngredient) root. P g.of root) (collected_ingredients ps) roots
 ingredients_zip P [] [] le h = tt
 ingredients_zip P [] (n ∷ ns) le h = absurd h
@@ -247,7 +246,7 @@ still_signed redacts rs ss t root at h =
 -- a manifest with a label that can be named and a signature box can be an ingredient's
 named_at : (ms : List Tree) (root : ℕ) (t box : Tree) → slice_get ms root ≡ Some t
     → is_manifest_label (any_label (node t)) ≡ true → find is_signature_box (supers_of t) ≡ Some box
-    → (p : Parent) × IsNamedAt p ms root
+    → (p : NamedManifest) × IsNamedAt p ms root
 named_at ms root t box is named found = (
   record { label = unwrap_or (any_label (node t)) []; contents = contents_of t; signed = contents_of box },
   record { manifest = t; is_manifest = is; label = label_some (any_label (node t)) named; contents = refl; signature = box; is_signature = found; signed = refl },
@@ -257,7 +256,7 @@ named_at ms root t box is named found = (
 root_named : (hash : Alg → List ℕ → List ℕ) (redacts : List (List ℕ)) (boxes : Trees) (all : List ℕ) (rs : List Reading)
     (root : ℕ)
     → (k : IsReadLess redacts boxes rs) → IsRooted hash rs all → root < length rs → Contains all root
-    → (p : Parent) × IsNamedAt p (supers_in (redacted_boxes redacts boxes)) root
+    → (p : NamedManifest) × IsNamedAt p (supers_in (redacted_boxes redacts boxes)) root
 root_named hash redacts boxes all rs root k rooted within c =
     let vs : List Tree = supers_in (redacted_boxes redacts boxes) in
     let count : length vs ≡ length rs = read_len vs k.ss k.reads ∙ less_len redacts rs k.ss k.less in
@@ -275,7 +274,7 @@ roots_named : (hash : Alg → List ℕ → List ℕ) (redacts : List (List ℕ))
     (roots : List ℕ)
     → IsReadLess redacts boxes rs → IsRooted hash rs all → AllByRecursion (λ c. c < length rs) roots
     → ((c : ℕ) → Contains roots c → Contains all c)
-    → (ps : List Parent) × AllZip (λ (p : Parent) root. IsNamedAt p (supers_in (redacted_boxes redacts boxes)) root) ps roots
+    → (ps : List NamedManifest) × AllZip (λ (p : NamedManifest) root. IsNamedAt p (supers_in (redacted_boxes redacts boxes)) root) ps roots
 roots_named hash redacts boxes all rs [] k rooted within in_all = ([], tt)
 roots_named hash redacts boxes all rs (n ∷ ns) k rooted within in_all =
     let first = root_named hash redacts boxes all rs n k rooted within.0 (in_all n (contains_head n ns)) in
@@ -299,7 +298,7 @@ some_collects laws less hash d old other old_rs other_rs can =
 -- ---- it is one
 
 -- the manifest at a place is one
-one_named : (ms : List Tree) (root : ℕ) (p q : Parent) → IsNamedAt p ms root → IsNamedAt q ms root → p ≡ q
+one_named : (ms : List Tree) (root : ℕ) (p q : NamedManifest) → IsNamedAt p ms root → IsNamedAt q ms root → p ≡ q
 one_named ms root p q a b =
     let active : a.manifest ≡ b.manifest = same_Some a.manifest b.manifest (sym a.is_manifest ∙ b.is_manifest) in
     let label : p.label ≡ q.label =
@@ -314,23 +313,23 @@ one_named ms root p q a b =
     ∙ ap (λ (s : List ℕ). record { label = q.label; contents = q.contents; signed = s }) signed
 
 -- those at places are
-one_each : (ms : List Tree) (roots : List ℕ) (ps qs : List Parent)
-    → AllZip (λ (p : Parent) root. IsNamedAt p ms root) ps roots
-    → AllZip (λ (p : Parent) root. IsNamedAt p ms root) qs roots → ps ≡ qs
+one_each : (ms : List Tree) (roots : List ℕ) (ps qs : List NamedManifest)
+    → AllZip (λ (p : NamedManifest) root. IsNamedAt p ms root) ps roots
+    → AllZip (λ (p : NamedManifest) root. IsNamedAt p ms root) qs roots → ps ≡ qs
 one_each ms [] [] [] h k = refl
 one_each ms [] [] (q ∷ qs) h k = absurd k
 one_each ms [] (p ∷ ps) qs h k = absurd h
 one_each ms (n ∷ ns) [] qs h k = absurd h
 one_each ms (n ∷ ns) (p ∷ ps) [] h k = absurd k
 one_each ms (n ∷ ns) (p ∷ ps) (q ∷ qs) h k =
-    ap (λ x. x ∷ ps) (one_named ms n p q h.0 k.0) ∙ ap (λ (xs : List Parent). q ∷ xs) (one_each ms ns ps qs h.1 k.1)
+    ap (λ x. x ∷ ps) (one_named ms n p q h.0 k.0) ∙ ap (λ (xs : List NamedManifest). q ∷ xs) (one_each ms ns ps qs h.1 k.1)
 
 -- so is all that goes into the new store
 pub content_one : CollectedContentIsOne
 content_one d old other old_rs other_rs b c h k =
     let carried : b.carried ≡ c.carried = h.carried ∙ sym k.carried in
     let same : h.named ≡ k.named = one_each (supers_in c.carried) (collected_roots old_rs other_rs) h.named k.named
-    (subst (λ (x : Trees). AllZip (λ (p : Parent) root. IsNamedAt p (supers_in x) root) h.named (collected_roots old_rs other_rs)) carried h.are) k.are in
+    (subst (λ (x : Trees). AllZip (λ (p : NamedManifest) root. IsNamedAt p (supers_in x) root) h.named (collected_roots old_rs other_rs)) carried h.are) k.are in
     ap (λ (x : Definition). record { definition = x; carried = b.carried; ingredients = b.ingredients })
     (h.definition ∙ sym k.definition)
     ∙ ap (λ (x : Trees). record { definition = c.definition; carried = x; ingredients = b.ingredients }) carried

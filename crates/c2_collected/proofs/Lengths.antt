@@ -22,13 +22,12 @@ use Rattle.c2_joined.specs.Joined.{picked}
 use Rattle.c2_definition.specs.DefinitionFile.{IsDefinition}
 use Rattle.c2_definition.specs.declared.types.Definition.{Definition}
 use Rattle.c2_built.specs.Manifests.{is_assertion_store, supers_in}
-use Rattle.c2_built.specs.Store.{Content, Parent, new_alg}
+use Rattle.c2_built.specs.Store.{Content, NamedManifest, NewIngredient}
+use Rattle.c2_built.specs.Written.{AreIngredients}
 use Rattle.c2_carried.specs.Redacting.{boxes_in, redacted_box, redacted_boxes, takes_out, thin_boxes, thin_store, without}
-use Rattle.c2_gathered.specs.Gathered.{AreIngredients, NewIngredient}
-use Rattle.c2_lengths.specs.Lengths.{Fits, GatheredStoresFit}
+use Rattle.c2_lengths.specs.Lengths.{Fits, StoresFit}
 use Rattle.c2_places.specs.Places.{Place, in_boxes, in_segments, store_len}
 use Rattle.c2_collected.specs.Collected.{IsNamedAt, collected_boxes, collected_ingredients}
-use Rattle.c2_collected.specs.Files.{collected_content}
 use Rattle.c2_collected.specs.Lengths.{CollectedIsShort, CollectedStoresFit}
 use Rattle.c2_collected.specs.Order.{IsMediaFile, IsOtherFile, MediaFile, OtherFile}
 use Rattle.c2_collected.specs.Sides.{boxes_then, is_carried_box, joined_boxes}
@@ -169,8 +168,8 @@ member_less (more (super wide d us) ts) (suc i) t is =
     omega (arith, member_less ts i t is, length-append (tree_bytes (super wide d us)) (trees_bytes ts))
 
 -- each manifest that is named has a label of no more bytes than they
-named_less : (ts : Trees) (n : ℕ) (ps : List Parent) (roots : List ℕ) → length (trees_bytes ts) ≤ n
-    → AllZip (λ (p : Parent) root. IsNamedAt p (supers_in ts) root) ps roots → AllByRecursion (λ (p : Parent). length p.label ≤ n) ps
+named_less : (ts : Trees) (n : ℕ) (ps : List NamedManifest) (roots : List ℕ) → length (trees_bytes ts) ≤ n
+    → AllZip (λ (p : NamedManifest) root. IsNamedAt p (supers_in ts) root) ps roots → AllByRecursion (λ (p : NamedManifest). length p.label ≤ n) ps
 named_less ts n [] roots le h = tt
 named_less ts n (p ∷ ps) [] le h = absurd h
 named_less ts n (p ∷ ps) (root ∷ roots) le h =
@@ -180,7 +179,7 @@ named_less ts n (p ∷ ps) (root ∷ roots) le h =
     (omega (arith, label, member, le), named_less ts n ps roots le h.1)
 
 -- so does each ingredient's
-ingredients_less : (n : ℕ) (ps : List Parent) → AllByRecursion (λ (p : Parent). length p.label ≤ n) ps
+ingredients_less : (n : ℕ) (ps : List NamedManifest) → AllByRecursion (λ (p : NamedManifest). length p.label ≤ n) ps
     → AllByRecursion (λ (g : NewIngredient). length g.of.label ≤ n) (collected_ingredients ps)
 ingredients_less n [] h = tt
 ingredients_less n (q ∷ []) h = (h.0, tt)
@@ -273,12 +272,8 @@ place_fits x (in_segments segments number) h = h.jpeg
 place_fits x (in_boxes roots) h = h.film
 
 -- so they hold that of its store
-pub collected_fits : GatheredStoresFit → CollectedStoresFit
-collected_fits law hash said media definition other d p c place digests defined is from =
-    let x : Content = collected_content hash c in
-    let fits : Fits x =
-    law definition (hash (new_alg c.definition)) c
-    (subst (λ (e : Definition). IsDefinition definition (Ok e)) (sym from.definition) defined)
-    (λ text. (digests (new_alg c.definition) text).sized)
-    (collected_short hash said media other d p c is from) in
-    subst (λ (e : Definition). store_len place x e.reserve < 2 ^ 64 - 1) from.definition (place_fits x place fits)
+pub collected_fits : StoresFit → CollectedStoresFit
+collected_fits law hash said media definition other d p c place defined is from =
+    let own : IsDefinition definition (Ok c.definition) = subst (λ (e : Definition). IsDefinition definition (Ok e)) (sym from.definition) defined in
+    subst (λ (e : Definition). store_len place c e.reserve < 2 ^ 64 - 1) from.definition
+    (place_fits c place (law definition c own (collected_short hash said media other d p c is from)))

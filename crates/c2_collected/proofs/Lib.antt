@@ -7,7 +7,6 @@ pub mod Collecting
 pub mod Filed
 pub mod Order
 pub mod Approved
-pub mod Sizes
 pub mod Whole
 pub mod Stages
 pub mod Clashes

@@ -24,12 +24,11 @@ use Rattle.c2_succeeding.specs.Over.{ValidIsApproved}
 use Rattle.c2_definition.specs.declared.types.Definition.{Definition}
 use Rattle.c2_message.specs.Signed.{IsSigned}
 use Rattle.c2_built.specs.Store.{Content, range_at}
-use Rattle.c2_gathered.specs.Gathered.{Gathered}
 use Rattle.c2_places.specs.Laws.{OnePlace}
 use Rattle.c2_places.specs.Places.{IsFreePlace, IsPlace, Place, place_start, range_len, store_len}
 use Rattle.c2_splits.specs.Kept.{KeepsBytes, KeepsOutside, LeftKeeps}
 use Rattle.c2_collected.specs.Collected.{AreApproved, CollectsFrom, IsOfEither, QuestionsAreApproved}
-use Rattle.c2_collected.specs.Files.{collected_content, collected_signed}
+use Rattle.c2_collected.specs.Files.{collected_signed}
 use Rattle.c2_collected.specs.Made.{HasTextsIn, IsAskedBy, MadeCollectedMeets, embedded_range}
 use Rattle.c2_collected.specs.Order.{CanCollectPair, CollectRefusal, FilePair, IsCollectedFile, IsMediaFile, IsOtherFile, IsValidAnswer, MediaFile, OtherFile}
 use Rattle.c2_collected.specs.Order.{pair_readings, reserve_refusals}
@@ -45,19 +44,19 @@ use Rattle.c2_collected.proofs.Stages.{passed, then_next, unless_passed, unless_
 
 -- What is known of a build that comes to a file, where the new file is built of this.
 record IsMadeOf (hash : Alg → List ℕ → List ℕ) (d : Definition) (parts : SignParts) (b : NewFile) (g : CollectGround) : Type 0 where
-  unrefused : ground_refusals hash d g ≡ []
+  unrefused : ground_refusals d g ≡ []
   padded : List ℕ
   filled : IsSigned parts d.reserve padded
   bytes : List ℕ
   put : IsPutIn hash d g padded bytes
-  same : b ≡ new_file hash g (length padded) bytes
+  same : b ≡ new_file g (length padded) bytes
 
 -- What a new file is built of, in its parts.
-abbrev ground_with : FilePair → Gathered → Place → CollectGround
+abbrev ground_with : FilePair → Content → Place → CollectGround
 ground_with pair c place = record { pair = pair; content = c; place = place }
 
 -- What is known of it.
-record IsGround (d : Definition) (pair : FilePair) (content : Gathered) (place : Place) : Type 0 where
+record IsGround (d : Definition) (pair : FilePair) (content : Content) (place : Place) : Type 0 where
   collects : CollectsFrom d pair.media.boxes pair.other.boxes pair.media.readings pair.other.readings content
   is_place : IsPlace pair.media.base place
 
@@ -71,7 +70,7 @@ record Known (hash : Alg → List ℕ → List ℕ) (said : Question → Verdict
   is_parts : IsMessageStage d.protected message (Ok parts)
   pair : FilePair
   is_pair : IsPairStage hash said media other what d (Ok pair)
-  content : Gathered
+  content : Content
   place : Place
   ground : IsGround d pair content place
   made : IsMadeOf hash d parts b (ground_with pair content place)
@@ -79,8 +78,8 @@ record Known (hash : Alg → List ℕ → List ℕ) (said : Question → Verdict
 -- what passed the tests of the new file
 made_of : (hash : Alg → List ℕ → List ℕ) (d : Definition) (parts : SignParts) (b : NewFile) (g : CollectGround) → IsMadeOn hash d parts g (Ok b) → IsMadeOf hash d parts b g
 made_of hash d parts b g h =
-    let p = unless_passed (ground_refusals hash d g ++ reserve_refusals d parts) (IsNewFile hash d parts g) b h in
-    let none = both_none (ground_refusals hash d g) (reserve_refusals d parts) p.0 in
+    let p = unless_passed (ground_refusals d g ++ reserve_refusals d parts) (IsNewFile hash d parts g) b h in
+    let none = both_none (ground_refusals d g) (reserve_refusals d parts) p.0 in
     record { unrefused = none.0; padded = p.1.0; filled = p.1.1; bytes = p.1.2.0; put = p.1.2.1; same = cc (p.1.2.2) }
 
 -- equal answers have equal values
@@ -97,7 +96,7 @@ known hash said media definition message other b h =
     let three = passed (IsMessageStage d.protected message) _ b two.next in
     let four = passed (IsPairStage hash said media other one.value d) (IsMadeOver hash d three.value) b three.next in
     let five = passed (IsGroundStage d four.value) (IsMadeOn hash d three.value) b four.next in
-    let c : Gathered = five.first.0 in
+    let c : Content = five.first.0 in
     let place : Place = five.first.2.0 in
     record {
       what = one.value;
@@ -124,7 +123,7 @@ planned_of hash said media definition message other b k =
     (then_next (IsDefinitionStage definition) _ k.d r k.is_d
     (then_next (IsPairStage hash said media other k.what k.d) (IsPlannedOver hash k.d) k.pair r k.is_pair
     (then_next (IsGroundStage k.d k.pair) (IsPlannedOn hash k.d) g r (k.content, k.ground.collects, (k.place, k.ground.is_place, refl))
-    (unless_passes (ground_refusals hash k.d g) (λ x. x ≡ Ok (ground_signed hash k.d g)) r k.made.unrefused refl))))
+    (unless_passes (ground_refusals k.d g) (λ x. x ≡ Ok (ground_signed hash k.d g)) r k.made.unrefused refl))))
 
 -- ---- the judges
 
@@ -192,7 +191,7 @@ pub record MadeLaws : Type 0 where
   pub approved : QuestionsAreApproved
 
 -- The file is that of the definition's new store, with this content.
-record IsBuiltOf (hash : Alg → List ℕ → List ℕ) (d : Definition) (pair : FilePair) (parts : SignParts) (p : Place) (content : Gathered) (file : List ℕ) : Type 0 where
+record IsBuiltOf (hash : Alg → List ℕ → List ℕ) (d : Definition) (pair : FilePair) (parts : SignParts) (p : Place) (content : Content) (file : List ℕ) : Type 0 where
   is : IsCollectedFile hash d pair parts p file
   same : is.content ≡ content
 
@@ -203,7 +202,7 @@ built_of : MadeLaws → (hash : Alg → List ℕ → List ℕ) (said : Question 
 built_of l hash said media definition message other b texts k p =
     let d : Definition = k.d in
     let base : List ℕ = k.pair.media.base in
-    let x : Content = collected_content hash k.content in
+    let x : Content = k.content in
     let defined = defined_of definition d k.is_d in
     let taken = read_taken d.protected message k.parts k.is_parts in
     let collects : CanCollectPair hash d k.pair = pair_collects l.rooted hash said d media other k.pair p.is_pair p.none in
@@ -277,7 +276,7 @@ made_meets l hash said media definition message other b digests texts h = record
   start = start;
   len = len;
   signed = subst (λ (x : List ℕ). IsCollectPlanned hash said media definition other (Ok x))
-      (sym (met.signed ∙ ap (λ (c : Gathered). collected_signed hash k.d c k.pair.media.base k.place) built.same))
+      (sym (met.signed ∙ ap (λ (c : Content). collected_signed hash k.d c k.pair.media.base k.place) built.same))
       (planned_of hash said media definition message other b k);
   asked = all_asked media other k.pair.media.readings k.pair.other.readings
       (media_asks hash said media k.what k.pair.media (opened_as media k.what k.is_media) p.is_media)
@@ -308,5 +307,5 @@ made_meets l hash said media definition message other b digests texts h = record
     start = ap (λ (f : NewFile). f.start) k.made.same
 
     len : b.len ≡ met.len
-    len = ap (λ (f : NewFile). f.len) k.made.same ∙ ap (λ n. range_len k.place (collected_content hash k.content) n) k.made.filled.filled
-        ∙ ap (λ (c : Gathered). range_len k.place (collected_content hash c) k.d.reserve) (sym built.same) ∙ sym met.range
+    len = ap (λ (f : NewFile). f.len) k.made.same ∙ ap (λ n. range_len k.place k.content n) k.made.filled.filled
+        ∙ ap (λ (c : Content). range_len k.place c k.d.reserve) (sym built.same) ∙ sym met.range

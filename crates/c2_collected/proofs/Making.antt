@@ -10,7 +10,6 @@ use Rattle.c2_rules.specs.Opened.{IsOpened}
 use Rattle.c2_definition.specs.declared.types.Definition.{Definition}
 use Rattle.c2_message.specs.Signed.{FillsOrNeedsMore}
 use Rattle.c2_places.specs.Places.{place_file, place_start, range_len}
-use Rattle.c2_collected.specs.Files.{collected_content}
 use Rattle.c2_collected.specs.Made.{CollectedIsMade}
 use Rattle.c2_collected.specs.Order.{CollectRefusal, FilePair, IsFilePair, IsMediaFile, MediaFile}
 use Rattle.c2_collected.specs.Order.{joined_refusals, other_refusals, pair_refusals, parent_refusals, reserve_refusals}
@@ -50,18 +49,18 @@ collected_made fills hash said media definition message other d pair parts p fil
     (then_next (IsPairStage hash said media other is.opened d) (IsMadeOver hash d parts) pair (Ok new)
     (pair_passes hash said media other d pair is (pair_unrefused hash said d media other pair is b.collects))
     (then_next (IsGroundStage d pair) (IsMadeOn hash d parts) g (Ok new) (b.content, b.collected.content, (p, b.can.place.is, refl))
-    (unless_passes (ground_refusals hash d g ++ reserve_refusals d parts) (IsNewFile hash d parts g) (Ok new)
-    (none_both (ground_refusals hash d g) (reserve_refusals d parts) (file_unrefused hash d pair parts p file b) (reserve_unrefused fills hash d pair parts p file b))
+    (unless_passes (ground_refusals d g ++ reserve_refusals d parts) (IsNewFile hash d parts g) (Ok new)
+    (none_both (ground_refusals d g) (reserve_refusals d parts) (file_unrefused hash d pair parts p file b) (reserve_unrefused fills hash d pair parts p file b))
     (b.message, b.signed, (b.bytes, b.put, same)))))))
   where
     g : CollectGround
     g = record { pair = pair; content = b.content; place = p }
 
     new_of : List ℕ → ℕ → NewFile
-    new_of f n = record { file = f; start = place_start p; len = range_len p (collected_content hash b.content) n }
+    new_of f n = record { file = f; start = place_start p; len = range_len p b.content n }
 
     new : NewFile
     new = new_of file d.reserve
 
-    same : ◌≡◌ {A = Result NewFile CollectRefusal} (Ok new) (Ok (new_file hash g (length b.message) b.bytes))
+    same : ◌≡◌ {A = Result NewFile CollectRefusal} (Ok new) (Ok (new_file g (length b.message) b.bytes))
     same = ap (λ (f : List ℕ). Ok (new_of f d.reserve)) b.is ∙ ap (λ n. Ok (new_of (place_file pair.media.base p b.bytes) n)) (sym b.signed.filled)

@@ -29,8 +29,8 @@ use Rattle.c2_message.specs.Message.{RefusedForOne}
 use Rattle.c2_message.specs.Signed.{FillsOrNeedsMore}
 use Rattle.c2_message.specs.declared.error.SignaturePart.{SignaturePart}
 use Rattle.c2_built.specs.Manifests.{supers_in}
+use Rattle.c2_built.specs.Store.{Content}
 use Rattle.c2_carried.specs.Redacting.{boxes_in}
-use Rattle.c2_gathered.specs.Gathered.{Gathered}
 use Rattle.c2_places.specs.Laws.{OneLeft, OnePlace}
 use Rattle.c2_places.specs.Places.{Place}
 use Rattle.c2_collected.specs.Collected.{CollectedContentIsOne}
@@ -221,7 +221,7 @@ one_pair l hash said media other what d once =
 -- ---- what is built
 
 -- what a new file is built of
-abbrev ground_of : FilePair → Gathered → Place → CollectGround
+abbrev ground_of : FilePair → Content → Place → CollectGround
 ground_of p c place = record { pair = p; content = c; place = place }
 
 -- it is one
@@ -229,14 +229,14 @@ one_ground : OneLaws → (d : Definition) (p : FilePair) → IsOne (IsGroundStag
 one_ground l d p r s h k =
     let content : h.0 ≡ k.0 = l.content d p.media.boxes p.other.boxes p.media.readings p.other.readings h.0 k.0 h.1 k.1 in
     let place : h.2.0 ≡ k.2.0 = l.place p.media.base h.2.0 k.2.0 h.2.1 k.2.1 in
-    h.2.2 ∙ ap (λ (c : Gathered). Ok (ground_of p c h.2.0)) content ∙ ap (λ (q : Place). Ok (ground_of p k.0 q)) place ∙ sym k.2.2
+    h.2.2 ∙ ap (λ (c : Content). Ok (ground_of p c h.2.0)) content ∙ ap (λ (q : Place). Ok (ground_of p k.0 q)) place ∙ sym k.2.2
 
 -- one new file is built
 one_made : FillsOrNeedsMore → (hash : Alg → List ℕ → List ℕ) (d : Definition) (m : SignParts) (g : CollectGround) → IsOne (IsNewFile hash d m g)
 one_made fills hash d m g r s h k =
     let message : h.0 ≡ k.0 = fills.one m d.reserve h.0 k.0 h.1 k.1 in
     let bytes : h.2.0 ≡ k.2.0 = same_put h.0 k.0 h.2.0 k.2.0 message h.2.1 k.2.1 in
-    h.2.2 ∙ ap (λ (x : List ℕ). Ok (new_file hash g (length x) h.2.0)) message ∙ ap (λ (b : List ℕ). Ok (new_file hash g (length k.0) b)) bytes ∙ sym k.2.2
+    h.2.2 ∙ ap (λ (x : List ℕ). Ok (new_file g (length x) h.2.0)) message ∙ ap (λ (b : List ℕ). Ok (new_file g (length k.0) b)) bytes ∙ sym k.2.2
   where
     same_put : (a b x y : List ℕ) → a ≡ b → IsPutIn hash d g a x → IsPutIn hash d g b y → x ≡ y
     same_put a b x y e f q = same_Some x y (sym (subst (λ (n : List ℕ). IsPutIn hash d g n x) e f) ∙ q)
@@ -250,7 +250,7 @@ one_plan l hash said media definition other a b once again =
     one_then (IsDefinitionStage definition) _ (one_definition l.definition definition) (λ d.
     one_then (IsPairStage hash said media other what d) _ (one_pair l hash said media other what d again) (λ p.
     one_then (IsGroundStage d p) (IsPlannedOn hash d) (one_ground l d p) (λ g.
-    one_unless (ground_refusals hash d g) (λ r. r ≡ Ok (ground_signed hash d g)) (one_value (ground_signed hash d g)))))) a b
+    one_unless (ground_refusals d g) (λ r. r ≡ Ok (ground_signed hash d g)) (one_value (ground_signed hash d g)))))) a b
 
 -- and so is a new file
 pub one_file : OneLaws → OneCollectMade
@@ -260,4 +260,4 @@ one_file l hash said media definition message other a b once again =
     one_then (IsMessageStage d.protected message) _ (one_message l.item l.refused d.protected message) (λ m.
     one_then (IsPairStage hash said media other what d) _ (one_pair l hash said media other what d again) (λ p.
     one_then (IsGroundStage d p) (IsMadeOn hash d m) (one_ground l d p) (λ g.
-    one_unless (ground_refusals hash d g ++ reserve_refusals d m) (IsNewFile hash d m g) (one_made l.fills hash d m g)))))) a b
+    one_unless (ground_refusals d g ++ reserve_refusals d m) (IsNewFile hash d m g) (one_made l.fills hash d m g)))))) a b

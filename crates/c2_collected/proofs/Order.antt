@@ -31,9 +31,7 @@ use Rattle.c2_message.specs.Refusals.{reserve_needed}
 use Rattle.c2_message.specs.Signed.{FillsOrNeedsMore, IsSigned}
 use Rattle.c2_built.specs.Manifests.{supers_in}
 use Rattle.c2_built.specs.Store.{Content, new_alg}
-use Rattle.c2_gathered.specs.Gathered.{Gathered}
 use Rattle.c2_places.specs.Places.{CanPut, HasRoom, Place, in_boxes, in_segments, place_file, place_store, put_bytes, range_len, store_len}
-use Rattle.c2_collected.specs.Files.{collected_content}
 use Rattle.c2_collected.specs.Order.{CanCollectPair, CollectRefusal, FilePair, IsCollectedFile, IsMediaFile, IsOtherFile, IsValidAnswer, MediaFile, OtherFile}
 use Rattle.c2_collected.specs.Order.{CollectablePairIsUnrefused, CollectedIsNotRefused, NothingRefusedIsCollected, UnrefusedPairCollects}
 use Rattle.c2_collected.specs.Order.{box_refusals, collected_refusals, file_refusals, label_refusals, other_refusals}
@@ -256,25 +254,22 @@ none_needed (Some n) h = absurd (h n refl)
 pub nothing_refused : StoreIsRooted → FillsOrNeedsMore → NothingRefusedIsCollected
 nothing_refused law fills hash said media other d parts pair c p h e =
     let both = both_none (pair_refusals d pair) _ e in
-    let file = both_none (collected_refusals hash d pair c p) (reserve_refusals d parts) both.1 in
+    let file = both_none (collected_refusals d pair c p) (reserve_refusals d parts) both.1 in
     let needed : Option ℕ = reserve_needed d.reserve (length (bare_bytes parts)) in
     let enough : needed ≡ None = none_told reserve_too_small needed file.1 in
     let k : CanCollectPair hash d pair = pair_collects law hash said d media other pair h.read both.0 in
-    let f : Fits base x d.reserve (length (pair_readings pair) + 1) p = file_fits base x d.reserve (length (pair_readings pair) + 1) p file.0 in
+    let f : Fits base c d.reserve (length (pair_readings pair) + 1) p = file_fits base c d.reserve (length (pair_readings pair) + 1) p file.0 in
     ⊎_elim (λ s. made k f s) (λ n. absurd (let bad = sym enough ∙ n.1 in cc (bad))) (fills.either h.bytes parts d.reserve h.paddable)
   where
-    x : Content
-    x = collected_content hash c
-
     base : List ℕ
     base = pair.media.base
 
-    made : CanCollectPair hash d pair → Fits base x d.reserve (length (pair_readings pair) + 1) p
+    made : CanCollectPair hash d pair → Fits base c d.reserve (length (pair_readings pair) + 1) p
         → (message : List ℕ) × IsSigned parts d.reserve message
         → (file : List ℕ) × IsCollectedFile hash d pair parts p file
     made k f s =
         let count = f.few in
-        let bytes = some_bytes p f.room (tree_bytes (place_store (hash (new_alg d)) x s.0 base p)) in (
+        let bytes = some_bytes p f.room (tree_bytes (place_store (hash (new_alg d)) c s.0 base p)) in (
           place_file base p bytes.0,
           record {
             own = h.own;
@@ -286,8 +281,8 @@ nothing_refused law fills hash said media other d parts pair c p h e =
             can = record {
               place = h.place;
               room = f.room;
-              small = subst (λ n. store_len p x n ≤ MAX_STORE_LEN) (sym s.1.filled) f.small;
-              fits = subst (λ n. length base + range_len p x n < FILE_LEN_LIMIT) (sym s.1.filled) f.fits;
+              small = subst (λ n. store_len p c n ≤ MAX_STORE_LEN) (sym s.1.filled) f.small;
+              fits = subst (λ n. length base + range_len p c n < FILE_LEN_LIMIT) (sym s.1.filled) f.fits;
             };
             bytes = bytes.0;
             put = bytes.1;
@@ -297,9 +292,9 @@ nothing_refused law fills hash said media other d parts pair c p h e =
 
 -- nothing of the new file is refused where it is built
 pub file_unrefused : (hash : Alg → List ℕ → List ℕ) (d : Definition) (pair : FilePair) (parts : SignParts) (p : Place) (file : List ℕ) (b : IsCollectedFile hash d pair parts p file)
-    → collected_refusals hash d pair b.content p ≡ []
+    → collected_refusals d pair b.content p ≡ []
 file_unrefused hash d pair parts p file b =
-    let x : Content = collected_content hash b.content in
+    let x : Content = b.content in
     let base : List ℕ = pair.media.base in
     let can : CanPut x d.reserve base p = subst (λ n. CanPut x n base p) b.signed.filled b.can in
     let count = b.collected.few in
@@ -319,6 +314,6 @@ built_unrefused fills hash said media other d parts pair c p file h b =
     let same : b.content ≡ c =
     content_one d pair.media.boxes pair.other.boxes pair.media.readings pair.other.readings b.content c b.collected.content h.content in
     none_both (pair_refusals d pair) _ (pair_unrefused hash said d media other pair h.read b.collects)
-    (none_both (collected_refusals hash d pair c p) (reserve_refusals d parts)
-    (subst (λ (g : Gathered). collected_refusals hash d pair g p ≡ []) same (file_unrefused hash d pair parts p file b))
+    (none_both (collected_refusals d pair c p) (reserve_refusals d parts)
+    (subst (λ (g : Content). collected_refusals d pair g p ≡ []) same (file_unrefused hash d pair parts p file b))
     (reserve_unrefused fills hash d pair parts p file b))

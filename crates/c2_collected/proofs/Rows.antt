@@ -15,10 +15,9 @@ use Rattle.c2_built.specs.Built.{built_len, no_digest, store_size}
 use Rattle.c2_built.specs.Fresh.{fresh_content}
 use Rattle.c2_built.specs.FreshBoxes.{contents_of, item_box}
 use Rattle.c2_built.specs.Manifests.{supers_in}
-use Rattle.c2_built.specs.Store.{Parent, data_binding, new_claim, new_manifest, new_store}
+use Rattle.c2_built.specs.Store.{Content, NamedManifest, data_binding, new_claim, new_manifest, new_store}
 use Rattle.c2_built.proofs.BuildRows.{actions}
 use Rattle.c2_carried.specs.Redacting.{boxes_in, redacted_boxes}
-use Rattle.c2_gathered.specs.Gathered.{Gathered, content_of}
 use Rattle.c2_collected.specs.Collected.{collected_ingredients}
 use Rattle.c2_collected.specs.Order.{FilePair, first_refusal, label_clash, other_refused, pair_refusals, parent_fails}
 use Rattle.c2_collected.specs.Sides.{ClashFirst, joined_boxes}
@@ -52,7 +51,7 @@ first digest =
     new_store (no_digest Sha256) (fresh_content (defined (codes "0"))) (data_binding Sha256 20 1141 digest) (replicate 256 0)
 
 -- the manifest as an ingredient's
-unfoldable named : Parent
+unfoldable named : NamedManifest
 named = record {
   label = label (codes "0");
   contents = contents_of (manifest (zero_digest Sha256));
@@ -66,7 +65,7 @@ all i = true
 -- ---- over no store
 
 -- what goes into a store that collects it over none
-unfoldable alone : Gathered
+unfoldable alone : Content
 alone = record {
   definition = defined (codes "1");
   carried = redacted_boxes [] (joined_boxes none all (boxes_in (first (zero_digest Sha256))));
@@ -79,25 +78,24 @@ unfolding alone first defined actions shortest_head
 carried = refl
 
 -- the claim
-alone_claim : length
-    (new_claim (no_digest Sha256) (content_of (no_digest Sha256) alone) (data_binding Sha256 20 2670 (zero_digest Sha256))) ≡ 443
+alone_claim : length (new_claim (no_digest Sha256) alone (data_binding Sha256 20 2670 (zero_digest Sha256))) ≡ 443
 unfolding alone manifest named defined actions shortest_head
 alone_claim = refl
 
 -- the store
-alone_store : store_size (content_of (no_digest Sha256) alone) 256 ≡ 2658
+alone_store : store_size alone 256 ≡ 2658
 unfolding alone first manifest named defined actions shortest_head
 alone_store = refl
 
 -- its packets
-alone_range : built_len (content_of (no_digest Sha256) alone) 256 ≡ 2670
+alone_range : built_len alone 256 ≡ 2670
 unfolding alone first manifest named defined actions shortest_head
 alone_range = refl
 
 -- ---- over itself
 
 -- what goes into a store that collects it over itself: the manifest is shared
-unfoldable twice : Gathered
+unfoldable twice : Content
 twice = record {
   definition = defined (codes "1");
   carried = redacted_boxes [] (joined_boxes (boxes_in (first (zero_digest Sha256))) all (boxes_in (first (zero_digest Sha256))));
@@ -110,12 +108,12 @@ unfolding twice first defined actions shortest_head
 shared = refl
 
 -- the store
-twice_store : store_size (content_of (no_digest Sha256) twice) 256 ≡ 3099
+twice_store : store_size twice 256 ≡ 3099
 unfolding twice first manifest named defined actions shortest_head
 twice_store = refl
 
 -- its packets
-twice_range : built_len (content_of (no_digest Sha256) twice) 256 ≡ 3111
+twice_range : built_len twice 256 ≡ 3111
 unfolding twice first manifest named defined actions shortest_head
 twice_range = refl
 

@@ -35,7 +35,7 @@ use Rattle.c2_collected.specs.Order.{CollectRefusal, FilePair, IsFilePair, IsMed
 use Rattle.c2_collected.specs.Order.{joined_refusals, other_refusals, pair_readings, pair_refusals, parent_refusals, reserve_refusals, reserve_too_small}
 use Rattle.c2_collected.specs.Outcomes.{CollectGround, HasCheck, IsDefinitionStage, IsGroundStage, IsJoinedStage, IsMadeOn, IsMadeOver, IsMediaStage, IsMessageRead, IsMessageStage}
 use Rattle.c2_collected.specs.Outcomes.{IsNewFile, IsOtherStage, IsPairStage, IsParentStage, IsPlannedOn, IsPlannedOver, SomeCollectMade, SomeCollectPlan, ground_signed}
-use Rattle.c2_collected.specs.Outcomes.{definition_stage, ground_content, ground_refusals, media_stage, message_stage, new_file, pair_of}
+use Rattle.c2_collected.specs.Outcomes.{definition_stage, ground_refusals, media_stage, message_stage, new_file, pair_of}
 use Rattle.c2_collected.proofs.Clashes.{some_clash}
 use Rattle.c2_collected.proofs.Order.{both_none, file_fits, none_both, other_store, pair_collects, some_bytes, valid_answer}
 use Rattle.c2_collected.proofs.Stages.{Something, passed, some_then, some_unless, unless_passed}
@@ -298,16 +298,16 @@ some_ground l hash said media other what d p is_media h =
 
 -- a file is built where nothing is refused
 some_made : FillsOrNeedsMore → (hash : Alg → List ℕ → List ℕ) (bytes : List ℕ) (d : Definition) (m : SignParts) (g : CollectGround) → IsTaken d.protected bytes m → IsWellFormed d
-    → ground_refusals hash d g ++ reserve_refusals d m ≡ [] → Something (IsNewFile hash d m g)
+    → ground_refusals d g ++ reserve_refusals d m ≡ [] → Something (IsNewFile hash d m g)
 some_made fills hash bytes d m g taken formed none =
-    let both = both_none (ground_refusals hash d g) (reserve_refusals d m) none in
-    let fit = file_fits g.pair.media.base (ground_content hash g) d.reserve (length (pair_readings g.pair) + 1) g.place both.0 in
+    let both = both_none (ground_refusals d g) (reserve_refusals d m) none in
+    let fit = file_fits g.pair.media.base g.content d.reserve (length (pair_readings g.pair) + 1) g.place both.0 in
     by both.1 fit.room (fills.either bytes m d.reserve (paddable d.protected bytes m d taken formed))
   where
     by : reserve_refusals d m ≡ [] → HasRoom g.place → ((message : List ℕ) × IsSigned m d.reserve message) ⊎ NeedsMore m d.reserve → Something (IsNewFile hash d m g)
     by pass room (inl s) =
-        let put = some_bytes g.place room (tree_bytes (place_store (hash (new_alg d)) (ground_content hash g) s.0 g.pair.media.base g.place)) in
-        (Ok (new_file hash g (length s.0) put.0), (s.0, s.1, (put.0, put.1, refl)))
+        let put = some_bytes g.place room (tree_bytes (place_store (hash (new_alg d)) g.content s.0 g.pair.media.base g.place)) in
+        (Ok (new_file g (length s.0) put.0), (s.0, s.1, (put.0, put.1, refl)))
     by pass room (inr n) = absurd (no_more d m pass n)
 
 -- ---- both calls
@@ -319,7 +319,7 @@ some_plan l hash said media definition other own theirs =
     some_then (IsDefinitionStage definition) _ (some_definition l.definition definition) (λ d is_d.
     some_then (IsPairStage hash said media other what d) (IsPlannedOver hash d) (some_pair l hash said media other what d own theirs is_media) (λ p is_p.
     some_then (IsGroundStage d p) (IsPlannedOn hash d) (some_ground l hash said media other what d p is_media (pair_passed hash said media other what d p is_media is_p)) (λ g is_g.
-    some_unless (ground_refusals hash d g) (λ r. r ≡ Ok (ground_signed hash d g)) (λ none. (Ok (ground_signed hash d g), refl))))))
+    some_unless (ground_refusals d g) (λ r. r ≡ Ok (ground_signed hash d g)) (λ none. (Ok (ground_signed hash d g), refl))))))
 
 -- something is built
 pub some_file : SomeLaws → SomeCollectMade
@@ -329,5 +329,5 @@ some_file l hash said media definition message other own theirs are =
     some_then (IsMessageStage d.protected message) _ (some_message l.refused d.protected message are) (λ m is_m.
     some_then (IsPairStage hash said media other what d) (IsMadeOver hash d m) (some_pair l hash said media other what d own theirs is_media) (λ p is_p.
     some_then (IsGroundStage d p) (IsMadeOn hash d m) (some_ground l hash said media other what d p is_media (pair_passed hash said media other what d p is_media is_p)) (λ g is_g.
-    some_unless (ground_refusals hash d g ++ reserve_refusals d m) (IsNewFile hash d m g)
+    some_unless (ground_refusals d g ++ reserve_refusals d m) (IsNewFile hash d m g)
     (some_made l.fills hash message d m g (read_taken d.protected message m is_m) (l.formed definition d (defined_of definition d is_d))))))))

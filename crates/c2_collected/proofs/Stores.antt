@@ -31,13 +31,12 @@ use Rattle.c2_definition.specs.declared.types.Definition.{Definition}
 use Rattle.c2_built.specs.Manifests.{is_super, manifest_of, supers_in, supers_of}
 use Rattle.c2_built.specs.Written.{IsStoreBox}
 use Rattle.c2_built.proofs.ByIndex.{same_manifests}
+use Rattle.c2_built.proofs.Conditions.{Holds, all_each, all_hold}
 use Rattle.c2_built.proofs.Lists.{each-append, each-back, each-front}
-use Rattle.c2_built.proofs.NewRules.{Holds, all_hold}
 use Rattle.c2_carried.specs.Less.{IsReadLess, RedactedStoreIsRead}
 use Rattle.c2_carried.specs.Redacting.{boxes_in, redacted_boxes}
 use Rattle.c2_carried.proofs.Places.{less_len}
 use Rattle.c2_carried.proofs.Stores.{label_some, legal_at, legal_inside, none_taken, read_label, read_len, some_boxes, store_boxes, store_differs, supers_are}
-use Rattle.c2_carried.proofs.Valid.{all_each}
 use Rattle.c2_gathered.specs.Taken.{IsTakenFrom}
 use Rattle.c2_collected.specs.Refusals.{AreAcceptedBy, redaction_refusal_by}
 use Rattle.c2_collected.specs.Sides.{DoNotClash, carried_trees, has_same_label, is_carried_box, joined_boxes}

@@ -103,7 +103,7 @@ ground_pair d p g h = let e = h.2.2 in cc (e)
 -- nothing is refused of a new file
 file_none : (hash : Alg → List ℕ → List ℕ) (said : Question → Verdict) (media definition other : List ℕ) (what : Opening Tree) (d : Definition) (p : FilePair) (g : CollectGround)
     → IsCollectPlanUnrefused hash said media definition other → IsMediaStage media (Ok what) → IsDefinition definition (Ok d)
-    → IsPairStage hash said media other what d (Ok p) → IsGroundStage d p (Ok g) → ground_refusals hash d g ≡ []
+    → IsPairStage hash said media other what d (Ok p) → IsGroundStage d p (Ok g) → ground_refusals d g ≡ []
 file_none hash said media definition other what d p g h is_media defined is_p is_g =
     let same : p ≡ g.pair = ground_pair d p g is_g in
     h.file_passes d g defined
@@ -121,7 +121,7 @@ plan_never hash said media definition other h =
     let defined = defined_of definition d is_d in
     then_never (IsPairStage hash said media other what d) (IsPlannedOver hash d) (pair_never hash said media definition other what d h is_media defined) (λ p is_p.
     then_never (IsGroundStage d p) (IsPlannedOn hash d) (ground_never d p) (λ g is_g.
-    unless_never (ground_refusals hash d g) (λ r. r ≡ Ok (ground_signed hash d g))
+    unless_never (ground_refusals d g) (λ r. r ≡ Ok (ground_signed hash d g))
     (file_none hash said media definition other what d p g h is_media defined is_p is_g) (value_never (ground_signed hash d g))))))
 
 -- and a new file
@@ -136,8 +136,8 @@ made_never hash said media definition message other h =
     then_never (IsGroundStage d p) (IsMadeOn hash d parts) (ground_never d p) (λ g is_g.
     let ground = file_none hash said media definition other what d p g h.plan is_media defined is_p is_g in
     let reserve = h.reserve_passes d parts defined (read_taken d.protected message parts is_parts).spelled in
-    unless_never (ground_refusals hash d g ++ reserve_refusals d parts) (IsNewFile hash d parts g)
-    (none_both (ground_refusals hash d g) (reserve_refusals d parts) ground reserve) (λ e k. cc (k.2.2)))))))
+    unless_never (ground_refusals d g ++ reserve_refusals d parts) (IsNewFile hash d parts g)
+    (none_both (ground_refusals d g) (reserve_refusals d parts) ground reserve) (λ e k. cc (k.2.2)))))))
 
 -- so bytes are planned
 pub unrefused_plan : SomeCollectPlan → UnrefusedIsCollectPlanned

@@ -17,7 +17,7 @@ use Rattle.c2_built.specs.Store.{Content, new_alg, new_claim}
 use Rattle.c2_places.specs.Meeting.{BaseStays}
 use Rattle.c2_places.specs.Places.{place_binding, place_question, place_start, place_store, put_bytes, range_len}
 use Rattle.c2_collected.specs.Collected.{AreApproved, QuestionsAreOfEither}
-use Rattle.c2_collected.specs.Files.{CollectedFileMeets, CollectedFileReaches, collected_content}
+use Rattle.c2_collected.specs.Files.{CollectedFileMeets, CollectedFileReaches}
 use Rattle.c2_collected.specs.Stores.{IsAcceptedFile}
 use Rattle.c2_collected.specs.Whole.{EachCollectedFileMeets, pair_questions}
 use Rattle.c2_collected.proofs.Approved.{HasQuestionThen, approved_is_valid}
@@ -61,7 +61,7 @@ each_meets laws hash d pair parts p file digests b = record {
 }
   where
     x : Content
-    x = collected_content hash b.content
+    x = b.content
 
     base : List ℕ
     base = pair.media.base

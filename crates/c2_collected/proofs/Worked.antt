@@ -262,7 +262,7 @@ first_meets : FreshPlaceMeets → (hash : Alg → List ℕ → List ℕ) → Giv
     (place_question (hash Sha256) first (length filled) media place (padded_read parts (fill_pairs s.fill)) ∷ [])
 first_meets meets hash digests filled s =
     meets hash first filled media (packets_bytes (tree_bytes (store (hash Sha256) filled)) 0x0211) place
-    (padded_read parts (fill_pairs s.fill)) digests (record { carried = refl; parent = refl; redact = refl }) first_written
+    (padded_read parts (fill_pairs s.fill)) digests (record { carried = refl; ingredients = refl; redact = refl }) first_written
     (can_put filled s.filled) s.spelled refl
 
 -- judges who approve each question approve these

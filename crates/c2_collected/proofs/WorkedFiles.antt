@@ -23,7 +23,6 @@ use Rattle.c2_message.specs.Message.{AreFew, HasNoPadding, IsAccepted}
 use Rattle.c2_message.specs.Signed.{IsSigned}
 use Rattle.c2_built.specs.Written.{HasTexts}
 use Rattle.c2_places.specs.Places.{place_start, range_len}
-use Rattle.c2_collected.specs.Files.{collected_content}
 use Rattle.c2_collected.specs.Made.{CollectedIsMade, HasTextsIn, SomeCollectSucceeds}
 use Rattle.c2_collected.specs.Order.{HasStore}
 use Rattle.c2_collected.specs.Outcomes.{IsCollectMade, NewFile}
@@ -111,7 +110,7 @@ record IsBuiltFrom (hash : Alg → List ℕ → List ℕ) (said : Question → V
 -- a second file is what the build comes to
 second_made : SucceedLaws → (hash : Alg → List ℕ → List ℕ) (said : Question → Verdict) (own other : List ℕ) → IsSecond hash said own other → IsBuiltFrom hash said own other
 second_made l hash said own other k = record {
-  new = record { file = k.file; start = place_start place; len = range_len place (collected_content hash k.is.content) (defined second_label).reserve };
+  new = record { file = k.file; start = place_start place; len = range_len place k.is.content (defined second_label).reserve };
   made = l.made hash said own definition_file message other (defined second_label) k.pair parts place k.file is_defined (accepted l.item) spelled k.read k.is;
 }
 

@@ -7,12 +7,11 @@ use Rattle.std.proofs.lemmas.Option.{same_Some}
 use Rattle.std.proofs.lemmas.Slice.Eq.{bytes_eq-Decides}
 use Rattle.c2_base.specs.declared.limits.TheConstants.{FILE_LEN_LIMIT, MAX_MANIFESTS, MAX_STORE_LEN}
 use Rattle.c2_base.specs.declared.values.Question.{Question}
-use Rattle.c2_spec.specs.Cbor.Deterministic.{deterministic, shortest_head}
+use Rattle.c2_spec.specs.Cbor.Deterministic.{shortest_head}
 use Rattle.c2_spec.specs.Digest.{zero_digest}
 use Rattle.c2_spec.specs.Jpeg.Writing.{packets_bytes, segments_len}
-use Rattle.c2_spec.specs.Jumbf.Tree.{Tree, Trees, more, none, tree_bytes, trees_bytes}
+use Rattle.c2_spec.specs.Jumbf.Tree.{Tree, Trees, more, none, tree_bytes}
 use Rattle.c2_spec.specs.Located as located
-use Rattle.c2_spec.specs.declared.assertion.Relationship.TheVariants.{ComponentOf, ParentOf}
 use Rattle.c2_spec.specs.declared.digest.Alg.{Alg}
 use Rattle.c2_spec.specs.declared.digest.Alg.TheVariants.{Sha256}
 use Rattle.c2_spec.specs.declared.panel.Verdict.{Verdict}
@@ -26,28 +25,24 @@ use Rattle.c2_rules.proofs.ReachLemmas.{place_is}
 use Rattle.c2_joined.specs.Joined.{has_manifest, joined_roots}
 use Rattle.c2_joined.specs.Rooted.{StoreIsRooted, last_roots}
 use Rattle.c2_definition.specs.declared.types.NewAssertion.{NewAssertion}
-use Rattle.c2_definition.specs.declared.types.Payload.TheVariants as payload
 use Rattle.c2_message.specs.Signed.{FillsOrNeedsMore, IsSigned}
 use Rattle.c2_built.specs.Built.{no_digest, store_size}
 use Rattle.c2_built.specs.Fresh.{GivesDigests}
 use Rattle.c2_built.specs.FreshBoxes.{contents_of, item_box, store_box}
 use Rattle.c2_built.specs.Manifests.{supers_in}
-use Rattle.c2_built.specs.Store.{Content, Parent, assertion_box, assertion_boxes, data_binding, new_claim, new_manifest}
-use Rattle.c2_built.proofs.StoreSize.{KeepsLength, assertion_len, store_len}
+use Rattle.c2_built.specs.Store.{Content, NamedManifest, data_binding, new_manifest}
+use Rattle.c2_built.proofs.StoreSize.{store_len}
 use Rattle.c2_carried.specs.Redacting.{boxes_in}
-use Rattle.c2_gathered.specs.Gathered.{Gathered, with_more}
 use Rattle.c2_places.specs.Bases.{IsLeft}
 use Rattle.c2_places.specs.Laws.{PlaceSizeIsFixed}
 use Rattle.c2_places.specs.Meeting.{BaseStays, FreshPlaceMeets}
 use Rattle.c2_places.specs.Places.{CanPut, bound_text, place_file, place_start, place_store, range_len}
 use Rattle.c2_places.specs.Places as places
 use Rattle.c2_collected.specs.Collected.{CollectsFrom, IsCollected, IsNamedAt, collected_ingredients, collected_readings, collected_roots}
-use Rattle.c2_collected.specs.Files.{collected_content}
 use Rattle.c2_collected.specs.Order.{CanCollectPair, FilePair, IsCollectedFile, IsCollectedFrom, IsFilePair, IsValidAnswer, OtherFile, SomeFileIsCollected}
 use Rattle.c2_collected.specs.Sides.{DoNotClash}
 use Rattle.c2_collected.specs.Stores.{IsRootedStore}
 use Rattle.c2_collected.proofs.Approved.{HasQuestionThen}
-use Rattle.c2_collected.proofs.Sizes.{bare_of, item_len, item_with, same_store}
 use Rattle.c2_collected.proofs.Stores.{accepted_rooted, none_rooted}
 use Rattle.c2_collected.proofs.Worked.{IsFirst, can_put, defined, first, first_file, first_label, first_len, is_absent, is_first, is_place, manifest, media, none_begins, parts, place, second_label, second_written, signed, store}
 
@@ -60,7 +55,6 @@ pub record WorkedLaws : Type 0 where
   pub stays : BaseStays
   pub asks : HasQuestionThen
   pub rooted : StoreIsRooted
-  pub keeps : KeepsLength
 
 -- ---- the manifest that the ingredients name
 
@@ -69,7 +63,7 @@ abbrev signature : List ℕ → Tree
 signature filled = item_box (codes "c2cs") (codes "c2pa.signature") filled
 
 -- the first manifest, as it stands in the new store
-abbrev named : (List ℕ → List ℕ) → List ℕ → Parent
+abbrev named : (List ℕ → List ℕ) → List ℕ → NamedManifest
 named hash filled = record { label = first_label; contents = contents_of (manifest hash filled); signed = contents_of (signature filled) }
 
 -- the boxes that are carried: the first manifest alone
@@ -114,11 +108,11 @@ second_free r e = ap (λ l. bytes_eq l second_label || false) e
 -- ---- what goes into the new store
 
 -- over no store: the first manifest is a component
-abbrev alone : (List ℕ → List ℕ) → List ℕ → Gathered
+abbrev alone : (List ℕ → List ℕ) → List ℕ → Content
 alone hash filled = record { definition = defined second_label; carried = carried hash filled; ingredients = collected_ingredients (named hash filled ∷ []) }
 
 -- over the same store: it is the parent too
-abbrev twice : (List ℕ → List ℕ) → List ℕ → Gathered
+abbrev twice : (List ℕ → List ℕ) → List ℕ → Content
 twice hash filled = record { definition = defined second_label; carried = carried hash filled; ingredients = collected_ingredients (named hash filled ∷ named hash filled ∷ []) }
 
 -- this goes in over no store
@@ -128,7 +122,7 @@ alone_collects hash filled r = record {
   definition = refl;
   carried = refl;
   named = named hash filled ∷ [];
-  are = subst (λ (roots : List ℕ). AllZip (λ (p : Parent) root. IsNamedAt p (supers_in (carried hash filled)) root) (named hash filled ∷ []) roots) (sym (alone_roots r)) (is_named hash filled, tt);
+  are = subst (λ (roots : List ℕ). AllZip (λ (p : NamedManifest) root. IsNamedAt p (supers_in (carried hash filled)) root) (named hash filled ∷ []) roots) (sym (alone_roots r)) (is_named hash filled, tt);
   ingredients = refl;
 }
 
@@ -139,7 +133,7 @@ twice_collects hash filled r = record {
   definition = refl;
   carried = refl;
   named = named hash filled ∷ named hash filled ∷ [];
-  are = subst (λ (roots : List ℕ). AllZip (λ (p : Parent) root. IsNamedAt p (supers_in (carried hash filled)) root) (named hash filled ∷ named hash filled ∷ []) roots) (sym (twice_roots r)) (is_named hash filled, (is_named hash filled, tt));
+  are = subst (λ (roots : List ℕ). AllZip (λ (p : NamedManifest) root. IsNamedAt p (supers_in (carried hash filled)) root) (named hash filled ∷ named hash filled ∷ []) roots) (sym (twice_roots r)) (is_named hash filled, (is_named hash filled, tt));
   ingredients = refl;
 }
 
@@ -153,70 +147,25 @@ no_binding = data_binding Sha256 0 0 (zero_digest Sha256)
 abbrev bare_manifest : Tree
 bare_manifest = new_manifest (no_digest Sha256) first no_binding (replicate 64 0)
 
--- an ingredient's assertion with these bytes
-abbrev ingredient : List ℕ → List ℕ → NewAssertion
-ingredient label item = record { label = label; kind = payload.Cbor; bytes = item }
+-- the first manifest as an ingredient's, where only its label counts
+abbrev bare : NamedManifest
+bare = record { label = first_label; contents = []; signed = [] }
 
--- what goes into a new store over one manifest, with these ingredients
-abbrev content_with : List NewAssertion → Tree → Content
-content_with items m = record { definition = with_more (defined second_label) items; carried = more m none; parent = None }
+-- what goes into a new store over the first manifest without digests, with ingredients that name such manifests
+abbrev bare_content : List NamedManifest → Content
+bare_content ps = record { definition = defined second_label; carried = more bare_manifest none; ingredients = collected_ingredients ps }
 
--- one ingredient: a component
-abbrev one_item : List ℕ → List NewAssertion
-one_item item = ingredient (codes "c2pa.ingredient.v3") item ∷ []
-
--- two: a parent and a component
-abbrev two_items : List ℕ → List ℕ → List NewAssertion
-two_items parent item = ingredient (codes "c2pa.ingredient.v3") parent ∷ ingredient (codes "c2pa.ingredient.v3__1") item ∷ []
-
--- the bytes of the component without digests
-abbrev bare_component : List ℕ
-bare_component = deterministic (item_with (no_digest Sha256) ComponentOf (bare_of first_label))
-
--- and of the parent
-abbrev bare_parent : List ℕ
-bare_parent = deterministic (item_with (no_digest Sha256) ParentOf (bare_of first_label))
-
--- with one more ingredient in front, the boxes of assertions are as long as each other where its bytes are
-more_box : (label a b : List ℕ) (xs ys : List NewAssertion) → length a ≡ length b
-    → length (trees_bytes (assertion_boxes xs)) ≡ length (trees_bytes (assertion_boxes ys))
-    → length (trees_bytes (assertion_boxes (ingredient label a ∷ xs))) ≡ length (trees_bytes (assertion_boxes (ingredient label b ∷ ys)))
-more_box label a b xs ys e f =
-    omega (
-      arith,
-      e,
-      f,
-      assertion_len (ingredient label a),
-      assertion_len (ingredient label b),
-      length-append (tree_bytes (assertion_box (ingredient label a))) (trees_bytes (assertion_boxes xs)),
-      length-append (tree_bytes (assertion_box (ingredient label b))) (trees_bytes (assertion_boxes ys)),
-    )
-
--- a store with one ingredient is as long as another
-one_size : (m n : Tree) (a b : List ℕ) → length (tree_bytes m) ≡ length (tree_bytes n) → length a ≡ length b
-    → store_size (content_with (one_item a) m) 64 ≡ store_size (content_with (one_item b) n) 64
-one_size m n a b e f =
-    same_store m n second_label (one_item a ++ no_binding ∷ []) (one_item b ++ no_binding ∷ [])
-    (new_claim (no_digest Sha256) (content_with (one_item a) m) no_binding) (new_claim (no_digest Sha256) (content_with (one_item b) n) no_binding)
-    (replicate 64 0) e (more_box (codes "c2pa.ingredient.v3") a b (no_binding ∷ []) (no_binding ∷ []) f refl) refl
-
--- so is one with two
-two_size : (m n : Tree) (a b c d : List ℕ) → length (tree_bytes m) ≡ length (tree_bytes n) → length a ≡ length b → length c ≡ length d
-    → store_size (content_with (two_items a c) m) 64 ≡ store_size (content_with (two_items b d) n) 64
-two_size m n a b c d e f g =
-    same_store m n second_label (two_items a c ++ no_binding ∷ []) (two_items b d ++ no_binding ∷ [])
-    (new_claim (no_digest Sha256) (content_with (two_items a c) m) no_binding) (new_claim (no_digest Sha256) (content_with (two_items b d) n) no_binding)
-    (replicate 64 0) e
-    (more_box (codes "c2pa.ingredient.v3") a b (ingredient (codes "c2pa.ingredient.v3__1") c ∷ no_binding ∷ []) (ingredient (codes "c2pa.ingredient.v3__1") d ∷ no_binding ∷ []) f
-    (more_box (codes "c2pa.ingredient.v3__1") c d (no_binding ∷ []) (no_binding ∷ []) g refl)) refl
+-- its manifest without digests
+abbrev bare_new : List NamedManifest → Tree
+bare_new ps = new_manifest (no_digest Sha256) (bare_content ps) no_binding (replicate 64 0)
 
 -- how many bytes the store has over no store
 abbrev one_total : ℕ
-one_total = store_size (content_with (one_item bare_component) bare_manifest) 64
+one_total = store_size (bare_content (bare ∷ [])) 64
 
 -- and over the same store
 abbrev two_total : ℕ
-two_total = store_size (content_with (two_items bare_parent bare_component) bare_manifest) 64
+two_total = store_size (bare_content (bare ∷ bare ∷ [])) 64
 
 -- neither is too large
 one_small : nat_lt MAX_STORE_LEN one_total ≡ false
@@ -235,6 +184,19 @@ one_fits = refl
 two_fits : nat_le FILE_LEN_LIMIT (length media + segments_len two_total) ≡ false
 unfolding shortest_head
 two_fits = refl
+
+-- stores of one carried manifest and the same new one are as long as each other where the carried ones are
+same_store : (m n new : Tree) → length (tree_bytes m) ≡ length (tree_bytes n)
+    → length (tree_bytes (store_box (more m none) new)) ≡ length (tree_bytes (store_box (more n none) new))
+same_store m n new same =
+    omega (
+      arith,
+      same,
+      store_len (more m none) new,
+      store_len (more n none) new,
+      length-append (tree_bytes m) [],
+      length-append (tree_bytes n) [],
+    )
 
 -- the first manifest is as long as one without digests
 manifest_same : PlaceSizeIsFixed → (hash : Alg → List ℕ → List ℕ) → GivesDigests hash → (filled : List ℕ) → length filled ≡ 64
@@ -258,33 +220,19 @@ can_put_in x n filled size small fits e = record {
       (subst (λ k. length media + segments_len k < FILE_LEN_LIMIT) (sym size) (leb-false FILE_LEN_LIMIT (length media + segments_len n) fits));
 }
 
--- the ingredient is as long as one without digests, as a component and as a parent
-component_same : KeepsLength → (hash : Alg → List ℕ → List ℕ) → GivesDigests hash → (filled : List ℕ)
-    → length (deterministic (item_with (hash Sha256) ComponentOf (named (hash Sha256) filled))) ≡ length bare_component
-component_same keeps hash digests filled =
-    item_len keeps 32 (hash Sha256) (no_digest Sha256) ComponentOf (named (hash Sha256) filled) (λ text. (digests Sha256 text).sized) (λ text. refl)
-
-parent_same : KeepsLength → (hash : Alg → List ℕ → List ℕ) → GivesDigests hash → (filled : List ℕ)
-    → length (deterministic (item_with (hash Sha256) ParentOf (named (hash Sha256) filled))) ≡ length bare_parent
-parent_same keeps hash digests filled =
-    item_len keeps 32 (hash Sha256) (no_digest Sha256) ParentOf (named (hash Sha256) filled) (λ text. (digests Sha256 text).sized) (λ text. refl)
-
 -- the store can be put in, over no store
 alone_can : WorkedLaws → (hash : Alg → List ℕ → List ℕ) → GivesDigests hash → (filled : List ℕ) → length filled ≡ 64
-    → CanPut (collected_content hash (alone (hash Sha256) filled)) (length filled) media place
+    → CanPut (alone (hash Sha256) filled) (length filled) media place
 alone_can l hash digests filled e =
-    can_put_in (collected_content hash (alone (hash Sha256) filled)) one_total filled
-    (one_size (manifest (hash Sha256) filled) bare_manifest (deterministic (item_with (hash Sha256) ComponentOf (named (hash Sha256) filled))) bare_component (manifest_same l.size hash digests filled e) (component_same l.keeps hash digests filled))
-    one_small one_fits e
+    can_put_in (alone (hash Sha256) filled) one_total filled
+    (same_store (manifest (hash Sha256) filled) bare_manifest (bare_new (bare ∷ [])) (manifest_same l.size hash digests filled e)) one_small one_fits e
 
 -- and over the same store
 twice_can : WorkedLaws → (hash : Alg → List ℕ → List ℕ) → GivesDigests hash → (filled : List ℕ) → length filled ≡ 64
-    → CanPut (collected_content hash (twice (hash Sha256) filled)) (length filled) media place
+    → CanPut (twice (hash Sha256) filled) (length filled) media place
 twice_can l hash digests filled e =
-    can_put_in (collected_content hash (twice (hash Sha256) filled)) two_total filled
-    (two_size (manifest (hash Sha256) filled) bare_manifest (deterministic (item_with (hash Sha256) ParentOf (named (hash Sha256) filled))) bare_parent (deterministic (item_with (hash Sha256) ComponentOf (named (hash Sha256) filled))) bare_component
-    (manifest_same l.size hash digests filled e) (parent_same l.keeps hash digests filled) (component_same l.keeps hash digests filled))
-    two_small two_fits e
+    can_put_in (twice (hash Sha256) filled) two_total filled
+    (same_store (manifest (hash Sha256) filled) bare_manifest (bare_new (bare ∷ bare ∷ [])) (manifest_same l.size hash digests filled e)) two_small two_fits e
 
 -- ---- the two files
 
@@ -310,13 +258,13 @@ alone_apart ts f g i c = let none = c.is_ours in absurd (cc (none))
 -- ---- the file
 
 -- a file is built where a store of the second definition can be put into that JPEG file
-builds : (hash : Alg → List ℕ → List ℕ) (pair : FilePair) (c : Gathered) (filled : List ℕ)
+builds : (hash : Alg → List ℕ → List ℕ) (pair : FilePair) (c : Content) (filled : List ℕ)
     → pair.media.base ≡ media → CanCollectPair hash (defined second_label) pair
     → IsCollected hash (defined second_label) pair.media.boxes pair.other.boxes pair.media.readings pair.other.readings c
-    → IsSigned parts 64 filled → CanPut (collected_content hash c) (length filled) media place
+    → IsSigned parts 64 filled → CanPut c (length filled) media place
     → (file : List ℕ) × IsCollectedFile hash (defined second_label) pair parts place file
 builds hash pair c filled base collects is s can =
-    let bytes : List ℕ = packets_bytes (tree_bytes (place_store (hash Sha256) (collected_content hash c) filled pair.media.base place)) 0x0211 in (
+    let bytes : List ℕ = packets_bytes (tree_bytes (place_store (hash Sha256) c filled pair.media.base place)) 0x0211 in (
       place_file pair.media.base place bytes,
       record {
         own = refl;
@@ -325,7 +273,7 @@ builds hash pair c filled base collects is s can =
         collected = is;
         message = filled;
         signed = s;
-        can = subst (λ (x : List ℕ). CanPut (collected_content hash c) (length filled) x place) (sym base) can;
+        can = subst (λ (x : List ℕ). CanPut c (length filled) x place) (sym base) can;
         bytes = bytes;
         put = refl;
         is = refl;

@@ -22,11 +22,10 @@ use Rattle.c2_definition.specs.declared.types.Definition.{Definition}
 use Rattle.c2_definition.specs.declared.types.NewAssertion.{NewAssertion}
 use Rattle.c2_built.specs.FreshBoxes.{contents_of}
 use Rattle.c2_built.specs.Manifests.{is_signature_box, supers_in, supers_of}
-use Rattle.c2_built.specs.Store.{Parent, new_alg}
+use Rattle.c2_built.specs.Store.{Content, NamedManifest, NewIngredient, new_alg, new_claim, new_store}
 use Rattle.c2_built.specs.Unbound.{IsKnownBinding, MeetsUnbound}
 use Rattle.c2_built.specs.Written.{CanBeWritten}
 use Rattle.c2_carried.specs.Redacting.{redacted_boxes}
-use Rattle.c2_gathered.specs.Gathered.{Gathered, NewIngredient, gathered_claim, gathered_store}
 use Rattle.c2_gathered.specs.Taken.{questions_from}
 use Rattle.c2_collected.specs.Refusals.{redaction_refusal_by}
 use Rattle.c2_collected.specs.Sides.{DoNotClash, joined_boxes}
@@ -49,7 +48,7 @@ collected_roots old_rs other_rs = joined_roots (last_roots old_rs) other_rs (las
 -- ---- the ingredients
 
 -- The manifest that an ingredient names: the one at this place, by its label, its contents, and those of its signature box.
-pub record IsNamedAt (p : Parent) (manifests : List Tree) (place : ℕ) : Type 0 where
+pub record IsNamedAt (p : NamedManifest) (manifests : List Tree) (place : ℕ) : Type 0 where
   pub manifest : Tree
   pub is_manifest : slice_get manifests place ≡ Some manifest
   pub label : any_label (node manifest) ≡ Some p.label
@@ -60,7 +59,7 @@ pub record IsNamedAt (p : Parent) (manifests : List Tree) (place : ℕ) : Type 0
 
 -- The ingredients that name one manifest or two: a component, or a parent and then a component, whose label then ends `__1` ("Multiple
 -- instances" of assertions). There are never more, as a joined chain has two roots at most.
-abbrev pub collected_ingredients : List Parent → List NewIngredient
+abbrev pub collected_ingredients : List NamedManifest → List NewIngredient
 collected_ingredients [] = []
 collected_ingredients (q ∷ []) =
     record { label = codes "c2pa.ingredient.v3"; relationship = ComponentOf; of = q } ∷ []
@@ -71,11 +70,11 @@ collected_ingredients (p ∷ q ∷ more) =
 
 -- What goes into the new store: the joined boxes less what the definition redacts, and ingredients that name the manifests at the roots,
 -- as they stand there.
-pub record CollectsFrom (d : Definition) (old other : Trees) (old_rs other_rs : List Reading) (c : Gathered) : Type 0 where
+pub record CollectsFrom (d : Definition) (old other : Trees) (old_rs other_rs : List Reading) (c : Content) : Type 0 where
   pub definition : c.definition ≡ d
   pub carried : c.carried ≡ redacted_boxes d.redact (collected_boxes old other other_rs)
-  pub named : List Parent
-  pub are : AllZip (λ (p : Parent) root. IsNamedAt p (supers_in c.carried) root) named (collected_roots old_rs other_rs)
+  pub named : List NamedManifest
+  pub are : AllZip (λ (p : NamedManifest) root. IsNamedAt p (supers_in c.carried) root) named (collected_roots old_rs other_rs)
   pub ingredients : c.ingredients ≡ collected_ingredients named
 
 -- ---- what may be collected
@@ -123,36 +122,36 @@ pub record CanCollect (hash : Alg → List ℕ → List ℕ) (d : Definition) (o
 -- Where two stores may be collected, something goes into the new store, whether there is room or not.
 abbrev pub SomeContentCollects : Type 0
 SomeContentCollects = (hash : Alg → List ℕ → List ℕ) (d : Definition) (old other : Trees) (old_rs other_rs : List Reading)
-    → CanCollect hash d old other old_rs other_rs → (c : Gathered) × CollectsFrom d old other old_rs other_rs c
+    → CanCollect hash d old other old_rs other_rs → (c : Content) × CollectsFrom d old other old_rs other_rs c
 
 -- What goes into a new store over two stores is one.
 abbrev pub CollectedContentIsOne : Type 0
-CollectedContentIsOne = (d : Definition) (old other : Trees) (old_rs other_rs : List Reading) (b c : Gathered)
+CollectedContentIsOne = (d : Definition) (old other : Trees) (old_rs other_rs : List Reading) (b c : Content)
     → CollectsFrom d old other old_rs other_rs b → CollectsFrom d old other old_rs other_rs c → b ≡ c
 
 -- ---- what the new store meets
 
 -- This goes into a new store over two that may be collected: the definition can be written, and there is room for one more manifest
 -- than the joined ones.
-pub record IsCollected (hash : Alg → List ℕ → List ℕ) (d : Definition) (old other : Trees) (old_rs other_rs : List Reading) (c : Gathered) : Type 0 where
+pub record IsCollected (hash : Alg → List ℕ → List ℕ) (d : Definition) (old other : Trees) (old_rs other_rs : List Reading) (c : Content) : Type 0 where
   pub can : CanCollect hash d old other old_rs other_rs
   pub few : length (collected_readings old_rs other_rs) < MAX_MANIFESTS
   pub written : CanBeWritten d
   pub content : CollectsFrom d old other old_rs other_rs c
 
--- A new store of what is gathered, which isn't too large, with a binding of a kind that is known, and a message that spells its parts.
-pub record IsStored (hash : Alg → List ℕ → List ℕ) (c : Gathered) (binding : NewAssertion) (message : List ℕ) (p : SignParts) : Type 0 where
+-- A new store of what is collected, which isn't too large, with a binding of a kind that is known, and a message that spells its parts.
+pub record IsStored (hash : Alg → List ℕ → List ℕ) (c : Content) (binding : NewAssertion) (message : List ℕ) (p : SignParts) : Type 0 where
   pub known : IsKnownBinding binding
-  pub fits : length (tree_bytes (gathered_store (hash (new_alg c.definition)) c binding message)) ≤ MAX_STORE_LEN
+  pub fits : length (tree_bytes (new_store (hash (new_alg c.definition)) c binding message)) ≤ MAX_STORE_LEN
   pub spells : SpellsMessage message p
 
 -- A new store that collects from two stores meets each rule but the one on its binding and the verdict on its message. It asks the new
 -- question, and then those of what is reached from the roots of the joined chain.
 abbrev pub CollectedStoreMeets : Type 0
-CollectedStoreMeets = (hash : Alg → List ℕ → List ℕ) (d : Definition) (old other : Trees) (old_rs other_rs : List Reading) (c : Gathered) (binding : NewAssertion) (message : List ℕ) (p : SignParts)
+CollectedStoreMeets = (hash : Alg → List ℕ → List ℕ) (d : Definition) (old other : Trees) (old_rs other_rs : List Reading) (c : Content) (binding : NewAssertion) (message : List ℕ) (p : SignParts)
     → IsCollected hash d old other old_rs other_rs c → IsStored hash c binding message p
-    → MeetsUnbound hash (gathered_store (hash (new_alg c.definition)) c binding message) binding
-    (question_of p (gathered_claim (hash (new_alg c.definition)) c binding)
+    → MeetsUnbound hash (new_store (hash (new_alg c.definition)) c binding message) binding
+    (question_of p (new_claim (hash (new_alg c.definition)) c binding)
     ∷ questions_from (collected_readings old_rs other_rs) (collected_roots old_rs other_rs))
 
 -- a question is one of the media's store or of the other
@@ -185,7 +184,7 @@ pub record ReachesCollected (old_rs other_rs all : List Reading) : Type 0 where
 -- Whatever the manifests of a new store that collects from two stores are read as, what is reached in it are the new manifest and what was
 -- reached in the media's store or in the other.
 abbrev pub CollectedStoreReaches : Type 0
-CollectedStoreReaches = (hash : Alg → List ℕ → List ℕ) (d : Definition) (old other : Trees) (old_rs other_rs : List Reading) (c : Gathered) (binding : NewAssertion) (message : List ℕ) (p : SignParts) (all : List Reading)
+CollectedStoreReaches = (hash : Alg → List ℕ → List ℕ) (d : Definition) (old other : Trees) (old_rs other_rs : List Reading) (c : Content) (binding : NewAssertion) (message : List ℕ) (p : SignParts) (all : List Reading)
     → IsCollected hash d old other old_rs other_rs c → IsStored hash c binding message p
-    → AreReadings (manifests_of (gathered_store (hash (new_alg c.definition)) c binding message)) all
+    → AreReadings (manifests_of (new_store (hash (new_alg c.definition)) c binding message)) all
     → ReachesCollected old_rs other_rs all

@@ -10,40 +10,35 @@ use Rattle.c2_rules.specs.Validated.{IsFileReading}
 use Rattle.c2_definition.specs.declared.types.Definition.{Definition}
 use Rattle.c2_built.specs.Fresh.{GivesDigests, Meets}
 use Rattle.c2_built.specs.Store.{Content, new_alg, new_claim}
-use Rattle.c2_gathered.specs.Gathered.{Gathered, content_of}
 use Rattle.c2_gathered.specs.Taken.{questions_from}
 use Rattle.c2_places.specs.Places.{CanPut, Place, place_binding, place_file, place_question, place_start, place_store, put_bytes, range_len}
 use Rattle.c2_collected.specs.Collected.{IsCollected, ReachesCollected, collected_readings, collected_roots}
 
--- what is collected, as what goes into a new file: its ingredients are further assertions of its definition
-abbrev pub collected_content : (Alg → List ℕ → List ℕ) → Gathered → Content
-collected_content hash c = content_of (hash (new_alg c.definition)) c
-
 -- what is signed (RFC 9052, section 4.4): the definition's protected header and the new claim, which binds what the new file has outside
 -- its new range, over this base and at this place
-abbrev pub collected_signed : (Alg → List ℕ → List ℕ) → Definition → Gathered → List ℕ → Place → List ℕ
+abbrev pub collected_signed : (Alg → List ℕ → List ℕ) → Definition → Content → List ℕ → Place → List ℕ
 collected_signed hash d c base p =
-    deterministic (sig_structure d.protected (new_claim (hash (new_alg d)) (collected_content hash c)
-    (place_binding (hash (new_alg d)) (collected_content hash c) d.reserve base p)))
+    deterministic (sig_structure d.protected (new_claim (hash (new_alg d)) c
+    (place_binding (hash (new_alg d)) c d.reserve base p)))
 
 -- A file that is built in its place, over a base without a store, and whose new store collects from two stores, has the new store,
 -- meets every rule but the verdict on its message, and asks the new question and then those of what is reached from the roots of the
 -- joined chain. The message may be any that spells its parts.
 abbrev pub CollectedFileMeets : Type 0
-CollectedFileMeets = (hash : Alg → List ℕ → List ℕ) (d : Definition) (old other : Trees) (old_rs other_rs : List Reading) (c : Gathered) (message base bytes : List ℕ) (p : Place) (parts : SignParts)
-    → GivesDigests hash → IsCollected hash d old other old_rs other_rs c → CanPut (collected_content hash c) (length message) base p
+CollectedFileMeets = (hash : Alg → List ℕ → List ℕ) (d : Definition) (old other : Trees) (old_rs other_rs : List Reading) (c : Content) (message base bytes : List ℕ) (p : Place) (parts : SignParts)
+    → GivesDigests hash → IsCollected hash d old other old_rs other_rs c → CanPut c (length message) base p
     → SpellsMessage message parts
-    → put_bytes p (tree_bytes (place_store (hash (new_alg c.definition)) (collected_content hash c) message base p)) ≡ Some bytes
-    → Meets hash (place_file base p bytes) (place_start p) (range_len p (collected_content hash c) (length message))
-    (place_store (hash (new_alg c.definition)) (collected_content hash c) message base p)
-    (place_question (hash (new_alg c.definition)) (collected_content hash c) (length message) base p parts
+    → put_bytes p (tree_bytes (place_store (hash (new_alg c.definition)) c message base p)) ≡ Some bytes
+    → Meets hash (place_file base p bytes) (place_start p) (range_len p c (length message))
+    (place_store (hash (new_alg c.definition)) c message base p)
+    (place_question (hash (new_alg c.definition)) c (length message) base p parts
     ∷ questions_from (collected_readings old_rs other_rs) (collected_roots old_rs other_rs))
 
 -- Where the new store of a file in its place collects from two stores, the manifests that are reached in it, whatever it is read as, are
 -- the new one and those that were reached in the media's store or in the other.
 abbrev pub CollectedFileReaches : Type 0
-CollectedFileReaches = (hash : Alg → List ℕ → List ℕ) (d : Definition) (old other : Trees) (old_rs other_rs : List Reading) (c : Gathered) (message base file : List ℕ) (p : Place) (parts : SignParts) (s : StoreReading)
-    → GivesDigests hash → IsCollected hash d old other old_rs other_rs c → CanPut (collected_content hash c) (length message) base p
+CollectedFileReaches = (hash : Alg → List ℕ → List ℕ) (d : Definition) (old other : Trees) (old_rs other_rs : List Reading) (c : Content) (message base file : List ℕ) (p : Place) (parts : SignParts) (s : StoreReading)
+    → GivesDigests hash → IsCollected hash d old other old_rs other_rs c → CanPut c (length message) base p
     → SpellsMessage message parts
-    → IsFileReading file (place_store (hash (new_alg c.definition)) (collected_content hash c) message base p) s
+    → IsFileReading file (place_store (hash (new_alg c.definition)) c message base p) s
     → ReachesCollected old_rs other_rs s.readings

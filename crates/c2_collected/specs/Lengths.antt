@@ -6,25 +6,22 @@ use Rattle.c2_spec.specs.declared.digest.Alg.{Alg}
 use Rattle.c2_spec.specs.declared.panel.Verdict.{Verdict}
 use Rattle.c2_definition.specs.DefinitionFile.{IsDefinition}
 use Rattle.c2_definition.specs.declared.types.Definition.{Definition}
-use Rattle.c2_built.specs.Fresh.{GivesDigests}
-use Rattle.c2_gathered.specs.Gathered.{Gathered}
-use Rattle.c2_lengths.specs.Lengths.{IsShortGathered}
+use Rattle.c2_built.specs.Store.{Content}
+use Rattle.c2_lengths.specs.Lengths.{IsShortOver}
 use Rattle.c2_places.specs.Places.{Place, store_len}
 use Rattle.c2_collected.specs.Collected.{CollectsFrom}
-use Rattle.c2_collected.specs.Files.{collected_content}
 use Rattle.c2_collected.specs.Order.{FilePair, IsFilePair}
 
 -- What goes into a new store that collects from two files is short: neither file's store is longer than one may be, and the ingredients
 -- name manifests of what is carried of them.
 abbrev pub CollectedIsShort : Type 0
-CollectedIsShort = (hash : Alg → List ℕ → List ℕ) (said : Question → Verdict) (media other : List ℕ) (d : Definition) (p : FilePair) (c : Gathered)
+CollectedIsShort = (hash : Alg → List ℕ → List ℕ) (said : Question → Verdict) (media other : List ℕ) (d : Definition) (p : FilePair) (c : Content)
     → IsFilePair hash said media other p → CollectsFrom d p.media.boxes p.other.boxes p.media.readings p.other.readings c
-    → IsShortGathered c
+    → IsShortOver c
 
--- So the length of the new store, in each place, is below the greatest number that 64 bits hold, where a file is the definition and the hash
--- gives digests.
+-- So the length of the new store, in each place, is below the greatest number that 64 bits hold, where a file is the definition.
 abbrev pub CollectedStoresFit : Type 0
-CollectedStoresFit = (hash : Alg → List ℕ → List ℕ) (said : Question → Verdict) (media definition other : List ℕ) (d : Definition) (p : FilePair) (c : Gathered) (place : Place)
-    → GivesDigests hash → IsDefinition definition (Ok d) → IsFilePair hash said media other p
+CollectedStoresFit = (hash : Alg → List ℕ → List ℕ) (said : Question → Verdict) (media definition other : List ℕ) (d : Definition) (p : FilePair) (c : Content) (place : Place)
+    → IsDefinition definition (Ok d) → IsFilePair hash said media other p
     → CollectsFrom d p.media.boxes p.other.boxes p.media.readings p.other.readings c
-    → store_len place (collected_content hash c) d.reserve < 2 ^ 64 - 1
+    → store_len place c d.reserve < 2 ^ 64 - 1

@@ -28,7 +28,6 @@ use Rattle.c2_built.specs.Written.{HasTexts}
 use Rattle.c2_places.specs.Places.{Place, place_start, range_len}
 use Rattle.c2_splits.specs.Kept.{KeepsBytes}
 use Rattle.c2_collected.specs.Collected.{AreApproved}
-use Rattle.c2_collected.specs.Files.{collected_content}
 use Rattle.c2_collected.specs.Order.{FilePair, HasStore, IsCollectedFile, IsFilePair, IsMediaFile, IsOtherFile, MediaFile, OtherFile}
 use Rattle.c2_collected.specs.Order.{joined_refusals, other_refusals, parent_refusals, reserve_refusals}
 use Rattle.c2_collected.specs.Outcomes.{CollectGround, HasCheck, IsCollectMade, IsCollectPlanned, IsGroundStage, NewFile, ground_refusals}
@@ -90,7 +89,7 @@ pub record IsCollectPlanUnrefused (hash : Alg → List ℕ → List ℕ) (said :
   pub other_passes : (found : Opening Tree) (o : OtherFile) → IsOpened other found → IsOtherFile hash said other found o → other_refusals o.answer ≡ []
   pub joined_passes : (d : Definition) (p : FilePair) → IsDefinition definition (Ok d) → IsFilePair hash said media other p → joined_refusals d p ≡ []
   pub file_passes : (d : Definition) (g : CollectGround) → IsDefinition definition (Ok d) → IsFilePair hash said media other g.pair
-      → IsGroundStage d g.pair (Ok g) → ground_refusals hash d g ≡ []
+      → IsGroundStage d g.pair (Ok g) → ground_refusals d g ≡ []
 
 -- No refusal of a build has its condition: none of a plan, the message isn't refused, and it fits into what the definition reserves.
 pub record IsCollectUnrefused (hash : Alg → List ℕ → List ℕ) (said : Question → Verdict) (media definition message other : List ℕ) : Type 0 where
@@ -119,7 +118,7 @@ CollectedIsMade = (hash : Alg → List ℕ → List ℕ) (said : Question → Ve
     → IsDefinition definition (Ok d) → IsAccepted d.protected message → SpellsMessage message parts → IsFilePair hash said media other pair
     → (b : IsCollectedFile hash d pair parts p file)
     → IsCollectMade hash said media definition message other
-    (Ok (record { file = file; start = place_start p; len = range_len p (collected_content hash b.content) d.reserve }))
+    (Ok (record { file = file; start = place_start p; len = range_len p b.content d.reserve }))
 
 -- Some build succeeds whose new store collects, whatever the hash, where it gives digests and judges approve each question: of a media file
 -- without a store, and of a media file with one.

@@ -40,11 +40,9 @@ use Rattle.c2_built.specs.Store.{Content, new_alg}
 use Rattle.c2_built.specs.Written.{CanBeWritten}
 use Rattle.c2_carried.specs.Redacting.{boxes_in}
 use Rattle.c2_carried.specs.declared.refused.RefusedRedaction.{RefusedRedaction}
-use Rattle.c2_gathered.specs.Gathered.{Gathered}
 use Rattle.c2_places.specs.Bases.{IsLeft}
 use Rattle.c2_places.specs.Places.{CanPut, IsFreePlace, Place, in_boxes, in_segments, place_file, place_store, put_bytes, range_len, store_len}
 use Rattle.c2_collected.specs.Collected.{CanCollect, CollectsFrom, IsCollected, collected_readings, collected_roots}
-use Rattle.c2_collected.specs.Files.{collected_content}
 use Rattle.c2_collected.specs.Refusals.{redaction_refusal_by}
 use Rattle.c2_collected.specs.Sides.{IsClash}
 
@@ -212,14 +210,14 @@ abbrev pub reserve_refusals : Definition → SignParts → List CollectRefusal
 reserve_refusals d parts = option_to_list (option_map reserve_too_small (reserve_needed d.reserve (length (bare_bytes parts))))
 
 -- all that is refused, in order, of a new file of a definition that collects this content from two files
-abbrev pub collected_refusals : (Alg → List ℕ → List ℕ) → Definition → FilePair → Gathered → Place → List CollectRefusal
-collected_refusals hash d pair c p =
-    file_refusals pair.media.base (collected_content hash c) d.reserve (length (pair_readings pair) + 1) p
+abbrev pub collected_refusals : Definition → FilePair → Content → Place → List CollectRefusal
+collected_refusals d pair c p =
+    file_refusals pair.media.base c d.reserve (length (pair_readings pair) + 1) p
 
 -- all that is refused, in order, of two files and of a new file of a definition that collects this content from them, with a message of
 -- these parts: what a build tests once its inputs are read and none of them is refused alone
-abbrev pub all_refusals : (Alg → List ℕ → List ℕ) → Definition → SignParts → FilePair → Gathered → Place → List CollectRefusal
-all_refusals hash d parts pair c p = pair_refusals d pair ++ (collected_refusals hash d pair c p ++ reserve_refusals d parts)
+abbrev pub all_refusals : Definition → SignParts → FilePair → Content → Place → List CollectRefusal
+all_refusals d parts pair c p = pair_refusals d pair ++ (collected_refusals d pair c p ++ reserve_refusals d parts)
 
 -- ---- where nothing is refused
 
@@ -250,18 +248,18 @@ CollectablePairIsUnrefused = (hash : Alg → List ℕ → List ℕ) (said : Ques
 pub record IsCollectedFile (hash : Alg → List ℕ → List ℕ) (d : Definition) (pair : FilePair) (parts : SignParts) (p : Place) (file : List ℕ) : Type 0 where
   pub own : parts.protected ≡ d.protected
   pub collects : CanCollectPair hash d pair
-  pub content : Gathered
+  pub content : Content
   pub collected : IsCollected hash d pair.media.boxes pair.other.boxes pair.media.readings pair.other.readings content
   pub message : List ℕ
   pub signed : IsSigned parts d.reserve message
-  pub can : CanPut (collected_content hash content) (length message) pair.media.base p
+  pub can : CanPut content (length message) pair.media.base p
   pub bytes : List ℕ
-  pub put : put_bytes p (tree_bytes (place_store (hash (new_alg d)) (collected_content hash content) message pair.media.base p)) ≡ Some bytes
+  pub put : put_bytes p (tree_bytes (place_store (hash (new_alg d)) content message pair.media.base p)) ≡ Some bytes
   pub is : file ≡ place_file pair.media.base p bytes
 
 -- What a build that collects is given, where none of its inputs is refused alone: two files, a definition that can be written, a message
 -- with its protected header that can be padded, what goes into the new store, and a free place for it in what is left of the media.
-pub record HasCollectInputs (hash : Alg → List ℕ → List ℕ) (said : Question → Verdict) (media other : List ℕ) (d : Definition) (parts : SignParts) (pair : FilePair) (c : Gathered) (p : Place) : Type 0 where
+pub record HasCollectInputs (hash : Alg → List ℕ → List ℕ) (said : Question → Verdict) (media other : List ℕ) (d : Definition) (parts : SignParts) (pair : FilePair) (c : Content) (p : Place) : Type 0 where
   pub read : IsFilePair hash said media other pair
   pub written : CanBeWritten d
   pub own : parts.protected ≡ d.protected
@@ -272,15 +270,15 @@ pub record HasCollectInputs (hash : Alg → List ℕ → List ℕ) (said : Quest
 
 -- Where nothing is refused of what a build that collects is given, there is a file of its new store.
 abbrev pub NothingRefusedIsCollected : Type 0
-NothingRefusedIsCollected = (hash : Alg → List ℕ → List ℕ) (said : Question → Verdict) (media other : List ℕ) (d : Definition) (parts : SignParts) (pair : FilePair) (c : Gathered) (p : Place)
-    → HasCollectInputs hash said media other d parts pair c p → all_refusals hash d parts pair c p ≡ []
+NothingRefusedIsCollected = (hash : Alg → List ℕ → List ℕ) (said : Question → Verdict) (media other : List ℕ) (d : Definition) (parts : SignParts) (pair : FilePair) (c : Content) (p : Place)
+    → HasCollectInputs hash said media other d parts pair c p → all_refusals d parts pair c p ≡ []
     → (file : List ℕ) × IsCollectedFile hash d pair parts p file
 
 -- Where there is a file of the new store of what a build that collects is given, nothing is refused of that.
 abbrev pub CollectedIsNotRefused : Type 0
-CollectedIsNotRefused = (hash : Alg → List ℕ → List ℕ) (said : Question → Verdict) (media other : List ℕ) (d : Definition) (parts : SignParts) (pair : FilePair) (c : Gathered) (p : Place) (file : List ℕ)
+CollectedIsNotRefused = (hash : Alg → List ℕ → List ℕ) (said : Question → Verdict) (media other : List ℕ) (d : Definition) (parts : SignParts) (pair : FilePair) (c : Content) (p : Place) (file : List ℕ)
     → HasCollectInputs hash said media other d parts pair c p → IsCollectedFile hash d pair parts p file
-    → all_refusals hash d parts pair c p ≡ []
+    → all_refusals d parts pair c p ≡ []
 
 -- ---- there is one
 

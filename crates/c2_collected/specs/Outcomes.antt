@@ -25,10 +25,9 @@ use Rattle.c2_message.specs.Signed.{IsSigned}
 use Rattle.c2_message.specs.declared.error.SignaturePart.{SignaturePart}
 use Rattle.c2_built.specs.Manifests.{supers_in}
 use Rattle.c2_built.specs.Store.{Content, new_alg}
-use Rattle.c2_gathered.specs.Gathered.{Gathered}
 use Rattle.c2_places.specs.Places.{IsPlace, Place, place_file, place_start, place_store, put_bytes, range_len}
 use Rattle.c2_collected.specs.Collected.{CollectsFrom}
-use Rattle.c2_collected.specs.Files.{collected_content, collected_signed}
+use Rattle.c2_collected.specs.Files.{collected_signed}
 use Rattle.c2_collected.specs.Order.{CollectRefusal, FilePair, IsMediaFile, IsOtherFile, MediaFile, OtherFile}
 use Rattle.c2_collected.specs.Order.{bad_definition, bad_signature, collected_refusals, joined_refusals, media_refused, other_refusals, parent_refusals, reserve_refusals}
 use Rattle.c2_collected.specs.Sides.{IsClash}
@@ -125,19 +124,15 @@ IsPairStage hash said media other what d =
 -- What a new file is built of, beside the definition and the message: both files, what goes into the new store, and where.
 pub record CollectGround : Type 0 where
   pub pair : FilePair
-  pub content : Gathered
+  pub content : Content
   pub place : Place
 
 -- this is what a new file is built of, which is never refused: a definition's content over both files, and its place in what is left of
 -- the media
 abbrev pub IsGroundStage : Definition → FilePair → Result CollectGround CollectRefusal → Type 0
 IsGroundStage d p r =
-    (c : Gathered) × CollectsFrom d p.media.boxes p.other.boxes p.media.readings p.other.readings c
+    (c : Content) × CollectsFrom d p.media.boxes p.other.boxes p.media.readings p.other.readings c
     × ((place : Place) × IsPlace p.media.base place × (r ≡ Ok (record { pair = p; content = c; place = place })))
-
--- what goes into the new store, as what goes into a new file
-abbrev pub ground_content : (Alg → List ℕ → List ℕ) → CollectGround → Content
-ground_content hash g = collected_content hash g.content
 
 -- what is signed of a definition and of this
 abbrev pub ground_signed : (Alg → List ℕ → List ℕ) → Definition → CollectGround → List ℕ
@@ -150,33 +145,33 @@ pub record NewFile : Type 0 where
   pub len : ℕ
 
 -- the new file with these bytes put in at its place, where the message has so many bytes
-abbrev pub new_file : (Alg → List ℕ → List ℕ) → CollectGround → ℕ → List ℕ → NewFile
-new_file hash g reserve bytes = record {
+abbrev pub new_file : CollectGround → ℕ → List ℕ → NewFile
+new_file g reserve bytes = record {
   file = place_file g.pair.media.base g.place bytes;
   start = place_start g.place;
-  len = range_len g.place (ground_content hash g) reserve;
+  len = range_len g.place g.content reserve;
 }
 
 -- this is put in of the new store of a definition with this message
 abbrev pub IsPutIn : (Alg → List ℕ → List ℕ) → Definition → CollectGround → List ℕ → List ℕ → Type 0
 IsPutIn hash d g message bytes =
-    put_bytes g.place (tree_bytes (place_store (hash (new_alg d)) (ground_content hash g) message g.pair.media.base g.place)) ≡ Some bytes
+    put_bytes g.place (tree_bytes (place_store (hash (new_alg d)) g.content message g.pair.media.base g.place)) ≡ Some bytes
 
 -- this is the new file with a message of these parts, padded to the bytes that the definition reserves
 abbrev pub IsNewFile : (Alg → List ℕ → List ℕ) → Definition → SignParts → CollectGround → Result NewFile CollectRefusal → Type 0
 IsNewFile hash d parts g r =
     (message : List ℕ) × IsSigned parts d.reserve message
-    × ((bytes : List ℕ) × IsPutIn hash d g message bytes × (r ≡ Ok (new_file hash g (length message) bytes)))
+    × ((bytes : List ℕ) × IsPutIn hash d g message bytes × (r ≡ Ok (new_file g (length message) bytes)))
 
 -- ---- the two calls
 
 -- all that is refused, in order, of a new file of a definition that is built of this
-abbrev pub ground_refusals : (Alg → List ℕ → List ℕ) → Definition → CollectGround → List CollectRefusal
-ground_refusals hash d g = collected_refusals hash d g.pair g.content g.place
+abbrev pub ground_refusals : Definition → CollectGround → List CollectRefusal
+ground_refusals d g = collected_refusals d g.pair g.content g.place
 
 -- what a plan comes to where a new file is built of this
 abbrev pub IsPlannedOn : (Alg → List ℕ → List ℕ) → Definition → CollectGround → Result (List ℕ) CollectRefusal → Type 0
-IsPlannedOn hash d g = Unless (ground_refusals hash d g) (λ r. r ≡ Ok (ground_signed hash d g))
+IsPlannedOn hash d g = Unless (ground_refusals d g) (λ r. r ≡ Ok (ground_signed hash d g))
 
 -- what a plan comes to over both files together
 abbrev pub IsPlannedOver : (Alg → List ℕ → List ℕ) → Definition → FilePair → Result (List ℕ) CollectRefusal → Type 0
@@ -192,7 +187,7 @@ IsCollectPlanned hash said media definition other =
 
 -- what a build comes to where a new file is built of this, with a message that has these parts
 abbrev pub IsMadeOn : (Alg → List ℕ → List ℕ) → Definition → SignParts → CollectGround → Result NewFile CollectRefusal → Type 0
-IsMadeOn hash d parts g = Unless (ground_refusals hash d g ++ reserve_refusals d parts) (IsNewFile hash d parts g)
+IsMadeOn hash d parts g = Unless (ground_refusals d g ++ reserve_refusals d parts) (IsNewFile hash d parts g)
 
 -- what a build comes to over both files together, with such a message
 abbrev pub IsMadeOver : (Alg → List ℕ → List ℕ) → Definition → SignParts → FilePair → Result NewFile CollectRefusal → Type 0

@@ -11,12 +11,11 @@ use Rattle.c2_rules.specs.CheckList.{StoreReading}
 use Rattle.c2_rules.specs.Validated.{IsFileReading}
 use Rattle.c2_definition.specs.declared.types.Definition.{Definition}
 use Rattle.c2_built.specs.Fresh.{GivesDigests, Meets}
-use Rattle.c2_built.specs.Store.{new_alg}
-use Rattle.c2_gathered.specs.Gathered.{Gathered}
+use Rattle.c2_built.specs.Store.{Content, new_alg}
 use Rattle.c2_gathered.specs.Taken.{questions_from}
 use Rattle.c2_places.specs.Places.{Place, place_start, place_store, range_len}
 use Rattle.c2_collected.specs.Collected.{AreApproved, IsOfEither, ReachesCollected}
-use Rattle.c2_collected.specs.Files.{collected_content, collected_signed}
+use Rattle.c2_collected.specs.Files.{collected_signed}
 use Rattle.c2_collected.specs.Order.{FilePair, IsCollectedFile, pair_readings, pair_roots}
 use Rattle.c2_collected.specs.Stores.{IsAcceptedFile}
 
@@ -29,11 +28,11 @@ pair_questions p = questions_from (pair_readings p) (pair_roots p)
 -- It asks a new question, over the bytes that are signed of this definition and this content, and then others, each of which is one of the
 -- media's store or of the other. What is reached in it are the new manifest, and what was reached in the media's store or in the other.
 -- Less the range it is what is left of the media without its store. Judges who approve each of its questions accept it.
-pub record MeetsCollected (hash : Alg → List ℕ → List ℕ) (d : Definition) (content : Gathered) (message : List ℕ) (pair : FilePair) (p : Place) (file : List ℕ) : Type 0 where
+pub record MeetsCollected (hash : Alg → List ℕ → List ℕ) (d : Definition) (content : Content) (message : List ℕ) (pair : FilePair) (p : Place) (file : List ℕ) : Type 0 where
   pub len : ℕ
-  pub range : len ≡ range_len p (collected_content hash content) d.reserve
+  pub range : len ≡ range_len p content d.reserve
   pub store : Tree
-  pub is : store ≡ place_store (hash (new_alg d)) (collected_content hash content) message pair.media.base p
+  pub is : store ≡ place_store (hash (new_alg d)) content message pair.media.base p
   pub question : Question
   pub meets : Meets hash file (place_start p) len store (question ∷ pair_questions pair)
   pub signed : question.tbs ≡ collected_signed hash d content pair.media.base p

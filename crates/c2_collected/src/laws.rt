@@ -10,11 +10,10 @@ ghost use Rattle.c2_collected.specs.Whole.{EachCollectedFileMeets};
 ghost use Rattle.c2_collected.specs.Stores.{AcceptedFileIsRooted, NoStoreIsRooted, RootedStoreIsTaken, RootedStoresJoin, ValidStoreIsRooted};
 
 use c2_carried::a_redacted_store_is_read;
-use c2_cbor::sorting_keeps_the_length;
-use c2_gathered::{a_gathered_store_meets_the_rules, stores_are_gathered};
+use c2_gathered::a_gathered_store_meets_the_rules;
 use c2_joined::{a_store_is_rooted_at_its_last_manifest, chains_join};
 use c2_jumbf::each_list_is_a_tree_or_not;
-use c2_lengths::the_length_of_a_gathered_store_fits;
+use c2_lengths::the_length_of_a_new_store_fits;
 use c2_message::a_message_fills_its_reserve_or_needs_more;
 use c2_places::{a_new_store_has_one_length_in_its_place, bindings_are_known};
 use c2_reading::one_reading;
@@ -104,7 +103,6 @@ pub fn a_collected_file_meets_the_rules()
 {
     // Only the prover needs these laws.
     a_collected_store_meets_the_rules();
-    stores_are_gathered();
     a_place_is_a_split();
     a_new_store_has_one_length_in_its_place();
     bindings_are_known();
@@ -150,7 +148,7 @@ pub fn the_length_of_a_collected_store_fits()
     ensures fits { CollectedStoresFit }
 {
     // Only the prover needs this law.
-    the_length_of_a_gathered_store_fits();
+    the_length_of_a_new_store_fits();
 }
 
 /// Some file is built that collects, whatever the hash, where it gives digests and judges approve each question: of a media file without a
@@ -165,5 +163,4 @@ pub fn some_file_is_collected()
     a_base_stays();
     a_question_where_the_claim_rules_hold();
     a_store_is_rooted_at_its_last_manifest();
-    sorting_keeps_the_length();
 }

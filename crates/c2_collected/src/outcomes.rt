@@ -8,7 +8,7 @@ ghost use Rattle.c2_collected.specs.Outcomes.{OneCollectMade, OneCollectPlan, So
 use crate::laws::{
     each_collected_file_meets_the_rules, what_is_collected_is_one, what_is_joined_is_reached,
 };
-use c2_cbor::{one_item, sorting_keeps_the_length};
+use c2_cbor::one_item;
 use c2_definition::{definitions_are_well_formed, each_definition_is_read_one_way};
 use c2_joined::a_store_is_rooted_at_its_last_manifest;
 use c2_message::{
@@ -135,5 +135,4 @@ pub fn some_collected_build_succeeds()
     a_base_stays();
     a_question_where_the_claim_rules_hold();
     a_store_is_rooted_at_its_last_manifest();
-    sorting_keeps_the_length();
 }

@@ -1,5 +1,5 @@
 -- What `extract` replies and writes, by the call below it.
-use Rattle.std.proofs.Common.{◌≡◌, ◌≢◌, refl, sym, ap, ◌∙◌, subst, inl, inr, ℕ, List, [], unwrap_or}
+use Rattle.std.proofs.Common.{◌≡◌, ◌≢◌, refl, sym, ap, subst, ℕ, List, [], unwrap_or}
 use Rattle.std.specs.Prelude.{IfErr, IfOk, OnOk, Ok, Err}
 use Rattle.std.specs.declared.result.Result.{Result}
 use Rattle.c2_sidecar.specs.Extracting.{extracted_of, store_of}
@@ -9,10 +9,9 @@ use Rattle.c2_sidecar.specs.declared.error.ExtractError.{ExtractError}
 use Rattle.c2_sidecar.specs.declared.error.ExtractError.TheVariants as error
 use Rattle.c2_sidecar.specs.declared.error.Extracted.{Extracted}
 use Rattle.c2_sidecar.specs.declared.error.Extracted.TheVariants.{Done, NoStore, Refused}
-use Rattle.c2_spec.specs.Container.{IsLocated}
 use Rattle.c2_spec.specs.Located.{Located, refused, absent, here}
 use Rattle.c2_outcome.specs.Outcome.{Outcome}
-use Rattle.c2_outcome.specs.Reply.{IsCopyingCause, IsOutputCause, IsReplyTo, outcome_of}
+use Rattle.c2_outcome.specs.Reply.{IsCopyingCause, IsOutputCause, IsReplyTo}
 use Rattle.c2_outcome.specs.declared.reply.Fault.{Fault}
 use Rattle.c2_outcome.specs.declared.reply.Reply.{Reply}
 use Rattle.c2_outcome.specs.declared.types.Answer.TheVariants as answer

@@ -18,7 +18,7 @@ use Rattle.c2_assertion.specs.Written.{bmff_hash_item, exclusion_item, exclusion
 use Rattle.c2_built.proofs.GoodItems.{Good, RoundTrip, good_read}
 use Rattle.c2_built.proofs.Spelled.{Fits}
 use Rattle.c2_built.proofs.StoreSize.{KeepsLength}
-use Rattle.c2_built.proofs.Uris.{plain_text, name_utf8}
+use Rattle.c2_built.proofs.Texts.{plain_text, name_utf8}
 use Rattle.c2_films.specs.Films.{BindingHasOneLength, film_hash}
 use Rattle.c2_spec.specs.declared.digest.Alg.{Alg}
 use Rattle.c2_spec.proofs.Digests.{len_bounds}

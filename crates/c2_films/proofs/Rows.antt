@@ -1,7 +1,7 @@
 -- Worked films, computed: a definition with one assertion of actions, without a title, and 256 bytes reserved for the message, in a
 -- file of 25 bytes, by each algorithm; and the same definition under another label in that file with the C2PA box of the first store, by
 -- SHA-256, in the middle.
-use Rattle.std.proofs.Common.{◌≡◌, ℕ, List, [], ◌∷◌, ◌++◌, length, replicate, None, Some, refl, codes}
+use Rattle.std.proofs.Common.{◌≡◌, ℕ, List, [], ◌∷◌, ◌++◌, length, replicate, None, refl, codes}
 use Rattle.std.specs.Prelude.{Ok, Err}
 use Rattle.std.specs.List.{flat_map}
 use Rattle.c2_base.specs.declared.media.MediaError.TheVariants.{BadBox}
@@ -14,7 +14,7 @@ use Rattle.c2_definition.specs.declared.types.NewAssertion.{NewAssertion}
 use Rattle.c2_built.specs.Built.{no_digest}
 use Rattle.c2_built.specs.Fresh.{fresh_content}
 use Rattle.c2_built.specs.FreshBoxes.{contents_of, item_box}
-use Rattle.c2_built.specs.Store.{Content, Parent, assertion_box, new_claim, new_manifest}
+use Rattle.c2_built.specs.Store.{Content, NamedManifest, assertion_box, new_claim, new_manifest, parent_ingredient}
 use Rattle.c2_built.proofs.BuildRows.{actions}
 use Rattle.c2_carried.specs.Parents.{IsContentOver}
 use Rattle.c2_carried.specs.Redacting.{boxes_in, redacted_boxes}
@@ -161,12 +161,12 @@ abbrev signature : Tree
 signature = item_box (codes "c2cs") (codes "c2pa.signature") (replicate 256 0)
 
 -- the parent
-unfoldable parent : Parent
+unfoldable parent : NamedManifest
 parent = record { label = label (codes "0"); contents = contents_of manifest; signed = contents_of signature }
 
 -- what goes into the new store
 unfoldable second : Alg → Content
-second alg = record { definition = defined alg (codes "1"); carried = redacted_boxes [] (boxes_in first); parent = Some parent }
+second alg = record { definition = defined alg (codes "1"); carried = redacted_boxes [] (boxes_in first); ingredients = parent_ingredient parent ∷ [] }
 
 -- as it is over the first, whatever its own algorithm is
 is_over : (alg : Alg) → IsContentOver (defined alg (codes "1")) first (second alg)
@@ -175,7 +175,7 @@ is_over alg = record {
   definition = refl;
   carried = refl;
   parent = parent;
-  has_parent = refl;
+  ingredients = refl;
   is_parent = record { active = manifest; is_active = refl; label = refl; contents = refl; signature = signature; is_signature = refl; signed = refl };
 }
 

@@ -95,7 +95,7 @@ can_unrefused media roots d h =
 
 -- and the definition redacts nothing
 pub can_fresh : FirstIsRefused → PlannedIsFresh
-can_fresh first media roots d h = record { carried = refl; parent = refl; redact = by d.redact refl }
+can_fresh first media roots d h = record { carried = refl; ingredients = refl; redact = by d.redact refl }
   where
     by : (texts : List (List ℕ)) → d.redact ≡ texts → d.redact ≡ []
     by [] e = e

@@ -28,25 +28,26 @@ use Rattle.c2_rules.proofs.ListLemmas.{contains_cons, contains_head, contains_no
 use Rattle.c2_joined.proofs.Places.{member_of}
 use Rattle.c2_definition.specs.declared.types.Definition.{Definition}
 use Rattle.c2_definition.specs.declared.types.NewAssertion.{NewAssertion}
-use Rattle.c2_built.specs.Store.{new_alg, parent_ref}
+use Rattle.c2_built.specs.Store.{Content, NewIngredient, ingredient_assertion, new_alg, new_assertions, target_ref, written_ingredient}
 use Rattle.c2_built.specs.Unbound.{IsKnownLabel}
-use Rattle.c2_built.specs.Written.{written_assertion}
+use Rattle.c2_built.specs.Written.{AreIngredients, IsIngredientLabel, LabelsApart, written_assertion}
+use Rattle.c2_built.proofs.Conditions.{Holds, same_bytes}
+use Rattle.c2_built.proofs.Ingredients.{AreLabelled, good_label}
 use Rattle.c2_built.proofs.Labels.{IsLabelText, new_label}
 use Rattle.c2_built.proofs.Lists.{each-append, each-back, each-front}
-use Rattle.c2_built.proofs.NewRules.{Holds, IsListed, RestHolds, Said, bindings_of, new_box, new_boxes, new_reading, new_seen, same_bytes}
-use Rattle.c2_built.proofs.Unbound.{by_label}
-use Rattle.c2_built.proofs.Uris.{UrisAreRead}
+use Rattle.c2_built.proofs.WrittenStore.{IsNew, own_assertions}
 use Rattle.c2_carried.specs.Less.{AreLess}
 use Rattle.c2_carried.specs.Refusing.{new_claim_uri}
 use Rattle.c2_carried.proofs.Places.{less_len}
-use Rattle.c2_gathered.specs.Gathered.{AreIngredients, Gathered, IsIngredientLabel, LabelsApart, NewIngredient, gathered_assertions, ingredient_assertion, written_ingredient}
 use Rattle.c2_gathered.specs.Taken.{IsRoot}
-use Rattle.c2_gathered.proofs.Items.{AreLabelled, IsIngredient, good_label, ingredient_named, no_binding_reads, whole_named}
+use Rattle.c2_gathered.proofs.Bindings.{by_label}
+use Rattle.c2_gathered.proofs.Items.{IsIngredient, ingredient_named, no_binding_reads, whole_named}
 use Rattle.c2_gathered.proofs.Less.{less_place}
 use Rattle.c2_gathered.proofs.More.{get_front, place_more}
-use Rattle.c2_gathered.proofs.Plain.{IsNew, boxes_append, listed_each, no_bindings, no_children, no_forms, no_ingredient, none_child, none_parent, none_read}
+use Rattle.c2_gathered.proofs.NewRules.{IsListed, RestHolds, Said, bindings_of, new_box, new_boxes, new_reading, new_seen}
+use Rattle.c2_gathered.proofs.Plain.{boxes_append, listed_each, no_bindings, no_children, no_forms, no_ingredient, none_child, none_parent, none_read}
 use Rattle.c2_gathered.proofs.Roots.{HasRoots}
-use Rattle.c2_gathered.proofs.Stored.{own_assertions}
+use Rattle.c2_gathered.proofs.Uris.{UrisAreRead}
 
 -- ---- what boxes are read as
 
@@ -285,8 +286,8 @@ named_known alg = ap (λ o. not (is_some o) || not (is_some o)) (named_back alg)
 -- the rules on what an ingredient says of its manifest, with digests by an algorithm
 abbrev says_tests : (Alg → List ℕ → List ℕ) → Alg → Reading → List ℕ → NewIngredient → Standing → List Test
 says_tests hash alg r uri g s =
-    standing_tests hash r uri (parent_ref (hash alg) g.of.label targets.whole g.of.contents)
-    (Some (parent_ref (hash alg) g.of.label targets.signature g.of.signed)) s
+    standing_tests hash r uri (target_ref (hash alg) g.of.label targets.whole g.of.contents)
+    (Some (target_ref (hash alg) g.of.label targets.signature g.of.signed)) s
 
 -- they hold, whether it is touched or not
 named_holds : (hash : Alg → List ℕ → List ℕ) (f : NewAssertion → Parsed Ingredient) (label : List ℕ) (said : Said)
@@ -389,14 +390,14 @@ said_by d =
     record { instance = d.instance_id; generator = d.generator; title = d.title; alg = new_alg d; redacted = d.redact }
 
 -- the new manifest's reading
-abbrev pub gathered_reading : (List ℕ → List ℕ) → Gathered → NewAssertion → List ℕ → List ℕ → SignParts → Reading
+abbrev pub gathered_reading : (List ℕ → List ℕ) → Content → NewAssertion → List ℕ → List ℕ → SignParts → Reading
 gathered_reading hash c b claim message sp =
     new_reading hash (read_as hash c.ingredients) c.definition.label (said_by c.definition)
-    (gathered_assertions hash c b) claim message sp
+    (new_assertions hash c b) claim message sp
 
 -- what is asked of the boxes of the new manifest
 pub gathered_rest : UrisAreRead
-    → (hash : Alg → List ℕ → List ℕ) (c : Gathered) (b : NewAssertion) (claim message : List ℕ) (sp : SignParts)
+    → (hash : Alg → List ℕ → List ℕ) (c : Content) (b : NewAssertion) (claim message : List ℕ) (sp : SignParts)
     (redacted : List ℕ → Bool) (standing : List ℕ → Standing)
     → AreIngredients c.ingredients → AllByRecursion IsNew c.definition.assertions → IsKnownLabel b.label
     → AllByRecursion (StandsBy standing) c.ingredients
@@ -420,7 +421,7 @@ gathered_rest uris hash c b claim message sp redacted standing are plain known s
           subst (λ (bs : List ReadBox). AllByRecursion Holds (each (λ k b. ingredient_tests hash s b) 0 bs)) (sym split)
           (each_both (ingredient_tests hash s) 0 (new_boxes none_read d.assertions) tail (no_children hash s 0 d.assertions)
           (λ j. each_both (ingredient_tests hash s) j (map (ingredient_box h) gs) (new_box none_read b ∷ [])
-          (own_each (ingredient_tests hash s) h (IsFine standing) j gs (λ g f. child_holds uris hash (read_as h gs) d.label (said_by d) (gathered_assertions h c b) claim message sp redacted standing g f.stands) fine)
+          (own_each (ingredient_tests hash s) h (IsFine standing) j gs (λ g f. child_holds uris hash (read_as h gs) d.label (said_by d) (new_assertions h c b) claim message sp redacted standing g f.stands) fine)
           (λ i. tt)));
       forms =
           subst (λ (bs : List ReadBox). AllByRecursion Holds (each (λ k b. form_tests s b) 0 bs)) (sym split)
@@ -464,7 +465,7 @@ own_children uris hash redacts rs ss b (g ∷ gs) (root ∷ roots) less u h =
 
 -- so the new manifest has these roots as its children
 pub gathered_roots : UrisAreRead
-    → (hash : List ℕ → List ℕ) (c : Gathered) (b : NewAssertion) (claim message : List ℕ) (sp : SignParts)
+    → (hash : List ℕ → List ℕ) (c : Content) (b : NewAssertion) (claim message : List ℕ) (sp : SignParts)
     (roots : List ℕ) (rs ss : List Reading)
     → AreIngredients c.ingredients → AllByRecursion IsNew c.definition.assertions → IsKnownLabel b.label
     → AreLess c.definition.redact rs ss

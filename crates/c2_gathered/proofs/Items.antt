@@ -1,21 +1,20 @@
 -- Ingredients as they are written, and that they are read so.
-use Rattle.std.proofs.Common.{◌≡◌, ◌↔◌, inl, inr, ℕ, ◌^◌, ◌<◌, ◌≤◌, true, false, not, List, [], ◌∷◌, ◌++◌, length, Some, None, Ok, refl, sym, ap, ◌∙◌, subst, arith, codes, lit<, lit≤, length-append}
-use Rattle.std.specs.Prelude.{◌==◌, option_and_then, unwrap_or}
-use Rattle.std.specs.List.{AllByRecursion, list_all, list_any}
+use Rattle.std.proofs.Common.{◌≡◌, ◌↔◌, ℕ, ◌^◌, ◌<◌, ◌≤◌, true, false, not, List, [], ◌∷◌, ◌++◌, length, Some, Ok, refl, ap, ◌∙◌, subst, arith, codes, lit≤, length-append}
+use Rattle.std.specs.Prelude.{◌==◌, option_and_then}
+use Rattle.std.specs.List.{AllByRecursion, list_any}
 use Rattle.std.specs.Str.{IsUtf8}
 use Rattle.std.proofs.lemmas.Bool.{and_parts, eqb-false, not-true, or_parts}
 use Rattle.std.proofs.lemmas.Str.{IsUtf8-append}
-use Rattle.c2_spec.specs.C2pa.Assertion.{ingredient_of, ingredient_version, is_same, kind_of, manifest_named, manifest_signed, references_agree, signer_of, whole_of}
+use Rattle.c2_spec.specs.C2pa.Assertion.{ingredient_of, is_same, kind_of, manifest_named, manifest_signed, references_agree, signer_of, whole_of}
 use Rattle.c2_spec.specs.C2pa.Manifest.{is_manifest_label}
 use Rattle.c2_spec.specs.C2pa.Uri.{PlainUri, scheme, signature, store_path, uri_of, uri_text, whole}
 use Rattle.c2_spec.specs.Cbor.Deterministic.{deterministic, shortest_head, sorted}
 use Rattle.c2_spec.specs.Cbor.Fields.{HasItem}
-use Rattle.c2_spec.specs.Cbor.Item.{Item, bytes, text}
+use Rattle.c2_spec.specs.Cbor.Item.{Item, text}
 use Rattle.c2_spec.specs.Cbor.Writing.{field, ref_item}
 use Rattle.c2_spec.specs.Jumbf.Tree.{IsLabel, IsLabelByte, tree_bytes, trees_bytes}
 use Rattle.c2_spec.specs.declared.assertion.Ingredient.{Ingredient}
 use Rattle.c2_spec.specs.declared.assertion.IngredientVersion.TheVariants.{V3}
-use Rattle.c2_spec.specs.declared.assertion.Kind.TheVariants as kinds
 use Rattle.c2_spec.specs.declared.assertion.Relationship.{Relationship}
 use Rattle.c2_spec.specs.declared.assertion.Relationship.TheVariants.{ParentOf, ComponentOf, InputTo}
 use Rattle.c2_uri.specs.Writing.{IsLabel as IsUriLabel}
@@ -23,56 +22,18 @@ use Rattle.c2_rules.specs.Chains.{named_by}
 use Rattle.c2_rules.specs.Ingredients.{is_ingredient_kind}
 use Rattle.c2_assertion.specs.Written.{ingredient_item, relationship_word}
 use Rattle.c2_definition.specs.declared.types.NewAssertion.{NewAssertion}
-use Rattle.c2_built.specs.Store.{assertion_box, assertion_boxes, parent_ref}
+use Rattle.c2_built.specs.Store.{NewIngredient, assertion_box, assertion_boxes, target_ref, written_ingredient}
 use Rattle.c2_built.specs.Unbound.{IsKnownLabel}
-use Rattle.c2_built.specs.Written.{IsText}
-use Rattle.c2_built.proofs.BoxLemmas.{is_plain_byte, plain_label}
-use Rattle.c2_built.proofs.GoodItems.{Good, IsGoodField, RoundTrip, good_bytes, good_field, good_map, good_read, good_text}
+use Rattle.c2_built.proofs.Conditions.{same_bytes}
+use Rattle.c2_built.proofs.GoodItems.{Good, RoundTrip, good_map, good_read, good_text, more_deep, named_field}
 use Rattle.c2_built.proofs.Labels.{IsLabelText, IsNamed}
-use Rattle.c2_built.proofs.NewRules.{same_bytes}
 use Rattle.c2_built.proofs.StoreSize.{KeepsLength}
-use Rattle.c2_built.proofs.Unbound.{by_label}
-use Rattle.c2_built.proofs.Uris.{UrisAreRead, named_label, plain_text, signature_read, signature_utf8}
-use Rattle.c2_gathered.specs.Gathered.{IsIngredientLabel, NewIngredient, written_ingredient}
+use Rattle.c2_built.proofs.Texts.{plain_text}
+use Rattle.c2_gathered.proofs.Bindings.{by_label}
+use Rattle.c2_gathered.proofs.Claims.{bare_good}
+use Rattle.c2_gathered.proofs.Uris.{UrisAreRead, named_label, signature_read, signature_utf8}
 
 -- ---- labels
-
--- what the label of an ingredient is
-pub record IsGoodLabel (l : List ℕ) : Type 0 where
-  pub label : IsLabel l
-  pub kind : kind_of l ≡ kinds.Ingredient
-  pub named : IsLabelText l
-  pub text : IsText l
-  pub version : unwrap_or (ingredient_version l) V3 ≡ V3
-
--- a label of letters
-first_named : IsLabelText (codes "c2pa.ingredient.v3")
-first_named = record { some = lit< tt; named = grind arith }
-
--- and the other
-second_named : IsLabelText (codes "c2pa.ingredient.v3__1")
-second_named = record { some = lit< tt; named = grind arith }
-
--- so it is with both
-pub good_label : (l : List ℕ) → IsIngredientLabel l → IsGoodLabel l
-good_label l (inl e) = subst IsGoodLabel (sym e) (record {
-  label = plain_label (codes "c2pa.ingredient.v3") refl;
-  kind = refl;
-  named = first_named;
-  text = record { utf8 = plain_text (codes "c2pa.ingredient.v3") refl; short = lit< tt };
-  version = refl;
-})
-good_label l (inr e) = subst IsGoodLabel (sym e) (record {
-  label = plain_label (codes "c2pa.ingredient.v3__1") refl;
-  kind = refl;
-  named = second_named;
-  text = record { utf8 = plain_text (codes "c2pa.ingredient.v3__1") refl; short = lit< tt };
-  version = refl;
-})
-
--- labels of ingredients
-abbrev pub AreLabelled : List NewIngredient → Type 0
-AreLabelled gs = AllByRecursion (λ (g : NewIngredient). IsIngredientLabel g.label) gs
 
 -- a binding is no ingredient
 pub no_binding_reads : (l : List ℕ) → IsKnownLabel l → is_ingredient_kind (kind_of l) ≡ false
@@ -129,18 +90,6 @@ agree uris hash g u =
 
 -- ---- the item
 
--- a field whose key is of letters
-named_field : (d : ℕ) (key : List ℕ) (v : Item) → list_all is_plain_byte key ≡ true → 1 ≤ d → Good d v
-    → IsGoodField d (field key v)
-named_field d key v h l g = good_field d key v l (plain_text key h) g
-
--- a reference can be written
-bare_good : (url hash : List ℕ) → IsUtf8 url → Good 2 (ref_item (record { url = url; hash = hash; alg = None }))
-unfolding shortest_head
-bare_good url hash u =
-    good_map 1 (field (codes "url") (text url) ∷ field (codes "hash") (bytes hash) ∷ [])
-    (named_field 1 (codes "url") (text url) refl (lit≤ tt) (good_text 1 url (lit≤ tt) u), (named_field 1 (codes "hash") (bytes hash) refl (lit≤ tt) (good_bytes 1 hash (lit≤ tt)), tt)) refl
-
 -- the URI of a manifest is UTF-8
 whole_utf8 : (label : List ℕ) → IsUtf8 label → IsUtf8 (uri_text (record { manifest = Some label; target = whole }))
 whole_utf8 label h =
@@ -159,7 +108,7 @@ good : (hash : List ℕ → List ℕ) (g : NewIngredient) → IsUtf8 g.of.label
 unfolding shortest_head
 good hash g u =
     good_map 2
-    (field (codes "relationship") (text (relationship_word g.relationship)) ∷ field (codes "activeManifest") (ref_item (parent_ref hash g.of.label whole g.of.contents)) ∷ field (codes "claimSignature") (ref_item (parent_ref hash g.of.label signature g.of.signed)) ∷ []) (
+    (field (codes "relationship") (text (relationship_word g.relationship)) ∷ field (codes "activeManifest") (ref_item (target_ref hash g.of.label whole g.of.contents)) ∷ field (codes "claimSignature") (ref_item (target_ref hash g.of.label signature g.of.signed)) ∷ []) (
       named_field 2 (codes "relationship") _ refl (lit≤ tt)
           (good_text 2 (relationship_word g.relationship) (lit≤ tt) (word_utf8 g.relationship)),
       (
@@ -168,10 +117,6 @@ good hash g u =
         (named_field 2 (codes "claimSignature") _ refl (lit≤ tt) (bare_good _ (hash g.of.signed) (signature_utf8 g.of.label u)), tt),
       ),
     ) refl
-
--- what is shallow is so at more depth
-more_deep : (d e : ℕ) (v : Item) → Good d v → d ≤ e → Good e v
-more_deep d e v g l = record { fits = g.fits; plain = g.plain; shallow = omega (arith, g.shallow, l) }
 
 -- what is read of an ingredient that was written
 abbrev pub IngredientsAreRead : Type 0

@@ -2,8 +2,11 @@ pub mod More
 pub mod Less
 pub mod Roots
 pub mod Older
+pub mod Uris
+pub mod Claims
+pub mod Bindings
+pub mod NewRules
 pub mod Plain
 pub mod Items
-pub mod Stored
 pub mod Boxes
 pub mod Whole

@@ -16,11 +16,10 @@ use Rattle.c2_rules.specs.Seen.{Seen, later, whole, seen_at, standing_of, place_
 use Rattle.c2_rules.specs.Tests.{AllHold}
 use Rattle.c2_older.specs.Older.{Alike, Loses, StaysAlike, has_signature, is_kept, thinned}
 use Rattle.c2_joined.specs.Rooted.{HoldBy, is_reached_from, lists_passing, place_standing_by, redacted_by, seen_by, standing_by, touched_by}
-use Rattle.c2_built.proofs.NewRules.{Holds, all_hold}
+use Rattle.c2_built.proofs.Conditions.{Holds, all_each, all_hold}
 use Rattle.c2_carried.specs.Less.{CanRedactBy, SignsTaken}
 use Rattle.c2_carried.specs.Redacting.{takes_out}
 use Rattle.c2_carried.proofs.Places.{LessAt, less_at, less_len}
-use Rattle.c2_carried.proofs.Valid.{all_each}
 use Rattle.c2_gathered.proofs.Less.{less_place, Silent}
 use Rattle.c2_gathered.proofs.More.{get_front, len_more, place_more}
 use Rattle.c2_gathered.specs.Taken.{question_from}

@@ -22,11 +22,13 @@ use Rattle.c2_rules.specs.declared.parsed.Parsed.TheVariants.{NoItem}
 use Rattle.c2_definition.specs.DefinitionFile as file
 use Rattle.c2_definition.specs.declared.types.NewAssertion.{NewAssertion}
 use Rattle.c2_built.specs.Written.{IsText}
+use Rattle.c2_built.proofs.Conditions.{Holds}
 use Rattle.c2_built.proofs.Labels.{new_label}
 use Rattle.c2_built.proofs.Lists.{each-append}
-use Rattle.c2_built.proofs.NewRules.{Holds, IsListed, bindings_of, entries_of, new_box, new_boxes}
-use Rattle.c2_built.proofs.Uris.{assertion_utf8}
-use Rattle.c2_built.proofs.WrittenItems.{IsGoodRef}
+use Rattle.c2_built.proofs.WrittenStore.{IsNew}
+use Rattle.c2_gathered.proofs.Claims.{IsGoodRef}
+use Rattle.c2_gathered.proofs.NewRules.{IsListed, bindings_of, entries_of, new_box, new_boxes}
+use Rattle.c2_gathered.proofs.Uris.{assertion_utf8}
 
 -- what holds of Actions and Ordinary
 by_kind : (P : Kind → Type 0) → P kinds.Actions → P kinds.Ordinary → (k : Kind) → file.is_new_kind k ≡ true → P k
@@ -46,10 +48,6 @@ no_binding = by_kind (λ k. is_binding k ≡ false) refl refl
 -- nor an ingredient
 pub no_ingredient : (k : Kind) → file.is_new_kind k ≡ true → is_ingredient_kind k ≡ false
 no_ingredient = by_kind (λ k. is_ingredient_kind k ≡ false) refl refl
-
--- a label that a definition may have
-abbrev pub IsNew : NewAssertion → Type 0
-IsNew a = file.is_new_label a.label ≡ true
 
 -- each can be listed
 pub listed_each : (as_ : List NewAssertion) → AllByRecursion IsNew as_ → AllByRecursion IsListed as_

@@ -1,6 +1,6 @@
 -- The store that takes over a chain and has an ingredient for each of its roots meets the rules.
-use Rattle.std.specs.Prelude.{find, option_to_list}
-use Rattle.std.proofs.Common.{◌≡◌, ℕ, zero, suc, ◌+◌, ◌-◌, ◌^◌, ◌<◌, true, false, cond, List, [], ◌∷◌, ◌++◌, length, map, Option, Some, None, slice_get, refl, sym, ap, ◌∙◌, subst, arith, append_assoc}
+use Rattle.std.specs.Prelude.{find, option_and_then, option_to_list}
+use Rattle.std.proofs.Common.{◌≡◌, ℕ, zero, suc, ◌+◌, ◌-◌, ◌^◌, ◌<◌, true, false, cond, List, [], ◌∷◌, ◌++◌, length, map, Some, slice_get, refl, sym, ap, ◌∙◌, subst, arith, append_assoc}
 use Rattle.std.specs.List.{AllByRecursion, AllZip}
 use Rattle.std.proofs.lemmas.Bool.{eq-eqb}
 use Rattle.c2_base.specs.declared.values.Question.{Question}
@@ -8,53 +8,63 @@ use Rattle.c2_spec.specs.C2pa.Assertion.{kind_of}
 use Rattle.c2_spec.specs.C2pa.Claim.{IsClaim}
 use Rattle.c2_spec.specs.C2pa.Manifest.{Manifest, manifests_of}
 use Rattle.c2_spec.specs.C2pa.Sign1.{SignParts, question_of}
-use Rattle.c2_spec.specs.Cbor.Deterministic.{deterministic}
 use Rattle.c2_spec.specs.Jumbf.Tree.{trees_bytes}
 use Rattle.c2_spec.specs.declared.claim.ClaimVersion.TheVariants.{V2}
 use Rattle.c2_spec.specs.declared.digest.Alg.{Alg}
+use Rattle.c2_rules.specs.Binding.{binding_payload}
 use Rattle.c2_rules.specs.Chains.{is_active, is_redacted, label_in}
 use Rattle.c2_rules.specs.CheckList.{active_tests, chain_tests, place_tests, question_at, questions, questions_of, tests_of}
-use Rattle.c2_rules.specs.Readings.{AreReadings, IsReadBox, IsReading, Reading, asked_of, question_in, redactions_in}
+use Rattle.c2_rules.specs.Readings.{AreReadings, IsReadBox, ReadBox, IsReading, Reading, asked_of, question_in, redactions_in}
 use Rattle.c2_rules.specs.Rules.{bindings_in, box_with, is_cloud, is_labelled, is_other_hash, unjudged_tests}
 use Rattle.c2_rules.specs.Rules as rule
 use Rattle.c2_rules.specs.Seen.{Seen, standing_of}
 use Rattle.c2_rules.specs.Tests.{Test, downward}
-use Rattle.c2_claim.specs.Written.{claim_from, claim_item}
+use Rattle.c2_claim.specs.Written.{claim_from}
 use Rattle.c2_definition.specs.declared.types.Definition.{Definition}
 use Rattle.c2_definition.specs.declared.types.NewAssertion.{NewAssertion}
 use Rattle.c2_built.specs.Manifests.{manifest_of, supers_in}
-use Rattle.c2_built.specs.FreshBoxes.{store_box}
-use Rattle.c2_built.specs.Store.{Parent, assertion_boxes, claim_with, entry_of, manifest_box, new_alg, new_store}
+use Rattle.c2_built.specs.Store.{Content, NewIngredient, assertion_boxes, claim_parts, ingredient_assertion, new_alg, new_assertions, new_claim, new_manifest, new_store}
 use Rattle.c2_built.specs.Unbound.{IsKnownBinding}
-use Rattle.c2_built.specs.Written.{IsRead, IsText, written_assertion, written_item, written_manifest}
+use Rattle.c2_built.specs.Written.{IsNewBinding, IsRead, IsText, new_written, written_assertion, written_item}
+use Rattle.c2_built.proofs.Conditions.{Holds, all_each, all_hold}
+use Rattle.c2_built.proofs.GoodItems.{RoundTrip}
+use Rattle.c2_built.proofs.Ingredients.{AreLabelled, good_label}
 use Rattle.c2_built.proofs.Labels.{IsLabelText, manifest_label}
 use Rattle.c2_built.proofs.Lists.{each-append}
-use Rattle.c2_built.proofs.NewRules.{Holds, IsListed, RestHolds, all_hold, bindings_of, box_found, new_box, new_boxes, new_seen, own_bindings, own_names, own_rules}
-use Rattle.c2_built.proofs.StoreSize.{assertion_len, manifest_len, store_len}
-use Rattle.c2_built.proofs.Unbound.{IsBindingLabel, StoreLaws, all_each, by_label, known_label, payload_of}
-use Rattle.c2_built.proofs.Uris.{name_utf8, signature_utf8}
-use Rattle.c2_built.proofs.WrittenItems.{AreGoodParts, claim_read}
-use Rattle.c2_built.proofs.WrittenStore.{AreDifferent}
+use Rattle.c2_built.proofs.StoreSize.{KeepsLength, assertion_len, manifest_len, store_len}
+use Rattle.c2_built.proofs.Texts.{name_utf8}
+use Rattle.c2_built.proofs.WrittenStore.{AreDifferent, all_different, own_assertions, store_read}
 use Rattle.c2_carried.specs.Less.{AreLess}
 use Rattle.c2_carried.proofs.Places.{less_len}
-use Rattle.c2_gathered.specs.Gathered.{ContentIsGathered, Gathered, GatheredStoreMeets, GatheredStoreReaches, IsOverRoots, NewIngredient, StoresAreGathered, gathered_assertions, gathered_claim, gathered_manifest, gathered_of, gathered_parts, gathered_store, ingredient_assertion}
+use Rattle.c2_gathered.specs.Gathered.{GatheredStoreMeets, GatheredStoreReaches, IsOverRoots}
 use Rattle.c2_gathered.specs.Taken.{IsRoot, question_from, questions_from}
+use Rattle.c2_gathered.proofs.Bindings.{IsBindingLabel, by_label, known_label, known_new}
 use Rattle.c2_gathered.proofs.Boxes.{StandsBy, all_listed, boxes_zip, gathered_reading, gathered_rest, gathered_roots, one_binding, read_as, root_stands, said_by, zip_append}
 use Rattle.c2_gathered.proofs.Boxes as boxes
-use Rattle.c2_gathered.proofs.Items.{AreLabelled, IngredientsAreRead, IngredientsAreSorted, box_within, good_label, ingredient_read, label_text}
+use Rattle.c2_gathered.proofs.Claims.{AreGoodParts, ClaimsAreRead, claim_read}
+use Rattle.c2_gathered.proofs.Items.{IngredientsAreRead, IngredientsAreSorted, box_within, ingredient_read, label_text}
 use Rattle.c2_gathered.proofs.Less.{silent_boxes}
 use Rattle.c2_gathered.proofs.More.{get_last, len_more}
+use Rattle.c2_gathered.proofs.NewRules.{IsListed, RestHolds, bindings_of, box_found, new_box, new_boxes, new_seen, own_bindings, own_names, own_rules}
 use Rattle.c2_gathered.proofs.Older.{IsMade, KeepsRules, old_question, older_holds}
 use Rattle.c2_gathered.proofs.Plain.{refs_good, texts_utf8, title_utf8}
 use Rattle.c2_gathered.proofs.Roots.{new_reached, new_redacted, old_reached}
-use Rattle.c2_gathered.proofs.Stored.{all_different, all_labelled, own_assertions, store_read}
+use Rattle.c2_gathered.proofs.Uris.{UrisAreRead, signature_utf8}
 
 -- what the laws of other crates say of a store
 pub record AllLaws : Type 0 where
-  pub store : StoreLaws
+  pub keeps : KeepsLength
+  pub trip : RoundTrip
+  pub claims : ClaimsAreRead
+  pub uris : UrisAreRead
   pub ingredients : IngredientsAreRead
   pub sorted : IngredientsAreSorted
   pub older : KeepsRules
+
+-- the item of the binding's box
+pub payload_of : (x : Reading) (binding : NewAssertion) (b : ReadBox) → bindings_in x ≡ binding.label ∷ [] → box_with x binding.label ≡ Some b → binding_payload x ≡ b.boxed.item
+payload_of x binding b bindings box =
+    ap (λ (ls : List (List ℕ)). option_and_then (λ (r : ReadBox). r.boxed.item) (option_and_then (box_with x) (slice_get ls 0))) bindings ∙ ap (option_and_then (λ (r : ReadBox). r.boxed.item)) box
 
 -- a binding can be listed
 binding_listed : (b : NewAssertion) → IsKnownBinding b → IsListed b
@@ -100,7 +110,7 @@ items_read laws hash before (g ∷ gs) after rest [] rs ss u h e short = absurd 
 items_read laws hash before (g ∷ gs) after rest (n ∷ ns) rs ss u h e short =
     let inside = box_within before (ingredient_assertion hash g) (map (ingredient_assertion hash) gs ++ after) in
     let whole : length (trees_bytes (assertion_boxes rest)) ≡ length (trees_bytes (assertion_boxes (before ++ ingredient_assertion hash g ∷ (map (ingredient_assertion hash) gs ++ after)))) = ap (λ (z : List NewAssertion). length (trees_bytes (assertion_boxes z))) e in (
-      ingredient_read laws.store.keeps laws.store.trip laws.store.uris laws.ingredients laws.sorted hash g u.0 h.0.label.0
+      ingredient_read laws.keeps laws.trip laws.uris laws.ingredients laws.sorted hash g u.0 h.0.label.0
           (omega (arith, short, whole, inside, assertion_len (ingredient_assertion hash g))),
       items_read laws hash (before ++ ingredient_assertion hash g ∷ []) gs after rest ns rs ss u.1 h.1
           (e ∙ sym (append_assoc before (ingredient_assertion hash g ∷ []) (map (ingredient_assertion hash) gs ++ after))) short,
@@ -138,43 +148,40 @@ all_questions rs ss x roots q made last len asks =
 -- ---- what the store is read as
 
 -- the new manifest is read so
-abbrev pub new_of : (List ℕ → List ℕ) → Gathered → NewAssertion → List ℕ → SignParts → Reading
-new_of hash c binding message sp = gathered_reading hash c binding (gathered_claim hash c binding) message sp
+abbrev pub new_of : (List ℕ → List ℕ) → Content → NewAssertion → List ℕ → SignParts → Reading
+new_of hash c binding message sp = gathered_reading hash c binding (new_claim hash c binding) message sp
 
 -- The store is a legal tree and a store, the labels of the new assertions differ, and its manifests are read as those that are taken
 -- over, less what is redacted, and the new one, whose ingredients are the roots.
-pub record AreGathered (hash : List ℕ → List ℕ) (c : Gathered) (binding : NewAssertion) (message : List ℕ) (sp : SignParts) (roots : List ℕ) (rs ss : List Reading) : Type 0 where
-  pub different : AreDifferent (gathered_assertions hash c binding)
-  pub read : IsRead c.carried (written_manifest c.definition.label (gathered_assertions hash c binding) (gathered_claim hash c binding) message) (gathered_store hash c binding message)
+pub record AreGathered (hash : List ℕ → List ℕ) (c : Content) (binding : NewAssertion) (message : List ℕ) (sp : SignParts) (roots : List ℕ) (rs ss : List Reading) : Type 0 where
+  pub different : AreDifferent (new_assertions hash c binding)
+  pub read : IsRead c.carried (new_written hash c binding message) (new_store hash c binding message)
   pub made : IsMade rs ss (new_of hash c binding message sp) roots
-  pub reads : AreReadings (manifests_of (gathered_store hash c binding message)) (ss ++ new_of hash c binding message sp ∷ [])
+  pub reads : AreReadings (manifests_of (new_store hash c binding message)) (ss ++ new_of hash c binding message sp ∷ [])
 
 -- they are
 gathered_are : AllLaws
-    → (hash : Alg → List ℕ → List ℕ) (c : Gathered) (binding : NewAssertion) (message : List ℕ) (sp : SignParts)
+    → (hash : Alg → List ℕ → List ℕ) (c : Content) (binding : NewAssertion) (message : List ℕ) (sp : SignParts)
     (roots : List ℕ) (rs ss : List Reading)
     → IsOverRoots hash c binding message sp roots rs ss
     → AreGathered (hash (new_alg c.definition)) c binding message sp roots rs ss
-gathered_are all_laws hash c binding message sp roots rs ss o =
-    let laws : StoreLaws = all_laws.store in
+gathered_are laws hash c binding message sp roots rs ss o =
     let h : List ℕ → List ℕ = hash (new_alg c.definition) in
     let d : Definition = c.definition in
     let gs : List NewIngredient = c.ingredients in
     let own_label : IsBindingLabel binding.label = known_label binding.label o.known.label in
-    let as_ : List NewAssertion = gathered_assertions h c binding in
-    let claim : List ℕ = gathered_claim h c binding in
+    let as_ : List NewAssertion = new_assertions h c binding in
+    let claim : List ℕ = new_claim h c binding in
     let x : Reading = new_of h c binding message sp in
-    let label : IsLabelText d.label = manifest_label d.label o.written.formed.label in
     let u : AllByRecursion (λ (g : NewIngredient). IsLabelText g.of.label) gs = root_labels rs ss gs roots o.named in
-    let different : AreDifferent as_ =
-    all_different h c binding o.written o.ingredients.labels o.ingredients.apart o.known in
-    let read : IsRead c.carried (written_manifest d.label as_ claim message) (gathered_store h c binding message) =
-    store_read d.label as_ claim message c.carried label o.written.texts.label o.taken.can_be
-    (all_labelled h c binding o.written o.ingredients.labels o.known) different o.fits in
+    let new : IsNewBinding binding = known_new binding o.known in
+    let different : AreDifferent as_ = all_different h c binding o.written o.ingredients new in
+    let read : IsRead c.carried (new_written h c binding message) (new_store h c binding message) =
+    store_read h c binding message o.written o.taken.can_be o.ingredients new o.fits in
     let texts : AllByRecursion (λ (a : NewAssertion). IsText a.label) as_ =
     each-append (λ (a : NewAssertion). IsText a.label) d.assertions (own_assertions h gs binding) o.written.texts.labels
     (own_texts h gs binding o.ingredients.labels own_label.text) in
-    let parts : AreGoodParts (gathered_parts h c binding) = record {
+    let parts : AreGoodParts (claim_parts h c binding) = record {
       signature = signature_utf8 d.label o.written.texts.label.utf8;
       instance = o.written.texts.instance.utf8;
       generator = o.written.texts.generator.utf8;
@@ -183,12 +190,12 @@ gathered_are all_laws hash c binding message sp roots rs ss o =
       entries = refs_good h as_ texts;
       redacted = texts_utf8 d.redact o.written.texts.redact;
     } in
-    let whole = store_len c.carried (gathered_manifest h c binding message) in
+    let whole = store_len c.carried (new_manifest h c binding message) in
     let inner = manifest_len d.label as_ claim message in
-    let is_claim : IsClaim V2 claim (claim_from (gathered_parts h c binding)) =
-    claim_read laws.keeps laws.trip laws.claims (gathered_parts h c binding) parts (omega (arith, whole, inner, o.fits)) in
+    let is_claim : IsClaim V2 claim (claim_from (claim_parts h c binding)) =
+    claim_read laws.keeps laws.trip laws.claims (claim_parts h c binding) parts (omega (arith, whole, inner, o.fits)) in
     let items : AllByRecursion (boxes.IsRead h) gs =
-    items_read all_laws h d.assertions gs (binding ∷ []) as_ roots rs ss u o.named refl
+    items_read laws h d.assertions gs (binding ∷ []) as_ roots rs ss u o.named refl
     (omega (arith, whole, inner, o.fits)) in
     let own_boxes : AllZip IsReadBox (map written_assertion as_) (new_boxes (read_as h gs) as_) =
     boxes_zip h gs d.assertions binding o.ingredients.labels o.ingredients.apart o.written.formed.labels o.known.label items in
@@ -212,15 +219,14 @@ gathered_are all_laws hash c binding message sp roots rs ss o =
 -- the store meets them
 pub gathered_unbound : AllLaws → GatheredStoreMeets
 unfolding rule.label_kind
-gathered_unbound all_laws hash c binding message sp roots rs ss o =
-    let laws : StoreLaws = all_laws.store in
+gathered_unbound laws hash c binding message sp roots rs ss o =
     let h : List ℕ → List ℕ = hash (new_alg c.definition) in
     let d : Definition = c.definition in
     let gs : List NewIngredient = c.ingredients in
     let k : AreGathered h c binding message sp roots rs ss =
-    gathered_are all_laws hash c binding message sp roots rs ss o in
-    let as_ : List NewAssertion = gathered_assertions h c binding in
-    let claim : List ℕ = gathered_claim h c binding in
+    gathered_are laws hash c binding message sp roots rs ss o in
+    let as_ : List NewAssertion = new_assertions h c binding in
+    let claim : List ℕ = new_claim h c binding in
     let x : Reading = new_of h c binding message sp in
     let label : IsLabelText d.label = manifest_label d.label o.written.formed.label in
     let u : AllByRecursion (λ (g : NewIngredient). IsLabelText g.of.label) gs = root_labels rs ss gs roots o.named in
@@ -251,7 +257,7 @@ gathered_unbound all_laws hash c binding message sp roots rs ss o =
     let total_len : length all ≡ suc n = len_more ss x ∙ ap suc same_len in
     let chain : AllByRecursion Holds (chain_tests (unjudged_tests hash) all) =
     subst (λ k. AllByRecursion Holds (downward (place_tests (unjudged_tests hash) all) k)) (sym total_len)
-    (each-append Holds (place_tests (unjudged_tests hash) all n) (downward (place_tests (unjudged_tests hash) all) n) own_place (downward_holds (place_tests (unjudged_tests hash) all) n (λ i lt. older_holds all_laws.older hash rs ss x roots i k.made lt o.taken.rooted.holds))) in
+    (each-append Holds (place_tests (unjudged_tests hash) all n) (downward (place_tests (unjudged_tests hash) all) n) own_place (downward_holds (place_tests (unjudged_tests hash) all) n (λ i lt. older_holds laws.older hash rs ss x roots i k.made lt o.taken.rooted.holds))) in
     let last_place : length all - 1 ≡ n = omega (arith, total_len) in
     let bindings : bindings_in x ≡ binding.label ∷ [] =
     own_bindings laws.uris h (read_as h gs) d.label (said_by d) as_ claim message sp binding.label listed one in
@@ -279,10 +285,10 @@ gathered_unbound all_laws hash c binding message sp roots rs ss o =
 
 -- and this is reached in it
 pub gathered_reaches : AllLaws → GatheredStoreReaches
-gathered_reaches all_laws hash c binding message sp roots rs ss o =
+gathered_reaches laws hash c binding message sp roots rs ss o =
     let h : List ℕ → List ℕ = hash (new_alg c.definition) in
     let k : AreGathered h c binding message sp roots rs ss =
-    gathered_are all_laws hash c binding message sp roots rs ss o in
+    gathered_are laws hash c binding message sp roots rs ss o in
     let x : Reading = new_of h c binding message sp in
     let same_len : length ss ≡ length rs = less_len c.definition.redact rs ss o.taken.less in (
       ss ++ x ∷ [],
@@ -292,27 +298,4 @@ gathered_reaches all_laws hash c binding message sp roots rs ss o =
         older = λ i lt. old_reached c.definition.redact rs ss x roots i k.made.over lt;
         new = new_reached c.definition.redact rs ss x o.taken.less;
       },
-    )
-
--- ---- contents
-
--- the standing stores are such
-pub stores_gathered : StoresAreGathered
-stores_gathered hash c binding message = go c.parent
-  where
-    go : (p : Option Parent)
-        → gathered_store hash (gathered_of (record { definition = c.definition; carried = c.carried; parent = p })) binding message ≡ new_store hash (record { definition = c.definition; carried = c.carried; parent = p }) binding message
-    go None = refl
-    go (Some p) = refl
-
--- what is gathered is a content
-pub content_gathered : ContentIsGathered
-content_gathered hash c binding message =
-    let items : List NewAssertion = map (ingredient_assertion hash) c.ingredients in
-    let same : gathered_assertions hash c binding ≡ (c.definition.assertions ++ items) ++ binding ∷ [] =
-    sym (append_assoc c.definition.assertions items (binding ∷ [])) in (
-      ap
-          (λ (as_ : List NewAssertion). store_box c.carried (manifest_box c.definition.label as_ (deterministic (claim_item (claim_with c.definition (map (entry_of hash) as_)))) message)) same,
-      ap
-          (λ (as_ : List NewAssertion). deterministic (claim_item (claim_with c.definition (map (entry_of hash) as_)))) same,
     )

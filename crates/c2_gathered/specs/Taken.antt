@@ -14,7 +14,7 @@ use Rattle.c2_rules.specs.Tests.{downward}
 use Rattle.c2_joined.specs.Rooted.{IsRooted, is_reached_from}
 use Rattle.c2_definition.specs.declared.types.Definition.{Definition}
 use Rattle.c2_built.specs.Manifests.{manifest_of, supers_in}
-use Rattle.c2_built.specs.Store.{Parent}
+use Rattle.c2_built.specs.Store.{NamedManifest}
 use Rattle.c2_built.specs.Written.{CanBeCarried}
 use Rattle.c2_carried.specs.Carrying.{RedactionsPass}
 use Rattle.c2_carried.specs.Less.{AreLess, CanRedactBy}
@@ -30,7 +30,7 @@ pub record IsTakenFrom (hash : Alg → List ℕ → List ℕ) (d : Definition) (
   pub redactions : RedactionsPass d.label d.redact
 
 -- A manifest that an ingredient names, as it stands in `ss`; in `rs` it stands at this place, under its label.
-pub record IsRoot (rs ss : List Reading) (p : Parent) (root : ℕ) : Type 0 where
+pub record IsRoot (rs ss : List Reading) (p : NamedManifest) (root : ℕ) : Type 0 where
   pub place : place_of rs p.label ≡ Some root
   pub within : root < length rs
   pub named : Reading

@@ -17,12 +17,14 @@ use Rattle.c2_rules.specs.declared.answer.Answer.TheVariants as answer
 use Rattle.c2_rules.specs.declared.answer.Failing.{Failing}
 use Rattle.c2_rules.specs.declared.answer.Summary.{Summary}
 use Rattle.c2_definition.specs.declared.types.Definition.{Definition}
+use Rattle.c2_definition.specs.declared.types.NewAssertion.{NewAssertion}
+use Rattle.c2_built.specs.Built.{HasDigestLen}
 use Rattle.c2_built.specs.Fresh.{fresh_content}
 use Rattle.c2_built.specs.Manifests.{supers_in}
-use Rattle.c2_layout.specs.Parts.{AreRefs, HasRefs, IsContent}
-use Rattle.c2_built.specs.Store.{Content, Parent, new_alg}
+use Rattle.c2_built.specs.Store.{Content, NamedManifest, NewIngredient, ingredient_assertion, new_alg, parent_ingredient}
+use Rattle.c2_built.proofs.Ingredients.{no_ingredients, parent_alone}
+use Rattle.c2_layout.specs.Parts.{IsContent}
 use Rattle.c2_layout.specs.declared.carried.Carried.{Carried}
-use Rattle.c2_layout.specs.declared.carried.ParentRefs.{ParentRefs}
 use Rattle.c2_carried.specs.Carrying.{SomeContentOver}
 use Rattle.c2_carried.specs.Parents.{IsParentOf}
 use Rattle.c2_carried.specs.Redacting.{boxes_in, redacted_boxes}
@@ -45,8 +47,8 @@ use Rattle.c2_refusals.proofs.Outside.{outside_map}
 use Rattle.std.specs.Option.{option_to_list}
 
 -- a content of these
-abbrev pub content_of : Definition → Trees → Option Parent → Content
-content_of d carried parent = record { definition = d; carried = carried; parent = parent }
+abbrev pub content_of : Definition → Trees → List NewIngredient → Content
+content_of d carried ingredients = record { definition = d; carried = carried; ingredients = ingredients }
 
 -- ---- without a store
 
@@ -67,24 +69,28 @@ pub fresh_refused : (hash : Alg → List ℕ → List ℕ) (said : Question → 
 fresh_refused hash said media d r e = unless_fails (first_refusal (redaction_tests d [])) (λ x. x ≡ Ok (fresh_ground media d)) (build.RedactionRefused r.text r.code) (is_refusal d [] r e)
 
 -- what is kept of a definition alone
-pub fresh_content_is : (hash : List ℕ → List ℕ) (d : Definition) (k : Carried) → k.boxes ≡ [] → k.parent ≡ None → IsContent hash d k (fresh_content d)
-fresh_content_is hash d k boxes parent = record { definition = refl; boxes = boxes; parent = subst (HasRefs hash None) (sym parent) tt }
+pub fresh_content_is : (hash : List ℕ → List ℕ) (d : Definition) (k : Carried) → HasDigestLen (new_alg d) hash → k.boxes ≡ [] → k.ingredients.items ≡ [] → IsContent hash d k (fresh_content d)
+fresh_content_is hash d k digests boxes none = record { definition = refl; boxes = boxes; assertions = none; ingredients = no_ingredients; digests = digests }
 
 -- ---- what is carried
 
 -- what was made of a store for a definition is what is carried of it: its parent is this one, and no other where the store has one
-pub carried_over : (hash : List ℕ → List ℕ) (d : Definition) (old : Tree) (texts : List (List ℕ)) (k : Carried) (refs : ParentRefs) (p : Parent) → texts ≡ d.redact → k.boxes ≡ trees_bytes (redacted_boxes texts (boxes_in old)) → k.parent ≡ Some refs → AreRefs hash p refs
-    → ((q : Parent) → IsParentOf q (supers_in (redacted_boxes texts (boxes_in old))) → q ≡ p) → IsCarriedOver hash d old k
-carried_over hash d old texts k refs p same boxes parent are only = record {
-  content = content_of d (redacted_boxes d.redact (boxes_in old)) (Some p);
+pub carried_over : (hash : List ℕ → List ℕ) (d : Definition) (old : Tree) (texts : List (List ℕ)) (k : Carried) (own : NewAssertion) (p : NamedManifest) → HasDigestLen (new_alg d) hash → texts ≡ d.redact → k.boxes ≡ trees_bytes (redacted_boxes texts (boxes_in old))
+    → k.ingredients.items ≡ own ∷ [] → own ≡ ingredient_assertion hash (parent_ingredient p)
+    → ((q : NamedManifest) → IsParentOf q (supers_in (redacted_boxes texts (boxes_in old))) → q ≡ p) → IsCarriedOver hash d old k
+carried_over hash d old texts k own p digests same boxes alone made only = record {
+  content = content_of d (redacted_boxes d.redact (boxes_in old)) (parent_ingredient p ∷ []);
   is = record {
     definition = refl;
     boxes = boxes ∙ ap (λ (ts : List (List ℕ)). trees_bytes (redacted_boxes ts (boxes_in old))) same;
-    parent = subst (HasRefs hash (Some p)) (sym parent) are;
+    assertions = alone ∙ ap (λ (a : NewAssertion). a ∷ []) made;
+    ingredients = parent_alone p;
+    digests = digests;
   };
   only = λ c over.
-      let own : over.parent ≡ p = only over.parent (subst (λ (ts : Trees). IsParentOf over.parent (supers_in ts)) (over.carried ∙ ap (λ (ts : List (List ℕ)). redacted_boxes ts (boxes_in old)) (sym same)) over.is_parent) in
-      ap (λ (x : Definition). content_of x c.carried c.parent) over.definition ∙ ap (λ (x : Trees). content_of d x c.parent) over.carried ∙ ap (content_of d (redacted_boxes d.redact (boxes_in old))) (over.has_parent ∙ ap Some own);
+      let parent : over.parent ≡ p = only over.parent (subst (λ (ts : Trees). IsParentOf over.parent (supers_in ts)) (over.carried ∙ ap (λ (ts : List (List ℕ)). redacted_boxes ts (boxes_in old)) (sym same)) over.is_parent) in
+      ap (λ (x : Definition). content_of x c.carried c.ingredients) over.definition ∙ ap (λ (x : Trees). content_of d x c.ingredients) over.carried
+      ∙ ap (content_of d (redacted_boxes d.redact (boxes_in old))) (over.ingredients ∙ ap (λ (q : NamedManifest). parent_ingredient q ∷ []) parent);
 }
 
 -- a label that is taken refuses

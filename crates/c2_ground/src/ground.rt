@@ -11,7 +11,9 @@ ghost use Rattle.c2_cleared.specs.Clears.{cleared};
 ghost use Rattle.c2_refusals.specs.declared.error.BuildError.TheVariants.{LabelTaken};
 ghost use Rattle.c2_spec.specs.C2pa.Manifest.{IsStoreOf, manifests_of};
 ghost use Rattle.c2_spec.specs.Judges.Panel.{panel_says};
-ghost use Rattle.c2_built.specs.Store.{new_alg};
+ghost use Rattle.c2_built.specs.Built.{HasDigestLen};
+ghost use Rattle.c2_built.specs.Store.{NamedManifest, ingredient_assertion, new_alg, parent_ingredient};
+ghost use Rattle.c2_parent.specs.Parents.{AreDigests};
 ghost use Rattle.c2_rules.specs.Readings.{AreReadings, Reading};
 ghost use Rattle.c2_validate.specs.Checked.{IsOpenedFrom, StoreAsks};
 ghost use Rattle.c2_refusals.specs.Kinds.{ComesAs, IsAskCause, IsOlderQuiet, IsQuiet, WithoutFault, build_heard};
@@ -23,17 +25,18 @@ use c2_base::{NoMemory, Range, Source, Text};
 use c2_carried::a_valid_store_is_carried;
 use c2_chain::{Chain, labels_of_a_store_differ, of_store, one_reading, readings};
 use c2_cleared::Clearing;
-use c2_definition::Definition;
+use c2_definition::{Definition, NewAssertion};
 use c2_hash::Hashing;
 use c2_judge::Judge;
 use c2_jumbf::{Tree, count};
-use c2_layout::{Carried, ParentRefs};
+use c2_layout::{Carried, ManifestRefs, ingredient};
 use c2_parent::{
-    carried_boxes, has_manifest, parent_digests, redactions_of, refused_redaction,
+    ParentDigests, carried_boxes, has_manifest, parent_digests, redactions_of, refused_redaction,
     refused_without_store,
 };
 use c2_reading::manifests;
 use c2_refusals::{BuildError, KeptGround, fault};
+use c2_spec::Relationship;
 use c2_store::Store;
 use c2_validate::{
     Checked, Container, OpenedStore, a_store_answers_for_its_file, check, one_opening,
@@ -47,10 +50,11 @@ fn fresh_ground(
     clearing: Clearing,
 ) -> Result<KeptGround, BuildError>
     ensures ground { (hash : AnyAlg → List ℕ → List ℕ) (said : Question → Verdict) (file : List ℕ)
+        → HasDigestLen (new_alg definition.now) (hash (new_alg definition.now))
         → cleared clearing file ≡ file → ComesAs (IsGround (hash (new_alg definition.now)) file
         definition.now)
         (IsGroundStage hash said file definition.now fresh) result }
-    ensures some { (hash : List ℕ → List ℕ)
+    ensures some { (hash : List ℕ → List ℕ) → HasDigestLen (new_alg definition.now) hash
         → IfOk result (IsSomeGround hash definition.now) }
     ensures quiet { IfErr result IsQuiet }
 {
@@ -115,6 +119,19 @@ pub fn check_parent<A: Source, H: Hashing>(
     }
 }
 
+// The assertion of the ingredient that the parent with these digests is.
+fn parent_assertion(alloc: Global, parent: &ParentDigests<'_>) -> Result<NewAssertion, NoMemory>
+    ensures { IfOk result (λ a. (hash : List ℕ → List ℕ) (p : NamedManifest)
+        → AreDigests hash p parent.now → a ≡ ingredient_assertion hash (parent_ingredient p)) }
+{
+    let refs = ManifestRefs {
+        label: Text::copied(alloc, parent.label)?,
+        contents: parent.contents,
+        signed: parent.signed,
+    };
+    ingredient(alloc, "c2pa.ingredient.v3", Relationship::ParentOf, &refs)
+}
+
 // What is taken over of a store.
 fn carried_of<'u, H: Hashing>(
     alloc: Global,
@@ -137,16 +154,11 @@ fn carried_of<'u, H: Hashing>(
         Ok(parent) => parent,
         Err(NoMemory) => return Err(NoMemory),
     };
+    let own = parent_assertion(alloc, &parent)?;
     let boxes = carried_boxes(alloc, tree, &redactions)?;
-    let refs = ParentRefs {
-        label: Text::copied(alloc, parent.label)?,
-        contents: parent.contents,
-        signed: parent.signed,
-    };
-    Ok(Carried {
-        boxes,
-        parent: Some(refs),
-    })
+    let mut ingredients = Vec::new(alloc);
+    ingredients.push(own)?;
+    Ok(Carried { boxes, ingredients })
 }
 
 // The ground over a store whose manifests all rules hold of, in a media file that is cleared so of it.

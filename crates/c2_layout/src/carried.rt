@@ -1,13 +1,14 @@
-// What a new store takes over of an older one.
-ghost use Rattle.std.specs.Prelude.{◌≡◌, None, []};
+// What a new store takes over of older ones.
+ghost use Rattle.std.specs.Prelude.{◌≡◌, []};
 
 use c2_base::{Blob, Text};
+use c2_definition::NewAssertion;
 use c2_hash::Digest;
 use std::alloc::Global;
 
-/// A manifest that is an ingredient of a new one, as its parent is: how the new manifest refers to it.
+/// A manifest that is an ingredient of a new one: how the new manifest refers to it.
 #[derive(Debug, Drop)]
-pub struct ParentRefs {
+pub struct ManifestRefs {
     /// The label of that manifest.
     pub label: Text,
 
@@ -18,25 +19,25 @@ pub struct ParentRefs {
     pub signed: Digest,
 }
 
-/// What a new store takes over of an older one.
+/// What a new store takes over of older ones.
 #[derive(Debug, Drop)]
 pub struct Carried {
     /// The boxes that are carried, one after the other.
     pub boxes: Blob,
 
-    /// The parent, where there is an older store.
-    pub parent: Option<ParentRefs>,
+    /// The assertions of the new manifest's ingredients, which are manifests of those boxes.
+    pub ingredients: Vec<NewAssertion>,
 }
 
 impl Carried {
     /// What is taken over where there is no older store. Takes no memory.
     pub fn nothing(alloc: Global) -> Carried
         ensures boxes { result.boxes ≡ [] }
-        ensures parent { result.parent ≡ None }
+        ensures ingredients { result.ingredients.items ≡ [] }
     {
         Carried {
             boxes: Blob::from_vec(Vec::new(alloc)),
-            parent: None,
+            ingredients: Vec::new(alloc),
         }
     }
 }

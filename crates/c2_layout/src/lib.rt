@@ -1,8 +1,7 @@
 //! What is written into a media file: the bytes and sizes of a new store.
 //!
-//! What the store is, and what holds of it and of the file that it is put into, stands in `c2_built`. A manifest may have further
-//! assertions beside those of its definition, as any ingredients are (`gathered_size`, `gathered_parts`, `gathered_store`); the store with
-//! a parent or without is the case of one such assertion or of none (`bound_size`, `bound_parts`, `new_store`).
+//! What the store is, and what holds of it and of the file that it is put into, stands in `c2_built`. A manifest has the assertions of its
+//! definition, then those of its ingredients, and then its binding.
 #![tactic(auto)]
 
 mod assertions;
@@ -20,11 +19,11 @@ mod store;
 
 pub use binding::data_binding;
 pub use boxes::write_assertion;
-pub use carried::{Carried, ParentRefs};
+pub use carried::{Carried, ManifestRefs};
 pub use entries::own_ref;
 pub use ingredients::ingredient;
 pub use laws::{a_claim_of_parts_is_legal, ingredient_labels_may_be_written};
 pub use manifest::write_manifest;
-pub use parts::{NewParts, bound_parts, gathered_parts, new_parts};
-pub use size::{bound_size, gathered_size, store_size};
-pub use store::{gathered_store, new_store};
+pub use parts::{NewParts, bound_parts};
+pub use size::bound_size;
+pub use store::new_store;

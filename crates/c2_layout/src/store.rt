@@ -6,7 +6,7 @@ ghost use Rattle.c2_spec.specs.Jumbf.Writing.{IsWrittenLabel};
 ghost use Rattle.c2_definition.specs.DefinitionFile.{IsWellFormed};
 ghost use Rattle.c2_definition.specs.declared.types.NewAssertion.{NewAssertion as AnyAssertion};
 ghost use Rattle.c2_built.specs.FreshBoxes.{store_box};
-ghost use Rattle.c2_layout.specs.Parts.{AreParts, IsContent, IsUnderLabel, manifest_size, parts_size};
+ghost use Rattle.c2_layout.specs.Parts.{AreParts, IsContent, manifest_size, parts_size};
 ghost use Rattle.c2_built.specs.Store as store;
 ghost use Rattle.c2_built.specs.Store.{Content};
 
@@ -62,31 +62,9 @@ fn store_of(alloc: Global, carried: &[u8], manifest: &[u8]) -> Result<Blob, NoMe
     Ok(Blob::from_vec(bytes))
 }
 
-/// The bytes of the store that is built under a definition's label of these carried boxes, of its parts and of its signed message.
+/// The bytes of the store that is built of a definition and of what is carried of older stores, of its parts and of its signed message.
 ///
-/// Nothing but memory fails where the store isn't too large, which `gathered_size` tells before.
-pub fn gathered_store(
-    alloc: Global,
-    definition: &Definition,
-    carried: &[u8],
-    parts: &NewParts,
-    message: &[u8],
-) -> Result<Blob, NoMemory>
-    requires formed { IsWellFormed definition.now }
-    requires small { length carried.now
-        + parts_size definition.now.label parts.now (length message.now) ≤ MAX_STORE_LEN }
-    ensures { IfOk result (λ b. (hash : List ℕ → List ℕ) (c : Content) (binding : AnyAssertion)
-        → IsUnderLabel definition.now carried.now c → AreParts hash c binding parts.now
-        → b ≡ tree_bytes (store.new_store hash c binding message.now)) }
-{
-    let manifest = manifest_of(alloc, definition.label.as_str(), parts, message)?;
-    store_of(alloc, carried, manifest.as_slice())
-}
-
-/// The bytes of the store that is built of a definition and of what is carried of an older store, of its parts and of its signed
-/// message.
-///
-/// Nothing but memory fails where the store isn't too large, which `store_size` tells before.
+/// Nothing but memory fails where the store isn't too large, which `bound_size` tells before.
 pub fn new_store(
     alloc: Global,
     definition: &Definition,
@@ -101,6 +79,6 @@ pub fn new_store(
         → IsContent hash definition.now carried.now c → AreParts hash c binding parts.now
         → b ≡ tree_bytes (store.new_store hash c binding message.now)) }
 {
-    let boxes = carried.boxes.as_slice();
-    gathered_store(alloc, definition, boxes, parts, message)
+    let manifest = manifest_of(alloc, definition.label.as_str(), parts, message)?;
+    store_of(alloc, carried.boxes.as_slice(), manifest.as_slice())
 }

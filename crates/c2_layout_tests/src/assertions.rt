@@ -2,7 +2,7 @@
 use c2_base::{Blob, NoMemory, Range, Text};
 use c2_definition::{NewAssertion, Payload};
 use c2_hash::{Alg, Digest};
-use c2_layout::{ParentRefs, data_binding, ingredient, own_ref, write_assertion};
+use c2_layout::{ManifestRefs, data_binding, ingredient, own_ref, write_assertion};
 use c2_spec::{Relationship, WriteError};
 use std::alloc::{AllocError, Global};
 use std::test::Fail;
@@ -139,7 +139,7 @@ fn an_entry_names_a_box_of_its_own_manifest(rt: HostRuntime) -> Result<(), Fail>
 
 // A component of a manifest that has a parent, too.
 fn component(alloc: Global) -> Result<NewAssertion, NoMemory> {
-    let refs = ParentRefs {
+    let refs = ManifestRefs {
         label: Text::copied(alloc, "urn:c2pa:a")?,
         contents: Digest::from_slice(&[7; 32]),
         signed: Digest::from_slice(&[9; 32]),

@@ -22,18 +22,15 @@ use Rattle.c2_assertion.specs.Written.{data_hash_item, ingredient_item, one_excl
 use Rattle.c2_claim.specs.Written.{claim_item, generator_item, redactions_field, signature_uri}
 use Rattle.c2_definition.specs.declared.types.Definition.{Definition}
 use Rattle.c2_definition.specs.declared.types.NewAssertion.{NewAssertion}
-use Rattle.c2_built.specs.Built.{HasDigestLen, bound_len, no_digest, store_size}
-use Rattle.c2_built.specs.Store.{Content, Parent, assertion_box, assertion_boxes, claim_with, data_binding, entry_of}
-use Rattle.c2_built.specs.Store.{new_alg, new_assertions, new_claim, new_manifest, parent_assertions}
-use Rattle.c2_built.specs.Store.{parent_ref, range_at}
+use Rattle.c2_built.specs.Built.{bound_len, no_digest, store_size}
+use Rattle.c2_built.specs.Store.{Content, NewIngredient, assertion_box, assertion_boxes, claim_with, data_binding, entry_of}
+use Rattle.c2_built.specs.Store.{ingredient_assertion, new_alg, new_assertions, new_claim, new_manifest, range_at}
+use Rattle.c2_built.specs.Store.{target_ref, written_ingredient}
+use Rattle.c2_built.specs.Written.{AreIngredients, IsIngredientLabel}
 use Rattle.c2_built.proofs.StoreSize.{KeepsLength, assertion_len, manifest_len, store_len}
 use Rattle.c2_films.specs.Films.{BindingHasOneLength, film_binding, film_store_size}
-use Rattle.c2_gathered.specs.Gathered.{AreIngredients, IsIngredientLabel, NewIngredient, content_of, ingredient_assertion, with_more}
-use Rattle.c2_gathered.specs.Gathered.{written_ingredient}
-use Rattle.c2_lengths.specs.Lengths.{AreShort, DefinitionsAreShort, FilmStoresAreShort, Fits, FurtherStoresFit}
-use Rattle.c2_lengths.specs.Lengths.{GatheredStoresFit, IngredientsAreShort, IsShort, IsShortBeside, IsShortBinding}
-use Rattle.c2_lengths.specs.Lengths.{IsShortOver, JpegStoresAreShort, StoresAreShort, StoresFit}
-use Rattle.c2_lengths.specs.Lengths.{assertions_len, most_further, texts_len}
+use Rattle.c2_lengths.specs.Lengths.{DefinitionsAreShort, FilmStoresAreShort, Fits, IsShort, IsShortBinding, IsShortOver}
+use Rattle.c2_lengths.specs.Lengths.{JpegStoresAreShort, StoresAreShort, StoresFit, assertions_len, texts_len}
 use Rattle.c2_lengths.proofs.ItemLengths.{both_rooms, deterministic_room, items_room, pairs_room, room, texts_room}
 
 -- ---- references
@@ -115,70 +112,108 @@ word_most ParentOf = lit≤ tt
 word_most ComponentOf = lit≤ tt
 word_most InputTo = lit≤ tt
 
--- a digest by an algorithm
-digest_most : (alg : Alg) (hash : List ℕ → List ℕ) → HasDigestLen alg hash → (s : List ℕ) → length (hash s) ≤ 64
-digest_most alg hash sized s = omega (arith, sized s, (len_bounds alg).1)
-
--- the item of an ingredient
-ingredient_room : (alg : Alg) (hash : List ℕ → List ℕ) → HasDigestLen alg hash → (g : NewIngredient)
-    → room (ingredient_item (written_ingredient hash g)) ≤ 1024 + 2 * length g.of.label
-ingredient_room alg hash sized g =
-    omega (
-      arith,
-      ref_room (parent_ref hash g.of.label whole g.of.contents) refl,
-      ref_room (parent_ref hash g.of.label signature g.of.signed) refl,
-      manifest_uri_len g.of.label,
-      signature_uri_len g.of.label,
-      digest_most alg hash sized g.of.contents,
-      digest_most alg hash sized g.of.signed,
-      word_most g.relationship,
-    )
-
 -- what is no more than one that is no more than another
 at_most : (a b c : ℕ) → a ≤ b → b ≤ c → a ≤ c
 at_most a b c h k = omega arith
 
+-- ---- ingredients
+
+-- the item of an ingredient without digests
+ingredient_room : (alg : Alg) (g : NewIngredient)
+    → room (ingredient_item (written_ingredient (no_digest alg) g)) ≤ 1024 + 2 * length g.of.label
+ingredient_room alg g =
+    omega (
+      arith,
+      ref_room (target_ref (no_digest alg) g.of.label whole g.of.contents) refl,
+      ref_room (target_ref (no_digest alg) g.of.label signature g.of.signed) refl,
+      manifest_uri_len g.of.label,
+      signature_uri_len g.of.label,
+      zeros_most alg,
+      word_most g.relationship,
+    )
+
 -- the bytes of its assertion
-ingredient_most : KeepsLength → (alg : Alg) (hash : List ℕ → List ℕ) → HasDigestLen alg hash → (g : NewIngredient) (n : ℕ)
-    → length g.of.label ≤ n
-    → length (deterministic (ingredient_item (written_ingredient hash g))) ≤ 1024 + 2 * n
-ingredient_most keeps alg hash sized g n label =
-    let v : Item = ingredient_item (written_ingredient hash g) in
+ingredient_most : KeepsLength → (alg : Alg) (g : NewIngredient) (n : ℕ) → length g.of.label ≤ n
+    → length (deterministic (ingredient_item (written_ingredient (no_digest alg) g))) ≤ 1024 + 2 * n
+ingredient_most keeps alg g n label =
+    let v : Item = ingredient_item (written_ingredient (no_digest alg) g) in
     at_most (length (deterministic v)) (room v) (1024 + 2 * n) (deterministic_room keeps v)
-    (at_most (room v) (1024 + 2 * length g.of.label) (1024 + 2 * n) (ingredient_room alg hash sized g)
-    (omega (arith, label)))
+    (at_most (room v) (1024 + 2 * length g.of.label) (1024 + 2 * n) (ingredient_room alg g) (omega (arith, label)))
 
--- an assertion and a binding
-two_most : (a b : NewAssertion) (n : ℕ) → length a.label ≤ 64 → length a.bytes ≤ n → IsShortBinding b
-    → assertions_len (a ∷ b ∷ []) ≤ 128 + n + MAX_STORE_LEN
-two_most a b n label size binding = omega (arith, label, size, binding)
+-- it has a short label
+label_most : (label : List ℕ) → IsIngredientLabel label → length label ≤ 64
+label_most label (inl e) = subst (λ (l : List ℕ). length l ≤ 64) (sym e) (lit≤ tt)
+label_most label (inr e) = subst (λ (l : List ℕ). length l ≤ 64) (sym e) (lit≤ tt)
 
--- the parent and the binding
-own_most : KeepsLength → (alg : Alg) (p : Option Parent) (b : NewAssertion) → IsShortBinding b
-    → IfSome p (λ q. length q.label ≤ MAX_STORE_LEN)
-    → assertions_len (parent_assertions (no_digest alg) p ++ b ∷ []) ≤ 2048 + 3 * MAX_STORE_LEN
-own_most keeps alg None b binding label = omega (arith, binding)
-own_most keeps alg (Some p) b binding label =
-    let g : NewIngredient = record { label = codes "c2pa.ingredient.v3"; relationship = ParentOf; of = p } in
-    let bytes = ingredient_most keeps alg (no_digest alg) (λ s. zero_len alg) g MAX_STORE_LEN label in
-    let a : NewAssertion = ingredient_assertion (no_digest alg) g in
-    at_most (assertions_len (a ∷ b ∷ [])) (128 + (1024 + 2 * MAX_STORE_LEN) + MAX_STORE_LEN) (2048 + 3 * MAX_STORE_LEN)
-    (two_most a b (1024 + 2 * MAX_STORE_LEN) (lit≤ tt) bytes binding) (lit≤ tt)
+-- what an ingredient's assertion holds at most
+abbrev most_ingredient : ℕ
+most_ingredient = 2048 + 4 * MAX_STORE_LEN
+
+-- it holds no more
+one_most : KeepsLength → (alg : Alg) (g : NewIngredient) → IsIngredientLabel g.label
+    → length g.of.label ≤ 2 * MAX_STORE_LEN
+    → 1 + length g.label + length (ingredient_assertion (no_digest alg) g).bytes ≤ most_ingredient
+one_most keeps alg g is label =
+    let bytes = ingredient_most keeps alg g (2 * MAX_STORE_LEN) label in
+    omega (arith, bytes, label_most g.label is)
+
+-- of three labels of two kinds two are the same
+two_same : (a b x y z : List ℕ) → (x ≡ a) ⊎ (x ≡ b) → (y ≡ a) ⊎ (y ≡ b) → (z ≡ a) ⊎ (z ≡ b)
+    → y ≢ x → z ≢ x → z ≢ y → ⊥
+two_same a b x y z (inl p) (inl q) r yx zx zy = yx (q ∙ sym p)
+two_same a b x y z (inr p) (inr q) r yx zx zy = yx (q ∙ sym p)
+two_same a b x y z (inl p) (inr q) (inl r) yx zx zy = zx (r ∙ sym p)
+two_same a b x y z (inl p) (inr q) (inr r) yx zx zy = zy (r ∙ sym q)
+two_same a b x y z (inr p) (inl q) (inl r) yx zx zy = zy (r ∙ sym q)
+two_same a b x y z (inr p) (inl q) (inr r) yx zx zy = zx (r ∙ sym p)
+
+-- so there are two ingredients at most, which hold no more than this
+ingredients_most : KeepsLength → (alg : Alg) (gs : List NewIngredient) → AreIngredients gs
+    → AllByRecursion (λ (g : NewIngredient). length g.of.label ≤ 2 * MAX_STORE_LEN) gs
+    → assertions_len (map (ingredient_assertion (no_digest alg)) gs) ≤ 2 * most_ingredient
+ingredients_most keeps alg gs are labels = by gs are labels
+  where
+    IsNamedShort : NewIngredient → Type 0
+    IsNamedShort g = length g.of.label ≤ 2 * MAX_STORE_LEN
+
+    size : NewIngredient → ℕ
+    size g = 1 + length g.label + length (ingredient_assertion (no_digest alg) g).bytes
+
+    one : (g : NewIngredient) → IsIngredientLabel g.label → IsNamedShort g → size g ≤ most_ingredient
+    one = one_most keeps alg
+
+    both : (m n : ℕ) → m ≤ most_ingredient → n ≤ most_ingredient → m + (n + 0) ≤ 2 * most_ingredient
+    both m n h k = omega (arith, h, k)
+
+    by : (xs : List NewIngredient) → AreIngredients xs → AllByRecursion IsNamedShort xs
+        → assertions_len (map (ingredient_assertion (no_digest alg)) xs) ≤ 2 * most_ingredient
+    by [] are labels = lit≤ tt
+    by (g ∷ []) are labels = both (size g) 0 (one g are.labels.0 labels.0) (lit≤ tt)
+    by (g ∷ k ∷ []) are labels =
+        both (size g) (size k) (one g are.labels.0 labels.0) (one k are.labels.1.0 labels.1.0)
+    by (g ∷ k ∷ l ∷ xs) are labels =
+        absurd (two_same _ _ g.label k.label l.label are.labels.0 are.labels.1.0 are.labels.1.1.0
+        are.apart.0.0 are.apart.0.1.0 are.apart.1.0.0)
+
+-- ---- all assertions
 
 -- how much new assertions hold at most
 abbrev most_assertions : ℕ
-most_assertions = 2048 + 3 * MAX_INPUT_LEN + most_further + 3 * MAX_STORE_LEN
+most_assertions = 1 + 3 * MAX_INPUT_LEN + 2 * most_ingredient + MAX_STORE_LEN
 
 -- all of a new manifest
-all_most : KeepsLength → (alg : Alg) (c : Content) (b : NewAssertion) → IsShortBeside c.definition → IsShortOver c
+all_most : KeepsLength → (alg : Alg) (c : Content) (b : NewAssertion) → IsShort c.definition → IsShortOver c
     → IsShortBinding b
     → assertions_len (new_assertions (no_digest alg) c b) ≤ most_assertions
 all_most keeps alg c b short over binding =
+    let own : List NewAssertion = map (ingredient_assertion (no_digest alg)) c.ingredients in
     omega (
       arith,
-      both_lens c.definition.assertions (parent_assertions (no_digest alg) c.parent ++ b ∷ []),
-      own_most keeps alg c.parent b binding over.parent,
+      both_lens c.definition.assertions (own ++ b ∷ []),
+      both_lens own (b ∷ []),
+      ingredients_most keeps alg c.ingredients over.ingredients over.labels,
       short.assertions,
+      binding,
     )
 
 -- ---- the claim
@@ -233,7 +268,7 @@ uri_short d le =
     (omega (arith, le))
 
 -- its item
-claim_room : (d : Definition) (entries : List Ref) → IsShortBeside d
+claim_room : (d : Definition) (entries : List Ref) → IsShort d
     → room (claim_item (claim_with d entries))
     ≤ 1024 + 13 * MAX_INPUT_LEN + items_room (items_of (map ref_item entries))
 claim_room d entries short =
@@ -262,7 +297,7 @@ claim_room d entries short =
     (generator_room d.generator short.generator))
 
 -- the new claim
-claim_most : KeepsLength → (alg : Alg) (c : Content) (b : NewAssertion) → IsShortBeside c.definition
+claim_most : KeepsLength → (alg : Alg) (c : Content) (b : NewAssertion) → IsShort c.definition
     → length (new_claim (no_digest alg) c b)
     ≤ 1024 + 13 * MAX_INPUT_LEN + 160 * assertions_len (new_assertions (no_digest alg) c b)
 claim_most keeps alg c b short =
@@ -339,30 +374,6 @@ film_most keeps one c short over =
 fits : (n : ℕ) → n < 2 ^ 40 → n < 2 ^ 64 - 1
 fits n h = omega (arith, h)
 
--- what is short is so beside further assertions, whether there are any or not
-short_beside : (d : Definition) → IsShort d → IsShortBeside d
-short_beside d h = record {
-  label = h.label;
-  instance = h.instance;
-  generator = h.generator;
-  title = h.title;
-  reserve = h.reserve;
-  assertions = omega (arith, h.assertions);
-  redact = h.redact;
-}
-
--- with short ones behind its own a short definition is so
-more_beside : (d : Definition) (further : List NewAssertion) → IsShort d → AreShort further → IsShortBeside (with_more d further)
-more_beside d further h short = record {
-  label = h.label;
-  instance = h.instance;
-  generator = h.generator;
-  title = h.title;
-  reserve = h.reserve;
-  assertions = omega (arith, both_lens d.assertions further, h.assertions, short);
-  redact = h.redact;
-}
-
 -- what laws of this crate say of stores
 pub record StoreLaws : Type 0 where
   pub definition : DefinitionsAreShort
@@ -371,7 +382,7 @@ pub record StoreLaws : Type 0 where
   pub film : FilmStoresAreShort
 
 -- 64 bits hold the length of a new store of what is short
-short_fits : StoreLaws → (c : Content) → IsShortBeside c.definition → IsShortOver c → Fits c
+short_fits : StoreLaws → (c : Content) → IsShort c.definition → IsShortOver c → Fits c
 short_fits laws c own over = record {
   any = λ b binding. fits (bound_len c b c.definition.reserve) (laws.any c b own over binding);
   jpeg = fits (store_size c c.definition.reserve) (laws.jpeg c own over);
@@ -380,66 +391,4 @@ short_fits laws c own over = record {
 
 -- so of one of a definition that a file is
 pub store_fits : StoreLaws → StoresFit
-store_fits laws file c is over = short_fits laws c (short_beside c.definition (laws.definition file c.definition is)) over
-
--- and with short further assertions
-pub further_fits : StoreLaws → FurtherStoresFit
-further_fits laws file d further c is short has boxes =
-    let own : IsShortBeside (with_more d further) = more_beside d further (laws.definition file d is) short in
-    short_fits laws c (subst IsShortBeside (sym has.definition) own)
-    (record { boxes = boxes; parent = subst (λ (o : Option Parent). IfSome o (λ p. length p.label ≤ MAX_STORE_LEN)) (sym has.parent) tt })
-
--- ---- ingredients
-
--- of three labels of two kinds two are the same
-two_same : (a b x y z : List ℕ) → (x ≡ a) ⊎ (x ≡ b) → (y ≡ a) ⊎ (y ≡ b) → (z ≡ a) ⊎ (z ≡ b) → y ≢ x → z ≢ x → z ≢ y → ⊥
-two_same a b x y z (inl p) (inl q) r yx zx zy = yx (q ∙ sym p)
-two_same a b x y z (inr p) (inr q) r yx zx zy = yx (q ∙ sym p)
-two_same a b x y z (inl p) (inr q) (inl r) yx zx zy = zx (r ∙ sym p)
-two_same a b x y z (inl p) (inr q) (inr r) yx zx zy = zy (r ∙ sym q)
-two_same a b x y z (inr p) (inl q) (inl r) yx zx zy = zy (r ∙ sym q)
-two_same a b x y z (inr p) (inl q) (inr r) yx zx zy = zx (r ∙ sym p)
-
--- an ingredient has a short label
-label_most : (label : List ℕ) → IsIngredientLabel label → length label ≤ 64
-label_most label (inl e) = subst (λ (l : List ℕ). length l ≤ 64) (sym e) (lit≤ tt)
-label_most label (inr e) = subst (λ (l : List ℕ). length l ≤ 64) (sym e) (lit≤ tt)
-
--- one ingredient
-one_most : KeepsLength → (alg : Alg) (hash : List ℕ → List ℕ) → HasDigestLen alg hash → (g : NewIngredient) → IsIngredientLabel g.label
-    → length g.of.label ≤ 2 * MAX_STORE_LEN
-    → 1 + length g.label + length (ingredient_assertion hash g).bytes ≤ 2048 + 4 * MAX_STORE_LEN
-one_most keeps alg hash sized g is label =
-    let bytes = ingredient_most keeps alg hash sized g (2 * MAX_STORE_LEN) label in
-    omega (arith, bytes, label_most g.label is)
-
--- two of them are short
-pair_most : (m n : ℕ) → m ≤ 2048 + 4 * MAX_STORE_LEN → n ≤ 2048 + 4 * MAX_STORE_LEN → m + (n + 0) ≤ most_further
-pair_most m n h k = omega (arith, h, k)
-
--- the ingredients of a manifest are short
-pub ingredients_short : KeepsLength → IngredientsAreShort
-ingredients_short keeps alg hash c sized h = by c.ingredients h.ingredients h.labels
-  where
-    IsNamedShort : NewIngredient → Type 0
-    IsNamedShort g = length g.of.label ≤ 2 * MAX_STORE_LEN
-
-    one : (g : NewIngredient) → IsIngredientLabel g.label → IsNamedShort g
-        → 1 + length g.label + length (ingredient_assertion hash g).bytes ≤ 2048 + 4 * MAX_STORE_LEN
-    one = one_most keeps alg hash sized
-
-    size : NewIngredient → ℕ
-    size g = 1 + length g.label + length (ingredient_assertion hash g).bytes
-
-    by : (gs : List NewIngredient) → AreIngredients gs → AllByRecursion IsNamedShort gs → AreShort (map (ingredient_assertion hash) gs)
-    by [] are labels = lit≤ tt
-    by (g ∷ []) are labels = pair_most (size g) 0 (one g are.labels.0 labels.0) (lit≤ tt)
-    by (g ∷ k ∷ []) are labels = pair_most (size g) (size k) (one g are.labels.0 labels.0) (one k are.labels.1.0 labels.1.0)
-    by (g ∷ k ∷ l ∷ gs) are labels =
-        absurd (two_same _ _ g.label k.label l.label are.labels.0 are.labels.1.0 are.labels.1.1.0 are.apart.0.0 are.apart.0.1.0 are.apart.1.0.0)
-
--- so 64 bits hold the length of a new store of what is gathered of two stores
-pub gathered_fits : IngredientsAreShort → FurtherStoresFit → GatheredStoresFit
-gathered_fits short law file hash c is sized h =
-    law file c.definition (map (ingredient_assertion hash) c.ingredients) (content_of hash c) is
-    (short (new_alg c.definition) hash c sized h) (record { definition = refl; parent = refl }) h.boxes
+store_fits laws file c is over = short_fits laws c (laws.definition file c.definition is) over

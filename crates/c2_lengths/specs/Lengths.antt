@@ -1,18 +1,16 @@
 -- How long a new store can be: what a definition that was read of a file holds at most, what is taken over of an older
 -- store or of two at most, and how many bytes a new store of both has then.
-use Rattle.std.specs.Prelude.{ℕ, ◌+◌, ◌*◌, ◌-◌, ◌^◌, ◌<◌, ◌≤◌, List, [], ◌∷◌, length, map, IfSome, Ok}
+use Rattle.std.specs.Prelude.{ℕ, ◌+◌, ◌*◌, ◌-◌, ◌^◌, ◌<◌, ◌≤◌, List, [], ◌∷◌, length, IfSome, Ok}
 use Rattle.std.specs.List.{AllByRecursion}
 use Rattle.c2_base.specs.declared.limits.TheConstants.{MAX_INPUT_LEN, MAX_STORE_LEN}
 use Rattle.c2_spec.specs.Jumbf.Tree.{Trees, trees_bytes}
-use Rattle.c2_spec.specs.declared.digest.Alg.{Alg}
 use Rattle.c2_definition.specs.DefinitionFile.{IsDefinition, most_reserve}
 use Rattle.c2_definition.specs.declared.types.Definition.{Definition}
 use Rattle.c2_definition.specs.declared.types.NewAssertion.{NewAssertion}
-use Rattle.c2_built.specs.Built.{HasDigestLen, bound_len, store_size}
-use Rattle.c2_built.specs.Store.{Content, new_alg}
+use Rattle.c2_built.specs.Built.{bound_len, store_size}
+use Rattle.c2_built.specs.Store.{Content, NewIngredient}
+use Rattle.c2_built.specs.Written.{AreIngredients}
 use Rattle.c2_films.specs.Films.{film_store_size}
-use Rattle.c2_gathered.specs.Gathered.{AreIngredients, Gathered, NewIngredient, content_of, ingredient_assertion}
-use Rattle.c2_layout.specs.Parts.{HasFurther}
 
 -- ---- what is short
 
@@ -26,46 +24,24 @@ abbrev pub texts_len : List (List ℕ) → ℕ
 texts_len [] = 0
 texts_len (t ∷ others) = 1 + length t + texts_len others
 
--- how much a manifest's further assertions hold at most, as its ingredients are: those that name the manifests of two stores hold less
-abbrev pub most_further : ℕ
-most_further = 16 * MAX_STORE_LEN
-
--- further assertions hold no more than that
-abbrev pub AreShort : List NewAssertion → Type 0
-AreShort further = assertions_len further ≤ most_further
-
 -- A definition of which no text holds more than a definition file may have bytes, nor do its redactions together; its
--- assertions hold no more than this, and it reserves no more than one may.
-pub record IsShortWith (most : ℕ) (d : Definition) : Type 0 where
+-- assertions hold no more than thrice that, and it reserves no more than one may.
+pub record IsShort (d : Definition) : Type 0 where
   pub label : length d.label ≤ MAX_INPUT_LEN
   pub instance : length d.instance_id ≤ MAX_INPUT_LEN
   pub generator : length d.generator ≤ MAX_INPUT_LEN
   pub title : IfSome d.title (λ t. length t ≤ MAX_INPUT_LEN)
   pub reserve : d.reserve ≤ most_reserve
-  pub assertions : assertions_len d.assertions ≤ most
+  pub assertions : assertions_len d.assertions ≤ 3 * MAX_INPUT_LEN
   pub redact : texts_len d.redact ≤ MAX_INPUT_LEN
-
--- a short definition: its assertions hold no more than thrice what a definition file may have bytes
-abbrev pub IsShort : Definition → Type 0
-IsShort d = IsShortWith (3 * MAX_INPUT_LEN) d
-
--- one that is short beside any further assertions among its own
-abbrev pub IsShortBeside : Definition → Type 0
-IsShortBeside d = IsShortWith (3 * MAX_INPUT_LEN + most_further) d
 
 -- boxes have no more bytes than two stores may have together
 abbrev pub AreOfTwoStores : Trees → Type 0
 AreOfTwoStores boxes = length (trees_bytes boxes) ≤ 2 * MAX_STORE_LEN
 
--- What is taken over of one older store or of two: the boxes that are carried have no more bytes than two stores may have, and the label of
--- the parent no more than one.
+-- What is taken over of one older store or of two: the boxes that are carried are no more than theirs, and the ingredients such as a
+-- manifest may have, each of a manifest whose label has no more bytes.
 pub record IsShortOver (c : Content) : Type 0 where
-  pub boxes : AreOfTwoStores c.carried
-  pub parent : IfSome c.parent (λ p. length p.label ≤ MAX_STORE_LEN)
-
--- What is gathered of two stores: the boxes that are carried are no more than theirs, and the ingredients such as a manifest may have, each
--- of a manifest whose label has no more bytes.
-pub record IsShortGathered (c : Gathered) : Type 0 where
   pub boxes : AreOfTwoStores c.carried
   pub ingredients : AreIngredients c.ingredients
   pub labels : AllByRecursion (λ (g : NewIngredient). length g.of.label ≤ 2 * MAX_STORE_LEN) c.ingredients
@@ -82,23 +58,18 @@ DefinitionsAreShort = (file : List ℕ) (d : Definition) → IsDefinition file (
 
 -- A new store of what is short has fewer than 2^40 bytes, with as many for the message as are reserved.
 abbrev pub StoresAreShort : Type 0
-StoresAreShort = (c : Content) (b : NewAssertion) → IsShortBeside c.definition → IsShortOver c → IsShortBinding b
+StoresAreShort = (c : Content) (b : NewAssertion) → IsShort c.definition → IsShortOver c → IsShortBinding b
     → bound_len c b c.definition.reserve < 2 ^ 40
 
 -- So has the new store of a JPEG file.
 abbrev pub JpegStoresAreShort : Type 0
 JpegStoresAreShort =
-    (c : Content) → IsShortBeside c.definition → IsShortOver c → store_size c c.definition.reserve < 2 ^ 40
+    (c : Content) → IsShort c.definition → IsShortOver c → store_size c c.definition.reserve < 2 ^ 40
 
 -- So has the new store of a BMFF file.
 abbrev pub FilmStoresAreShort : Type 0
 FilmStoresAreShort =
-    (c : Content) → IsShortBeside c.definition → IsShortOver c → film_store_size c c.definition.reserve < 2 ^ 40
-
--- The assertions of ingredients are short, where digests have the length of an algorithm's.
-abbrev pub IngredientsAreShort : Type 0
-IngredientsAreShort = (alg : Alg) (hash : List ℕ → List ℕ) (c : Gathered) → HasDigestLen alg hash → IsShortGathered c
-    → AreShort (map (ingredient_assertion hash) c.ingredients)
+    (c : Content) → IsShort c.definition → IsShortOver c → film_store_size c c.definition.reserve < 2 ^ 40
 
 -- The length of a new store of this is below the greatest number that 64 bits hold: with any short binding, in a JPEG
 -- file and in a BMFF file.
@@ -110,13 +81,3 @@ pub record Fits (c : Content) : Type 0 where
 -- So it is where a file is the definition.
 abbrev pub StoresFit : Type 0
 StoresFit = (file : List ℕ) (c : Content) → IsDefinition file (Ok c.definition) → IsShortOver c → Fits c
-
--- So it is of a definition that a file is with short further assertions behind its own, over boxes of no more than two stores.
-abbrev pub FurtherStoresFit : Type 0
-FurtherStoresFit = (file : List ℕ) (d : Definition) (further : List NewAssertion) (c : Content) → IsDefinition file (Ok d)
-    → AreShort further → HasFurther d further c → AreOfTwoStores c.carried → Fits c
-
--- So it is of what is gathered of two stores, where a file is the definition and digests have the length of its algorithm's.
-abbrev pub GatheredStoresFit : Type 0
-GatheredStoresFit = (file : List ℕ) (hash : List ℕ → List ℕ) (c : Gathered) → IsDefinition file (Ok c.definition)
-    → HasDigestLen (new_alg c.definition) hash → IsShortGathered c → Fits (content_of hash c)

@@ -1,7 +1,7 @@
 //! Laws of the length of a new store.
 
 ghost use Rattle.c2_lengths.specs.Lengths.{DefinitionsAreShort, FilmStoresAreShort, JpegStoresAreShort, StoresAreShort};
-ghost use Rattle.c2_lengths.specs.Lengths.{FurtherStoresFit, GatheredStoresFit, IngredientsAreShort, StoresFit};
+ghost use Rattle.c2_lengths.specs.Lengths.{StoresFit};
 
 use c2_assertion::a_written_data_hash_has_one_length;
 use c2_cbor::sorting_keeps_the_length;
@@ -17,8 +17,9 @@ pub fn a_definition_is_short()
     definitions_are_well_formed();
 }
 
-/// A new store of a short definition, with any short further assertions among its own, of no more than two stores' bytes taken over of
-/// older ones, and of a short binding has fewer than 2^40 bytes. The bindings of JPEG files and of BMFF files are short.
+/// A new store of a short definition, of no more than two stores' bytes taken over of older ones, with ingredients such as a manifest may
+/// have, which name manifests of no longer labels, and of a short binding has fewer than 2^40 bytes. The bindings of JPEG files and of BMFF
+/// files are short.
 pub fn a_new_store_is_short()
     ensures any { StoresAreShort }
     ensures jpeg { JpegStoresAreShort }
@@ -30,26 +31,12 @@ pub fn a_new_store_is_short()
     a_new_film_store_has_one_length();
 }
 
-/// Where a file is the definition, and no more than two stores' bytes are taken over of older ones, the length of the new store is less
-/// than 2^64 - 1.
+/// Where a file is the definition, and no more than two stores' bytes are taken over of older ones, with ingredients of those, the length of
+/// the new store is less than 2^64 - 1. So a length that is told by 64 bits, and not by the greatest number of them, is exact.
 pub fn the_length_of_a_new_store_fits()
     ensures { StoresFit }
 {
     // Only the prover needs these laws.
-    a_definition_is_short();
-    a_new_store_is_short();
-}
-
-/// The length of a new store is less than 2^64 - 1 also where short further assertions stand behind those of the definition that a file
-/// is, as those of ingredients are, which name manifests of what is carried of two stores. So a length that is told by 64 bits, and not by
-/// the greatest number of them, is exact.
-pub fn the_length_of_a_gathered_store_fits()
-    ensures short { IngredientsAreShort }
-    ensures further { FurtherStoresFit }
-    ensures gathered { GatheredStoresFit }
-{
-    // Only the prover needs these laws.
-    sorting_keeps_the_length();
     a_definition_is_short();
     a_new_store_is_short();
 }

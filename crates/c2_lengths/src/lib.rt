@@ -6,7 +6,4 @@
 
 mod laws;
 
-pub use laws::{
-    a_definition_is_short, a_new_store_is_short, the_length_of_a_gathered_store_fits,
-    the_length_of_a_new_store_fits,
-};
+pub use laws::{a_definition_is_short, a_new_store_is_short, the_length_of_a_new_store_fits};

@@ -13,7 +13,7 @@ use Rattle.c2_spec.proofs.BoxesOfManifests.{signature_inside}
 use Rattle.c2_built.proofs.ByIndex.{At, Both, at_box, manifest_is, supers_any}
 use Rattle.c2_built.specs.FreshBoxes.{contents_of}
 use Rattle.c2_built.specs.Manifests.{is_assertion_store, is_signature_box, is_super, superbox_of, supers_in, supers_of}
-use Rattle.c2_built.specs.Store.{Parent}
+use Rattle.c2_built.specs.Store.{NamedManifest}
 use Rattle.c2_carried.specs.Parents.{IsParentOf}
 use Rattle.c2_carried.specs.Redacting.{boxes_in, redacted_box, redacted_boxes, thin_boxes, thin_store, takes_out}
 use Rattle.c2_parent.specs.Boxes.{name_in, redacted_any}
@@ -132,7 +132,7 @@ signature_stays redacts (super wide d us) = find_thin (takes_out redacts (unwrap
 -- ---- the last manifest
 
 -- What the parent is, by the indices of the last manifest and of its signature box.
-pub record IsLast (redacts : List (List ℕ)) (t : Tree) (p : Parent) (whole : ℕ) (sign : Option ℕ) : Type 0 where
+pub record IsLast (redacts : List (List ℕ)) (t : Tree) (p : NamedManifest) (whole : ℕ) (sign : Option ℕ) : Type 0 where
   pub label : name_in (box_at t whole).box ≡ p.label
   pub contents : any_contents (redacted_any redacts (box_at t whole).box) ≡ p.contents
   pub signed : option_map_or (λ i. any_contents (box_at t i).box) sign [] ≡ p.signed
@@ -149,7 +149,7 @@ sign_of t w s g p at e f = go (signature_in t (superboxes t w)) same
     go (Some i) h = let boxes : superbox_at t i ≡ superbox_of g = cc (h) in ap (λ (b : Superbox). b.contents) boxes ∙ f
 
 -- the indices of a store's last manifest and of its signature box lead to the parent
-pub last_is : (redacts : List (List ℕ)) (t : Tree) (store : List ManifestBoxes) (p : Parent) (last whole : ℕ) (sign : Option ℕ) → store ≡ store_of t → last ≡ length store - 1
+pub last_is : (redacts : List (List ℕ)) (t : Tree) (store : List ManifestBoxes) (p : NamedManifest) (last whole : ℕ) (sign : Option ℕ) → store ≡ store_of t → last ≡ length store - 1
     → Some whole ≡ option_map (λ (m : ManifestBoxes). m.whole) (slice_get store last) → Some sign ≡ option_map (λ (m : ManifestBoxes). m.signature) (slice_get store last)
     → IsParentOf p (supers_in (redacted_boxes redacts (boxes_in t))) → IsLast redacts t p whole sign
 last_is redacts t store p last whole sign is end at signs h =
@@ -180,11 +180,11 @@ last_is redacts t store p last whole sign is end at signs h =
     supers_same (super wide d us) = refl
 
 -- a parent of these parts
-abbrev pub made_parent : List ℕ → List ℕ → List ℕ → Parent
+abbrev pub made_parent : List ℕ → List ℕ → List ℕ → NamedManifest
 made_parent label contents signed = record { label = label; contents = contents; signed = signed }
 
 -- it is the one that has them
-pub same_parent : (a b c : List ℕ) (p : Parent) → a ≡ p.label → b ≡ p.contents → c ≡ p.signed → p ≡ made_parent a b c
+pub same_parent : (a b c : List ℕ) (p : NamedManifest) → a ≡ p.label → b ≡ p.contents → c ≡ p.signed → p ≡ made_parent a b c
 same_parent a b c p l m n =
     sym (ap (λ (x : List ℕ). made_parent x b c) l ∙ ap (λ (x : List ℕ). made_parent p.label x c) m ∙ ap (λ (x : List ℕ). made_parent p.label p.contents x) n)
 

@@ -1,9 +1,8 @@
 // The parent of a new manifest.
-ghost use Rattle.std.specs.Prelude.{◌≡◌, ◌<◌, ◌≤◌, ◌-◌, [], IfOk, IfSome, Some, length, option_map, slice_get};
+ghost use Rattle.std.specs.Prelude.{◌≡◌, ◌<◌, ◌-◌, [], IfOk, IfSome, Some};
 ghost use Rattle.std.specs.Option.{option_map_or};
 ghost use Rattle.c2_spec.specs.C2pa.Manifest.{IsStoreOf};
 ghost use Rattle.c2_spec.specs.Jumbf.Boxes.{tree_count, box_at, any_contents};
-ghost use Rattle.c2_spec.specs.declared.store.ManifestBoxes.{ManifestBoxes as Boxes};
 ghost use Rattle.c2_built.specs.Manifests.{supers_in};
 ghost use Rattle.c2_carried.specs.Redacting.{boxes_in, redacted_boxes};
 ghost use Rattle.c2_parent.specs.Boxes.{redacted_any};

@@ -20,7 +20,7 @@ pub struct KeptGround {
     /// How the media file is cleared of its older store.
     pub clearing: Clearing,
 
-    /// What is taken over of that store.
+    /// What is taken over of older stores.
     pub carried: Carried,
 
     /// How many manifests the new store has.

@@ -32,10 +32,10 @@ use Rattle.c2_boxed.specs.Laws.{BuiltTextIsCovered, HasBuiltCover}
 use Rattle.c2_built.specs.Built.{HasDigestLen}
 use Rattle.c2_built.specs.Store.{data_binding, range_at}
 use Rattle.c2_built.specs.Unbound.{IsMet}
+use Rattle.c2_built.proofs.Conditions.{all_hold, same_bytes}
 use Rattle.c2_built.proofs.GoodItems.{RoundTrip}
-use Rattle.c2_built.proofs.NewRules.{all_hold, same_bytes}
 use Rattle.c2_built.proofs.StoreSize.{KeepsLength}
-use Rattle.c2_built.proofs.Uris.{name_utf8}
+use Rattle.c2_built.proofs.Texts.{name_utf8}
 use Rattle.c2_built.proofs.WrittenItems.{DataIsRead, DataIsSorted, IsDataHash, data_read}
 use Rattle.c2_films.specs.Films.{film_binding, film_hash}
 use Rattle.c2_films.proofs.Items.{HashLaws, IsFilmHash, hash_read}

@@ -1,28 +1,32 @@
 -- The new store of a content at a split: its size, what it meets by its content, and what the file meets.
-use Rattle.std.proofs.Common.{◌≡◌, inl, inr, ℕ, ◌≤◌, List, ◌∷◌, length, None, refl, sym, ap, ◌∙◌, subst, arith}
+use Rattle.std.proofs.Common.{◌≡◌, inl, inr, ℕ, ◌≤◌, List, [], ◌∷◌, length, map, None, refl, sym, ap, ◌∙◌, subst, arith, lit<}
+use Rattle.std.specs.List.{AllZip}
 use Rattle.c2_base.specs.declared.limits.TheConstants.{MAX_STORE_LEN}
 use Rattle.c2_base.specs.declared.values.Question.{Question}
 use Rattle.c2_spec.specs.C2pa.Manifest.{store_refusal}
-use Rattle.c2_spec.specs.C2pa.Sign1.{question_of}
 use Rattle.c2_spec.specs.Jpeg.Segments.{place_after}
-use Rattle.c2_spec.specs.Jumbf.Tree.{IsLegalTree, Tree, tree_bytes}
+use Rattle.c2_spec.specs.Jumbf.Tree.{IsLegalTree, Tree, Trees, tree_bytes}
 use Rattle.c2_spec.specs.Located as located
 use Rattle.c2_spec.specs.Located.{Located, Opening}
 use Rattle.c2_spec.specs.declared.digest.Alg.{Alg}
 use Rattle.c2_rules.specs.Opened.{IsBoxTree, IsManifestStore, IsManifestTree, IsOpened, Opens}
+use Rattle.c2_rules.specs.Readings.{AreReadings}
 use Rattle.c2_definition.specs.declared.types.NewAssertion.{NewAssertion}
 use Rattle.c2_built.specs.Built.{HasDigestLen, StoreSizeIsFixed}
-use Rattle.c2_built.specs.Fresh.{Meets}
-use Rattle.c2_built.specs.Store.{Content, new_alg, new_claim, new_manifest, new_store}
-use Rattle.c2_built.specs.Unbound.{FreshStoreMeets, IsKnownBinding, MeetsUnbound}
-use Rattle.c2_built.specs.Written.{CanBeWritten}
+use Rattle.c2_built.specs.Fresh.{IsFresh, Meets}
+use Rattle.c2_built.specs.Manifests.{manifest_of, supers_in}
+use Rattle.c2_built.specs.Store.{Content, NewIngredient, new_alg, new_manifest, new_store}
+use Rattle.c2_built.specs.Unbound.{IsKnownBinding, MeetsUnbound}
+use Rattle.c2_built.specs.Written.{AreIngredients, CanBeCarried, CanBeWritten}
 use Rattle.c2_built.proofs.BuiltLemmas.{packet_store}
-use Rattle.c2_carried.specs.Carrying.{CanStandOver, IsCarried, ValidStoreIsCarried}
+use Rattle.c2_built.proofs.Conditions.{all_hold}
+use Rattle.c2_built.proofs.Ingredients.{no_ingredients}
+use Rattle.c2_carried.specs.Carrying.{CanStandOver, IsCarried, RedactionsPass, ValidStoreIsCarried}
 use Rattle.c2_succeeding.specs.Over.{SucceedingStoreMeets}
 use Rattle.c2_films.specs.Films.{FilmSizeIsFixed}
 use Rattle.c2_films.proofs.Building.{boxed_store}
-use Rattle.c2_gathered.specs.Gathered.{ContentIsGathered, GatheredStoreMeets, IsOverRoots, content_of, gathered_claim, gathered_store}
-use Rattle.c2_gathered.specs.Taken.{questions_from}
+use Rattle.c2_gathered.specs.Gathered.{GatheredStoreMeets}
+use Rattle.c2_gathered.specs.Taken.{IsRoot, IsTakenFrom}
 use Rattle.c2_splits.specs.Contents.{CanPutAt, ContentFileMeets, ContentSizeIsFixed, FreshContentMeets, GatheredContentMeets, OverContentMeets, content_binding, content_len, content_question, content_size, content_store}
 use Rattle.c2_splits.specs.Meeting.{SplitFileMeets}
 use Rattle.c2_splits.specs.Splits.{CanHold, HasRoomFor, IsSplitStore, Split, binding_at, of_boxes, of_segments, split_binding, split_file, split_len, split_start, split_text}
@@ -89,10 +93,6 @@ content_meets files sizes hash c message base piece s parts older digests conten
 
 -- ---- the contents
 
--- of a definition alone
-pub fresh_content : FreshStoreMeets → FreshContentMeets
-fresh_content fresh hash c message parts is w spells = λ binding known small. fresh hash c binding message parts is w known small spells
-
 -- the store that a file is opened as
 record IsOld (old : Tree) : Type 0 where
   legal : IsLegalTree 1 old
@@ -133,27 +133,45 @@ over_content carries succeeding hash said media start len old r d c message part
     } in
     let carried : IsCarried hash c r.readings = carries hash said d old r c over can.few is in
     λ binding known small.
-    succeeding hash c is.parent binding message parts r.readings carried.readings is.has_parent
+    succeeding hash c is.parent binding message parts r.readings carried.readings is.ingredients
     (subst CanBeWritten (sym is.definition) w) known small spells carried.over (carried.last is.parent is.is_parent)
 
 -- with ingredients
-pub gathered_content : GatheredStoreMeets → ContentIsGathered → GatheredContentMeets
-gathered_content stores gathers hash c message parts roots rs ss over = λ binding known small.
-    let h : List ℕ → List ℕ = hash (new_alg c.definition) in
-    let x : Content = content_of h c in
-    let qs : List Question = questions_from rs roots in
-    let same = gathers h c binding message in
-    let store : gathered_store h c binding message ≡ new_store h x binding message = same.0 in
-    let is : IsOverRoots hash c binding message parts roots rs ss = record {
+pub gathered_content : GatheredStoreMeets → GatheredContentMeets
+gathered_content stores hash c message parts roots rs ss over = λ binding known small.
+    stores hash c binding message parts roots rs ss (record {
       written = over.written;
       ingredients = over.ingredients;
       known = known;
-      fits = subst (λ (t : Tree). length (tree_bytes t) ≤ MAX_STORE_LEN) (sym store) small;
+      fits = small;
       spells = over.spells;
       taken = over.taken;
       named = over.named;
-    } in
-    let met : MeetsUnbound hash (gathered_store h c binding message) binding (question_of parts (gathered_claim h c binding) ∷ qs) =
-    stores hash c binding message parts roots rs ss is in
-    subst (λ (t : Tree). MeetsUnbound hash t binding (question_of parts (new_claim h x binding) ∷ qs)) store
-    (subst (λ (claim : List ℕ). MeetsUnbound hash (gathered_store h c binding message) binding (question_of parts claim ∷ qs)) same.1 met)
+    })
+
+-- a store of a definition alone takes over no boxes, from no roots
+takes_none : (hash : Alg → List ℕ → List ℕ) (c : Content) → IsFresh c → IsTakenFrom hash c.definition c.carried [] [] []
+takes_none hash c is = record {
+  can_be = subst (CanBeCarried c.definition.label) (sym is.carried)
+      (record { legal = tt; distinct = tt; new = tt; manifests = tt; few = lit< tt });
+  reads = subst (λ (boxes : Trees). AreReadings (map manifest_of (supers_in boxes)) []) (sym is.carried) tt;
+  less = tt;
+  rooted = record { differ = λ i j r s e. absurd (cc (e)); kinds = λ i r e. absurd (cc (e)); within = tt; holds = λ i r e. absurd (cc (e)) };
+  can = record {
+    kinds = λ i r e. absurd (cc (e));
+    reached = λ i r label e. absurd (cc (e));
+    listed = λ i r label e. absurd (cc (e));
+    signed = λ i r e. absurd (cc (e));
+  };
+  redactions = subst (RedactionsPass c.definition.label) (sym is.redact) (all_hold [] tt);
+}
+
+-- so it has no ingredients and no further questions
+pub fresh_content : GatheredStoreMeets → FreshContentMeets
+fresh_content stores hash c message parts is w spells = gathered_content stores hash c message parts [] [] [] (record {
+  written = w;
+  ingredients = subst AreIngredients (sym is.ingredients) no_ingredients;
+  spells = spells;
+  taken = takes_none hash c is;
+  named = subst (λ (gs : List NewIngredient). AllZip (λ (g : NewIngredient) root. IsRoot [] [] g.of root) gs []) (sym is.ingredients) tt;
+})

@@ -4,7 +4,6 @@ use Rattle.c2_spec.specs.Bmff.Boxes.{box_bytes}
 use Rattle.c2_spec.specs.Bmff.Writing.{built_text, c2pa_box}
 use Rattle.c2_spec.specs.Bmff.Writing as bmff
 use Rattle.c2_spec.specs.C2pa.Sign1.{question_of}
-use Rattle.c2_spec.specs.Jpeg.Writing.{insert_place}
 use Rattle.c2_spec.specs.Jumbf.Tree.{tree_bytes}
 use Rattle.c2_spec.specs.PutIn.{put_in, taken_out}
 use Rattle.c2_spec.specs.declared.digest.Alg.{Alg}

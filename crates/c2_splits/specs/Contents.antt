@@ -16,12 +16,11 @@ use Rattle.c2_definition.specs.declared.types.Definition.{Definition}
 use Rattle.c2_definition.specs.declared.types.NewAssertion.{NewAssertion}
 use Rattle.c2_built.specs.Built.{HasDigestLen, store_size}
 use Rattle.c2_built.specs.Fresh.{GivesDigests, IsFresh, Meets}
-use Rattle.c2_built.specs.Store.{Content, new_alg, new_claim, new_store}
+use Rattle.c2_built.specs.Store.{Content, NewIngredient, new_alg, new_claim, new_store}
 use Rattle.c2_built.specs.Unbound.{IsKnownBinding, MeetsUnbound}
-use Rattle.c2_built.specs.Written.{CanBeWritten}
+use Rattle.c2_built.specs.Written.{AreIngredients, CanBeWritten}
 use Rattle.c2_carried.specs.Parents.{IsContentOver}
 use Rattle.c2_films.specs.Films.{film_store_size}
-use Rattle.c2_gathered.specs.Gathered.{AreIngredients, Gathered, NewIngredient, content_of}
 use Rattle.c2_gathered.specs.Taken.{IsRoot, IsTakenFrom, questions_from}
 use Rattle.c2_places.specs.Meeting.{CanSucceedAt}
 use Rattle.c2_places.specs.Places.{CanPut, Place, place_file, place_question, place_start, place_store, put_bytes, range_len}
@@ -87,7 +86,7 @@ OverContentMeets = (hash : Alg → List ℕ → List ℕ) (said : Question → V
 
 -- A new store that takes over a chain and has an ingredient for each of its roots, whichever its binding is: the
 -- definition can be written, the ingredients are such as a manifest may have, and the message spells its parts.
-pub record IsGatheredOver (hash : Alg → List ℕ → List ℕ) (c : Gathered) (message : List ℕ) (parts : SignParts)
+pub record IsGatheredOver (hash : Alg → List ℕ → List ℕ) (c : Content) (message : List ℕ) (parts : SignParts)
     (roots : List ℕ) (rs ss : List Reading) : Type 0 where
   pub written : CanBeWritten c.definition
   pub ingredients : AreIngredients c.ingredients
@@ -95,13 +94,11 @@ pub record IsGatheredOver (hash : Alg → List ℕ → List ℕ) (c : Gathered) 
   pub taken : IsTakenFrom hash c.definition c.carried roots rs ss
   pub named : AllZip (λ (g : NewIngredient) root. IsRoot rs ss g.of root) c.ingredients roots
 
--- Such a store meets these rules, as that of a content whose definition has the ingredients as further assertions; it
--- asks the questions of the chain too.
+-- Such a store meets these rules, and asks the questions of what is reached from the roots too.
 abbrev pub GatheredContentMeets : Type 0
-GatheredContentMeets = (hash : Alg → List ℕ → List ℕ) (c : Gathered) (message : List ℕ) (parts : SignParts)
+GatheredContentMeets = (hash : Alg → List ℕ → List ℕ) (c : Content) (message : List ℕ) (parts : SignParts)
     (roots : List ℕ) (rs ss : List Reading)
-    → IsGatheredOver hash c message parts roots rs ss
-    → ContentMeets hash (content_of (hash (new_alg c.definition)) c) message parts (questions_from rs roots)
+    → IsGatheredOver hash c message parts roots rs ss → ContentMeets hash c message parts (questions_from rs roots)
 
 -- ---- the law of files
 

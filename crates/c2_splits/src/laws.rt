@@ -12,13 +12,11 @@ use c2_assertion::{
     written_items_are_in_order, written_items_have_plain_keys,
 };
 use c2_boxed::{a_base_has_no_store, a_put_store_is_not_covered};
-use c2_built::{
-    a_bound_file_meets_the_rules, a_fresh_store_meets_the_rules, a_new_store_has_one_length,
-};
+use c2_built::{a_bound_file_meets_the_rules, a_new_store_has_one_length};
 use c2_carried::a_valid_store_is_carried;
 use c2_cbor::{round_trip, sorting_keeps_the_length};
 use c2_films::a_new_film_store_has_one_length;
-use c2_gathered::{a_gathered_store_meets_the_rules, stores_are_gathered};
+use c2_gathered::a_gathered_store_meets_the_rules;
 use c2_jpegseg::packets_hold_the_store;
 use c2_succeeding::a_succeeding_store_meets_the_rules;
 
@@ -94,11 +92,9 @@ pub fn a_content_meets_the_rules()
     ensures gathered { GatheredContentMeets }
 {
     // Only the prover needs these laws.
-    a_fresh_store_meets_the_rules();
     a_valid_store_is_carried();
     a_succeeding_store_meets_the_rules();
     a_gathered_store_meets_the_rules();
-    stores_are_gathered();
 }
 
 /// The file that such a store is put into at a split meets each rule but the verdict on its message, whichever content

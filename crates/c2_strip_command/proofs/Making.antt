@@ -1,5 +1,5 @@
 -- What `strip` replies and writes, by the call below it.
-use Rattle.std.proofs.Common.{◌≡◌, ◌≢◌, refl, sym, ap, ◌∙◌, subst, inr, ℕ, List, [], unwrap_or}
+use Rattle.std.proofs.Common.{◌≡◌, ◌≢◌, refl, sym, ap, ◌∙◌, subst, ℕ, List, [], unwrap_or}
 use Rattle.std.specs.Prelude.{IfErr, IfOk, OnOk, Ok, Err}
 use Rattle.std.specs.declared.result.Result.{Result}
 use Rattle.c2_strip.specs.Answers as strips
@@ -10,7 +10,7 @@ use Rattle.c2_strip.specs.declared.error.StripError.TheVariants as error
 use Rattle.c2_strip.specs.declared.error.Stripped.{Stripped}
 use Rattle.c2_strip.specs.declared.error.Stripped.TheVariants.{Done, NoStore, Refused, Middle}
 use Rattle.c2_outcome.specs.Outcome.{Outcome}
-use Rattle.c2_outcome.specs.Reply.{IsCopyingCause, IsOutputCause, IsReplyTo, outcome_of}
+use Rattle.c2_outcome.specs.Reply.{IsCopyingCause, IsOutputCause, IsReplyTo}
 use Rattle.c2_outcome.specs.declared.reply.Fault.{Fault}
 use Rattle.c2_outcome.specs.declared.reply.Reply.{Reply}
 use Rattle.c2_outcome.specs.declared.types.Answer.TheVariants as answer

@@ -15,9 +15,8 @@ use Rattle.c2_rules.specs.Readings.{Reading, question_in}
 use Rattle.c2_rules.specs.Rules.{claim_tests, rest_tests, verdict_tests}
 use Rattle.c2_rules.specs.Seen.{seen_at}
 use Rattle.c2_rules.specs.Tests.{downward}
+use Rattle.c2_built.proofs.Conditions.{Holds, all_each}
 use Rattle.c2_built.proofs.Lists.{each-append, each-back, each-front}
-use Rattle.c2_built.proofs.NewRules.{Holds}
-use Rattle.c2_carried.proofs.Valid.{all_each}
 use Rattle.c2_succeeding.specs.Over.{ValidIsApproved}
 
 -- a verdict that no rule refuses is an approval

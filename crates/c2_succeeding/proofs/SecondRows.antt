@@ -1,6 +1,6 @@
 -- A worked store over a worked store, computed: the first is of a definition with one assertion of actions, without a title, and 256
 -- bytes reserved for the message; the second of the same definition under another label. And a store less a redacted note.
-use Rattle.std.proofs.Common.{◌≡◌, ℕ, ◌+◌, List, [], ◌∷◌, ◌++◌, length, replicate, Some, None, refl, codes}
+use Rattle.std.proofs.Common.{◌≡◌, ℕ, ◌+◌, List, [], ◌∷◌, ◌++◌, length, replicate, None, refl, codes}
 use Rattle.c2_spec.specs.Cbor.Deterministic.{deterministic, shortest_head}
 use Rattle.c2_spec.specs.Jumbf.Tree.{Tree, tree_bytes, trees_bytes}
 use Rattle.c2_assertion.specs.Written.{ingredient_item}
@@ -10,7 +10,7 @@ use Rattle.c2_definition.specs.declared.types.Payload.TheVariants as payload
 use Rattle.c2_built.specs.Built.{built_len, no_digest, store_size}
 use Rattle.c2_built.specs.Fresh.{fresh_content}
 use Rattle.c2_built.specs.FreshBoxes.{contents_of, item_box}
-use Rattle.c2_built.specs.Store.{Content, Parent, data_binding, new_claim, new_manifest, new_store, parent_ingredient}
+use Rattle.c2_built.specs.Store.{Content, NamedManifest, data_binding, new_claim, new_manifest, new_store, parent_ingredient, written_ingredient}
 use Rattle.c2_built.proofs.BuildRows.{actions}
 use Rattle.c2_carried.specs.Parents.{IsContentOver}
 use Rattle.c2_carried.specs.Redacting.{boxes_in, redacted_boxes}
@@ -55,12 +55,12 @@ abbrev signature : Tree
 signature = item_box (codes "c2cs") (codes "c2pa.signature") (replicate 256 0)
 
 -- the parent, as it stands in the new store
-unfoldable parent : Parent
+unfoldable parent : NamedManifest
 parent = record { label = label (codes "0"); contents = contents_of manifest; signed = contents_of signature }
 
 -- what goes into a store over it
 unfoldable second : Content
-second = record { definition = defined (codes "1") []; carried = redacted_boxes [] (boxes_in first); parent = Some parent }
+second = record { definition = defined (codes "1") []; carried = redacted_boxes [] (boxes_in first); ingredients = parent_ingredient parent ∷ [] }
 
 -- this goes into it
 is_over : IsContentOver (defined (codes "1") []) first second
@@ -69,7 +69,7 @@ is_over = record {
   definition = refl;
   carried = refl;
   parent = parent;
-  has_parent = refl;
+  ingredients = refl;
   is_parent = record { active = manifest; is_active = refl; label = refl; contents = refl; signature = signature; is_signature = refl; signed = refl };
 }
 
@@ -79,7 +79,7 @@ unfolding second first defined actions shortest_head
 carried = refl
 
 -- the item of the parent
-ingredient : length (deterministic (ingredient_item (parent_ingredient (no_digest Sha256) parent))) ≡ 284
+ingredient : length (deterministic (ingredient_item (written_ingredient (no_digest Sha256) (parent_ingredient parent)))) ≡ 284
 unfolding parent shortest_head
 ingredient = refl
 

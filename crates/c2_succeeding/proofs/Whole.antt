@@ -1,13 +1,11 @@
 -- The laws of a store over an older one and of the file that holds it follow from that of every new store: its one root is the last
 -- manifest of the older store.
-use Rattle.std.proofs.Common.{◌≡◌, inl, ℕ, suc, ◌-◌, ◌<◌, ◌≤◌, Bool, cond, List, [], ◌∷◌, length, Some, slice_get, refl, sym, ap, ◌∙◌, subst, arith, lit≤}
+use Rattle.std.proofs.Common.{◌≡◌, ℕ, suc, ◌-◌, ◌<◌, Bool, cond, List, [], ◌∷◌, length, slice_get, sym, ap, ◌∙◌, subst, arith}
 use Rattle.std.proofs.Math.Path.{fun_ext}
 use Rattle.std.specs.List.{AllZip}
 use Rattle.std.proofs.lemmas.Option.{same_Some, slice_get_within}
-use Rattle.c2_base.specs.declared.limits.TheConstants.{MAX_STORE_LEN}
 use Rattle.c2_base.specs.declared.values.Question.{Question}
 use Rattle.c2_spec.specs.C2pa.Sign1.{question_of}
-use Rattle.c2_spec.specs.Jumbf.Tree.{tree_bytes}
 use Rattle.c2_spec.specs.declared.digest.Alg.{Alg}
 use Rattle.c2_rules.specs.Chains.{LabelsDiffer, label_in}
 use Rattle.c2_rules.specs.CheckList.{questions, questions_of}
@@ -16,13 +14,15 @@ use Rattle.c2_rules.specs.Tests.{downward}
 use Rattle.c2_joined.specs.Rooted.{ReadsKinds, StoreIsRooted, last_roots}
 use Rattle.c2_joined.proofs.Places.{contains_at, member_of}
 use Rattle.c2_joined.proofs.Rooting.{last_active}
-use Rattle.c2_built.specs.Store.{Content, Parent, new_alg, new_claim, new_store}
+use Rattle.c2_built.specs.Store.{Content, NamedManifest, NewIngredient, new_alg, new_claim, new_store, parent_ingredient}
 use Rattle.c2_built.specs.Unbound.{MeetsUnbound}
+use Rattle.c2_built.specs.Written.{AreIngredients}
+use Rattle.c2_built.proofs.Ingredients.{parent_alone}
 use Rattle.c2_carried.specs.Carrying.{IsLast, IsTakenOver}
 use Rattle.c2_carried.specs.Less.{AreLess, CanRedactBy}
 use Rattle.c2_carried.proofs.Places.{LessAt, less_at, less_label}
 use Rattle.c2_carried.proofs.Stores.{store_differs}
-use Rattle.c2_gathered.specs.Gathered.{AreIngredients, GatheredStoreMeets, IsOverRoots, NewIngredient, gathered_of, parent_ingredients}
+use Rattle.c2_gathered.specs.Gathered.{GatheredStoreMeets, IsOverRoots}
 use Rattle.c2_gathered.specs.Taken.{IsRoot, IsTakenFrom, questions_from}
 use Rattle.c2_succeeding.specs.Over.{SucceedingStoreMeets}
 
@@ -58,12 +58,8 @@ last_place : (rs : List Reading) → 0 < length rs → last_roots rs ≡ (length
 last_place [] h = absurd (omega (arith, h))
 last_place (r ∷ rs) h = ap (λ n. n ∷ []) (let e : length rs ≡ suc (length rs) - 1 = omega arith in e)
 
--- one parent may be had
-one_parent : (p : Parent) → AreIngredients (parent_ingredients (Some p))
-one_parent p = record { labels = (inl refl, tt); apart = (tt, tt); parents = lit≤ tt }
-
 -- the parent is the root
-parent_root : (p : Parent) (rs ss : List Reading) → IsLast p rs ss → IsRoot rs ss p (length rs - 1)
+parent_root : (p : NamedManifest) (rs ss : List Reading) → IsLast p rs ss → IsRoot rs ss p (length rs - 1)
 parent_root p rs ss last =
     let some : 0 < length rs = last.some in
     record { place = last.place; within = omega (arith, some); named = last.active; is_named = last.is_active; contents = last.contents; signed = last.signed; label = last.label; names = last.names }
@@ -77,25 +73,20 @@ asked_from rs =
 -- so the store with the last manifest as its parent meets the rules
 pub over_last : GatheredStoreMeets → StoreIsRooted → SucceedingStoreMeets
 over_last gathers roots hash c parent binding message p rs ss has w known small spells over last =
-    let whole : c ≡ record { definition = c.definition; carried = c.carried; parent = Some parent } =
-    ap (λ o. record { definition = c.definition; carried = c.carried; parent = o }) has in
-    let x : Content = record { definition = c.definition; carried = c.carried; parent = Some parent } in
     let h : List ℕ → List ℕ = hash (new_alg c.definition) in
-    let over_roots : IsOverRoots hash (gathered_of x) binding message p (last_roots rs) rs ss = record {
+    let named : AllZip (λ (g : NewIngredient) r. IsRoot rs ss g.of r) (parent_ingredient parent ∷ []) (last_roots rs) =
+    subst (AllZip (λ (g : NewIngredient) r. IsRoot rs ss g.of r) (parent_ingredient parent ∷ []))
+    (sym (last_place rs last.some)) (parent_root parent rs ss last, tt) in
+    let over_roots : IsOverRoots hash c binding message p (last_roots rs) rs ss = record {
       written = w;
-      ingredients = one_parent parent;
+      ingredients = subst AreIngredients (sym has) (parent_alone parent);
       known = known;
-      fits = subst (λ (z : Content). length (tree_bytes (new_store h z binding message)) ≤ MAX_STORE_LEN) whole small;
+      fits = small;
       spells = spells;
       taken = taken_from roots hash c rs ss over;
       named = subst
-          (λ (ns : List ℕ). AllZip (λ (g : NewIngredient) r. IsRoot rs ss g.of r) (parent_ingredients (Some parent)) ns)
-          (sym (last_place rs last.some)) (parent_root parent rs ss last, tt);
+          (λ (gs : List NewIngredient). AllZip (λ (g : NewIngredient) r. IsRoot rs ss g.of r) gs (last_roots rs))
+          (sym has) named;
     } in
-    subst
-    (λ (z : Content). MeetsUnbound hash (new_store h z binding message) binding (question_of p (new_claim h z binding) ∷ questions rs))
-    (sym whole)
-    (subst (λ (qs : List Question). MeetsUnbound hash (new_store h x binding message) binding (question_of p (new_claim h x binding) ∷ qs)) (asked_from rs)
-    (gathers hash (gathered_of x) binding message p (last_roots rs) rs ss over_roots))
-
--- ---- the file
+    subst (λ (qs : List Question). MeetsUnbound hash (new_store h c binding message) binding (question_of p (new_claim h c binding) ∷ qs))
+    (asked_from rs) (gathers hash c binding message p (last_roots rs) rs ss over_roots)

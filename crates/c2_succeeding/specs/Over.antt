@@ -1,6 +1,5 @@
 -- What a new store meets that takes over older manifests, and what judges say of a valid store.
-use Rattle.std.specs.Prelude.{◌≡◌, ◌≤◌, ℕ, List, ◌∷◌, length}
-use Rattle.std.specs.declared.option.Option.TheVariants.{Some}
+use Rattle.std.specs.Prelude.{◌≡◌, ◌≤◌, ℕ, List, [], ◌∷◌, length}
 use Rattle.std.specs.List.{AllByRecursion}
 use Rattle.c2_base.specs.declared.limits.TheConstants.{MAX_STORE_LEN}
 use Rattle.c2_base.specs.declared.values.Question.{Question}
@@ -12,7 +11,7 @@ use Rattle.c2_spec.specs.declared.panel.Verdict.TheVariants.{Approved}
 use Rattle.c2_rules.specs.CheckList.{IsValid, StoreReading, questions}
 use Rattle.c2_rules.specs.Readings.{Reading}
 use Rattle.c2_definition.specs.declared.types.NewAssertion.{NewAssertion}
-use Rattle.c2_built.specs.Store.{Content, Parent, new_claim, new_store, new_alg}
+use Rattle.c2_built.specs.Store.{Content, NamedManifest, new_alg, new_claim, new_store, parent_ingredient}
 use Rattle.c2_built.specs.Unbound.{IsKnownBinding, MeetsUnbound}
 use Rattle.c2_built.specs.Written.{CanBeWritten}
 use Rattle.c2_carried.specs.Carrying.{IsLast, IsTakenOver}
@@ -20,8 +19,8 @@ use Rattle.c2_carried.specs.Carrying.{IsLast, IsTakenOver}
 -- A new store that takes over these older manifests and has the last of them as its parent meets all but its binding, and asks the new
 -- question and then the older ones. The message may be any that spells its parts.
 abbrev pub SucceedingStoreMeets : Type 0
-SucceedingStoreMeets = (hash : Alg → List ℕ → List ℕ) (c : Content) (parent : Parent) (binding : NewAssertion) (message : List ℕ) (p : SignParts) (rs ss : List Reading)
-    → c.parent ≡ Some parent → CanBeWritten c.definition → IsKnownBinding binding
+SucceedingStoreMeets = (hash : Alg → List ℕ → List ℕ) (c : Content) (parent : NamedManifest) (binding : NewAssertion) (message : List ℕ) (p : SignParts) (rs ss : List Reading)
+    → c.ingredients ≡ parent_ingredient parent ∷ [] → CanBeWritten c.definition → IsKnownBinding binding
     → length (tree_bytes (new_store (hash (new_alg c.definition)) c binding message)) ≤ MAX_STORE_LEN → SpellsMessage message p
     → IsTakenOver hash c rs ss → IsLast parent rs ss
     → MeetsUnbound hash (new_store (hash (new_alg c.definition)) c binding message) binding (question_of p (new_claim (hash (new_alg c.definition)) c binding) ∷ questions rs)

@@ -1,6 +1,6 @@
 -- What a command replies and leaves, by what the call below it came to and how that ended. The command says what the call came to as an
 -- outcome or as a fault.
-use Rattle.std.proofs.Common.{◌≡◌, ◌≢◌, ◌⊎◌, refl, sym, ap, ◌∙◌, subst, inl, inr, ℕ, ◌<◌, Bool, List, [], Option, None, unwrap_or, arith}
+use Rattle.std.proofs.Common.{◌≡◌, ◌≢◌, refl, sym, ap, ◌∙◌, subst, inl, ℕ, ◌<◌, Bool, List, [], Option, None, unwrap_or, arith}
 use Rattle.std.specs.Prelude.{⊤, IfErr, IfOk, IsSome, OnOk, Ok, Err}
 use Rattle.std.specs.declared.result.Result.{Result}
 use Rattle.c2_base.specs.Sink.{StaysSink, WritesSink}
@@ -8,7 +8,7 @@ use Rattle.c2_base.specs.Source.{ReadsSource, StaysSource}
 use Rattle.c2_copying.specs.Writing.{Ending, EndsSink, HasWritten, complete, read_fault, write_fault, untouched}
 use Rattle.c2_outcome.specs.Left.{state_of}
 use Rattle.c2_outcome.specs.Outcome.{Outcome}
-use Rattle.c2_outcome.specs.Reply.{EndsFile, IsFaultOf, IsOutputCause, IsReplyTo, MakesFile, StandsFor, TakesFile}
+use Rattle.c2_outcome.specs.Reply.{EndsFile, IsFaultOf, IsOutputCause, IsReplyTo, MakesFile, StandsFor}
 use Rattle.c2_outcome.specs.declared.reply.Fault.{Fault}
 use Rattle.c2_outcome.specs.declared.reply.Fault.TheVariants.{Input, Output, Memory}
 use Rattle.c2_outcome.specs.declared.reply.Reply.{Reply}

@@ -1,16 +1,19 @@
-use Rattle.std.proofs.Common.{◌-◌, ◌^◌, ℕ, ap, min, ◌∙◌}
+use Rattle.std.proofs.Common.{◌-◌, ◌^◌, ℕ, ap, min, sym, ◌∙◌}
 use Rattle.std.proofs.lemmas.Result.{IfOk-weaker}
+use Rattle.c2_spec.specs.Digest.{zero_digest}
+use Rattle.c2_definition.specs.declared.types.Definition.{Definition}
 use Rattle.c2_definition.specs.declared.types.NewAssertion.{NewAssertion}
 use Rattle.c2_built.specs.Built.{bound_len}
-use Rattle.c2_build_collect.proofs.Contents.{blank_is, further_as}
+use Rattle.c2_built.specs.Store.{new_alg}
+use Rattle.c2_bound_parts.specs.Bound.{seat_binding}
+use Rattle.c2_in_place.proofs.Stored.{blank_len}
 use Rattle.c2_build_collect.proofs.sizes.store_len.Goals as goal
 
 -- the binding is that of no range and no digest
 pub returns-clause-len : goal.returns-clause-len
 returns-clause-len c =
-    let d = c.args.definition.now in
     let s = c.args.seat.now in
-    let k = c.args.ground.now in
-    IfOk-weaker c.gathered_size.result _ _ (λ n said content is. said content (further_as d _ k.further.items content c.as_slice-further.ensures.value is.has) (c.as_slice.ensures.value ∙ is.boxes)
-    ∙ ap (λ (b : NewAssertion). min (bound_len content b d.reserve) (2 ^ 64 - 1)) c.in_ok-binding.ensures
-    ∙ ap (λ (m : ℕ). min m (2 ^ 64 - 1)) (blank_is d k.further.items content is.has s)) c.gathered_size.ensures.len
+    IfOk-weaker c.bound_size.result _ _ (λ n said hash content is. said hash content is
+    ∙ ap (λ (b : NewAssertion). min (bound_len content b c.args.definition.now.reserve) (2 ^ 64 - 1)) c.in_ok-binding.ensures
+    ∙ ap (λ (d : Definition). min (bound_len content (seat_binding (new_alg d) s 0 0 (zero_digest (new_alg d))) d.reserve) (2 ^ 64 - 1)) (sym is.definition)
+    ∙ ap (λ (m : ℕ). min m (2 ^ 64 - 1)) (blank_len s content)) c.bound_size.ensures.len

@@ -22,7 +22,7 @@ bound_parts-requires-clause-small g c =
     let binding = c.in_ok-binding.ensures ∙ ap (film_binding (new_alg d)) c.as_slice.ensures in
     record {
       content = fresh_content d;
-      is = fresh_is _ d _ c.nothing-nothing.ensures.boxes c.nothing-nothing.ensures.parent;
+      is = fresh_is _ d _ c.nothing-nothing.ensures.boxes c.nothing-nothing.ensures.ingredients (λ text. (g.met.H.Hashing.is_digest (new_alg d) text).sized);
       small = subst (λ (b : NewAssertion). bound_len (fresh_content d) b d.reserve ≤ MAX_STORE_LEN) (sym binding) (subst (λ n. n ≤ MAX_STORE_LEN) (sym (bound_is c.a_new_film_store_has_one_length.ensures.store d c.args.digest.now c.requires.digest)) c.requires.small);
     }
 
@@ -31,14 +31,16 @@ pub returns-clause-parts : goal.returns-clause-parts
 returns-clause-parts g c =
     let d = c.args.definition.now in
     let binding = c.in_ok-binding.ensures ∙ ap (film_binding (new_alg d)) c.as_slice.ensures in
-    IfOk-weaker c.bound_parts.result _ _ (λ p said. subst (λ (b : NewAssertion). AreParts (g.H.Hashing.digest_of (new_alg d)) (fresh_content d) b p) binding (said (fresh_content d) (fresh_is _ d _ c.nothing-nothing.ensures.boxes c.nothing-nothing.ensures.parent))) c.bound_parts.ensures.parts
+    let fresh = fresh_is (g.H.Hashing.digest_of (new_alg d)) d c.nothing-nothing.result c.nothing-nothing.ensures.boxes c.nothing-nothing.ensures.ingredients (λ text. (g.met.H.Hashing.is_digest (new_alg d) text).sized) in
+    IfOk-weaker c.bound_parts.result _ _ (λ p said. subst (λ (b : NewAssertion). AreParts (g.H.Hashing.digest_of (new_alg d)) (fresh_content d) b p) binding (said (fresh_content d) fresh)) c.bound_parts.ensures.parts
 
 -- and are as long as was reckoned
 pub returns-clause-size : goal.returns-clause-size
 returns-clause-size g c =
     let d = c.args.definition.now in
+    let fresh = fresh_is (g.H.Hashing.digest_of (new_alg d)) d c.nothing-nothing.result c.nothing-nothing.ensures.boxes c.nothing-nothing.ensures.ingredients (λ text. (g.met.H.Hashing.is_digest (new_alg d) text).sized) in
     IfOk-weaker c.bound_parts.result _ _ (λ p said.
-    let all = said (fresh_content d) (fresh_is _ d _ c.nothing-nothing.ensures.boxes c.nothing-nothing.ensures.parent) in
+    let all = said (fresh_content d) fresh in
     let none : length c.nothing-nothing.result.boxes ≡ 0 = ap length c.nothing-nothing.ensures.boxes in
     let bound = ap (λ (b : NewAssertion). bound_len (fresh_content d) b d.reserve) (c.in_ok-binding.ensures ∙ ap (film_binding (new_alg d)) c.as_slice.ensures) in
     let fixed = bound_is c.a_new_film_store_has_one_length.ensures.store d c.args.digest.now c.requires.digest in

@@ -18,8 +18,9 @@ returns-in-Ok-new_store-clause-ready g c = λ file known what k.
     let hash = g.H.Hashing.digest_of in
     let d = c.args.definition.now in
     let parts = c.in-Ok-parts_over.ensures.parts in
+    let fresh = fresh_is (hash (new_alg d)) d c.nothing-nothing.result c.nothing-nothing.ensures.boxes c.nothing-nothing.ensures.ingredients (λ text. (g.met.H.Hashing.is_digest (new_alg d) text).sized) in
     ready_of hash file what d _ c.in-Ok-parts_over.parts _ c.args.message.now k parts known c.requires.filled
-    (c.in-Ok-new_store.ensures (hash (new_alg d)) (fresh_content d) (film_binding (new_alg d) parts.digest) (fresh_is _ d _ c.nothing-nothing.ensures.boxes c.nothing-nothing.ensures.parent) parts.parts)
+    (c.in-Ok-new_store.ensures (hash (new_alg d)) (fresh_content d) (film_binding (new_alg d) parts.digest) fresh parts.parts)
 
 -- it can be written
 pub returns-in-Ok-new_store-clause-can_write : goal.returns-in-Ok-new_store-clause-can_write
@@ -27,7 +28,8 @@ returns-in-Ok-new_store-clause-can_write g c =
     let hash = g.H.Hashing.digest_of in
     let d = c.args.definition.now in
     let parts = c.in-Ok-parts_over.ensures.parts in
-    let is = c.in-Ok-new_store.ensures (hash (new_alg d)) (fresh_content d) (film_binding (new_alg d) parts.digest) (fresh_is _ d _ c.nothing-nothing.ensures.boxes c.nothing-nothing.ensures.parent) parts.parts in
+    let fresh = fresh_is (hash (new_alg d)) d c.nothing-nothing.result c.nothing-nothing.ensures.boxes c.nothing-nothing.ensures.ingredients (λ text. (g.met.H.Hashing.is_digest (new_alg d) text).sized) in
+    let is = c.in-Ok-new_store.ensures (hash (new_alg d)) (fresh_content d) (film_binding (new_alg d) parts.digest) fresh parts.parts in
     let size = filled_is c.a_new_film_store_has_one_length.ensures.store (hash (new_alg d)) d parts.digest c.args.message.now (λ text. (g.met.H.Hashing.is_digest (new_alg d) text).sized) parts.sized c.requires.filled in
     record {
       fits = c.requires.fits;

@@ -1,7 +1,8 @@
-use Rattle.std.proofs.Common.{List, ap, min, ◌-◌, ◌^◌, ◌∙◌, ℕ}
+use Rattle.std.proofs.Common.{ap, min, ◌-◌, ◌^◌, ◌∙◌}
 use Rattle.std.proofs.lemmas.Result.{IfOk-weaker}
+use Rattle.c2_spec.proofs.Digests.{zero_len}
 use Rattle.c2_definition.specs.declared.types.NewAssertion.{NewAssertion}
-use Rattle.c2_built.specs.Built.{bound_len}
+use Rattle.c2_built.specs.Built.{bound_len, no_digest}
 use Rattle.c2_built.specs.Fresh.{fresh_content}
 use Rattle.c2_built.specs.Store.{new_alg}
 use Rattle.c2_films.specs.Films.{film_binding}
@@ -13,5 +14,6 @@ pub returns : goal.returns
 returns c =
     let d = c.args.definition.now in
     let binding = c.in_ok-binding.ensures ∙ ap (film_binding (new_alg d)) (c.as_slice.ensures ∙ c.zeros-blank.ensures) in
-    IfOk-weaker c.bound_size.result _ _ (λ n said. said (λ (x : List ℕ). x) (fresh_content d) (fresh_is (λ (x : List ℕ). x) d _ c.nothing-nothing.ensures.boxes c.nothing-nothing.ensures.parent)
+    let fresh = fresh_is (no_digest (new_alg d)) d c.nothing-nothing.result c.nothing-nothing.ensures.boxes c.nothing-nothing.ensures.ingredients (λ text. zero_len (new_alg d)) in
+    IfOk-weaker c.bound_size.result _ _ (λ n said. said (no_digest (new_alg d)) (fresh_content d) fresh
     ∙ ap (λ (b : NewAssertion). min (bound_len (fresh_content d) b d.reserve) (2 ^ 64 - 1)) binding) c.bound_size.ensures.len

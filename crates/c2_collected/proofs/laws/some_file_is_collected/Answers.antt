@@ -10,5 +10,4 @@ returns c = some_file (record {
   stays = c.a_base_stays.ensures;
   asks = c.a_question_where_the_claim_rules_hold.ensures.asks;
   rooted = c.a_store_is_rooted_at_its_last_manifest.ensures;
-  keeps = c.sorting_keeps_the_length.ensures;
 })

@@ -7,4 +7,4 @@ returns-clause-short c = collected_short
 
 -- so its length fits
 pub returns-clause-fits : goal.returns-clause-fits
-returns-clause-fits c = collected_fits c.the_length_of_a_gathered_store_fits.ensures.gathered
+returns-clause-fits c = collected_fits c.the_length_of_a_new_store_fits.ensures

@@ -11,7 +11,6 @@ returns c = some_succeeds (record {
     stays = c.a_base_stays.ensures;
     asks = c.a_question_where_the_claim_rules_hold.ensures.asks;
     rooted = c.a_store_is_rooted_at_its_last_manifest.ensures;
-    keeps = c.sorting_keeps_the_length.ensures;
   };
   definition = c.each_definition_is_read_one_way.ensures.one;
   item = c.one_item.ensures;

@@ -25,10 +25,11 @@ returns-in_default-clause-ground g c = λ bytes known kind is.
     let d = c.args.definition.now in
     let fresh = fresh_kind bytes c.args.file.now kind c.in_default.is is in
     subst (λ (k : MediaKind). ComesAs (IsGround (g.H.Hashing.digest_of (new_alg d)) bytes d) (IsGroundStage g.H.Hashing.digest_of said bytes d k) c.fresh_ground.result) (sym fresh)
-    (c.fresh_ground.ensures.ground g.H.Hashing.digest_of said bytes (subst (λ (k : MediaKind). IsClearedTo bytes k c.args.file.now.clearing) fresh is.clears))
+    (c.fresh_ground.ensures.ground g.H.Hashing.digest_of said bytes (λ text. (g.met.H.Hashing.is_digest (new_alg d) text).sized) (subst (λ (k : MediaKind). IsClearedTo bytes k c.args.file.now.clearing) fresh is.clears))
 
 pub returns-in_default-clause-some : goal.returns-in_default-clause-some
-returns-in_default-clause-some g c = c.fresh_ground.ensures.some (g.H.Hashing.digest_of (new_alg c.args.definition.now))
+returns-in_default-clause-some g c =
+    c.fresh_ground.ensures.some (g.H.Hashing.digest_of (new_alg c.args.definition.now)) (λ text. (g.met.H.Hashing.is_digest (new_alg c.args.definition.now) text).sized)
 
 pub returns-in_default-clause-reads : goal.returns-in_default-clause-reads
 returns-in_default-clause-reads g c = reads_nothing _ _ _ _ c.args.media.now c.fresh_ground.result (quiet_results _ judge_effects _ _ c.fresh_ground.result refl c.fresh_ground.ensures.quiet)

@@ -8,9 +8,9 @@ use Rattle.c2_layout.proofs.size.own_len.Goals as goal
 -- both are added up to the greatest number
 pub returns : goal.returns
 returns c =
-    let further = c.args.further.now in
+    let ingredients = c.args.ingredients.now in
     let b = c.args.binding.now in
     let most = 2 ^ 64 - 1 in
-    added most (length (trees_bytes (assertion_boxes further))) (length (trees_bytes (assertion_boxes (b ∷ [])))) _ _ _ c.boxes_len.ensures
+    added most (length (trees_bytes (assertion_boxes ingredients))) (length (trees_bytes (assertion_boxes (b ∷ [])))) _ _ _ c.boxes_len.ensures
     (c.boxes_len-2.ensures ∙ ap (λ (as_ : List NewAssertion). min (length (trees_bytes (assertion_boxes as_))) most) c.from_ref.ensures.value) c.saturating_add.ensures
-    ∙ ap (λ n. min n most) (sym (both_boxes further (b ∷ [])))
+    ∙ ap (λ n. min n most) (sym (both_boxes ingredients (b ∷ [])))

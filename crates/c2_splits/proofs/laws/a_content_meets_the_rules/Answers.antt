@@ -3,7 +3,7 @@ use Rattle.c2_splits.proofs.laws.a_content_meets_the_rules.Goals as goal
 
 -- of a definition alone
 pub returns-clause-fresh : goal.returns-clause-fresh
-returns-clause-fresh c = fresh_content c.a_fresh_store_meets_the_rules.ensures
+returns-clause-fresh c = fresh_content c.a_gathered_store_meets_the_rules.ensures.meets
 
 -- over a valid media file with a store
 pub returns-clause-over : goal.returns-clause-over
@@ -11,4 +11,4 @@ returns-clause-over c = over_content c.a_valid_store_is_carried.ensures.carried 
 
 -- with ingredients
 pub returns-clause-gathered : goal.returns-clause-gathered
-returns-clause-gathered c = gathered_content c.a_gathered_store_meets_the_rules.ensures.meets c.stores_are_gathered.ensures.content
+returns-clause-gathered c = gathered_content c.a_gathered_store_meets_the_rules.ensures.meets

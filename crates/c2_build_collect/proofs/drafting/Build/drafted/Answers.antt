@@ -6,13 +6,12 @@ use Rattle.c2_built.specs.Store.{new_alg}
 use Rattle.c2_collected.proofs.SomeOutcome.{LeftLaws}
 use Rattle.c2_collect_ground.specs.Grounds.{ground_effects, opening_of}
 use Rattle.c2_refusals.specs.Seats.{IsSeatIn}
+use Rattle.c2_refusals.specs.declared.types.Drafted.{Drafted}
 use Rattle.c2_refusals.proofs.Judged.{hears_behind, hears_failed, older_result, read_result}
 use Rattle.c2_refusals.proofs.Outside.{alone, nothing_said, outside_map, reads_behind, reads_earlier, reads_quietly}
 use Rattle.c2_refusals.specs.Kinds.{no_effects}
-use Rattle.c2_build_collect.specs.declared.drafting.CollectedDraft.{CollectedDraft}
-use Rattle.c2_build_collect.proofs.Contents.{content_is, labels_of}
 use Rattle.c2_in_place.proofs.Stored.{cleared_length}
-use Rattle.c2_build_collect.proofs.Drafts.{content_kept, content_len, ground_form, ground_free, place_passed, place_refused, placed}
+use Rattle.c2_build_collect.proofs.Drafts.{content_len, ground_form, ground_free, place_passed, place_refused, placed}
 use Rattle.c2_build_collect.proofs.Stages.{opened_as, opened_kind}
 use Rattle.c2_build_collect.proofs.drafting.Build.drafted.Goals as goal
 
@@ -52,11 +51,11 @@ returns-in-Err-find_spot-clause-media g c =
 
 pub returns-in-Err-find_spot-clause-other : goal.returns-in-Err-find_spot-clause-other
 returns-in-Err-find_spot-clause-other g c =
-    let media = reads_behind {U = CollectedDraft} ground_effects {Other = ⊥} c.args.media.now c.ground.new.media c.find_spot.new.media c.in-Ok.ground (Err c.in-Err-find_spot.error) c.in-Ok.ensures.media c.in-Err-find_spot.ensures.reads.stays tt c.in-Err-find_spot.ensures.reads.cause in
+    let media = reads_behind {U = Drafted} ground_effects {Other = ⊥} c.args.media.now c.ground.new.media c.find_spot.new.media c.in-Ok.ground (Err c.in-Err-find_spot.error) c.in-Ok.ensures.media c.in-Err-find_spot.ensures.reads.stays tt c.in-Err-find_spot.ensures.reads.cause in
     reads_earlier ground_effects c.args.other.now c.ground.new.other _ _ (Err c.in-Err-find_spot.error) c.in-Ok.ensures.other.stays c.in-Ok.ensures.other.quiet (alone (λ rose. rose)) media.cause
 
 pub returns-in-Err-find_spot-clause-panel : goal.returns-in-Err-find_spot-clause-panel
-returns-in-Err-find_spot-clause-panel g c = hears_behind c.args.judges.now c.ground.new.judges c.in-Ok.ground _ (read_result {T = CollectedDraft} no_effects _ _ (Err c.in-Err-find_spot.error) c.in-Err-find_spot.ensures.reads.cause) (λ qs asks. asks) c.in-Ok.ensures.panel
+returns-in-Err-find_spot-clause-panel g c = hears_behind c.args.judges.now c.ground.new.judges c.in-Ok.ground _ (read_result {T = Drafted} no_effects _ _ (Err c.in-Err-find_spot.error) c.in-Err-find_spot.ensures.reads.cause) (λ qs asks. asks) c.in-Ok.ensures.panel
 
 -- ---- a test at the place fails
 
@@ -75,9 +74,8 @@ returns-in-Err-numbers_of-clause-drafted g c = λ bytes known kind is others tol
     let len = g.met.A.Source.known_len c.args.media.now bytes known in
     let size = c.in-Ok-find_spot.ensures.spot.size ∙ ap (cleared_len k.clearing) (c.in-Ok.ensures.media.stays.same_len ∙ sym len) ∙ sym (cleared_length k.clearing bytes) in
     let at = placed hash said bytes others (opening_of kind) d k s.seat s.size over.0 over.1 over.2 seat size in
-    let kept = content_kept hash said bytes others (opening_of kind) d k s.seat s.size at in
-    let has = content_len hash said bytes others (opening_of kind) d k s.seat s.size at c.the_length_of_a_collected_store_fits.ensures.fits g.met.H.Hashing.is_digest of_file stage in
-    place_refused hash said bytes others (opening_of kind) d k s.seat s.size at c.in-Err-numbers_of.error (c.in-Err-numbers_of.ensures.refused _ at.pair.media.base at.place kept has at.is_place at.seat)
+    let has = content_len hash said bytes others (opening_of kind) d k s.seat s.size at c.the_length_of_a_collected_store_fits.ensures.fits of_file stage in
+    place_refused hash said bytes others (opening_of kind) d k s.seat s.size at c.in-Err-numbers_of.error (c.in-Err-numbers_of.ensures.refused (hash (new_alg d)) at.is.content at.pair.media.base at.place at.is.is has at.is_place at.seat)
 
 pub returns-in-Err-numbers_of-clause-media : goal.returns-in-Err-numbers_of-clause-media
 returns-in-Err-numbers_of-clause-media g c =
@@ -85,12 +83,12 @@ returns-in-Err-numbers_of-clause-media g c =
 
 pub returns-in-Err-numbers_of-clause-other : goal.returns-in-Err-numbers_of-clause-other
 returns-in-Err-numbers_of-clause-other g c =
-    let media = reads_quietly {U = CollectedDraft} ground_effects {Other = ⊥} tt c.args.media.now c.ground.new.media c.find_spot.new.media c.in-Ok.ground (Err c.in-Err-numbers_of.error) c.in-Ok.ensures.media c.in-Ok-find_spot.ensures.reads.stays c.in-Ok-find_spot.ensures.reads.quiet
+    let media = reads_quietly {U = Drafted} ground_effects {Other = ⊥} tt c.args.media.now c.ground.new.media c.find_spot.new.media c.in-Ok.ground (Err c.in-Err-numbers_of.error) c.in-Ok.ensures.media c.in-Ok-find_spot.ensures.reads.stays c.in-Ok-find_spot.ensures.reads.quiet
     c.in-Err-numbers_of.ensures.quiet in
     reads_earlier ground_effects c.args.other.now c.ground.new.other _ _ (Err c.in-Err-numbers_of.error) c.in-Ok.ensures.other.stays c.in-Ok.ensures.other.quiet (alone (λ rose. rose)) media.cause
 
 pub returns-in-Err-numbers_of-clause-panel : goal.returns-in-Err-numbers_of-clause-panel
-returns-in-Err-numbers_of-clause-panel g c = hears_behind c.args.judges.now c.ground.new.judges c.in-Ok.ground _ (older_result {T = CollectedDraft} (Err c.in-Err-numbers_of.error) c.in-Err-numbers_of.ensures.quiet) (λ qs asks. asks) c.in-Ok.ensures.panel
+returns-in-Err-numbers_of-clause-panel g c = hears_behind c.args.judges.now c.ground.new.judges c.in-Ok.ground _ (older_result {T = Drafted} (Err c.in-Err-numbers_of.error) c.in-Err-numbers_of.ensures.quiet) (λ qs asks. asks) c.in-Ok.ensures.panel
 
 -- ---- none does
 
@@ -109,25 +107,21 @@ returns-in-Ok-numbers_of-clause-drafted g c = λ bytes known kind is others told
     let len = g.met.A.Source.known_len c.args.media.now bytes known in
     let size = c.in-Ok-find_spot.ensures.spot.size ∙ ap (cleared_len k.clearing) (c.in-Ok.ensures.media.stays.same_len ∙ sym len) ∙ sym (cleared_length k.clearing bytes) in
     let at = placed hash said bytes others (opening_of kind) d k s.seat s.size over.0 over.1 over.2 seat size in
-    let kept = content_kept hash said bytes others (opening_of kind) d k s.seat s.size at in
-    place_passed hash said bytes others (opening_of kind) d k s.seat s.size at c.in-Ok-numbers_of.draft (c.in-Ok-numbers_of.ensures.passed _ at.pair.media.base at.place kept at.is_place at.seat) (c.in-Ok-numbers_of.ensures.draft _ kept)
+    place_passed hash said bytes others (opening_of kind) d k s.seat s.size at c.in-Ok-numbers_of.draft (c.in-Ok-numbers_of.ensures.passed (hash (new_alg d)) at.is.content at.pair.media.base at.place at.is.is at.is_place at.seat)
+    (c.in-Ok-numbers_of.ensures.draft (hash (new_alg d)) at.is.content at.is.is)
 
 pub returns-in-Ok-numbers_of-clause-small : goal.returns-in-Ok-numbers_of-clause-small
 returns-in-Ok-numbers_of-clause-small g c =
-    let hash = g.H.Hashing.digest_of in
-    let d = c.args.self.now.definition in
     let k = c.in-Ok.ground in
     let some = c.in-Ok.ensures.some in
-    let kept = content_is hash d k some.content some.gathered in
-    let draft = c.in-Ok-numbers_of.ensures.draft _ kept in
+    let draft = c.in-Ok-numbers_of.ensures.draft (g.H.Hashing.digest_of (new_alg c.args.self.now.definition)) some.content some.is in
     let size = c.in-Ok-find_spot.ensures.spot.size ∙ ap (cleared_len k.clearing) c.in-Ok.ensures.media.stays.same_len in
     record {
-      content = _;
-      is = kept;
-      labels = labels_of c.ingredient_labels_may_be_written.ensures (hash (new_alg d)) d k some.content some.gathered;
+      content = some.content;
+      is = some.is;
       small = draft.small;
       size = draft.size ∙ size;
-      inside = subst (λ (n : ℕ). c.in-Ok-numbers_of.draft.start ≤ n) size draft.inside;
+      inside = subst (λ (n : ℕ). c.in-Ok-numbers_of.draft.start ≤ n) (sym draft.size) draft.inside;
       seat = subst (λ (n : ℕ). IsSeatIn n c.in-Ok-find_spot.spot.seat) size c.in-Ok-find_spot.ensures.spot.inside;
     }
 

@@ -66,7 +66,7 @@ pub returns-clause-build : goal.returns-clause-build
 returns-clause-build g c = record {
   build = λ file known bytes due signed due' others undue. c.draft.ensures.build.build file (c.in-Ok.ensures.reads.stays.same_bytes ∙ known) bytes due signed due' others undue;
   texts = c.draft.ensures.build.texts;
-  fits = IfOk-weaker c.draft.result _ _ (λ b fits. subst (λ (n : ℕ). FitsMedia n b) c.in-Ok.ensures.reads.stays.same_len fits) c.draft.ensures.build.fits;
+  fits = IfOk-weaker c.draft.result _ _ (λ b fits. subst (λ (n : ℕ). FitsMedia g.H.Hashing.digest_of n b) c.in-Ok.ensures.reads.stays.same_len fits) c.draft.ensures.build.fits;
 }
 
 pub returns-clause-not_due : goal.returns-clause-not_due

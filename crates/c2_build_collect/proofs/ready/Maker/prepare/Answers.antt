@@ -38,7 +38,7 @@ returns-in-Err-clause-panel g c = hears_failed c.args.judges.now c.draft.new.jud
 -- ---- what is ready is the new file
 
 pub ready-requires : goal.ready-requires
-ready-requires g c = subst (λ (n : ℕ). FitsMedia n c.in-Ok.build) (sym c.in-Ok.ensures.media.stays.same_len) c.in-Ok.ensures.build.fits
+ready-requires g c = subst (λ (n : ℕ). FitsMedia g.H.Hashing.digest_of n c.in-Ok.build) (sym c.in-Ok.ensures.media.stays.same_len) c.in-Ok.ensures.build.fits
 
 pub returns-clause-prepared : goal.returns-clause-prepared
 returns-clause-prepared g c = record {

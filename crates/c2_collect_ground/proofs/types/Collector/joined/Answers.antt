@@ -25,8 +25,8 @@ returns-in-Ok-check_joined-clause-ground g c = λ hash file m o ours theirs.
     let joined = subst (λ (rs : List (List ℕ)). AreJoined rs (old_boxes store) (old_readings store) (boxes_of c.args.theirs.now) (readings_of c.args.theirs.now) c.in-Ok-joined_boxes.joined) same c.in-Ok-joined_boxes.ensures.joined in
     let apart = joined_apart hash file _ c.args.ours.now c.args.theirs.now m o c.in-Ok-joined_boxes.joined ours theirs joined in
     joined_ground (record { tree = c.each_list_is_a_tree_or_not.ensures.one_tree; reading = c.one_reading.ensures.manifest; join = c.chains_join.ensures }) c.what_is_collected_is_one.ensures.some (g.H.Hashing.digest_of (new_alg d)) hash file d
-    c.args.ours.now c.args.theirs.now m o c.in-Ok-joined_boxes.joined c.in-Ok-further.further ours theirs c.requires.ours joined
-    (subst (λ (rs : List (List ℕ)). NameLast (g.H.Hashing.digest_of (new_alg d)) rs (ingredient_stores store c.args.theirs.now) c.in-Ok-further.further.items) same c.in-Ok-further.ensures)
+    c.args.ours.now c.args.theirs.now m o c.in-Ok-joined_boxes.joined c.in-Ok-ingredients.ingredients (λ text. (g.met.H.Hashing.is_digest (new_alg d) text).sized) ours theirs c.requires.ours joined
+    (subst (λ (rs : List (List ℕ)). NameLast (g.H.Hashing.digest_of (new_alg d)) rs (ingredient_stores store c.args.theirs.now) c.in-Ok-ingredients.ingredients.items) same c.in-Ok-ingredients.ensures)
     (tests_pass c.what_is_joined_is_reached.ensures.reached hash file d c.args.ours.now c.args.theirs.now m o ours theirs apart c.in-Ok-check_joined.ensures.tested)
 
 pub returns-in-Ok-check_joined-clause-some : goal.returns-in-Ok-check_joined-clause-some
@@ -34,6 +34,6 @@ returns-in-Ok-check_joined-clause-some g c =
     let d = c.args.self.now.definition.now in
     let store = c.args.ours.now.store in
     let same = c.in-Ok.ensures ∙ c.as_slice.ensures in
-    some_kept (g.H.Hashing.digest_of (new_alg d)) d c.args.ours.now.clearing c.args.ours.now c.args.theirs.now c.in-Ok-joined_boxes.joined c.in-Ok-further.further
+    some_kept (g.H.Hashing.digest_of (new_alg d)) d c.args.ours.now.clearing c.args.ours.now c.args.theirs.now c.in-Ok-joined_boxes.joined c.in-Ok-ingredients.ingredients (λ text. (g.met.H.Hashing.is_digest (new_alg d) text).sized)
     (subst (λ (rs : List (List ℕ)). AreJoined rs (old_boxes store) (old_readings store) (boxes_of c.args.theirs.now) (readings_of c.args.theirs.now) c.in-Ok-joined_boxes.joined) same c.in-Ok-joined_boxes.ensures.joined)
-    (subst (λ (rs : List (List ℕ)). NameLast (g.H.Hashing.digest_of (new_alg d)) rs (ingredient_stores store c.args.theirs.now) c.in-Ok-further.further.items) same c.in-Ok-further.ensures)
+    (subst (λ (rs : List (List ℕ)). NameLast (g.H.Hashing.digest_of (new_alg d)) rs (ingredient_stores store c.args.theirs.now) c.in-Ok-ingredients.ingredients.items) same c.in-Ok-ingredients.ensures)
