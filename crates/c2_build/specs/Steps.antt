@@ -1,5 +1,5 @@
 -- For private clauses: what the steps of a build come to.
-use Rattle.std.specs.Prelude.{◌≡◌, ◌⊎◌, ℕ, IfOk, OnOk, List, length}
+use Rattle.std.specs.Prelude.{◌≡◌, ◌⊎◌, ℕ, IfOk, OnOk, List}
 use Rattle.std.specs.declared.option.Option.{Option}
 use Rattle.std.specs.declared.option.Option.TheVariants.{Some, None}
 use Rattle.std.specs.declared.result.Result.{Result}
@@ -9,25 +9,20 @@ use Rattle.c2_base.specs.declared.values.Question.{Question}
 use Rattle.c2_spec.specs.Jumbf.Tree.{tree_bytes}
 use Rattle.c2_spec.specs.declared.digest.Alg.{Alg}
 use Rattle.c2_spec.specs.declared.panel.Verdict.{Verdict}
-use Rattle.c2_definition.specs.DefinitionFile.{IsWellFormed}
 use Rattle.c2_definition.specs.declared.types.Definition.{Definition}
 use Rattle.c2_built.specs.Store.{new_alg}
-use Rattle.c2_cleared.specs.Clears.{cleared_len}
-use Rattle.c2_places.specs.Places.{IsPlace, Place, place_store, put_bytes}
+use Rattle.c2_places.specs.Places.{Place, place_store, put_bytes}
 use Rattle.c2_refusals.specs.Kinds.{ComesAs, IsSourceCause, WithoutFault, kind_of}
 use Rattle.c2_refusals.specs.Refusals.{Ground, first_refusal, ground_tests}
-use Rattle.c2_refusals.specs.Seats.{IsSeat}
 use Rattle.c2_refusals.specs.Stages.{HasTextsIn, IsDefinitionTold, IsGroundStage, IsMessageTold, IsPlaceStage, MediaKind}
 use Rattle.c2_refusals.specs.declared.error.BuildError.{BuildError}
 use Rattle.c2_refusals.specs.declared.types.Drafted.{Drafted}
-use Rattle.c2_ground.specs.Grounds.{IsGround}
+use Rattle.c2_drafts.specs.Drafts.{FitsMedia, IsOver}
+use Rattle.c2_drafts.specs.declared.ready.DraftedBuild.{DraftedBuild}
 use Rattle.c2_build.specs.Answers.{prepare_effects}
 use Rattle.c2_build.specs.Building.{Built, IsEmbedded, built_of}
-use Rattle.c2_bound_parts.specs.Bound.{IsSmall}
-use Rattle.c2_in_place.specs.Numbers.{IsNumbered}
 use Rattle.c2_in_place.specs.Writings.{CanWrite, ready_file}
 use Rattle.c2_in_place.specs.declared.writing.Ready.{Ready}
-use Rattle.c2_build.specs.declared.ready.DraftedBuild.{DraftedBuild}
 
 -- ---- causes
 
@@ -59,9 +54,7 @@ pub record IsDrafted (hash : Alg → List ℕ → List ℕ) (said : Question →
   pub ground : Ground
   pub place : Place
   pub passed : IsPassed hash said media d kind ground place
-  pub is : IsGround (hash (new_alg d)) media d w.ground ground
-  pub numbers : IsNumbered w.draft ground.content place
-  pub seat : IsSeat w.seat place
+  pub over : IsOver (hash (new_alg d)) media d w ground place
 
 -- ---- what is ready to be written
 
@@ -71,26 +64,6 @@ pub record IsReady (media : List ℕ) (r : Ready) (b : Built) : Type 0 where
   pub start : b.start ≡ r.draft.start
   pub len : b.len ≡ r.draft.length
 
--- what is put in at this place, of the new store with this message, is known, and the file is ready to be written
-pub record IsPutReady (hash : List ℕ → List ℕ) (media : List ℕ) (r : Ready) (g : Ground) (p : Place) (message : List ℕ) : Type 0 where
-  pub bytes : List ℕ
-  pub are : put_bytes p (tree_bytes (place_store hash g.content message g.base p)) ≡ Some bytes
-  pub is : IsReady media r (built_of g p bytes)
-
--- What was drafted with a message fits a media file of this length, whatever is known of its bytes: the definition is well formed, the message
--- fills what that reserves, and the rest fits what is left of the media.
-pub record FitsMedia (hash : Alg → List ℕ → List ℕ) (len : ℕ) (b : DraftedBuild) : Type 0 where
-  pub formed : IsWellFormed b.definition
-  pub small : IsSmall (hash (new_alg b.definition)) (cleared_len b.drafted.ground.clearing len) b.definition b.drafted
-  pub filled : length b.message ≡ b.definition.reserve
-
--- What was drafted with a message stands for this ground and this place, over this media file.
-pub record IsOver (hash : Alg → List ℕ → List ℕ) (media : List ℕ) (b : DraftedBuild) (g : Ground) (p : Place) : Type 0 where
-  pub ground : IsGround (hash (new_alg b.definition)) media b.definition b.drafted.ground g
-  pub place : IsPlace g.base p
-  pub seat : IsSeat b.drafted.seat p
-  pub numbers : IsNumbered b.drafted.draft g.content p
-
 -- what is put in of the new store of what was drafted so
 abbrev pub IsPutOf : (Alg → List ℕ → List ℕ) → DraftedBuild → Ground → Place → List ℕ → Type 0
 IsPutOf hash b g p bytes = put_bytes p (tree_bytes (place_store (hash (new_alg b.definition)) g.content b.message g.base p)) ≡ Some bytes
@@ -99,7 +72,7 @@ IsPutOf hash b g p bytes = put_bytes p (tree_bytes (place_store (hash (new_alg b
 pub record MakesFile (hash : Alg → List ℕ → List ℕ) (media : List ℕ) (Is : Result Built BuildError → Type 0) (b : DraftedBuild) : Type 0 where
   pub ground : Ground
   pub place : Place
-  pub over : IsOver hash media b ground place
+  pub over : IsOver (hash (new_alg b.definition)) media b.definition b.drafted ground place
   pub made : (bytes : List ℕ) → IsPutOf hash b ground place bytes → Is (Ok (built_of ground place bytes))
 
 -- over inputs that come to something a new file that they come to was drafted over this media file, or the error is what they come to

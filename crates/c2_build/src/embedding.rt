@@ -1,5 +1,5 @@
 // Writing a new file.
-ghost use Rattle.std.specs.Prelude.{◌≡◌, ◌⊎◌, map, ℕ, List};
+ghost use Rattle.std.specs.Prelude.{◌⊎◌, map, ℕ, List};
 ghost use Rattle.std.specs.Option.{ForSome};
 ghost use Rattle.c2_base.specs.Causes.{Rose};
 ghost use Rattle.c2_base.specs.Sink.{WritesSink, unsaid};

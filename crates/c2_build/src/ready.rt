@@ -1,5 +1,5 @@
 // What is ready to be written, before anything is.
-ghost use Rattle.std.specs.Prelude.{◌⊎◌, IfErr, IfOk, map};
+ghost use Rattle.std.specs.Prelude.{◌⊎◌, IfOk, map};
 ghost use Rattle.std.specs.Option.{ForSome};
 ghost use Rattle.c2_base.specs.Causes.{Rose};
 ghost use Rattle.c2_base.specs.Source.{ReadsSource};
@@ -7,54 +7,34 @@ ghost use Rattle.c2_spec.specs.C2pa.Message.{CanBePadded};
 ghost use Rattle.c2_spec.specs.C2pa.Sign1.{parts_of};
 ghost use Rattle.c2_spec.specs.Cbor.Item.{Pairs};
 ghost use Rattle.c2_spec.specs.Judges.Panel.{panel_says};
-ghost use Rattle.c2_built.specs.Store.{new_alg};
 ghost use Rattle.c2_rules.specs.Asking.{HearsPanel};
 ghost use Rattle.c2_container.specs.Contained.{HasRootsInside};
 ghost use Rattle.c2_definition.specs.DefinitionFile.{IsWellFormed};
-ghost use Rattle.c2_places.specs.Places.{Place};
 ghost use Rattle.c2_build.specs.Answers.{AsksEmbedded};
-ghost use Rattle.c2_refusals.specs.Kinds.{IsReadCause, SaysNothing, build_heard};
+ghost use Rattle.c2_refusals.specs.Kinds.{build_heard};
 ghost use Rattle.c2_refusals.specs.Stages.{LeavesUndue, MediaKind};
 ghost use Rattle.c2_build.specs.Building.{IsEmbeddedOver};
-ghost use Rattle.c2_refusals.specs.Refusals.{Ground};
 ghost use Rattle.c2_in_place.specs.Numbers.{IsOfFile};
-ghost use Rattle.c2_in_place.specs.Writings.{CanWrite};
-ghost use Rattle.c2_build.specs.Steps.{FitsMedia, IsBuildDrafted, IsBuildFor, IsOver, IsPrepareCause, IsPrepared, IsPutReady, IsReadyCause};
+ghost use Rattle.c2_drafts.specs.Drafts.{FitsMedia};
+ghost use Rattle.c2_build.specs.Steps.{IsBuildDrafted, IsBuildFor, IsPrepareCause, IsPrepared, IsReadyCause};
 ghost use Rattle.c2_ground.specs.Grounds.{IsFoundIn, IsKind, IsReadIn, KindHears};
 
 use crate::draft::draft_over;
-use c2_base::limits::PIECE_LEN;
-use c2_base::{Blob, NoMemory, Source};
-use c2_bound_parts::parts_for;
-use c2_built::a_new_store_has_one_length;
+use c2_base::Source;
 use c2_cbor::one_item;
 use c2_definition::{Definition, each_definition_is_read_one_way};
-use c2_films::a_new_film_store_has_one_length;
+use c2_drafts::{DraftedBuild, make_ready};
 use c2_ground::{MediaFile, MediaRead, open_media, read_media};
 use c2_hash::Hashing;
 use c2_in_place::Ready;
 use c2_judge::Judge;
-use c2_layout::new_store;
 use c2_message::{
     a_message_fills_its_reserve_or_needs_more, each_message_is_accepted_or_refused_for_one_test,
 };
-use c2_refusals::{BuildError, Drafted, padded, read_definition_file, read_message_file};
+use c2_refusals::{BuildError, padded, read_definition_file, read_message_file};
 use c2_sigstruct::Sign1;
 use c2_validate::one_opening;
 use std::alloc::Global;
-
-/// What is to be built with a message, over what and of which definition. Nothing of it is borrowed of what was opened.
-#[derive(Debug, Drop)]
-pub struct DraftedBuild {
-    /// The definition.
-    pub definition: Definition,
-
-    /// What is to be built, and over what.
-    pub drafted: Drafted,
-
-    /// The message, padded to what the definition reserves for it.
-    pub message: Blob,
-}
 
 // What builds are made with.
 #[derive(Drop)]
@@ -64,42 +44,6 @@ struct Builder<'h, H> {
 }
 
 impl<'h, H: Hashing> Builder<'h, H> {
-    // What is to be written, of what was drafted over a media file. What was taken over of its store is let go once the new one holds it.
-    fn ready<A: Source>(&self, media: &mut A, build: DraftedBuild) -> Result<Ready, BuildError>
-        requires { FitsMedia H.digest_of (A.len media.old) build }
-        ensures ready { IfOk result (λ r. ForSome (A.known media.old) (λ file.
-            (g : Ground) (p : Place) → IsOver H.digest_of file build g p
-            → IsPutReady (H.digest_of (new_alg build.definition)) file r g p build.message)) }
-        ensures nothing { IfErr result SaysNothing }
-        ensures can_write { IfOk result (CanWrite (A.len media.old)) }
-        ensures reads { ReadsSource A.len A.known A.faults IsReadCause media.old media.new result }
-    {
-        // Only the prover needs these laws.
-        a_new_store_has_one_length();
-        a_new_film_store_has_one_length();
-        let alloc = self.alloc;
-        let definition = &build.definition;
-        let drafted = &build.drafted;
-        let Ok(mut buffer) = vec![in alloc; 0u8; PIECE_LEN] else {
-            return Err(BuildError::NoMemory);
-        };
-        // Matched and not handed up by `?`, here and below: each way out has clauses of its own.
-        let parts = match parts_for(alloc, self.hashing, media, definition, drafted, &mut buffer) {
-            Ok(parts) => parts,
-            Err(error) => return Err(error),
-        };
-        let message = build.message.as_slice();
-        match new_store(alloc, definition, &drafted.ground.carried, &parts, message) {
-            Ok(store) => Ok(Ready {
-                store,
-                draft: drafted.draft,
-                clearing: drafted.ground.clearing,
-                buffer,
-            }),
-            Err(NoMemory) => Err(BuildError::NoMemory),
-        }
-    }
-
     // What is to be built, where this was read of a media file, of a definition and with a message.
     fn with_message<A: Source>(
         &self,
@@ -266,5 +210,5 @@ pub fn prepare<A: Source, B: Source, C: Source, H: Hashing>(
         Ok(build) => build,
         Err(error) => return Err(error),
     };
-    builder.ready(media, build)
+    make_ready(alloc, hashing, media, build)
 }

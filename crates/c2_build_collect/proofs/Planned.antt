@@ -3,39 +3,29 @@ use Rattle.std.proofs.Common.{◌≡◌, inl, inr, ℕ, List, ◌∷◌, ◌++�
 use Rattle.std.specs.Prelude.{Err, IfErr, IfOk, Ok, Result}
 use Rattle.c2_base.specs.declared.values.Question.{Question}
 use Rattle.c2_spec.specs.C2pa.Message.{bare_bytes}
-use Rattle.c2_spec.specs.C2pa.Sign1.{SignParts, sig_structure}
-use Rattle.c2_spec.specs.Cbor.Deterministic.{deterministic}
-use Rattle.c2_spec.specs.Jumbf.Tree.{Tree, tree_bytes}
+use Rattle.c2_spec.specs.C2pa.Sign1.{SignParts}
+use Rattle.c2_spec.specs.Jumbf.Tree.{Tree}
 use Rattle.c2_spec.specs.Located.{Opening}
 use Rattle.c2_spec.specs.declared.digest.Alg.{Alg}
 use Rattle.c2_spec.specs.declared.panel.Verdict.{Verdict}
 use Rattle.c2_definition.specs.declared.types.Definition.{Definition}
-use Rattle.c2_definition.specs.declared.types.NewAssertion.{NewAssertion}
 use Rattle.c2_message.specs.Refusals.{reserve_needed}
 use Rattle.c2_message.specs.Signed.{FillsOrNeedsMore, IsSigned}
-use Rattle.c2_built.specs.Store.{Content, new_alg, new_claim, new_store}
-use Rattle.c2_cleared.specs.Clears.{cleared}
-use Rattle.c2_cleared.specs.declared.clearing.Clearing.{Clearing}
-use Rattle.c2_layout.specs.Parts.{AreParts, IsContent}
-use Rattle.c2_layout.specs.declared.parts.NewParts.{NewParts}
-use Rattle.c2_places.specs.Places.{IsPlace, bound_text, place_binding, put_bytes, range_len}
+use Rattle.c2_built.specs.Store.{new_alg}
+use Rattle.c2_places.specs.Places.{range_len}
 use Rattle.c2_collected.specs.Order.{CollectRefusal, reserve_refusals}
 use Rattle.c2_collected.specs.Outcomes.{CollectGround, IsGroundStage, IsMadeOn, IsMadeOver, IsNewFile, IsPairStage, IsPlannedOn, IsPlannedOver, IsPutIn, NewFile, Then, ground_refusals, ground_signed, new_file}
 use Rattle.c2_collected.proofs.Stages.{then_next, unless_passes}
 use Rattle.c2_refusals.specs.Kinds.{SaysNothing}
 use Rattle.c2_refusals.specs.Refusals.{IsReserveRefusal}
 use Rattle.c2_refusals.specs.declared.error.BuildError.{BuildError}
-use Rattle.c2_refusals.specs.declared.types.Draft.{Draft}
 use Rattle.c2_refusals.specs.declared.types.Drafted.{Drafted}
 use Rattle.c2_refusals.proofs.Outside.{nothing_said}
-use Rattle.c2_bound_parts.specs.Bound.{AreNewParts, seat_binding}
-use Rattle.c2_putting.specs.Puts.{put_of}
-use Rattle.c2_in_place.specs.Numbers.{IsPut}
-use Rattle.c2_in_place.proofs.Stored.{file_is, put_is, same_binding}
 use Rattle.c2_in_place.specs.declared.writing.Ready.{Ready}
-use Rattle.c2_collect_ground.specs.Errors.{IsRefusedWith}
-use Rattle.c2_build_collect.specs.Steps.{IsDrafted, IsFirstError, IsOver, IsPassed, IsPutReady, IsReadyFor, IsRefusedDraft, MakesFile}
-use Rattle.c2_build_collect.specs.declared.drafting.DraftedBuild.{DraftedBuild}
+use Rattle.c2_drafts.specs.Drafts.{IsPutReady}
+use Rattle.c2_drafts.specs.declared.ready.DraftedBuild.{DraftedBuild}
+use Rattle.c2_collect_ground.specs.Errors.{IsAnswerTo, IsRefusedWith}
+use Rattle.c2_build_collect.specs.Steps.{IsDrafted, IsFirstError, IsPassed, IsReadyFor, IsRefusedDraft, MakesFile, ground_of}
 use Rattle.c2_build_collect.proofs.Refused.{first_before, first_behind, none_behind, reserve_first, reserve_none}
 use Rattle.c2_build_collect.proofs.Stages.{refused_first, refused_next, unless_first}
 
@@ -108,60 +98,16 @@ module _ (hash : Alg → List ℕ → List ℕ) (said : Question → Verdict) (m
   draft_makes fills parts w message at signed = record { ground = at.ground; over = at.over; made = passed_file fills parts at.ground message at.passed signed }
 
 -- what is ready of what was drafted is the new file that it makes
-pub ready_made : (hash : Alg → List ℕ → List ℕ) (media : List ℕ) (Is : Result NewFile CollectRefusal → Type 0) (b : DraftedBuild) (r : Result Ready BuildError) (m : MakesFile hash media Is b) → IfOk r (IsPutReady hash media b.definition m.ground b.message) → IfErr r SaysNothing
-    → IsReadyFor media Is r
-ready_made hash media Is b (Ok r) m h k = (new_file m.ground (length b.message) h.bytes, m.made h.bytes h.put, h.is)
+pub ready_made : (hash : Alg → List ℕ → List ℕ) (media : List ℕ) (Is : Result NewFile CollectRefusal → Type 0) (b : DraftedBuild) (r : Result Ready BuildError) (m : MakesFile hash media Is b)
+    → IfOk r (IsPutReady (hash (new_alg b.definition)) media (ground_of m.ground) m.ground.place b.message) → IfErr r SaysNothing → IsReadyFor media Is r
+ready_made hash media Is b (Ok r) m h k = (
+  new_file m.ground (length b.message) h.bytes,
+  m.made h.bytes h.put,
+  record { file = h.file; start = h.start; len = ap (range_len m.ground.place m.ground.content) h.filled ∙ h.len },
+)
 ready_made hash media Is b (Err e) m h k = nothing_said e _ k
 
--- ---- the parts
-
-module _ (hash : Alg → List ℕ → List ℕ) (media : List ℕ) (d : Definition) (w : Drafted) (g : CollectGround) (over : IsOver hash media d w g) where
-  -- what goes into the new store
-  abbrev content : Content
-  content = g.content
-
-  -- as many bytes are reserved as its definition says
-  room_is : d.reserve ≡ content.definition.reserve
-  room_is = ap (λ (x : Definition). x.reserve) (sym over.content.definition)
-
-  module _ (known : Option (List ℕ)) (parts : NewParts) (are : AreNewParts (hash (new_alg d)) known d w parts) (is : known ≡ Some (cleared w.ground.clearing media)) where
-    -- its binding is that of its place, where so many bytes are reserved
-    binding_is : (reserve : ℕ) → reserve ≡ d.reserve → seat_binding (new_alg d) w.seat w.draft.start w.draft.length are.digest ≡ place_binding (hash (new_alg d)) content reserve g.pair.media.base g.place
-    binding_is reserve room =
-        let base = cleared w.ground.clearing media in
-        let digest = are.is_digest base is g.place (subst (λ (b : List ℕ). IsPlace b g.place) over.base over.place) over.seat in
-        let text = digest ∙ ap (λ (b : List ℕ). hash (new_alg d) (bound_text b g.place)) (sym over.base) in
-        same_binding (hash (new_alg d)) content g.pair.media.base (new_alg d) w.seat w.draft g.place are.digest reserve (ap new_alg (sym over.content.definition))
-        (room ∙ room_is) over.seat over.numbers text
-
-    -- the parts are those of it
-    parts_are : AreParts (hash (new_alg d)) content (seat_binding (new_alg d) w.seat w.draft.start w.draft.length are.digest) parts
-    parts_are = are.parts content over.content
-
-    -- so what is signed over its claim is what is planned
-    pub signed_is : (claim tbs : List ℕ) → claim ≡ parts.claim → tbs ≡ deterministic (sig_structure d.protected claim) → tbs ≡ ground_signed hash d g
-    signed_is claim tbs same made =
-        made ∙ ap (λ (x : List ℕ). deterministic (sig_structure d.protected x)) (same ∙ parts_are.claim ∙ ap (new_claim (hash (new_alg d)) content) (binding_is d.reserve refl))
-
-    -- a store of these parts
-    abbrev IsMade : List ℕ → List ℕ → Type 0
-    IsMade message store = (h : List ℕ → List ℕ) (c : Content) (binding : NewAssertion) → IsContent h d w.ground.carried c → AreParts h c binding parts → store ≡ tree_bytes (new_store h c binding message)
-
-    -- and is ready to be put in
-    pub put_ready : (message : List ℕ) (r : Ready) → r.draft ≡ w.draft → r.clearing ≡ w.ground.clearing → length message ≡ d.reserve → IsMade message r.store → IsPutReady hash media d g message r
-    put_ready message r draft clearing filled made =
-        let store = made (hash (new_alg d)) content (seat_binding (new_alg d) w.seat w.draft.start w.draft.length are.digest) over.content parts_are
-        ∙ ap (λ (b : NewAssertion). tree_bytes (new_store (hash (new_alg d)) content b message)) (binding_is (length message) filled) in
-        let base = over.base ∙ ap (λ (c : Clearing). cleared c media) (sym clearing) in
-        let start = sym over.numbers.start ∙ ap (λ (f : Draft). f.start) (sym draft) in
-        let put = subst (λ (f : Draft). IsPut f.put g.place) (sym draft) over.numbers.put in
-        let room = filled ∙ room_is in
-        record {
-          bytes = put_of r.draft.put r.store;
-          put = ap (put_bytes g.place) (sym store) ∙ put_is r.draft.put g.place r.store put;
-          is = record {
-            file = file_is media g.pair.media.base r g.place base start;
-            start = start;
-            len = ap (range_len g.place content) room ∙ sym over.numbers.length ∙ ap (λ (f : Draft). f.length) (sym draft);
-          };
-        }
+-- what is signed of what was drafted is planned
+pub planned_by : (Is : Result (List ℕ) CollectRefusal → Type 0) (r : Result (List ℕ) BuildError) (bytes : List ℕ) → IfOk r (λ x. x ≡ bytes) → IfErr r SaysNothing → Is (Ok bytes) → IsAnswerTo Is r
+planned_by Is (Ok x) bytes h k is = subst (λ (y : List ℕ). Is (Ok y)) (sym h) is
+planned_by Is (Err e) bytes h k is = nothing_said e _ k

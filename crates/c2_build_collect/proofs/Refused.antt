@@ -111,20 +111,17 @@ all_stand base c reserve manifests p =
     both_stand (place_tests p) (size_tests manifests store file ++ box_tests p) (place_refusals p) (size_refusals manifests store file ++ box_refusals p) (place_stands p)
     (both_stand (size_tests manifests store file) (box_tests p) (size_refusals manifests store file) (box_refusals p) (size_stands manifests store file) (box_stands p))
 
-module _ (base : List ℕ) (size : ℕ) (c : Content) (reserve kept manifests : ℕ) (p : Place) (long : size ≡ length base) (room : reserve ≡ c.definition.reserve) (many : kept ≡ manifests) where
-  -- the tests that were made are these
-  tests_are : (o : Option BuildError) → first_refusal (number_tests size kept c p) ≡ o → first_refusal (all_tests (length base) manifests c reserve p) ≡ o
-  tests_are o f =
-      ap (λ (n : ℕ). first_refusal (all_tests (length base) manifests c n p)) room
-      ∙ ap (λ (n : ℕ). first_refusal (all_tests n manifests c c.definition.reserve p)) (sym long)
-      ∙ ap (λ (n : ℕ). first_refusal (all_tests size n c c.definition.reserve p)) (sym many) ∙ f
+module _ (base : List ℕ) (c : Content) (reserve manifests : ℕ) (p : Place) (room : reserve ≡ c.definition.reserve) where
+  -- the tests of a build are these
+  tests_are : (o : Option BuildError) → first_refusal (number_tests (length base) manifests c p) ≡ o → first_refusal (all_tests (length base) manifests c reserve p) ≡ o
+  tests_are o f = ap (λ (n : ℕ). first_refusal (all_tests (length base) manifests c n p)) room ∙ f
 
   -- one of them refuses
-  pub numbers_refused : (e : BuildError) → first_refusal (number_tests size kept c p) ≡ Some e → IsFirstError (file_refusals base c reserve manifests p) e
+  pub numbers_refused : (e : BuildError) → first_refusal (number_tests (length base) manifests c p) ≡ Some e → IsFirstError (file_refusals base c reserve manifests p) e
   numbers_refused e f = (all_stand base c reserve manifests p).fails e (tests_are (Some e) f)
 
   -- none does
-  pub numbers_passed : first_refusal (number_tests size kept c p) ≡ None → file_refusals base c reserve manifests p ≡ []
+  pub numbers_passed : first_refusal (number_tests (length base) manifests c p) ≡ None → file_refusals base c reserve manifests p ≡ []
   numbers_passed f = (all_stand base c reserve manifests p).passes (tests_are None f)
 
 -- ---- the message

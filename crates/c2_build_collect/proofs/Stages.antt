@@ -21,10 +21,10 @@ use Rattle.c2_refusals.specs.declared.error.BuildError.{BuildError}
 use Rattle.c2_refusals.proofs.Inputs.{OneDefinition, OneItem, OneOpened, one_message}
 use Rattle.c2_refusals.proofs.Outside.{outside_map}
 use Rattle.c2_refusals.proofs.Passing.{opened_absent, opened_here}
+use Rattle.c2_drafts.specs.declared.ready.DraftedBuild.{DraftedBuild}
 use Rattle.c2_collect_ground.specs.Errors.{IsAnswerTo, IsRefusedWith}
 use Rattle.c2_collect_ground.specs.Grounds.{opening_of}
 use Rattle.c2_build_collect.specs.Steps.{IsBuildFor}
-use Rattle.c2_build_collect.specs.declared.drafting.DraftedBuild.{DraftedBuild}
 
 -- ---- the media
 

@@ -1,5 +1,5 @@
 -- For private clauses: what the steps of a build come to whose new store collects from two files.
-use Rattle.std.specs.Prelude.{◌≡◌, ◌⊎◌, ℕ, List, [], ◌∷◌, IfOk, OnOk, length}
+use Rattle.std.specs.Prelude.{◌≡◌, ◌⊎◌, ℕ, ◌+◌, List, ◌∷◌, [], IfOk, OnOk, length}
 use Rattle.std.specs.declared.option.Option.{Option}
 use Rattle.std.specs.declared.result.Result.{Result}
 use Rattle.std.specs.declared.result.Result.TheVariants.{Ok, Err}
@@ -12,28 +12,25 @@ use Rattle.c2_spec.specs.declared.panel.Verdict.{Verdict}
 use Rattle.c2_definition.specs.DefinitionFile.{IsWellFormed}
 use Rattle.c2_definition.specs.declared.types.Definition.{Definition}
 use Rattle.c2_built.specs.Store.{new_alg}
-use Rattle.c2_cleared.specs.Clears.{cleared, cleared_len}
-use Rattle.c2_layout.specs.Parts.{IsContent}
-use Rattle.c2_places.specs.Places.{IsPlace}
-use Rattle.c2_collected.specs.Order.{CollectRefusal}
+use Rattle.c2_collected.specs.Order.{CollectRefusal, pair_readings}
 use Rattle.c2_collected.specs.Outcomes.{CollectGround, IsCollectMade, IsGroundStage, IsPairStage, IsPutIn, NewFile, ground_refusals, new_file}
 use Rattle.c2_container.specs.Contained.{HasRootsInside}
 use Rattle.c2_refusals.specs.Kinds.{WithoutFault}
-use Rattle.c2_refusals.specs.Seats.{IsSeat}
+use Rattle.c2_refusals.specs.Refusals.{Ground}
 use Rattle.c2_refusals.specs.Stages.{HasTextsIn, MediaKind}
 use Rattle.c2_refusals.specs.declared.error.BuildError.{BuildError}
 use Rattle.c2_refusals.specs.declared.types.Drafted.{Drafted}
 use Rattle.c2_ground.specs.Grounds.{IsFoundIn, IsKind, IsReadIn}
 use Rattle.c2_ground.specs.declared.media.MediaFile.{MediaFile}
 use Rattle.c2_ground.specs.declared.media.MediaRead.{MediaRead}
-use Rattle.c2_bound_parts.specs.Bound.{IsSmall}
-use Rattle.c2_in_place.specs.Numbers.{IsNumbered, IsOfFile}
+use Rattle.c2_in_place.specs.Numbers.{IsOfFile}
 use Rattle.c2_in_place.specs.Writings.{CanWrite, ready_file}
 use Rattle.c2_in_place.specs.declared.writing.Ready.{Ready}
+use Rattle.c2_drafts.specs.Drafts.{FitsMedia, IsOver}
+use Rattle.c2_drafts.specs.declared.ready.DraftedBuild.{DraftedBuild}
 use Rattle.c2_collect_ground.specs.Errors.{IsRefusedWith, error_of}
 use Rattle.c2_collect_ground.specs.Grounds.{IsOtherTold, IsParentRefused, opening_of}
 use Rattle.c2_build_collect.specs.Answers.{ForEmbedInputs}
-use Rattle.c2_build_collect.specs.declared.drafting.DraftedBuild.{DraftedBuild}
 
 -- ---- errors
 
@@ -74,19 +71,15 @@ pub record IsPassed (hash : Alg → List ℕ → List ℕ) (said : Question → 
   pub stage : IsGroundStage d g.pair (Ok g)
   pub unrefused : ground_refusals d g ≡ []
 
--- What was drafted stands for this: what is left of this media file, what goes into the new store, its place, and the numbers of the new file.
-pub record IsOver (hash : Alg → List ℕ → List ℕ) (media : List ℕ) (d : Definition) (w : Drafted) (g : CollectGround) : Type 0 where
-  pub base : g.pair.media.base ≡ cleared w.ground.clearing media
-  pub content : IsContent (hash (new_alg d)) d w.ground.carried g.content
-  pub place : IsPlace g.pair.media.base g.place
-  pub seat : IsSeat w.seat g.place
-  pub numbers : IsNumbered w.draft g.content g.place
+-- what a new file is built of, as what it is built over
+abbrev pub ground_of : CollectGround → Ground
+ground_of g = record { base = g.pair.media.base; content = g.content; manifests = length (pair_readings g.pair) + 1 }
 
 -- What was drafted over two files, where the media is opened so: nothing is refused.
 pub record IsDrafted (hash : Alg → List ℕ → List ℕ) (said : Question → Verdict) (media other : List ℕ) (what : Opening Tree) (d : Definition) (w : Drafted) : Type 0 where
   pub ground : CollectGround
   pub passed : IsPassed hash said media other what d ground
-  pub over : IsOver hash media d w ground
+  pub over : IsOver (hash (new_alg d)) media d w (ground_of ground) ground.place
 
 -- what is refused first of two files, or of a new file over them, has this error
 abbrev pub IsRefusedDraft : (Alg → List ℕ → List ℕ) → (Question → Verdict) → List ℕ → List ℕ → Opening Tree → Definition → BuildError → Type 0
@@ -101,17 +94,10 @@ IsDraftOf hash said media other what d (Err e) = IsOfFile d → WithoutFault e (
 
 -- ---- what is drafted with a message
 
--- What was drafted with a message fits a media file of this length, whatever is known of both files: the definition is well formed, the message fills
--- what that reserves, and the rest fits what is left of the media.
-pub record FitsMedia (hash : Alg → List ℕ → List ℕ) (len : ℕ) (b : DraftedBuild) : Type 0 where
-  pub formed : IsWellFormed b.definition
-  pub small : IsSmall (hash (new_alg b.definition)) (cleared_len b.drafted.ground.clearing len) b.definition b.drafted
-  pub filled : length b.message ≡ b.definition.reserve
-
 -- What was drafted over this media file makes a new file that these inputs come to, whatever is put in of its store.
 pub record MakesFile (hash : Alg → List ℕ → List ℕ) (media : List ℕ) (Is : Result NewFile CollectRefusal → Type 0) (b : DraftedBuild) : Type 0 where
   pub ground : CollectGround
-  pub over : IsOver hash media b.definition b.drafted ground
+  pub over : IsOver (hash (new_alg b.definition)) media b.definition b.drafted (ground_of ground) ground.place
   pub made : (bytes : List ℕ) → IsPutIn hash b.definition ground b.message bytes → Is (Ok (new_file ground (length b.message) bytes))
 
 -- over inputs that come to something a new file that they come to was drafted over this media file, or the error is that of what is refused first
@@ -133,16 +119,6 @@ pub record IsReady (media : List ℕ) (r : Ready) (b : NewFile) : Type 0 where
   pub file : b.file ≡ ready_file r media
   pub start : b.start ≡ r.draft.start
   pub len : b.len ≡ r.draft.length
-
--- What is put in of the new store with this message is known, and the new file is ready to be written over this media file.
-pub record IsPutReady (hash : Alg → List ℕ → List ℕ) (media : List ℕ) (d : Definition) (g : CollectGround) (message : List ℕ) (r : Ready) : Type 0 where
-  pub bytes : List ℕ
-  pub put : IsPutIn hash d g message bytes
-  pub is : IsReady media r (new_file g (length message) bytes)
-
--- so it is ready over whatever was drafted so, where the bytes of the media are known
-abbrev pub IsReadyWith : (Alg → List ℕ → List ℕ) → Option (List ℕ) → Definition → Drafted → List ℕ → Ready → Type 0
-IsReadyWith hash media d w message r = ForSome media (λ file. (g : CollectGround) → IsOver hash file d w g → IsPutReady hash file d g message r)
 
 -- over inputs that come to something a new file is ready to be written over this media file, or the error is that of what is refused first
 abbrev pub IsReadyFor : List ℕ → (Result NewFile CollectRefusal → Type 0) → Result Ready BuildError → Type 0

@@ -12,31 +12,17 @@ ghost use Rattle.c2_collect_ground.specs.Grounds.{IsGroundCause, PairHears};
 ghost use Rattle.c2_bound_parts.specs.Bound.{IsSmall};
 ghost use Rattle.c2_build_collect.specs.Steps.{ForFiles, IsDraftOf, LeavesOther};
 
-use crate::sizes::numbers_of;
-use c2_base::{Blob, Source};
+use c2_base::Source;
 use c2_collect_ground::Collector;
 use c2_collected::the_length_of_a_collected_store_fits;
 use c2_definition::Definition;
+use c2_drafts::draft_in_place;
 use c2_ground::{MediaRead, form_of};
 use c2_hash::Hashing;
 use c2_judge::Judge;
-use c2_place::find_spot;
 use c2_places::each_media_has_a_place;
 use c2_refusals::{BuildError, Drafted};
 use std::alloc::Global;
-
-/// What is to be built, with a message: all that a new file is made of besides the media, and nothing that was opened.
-#[derive(Debug, Drop)]
-pub(crate) struct DraftedBuild {
-    /// The definition.
-    pub(crate) definition: Definition,
-
-    /// What is to be built, and over what.
-    pub(crate) drafted: Drafted,
-
-    /// The message, padded to what the definition reserves for it.
-    pub(crate) message: Blob,
-}
 
 /// What a build is made of, once the media file and the definition are read.
 #[derive(Drop)]
@@ -92,22 +78,11 @@ impl<'b, 't, H: Hashing> Build<'b, 't, H> {
             hashing: self.hashing,
             definition: &self.definition,
         };
-        // Matched and not handed up by `?`, here and below: each way out has clauses of its own.
+        // Matched and not handed up by `?`: each way out has clauses of its own.
         let ground = match collector.ground(media, self.file, other, judges) {
             Ok(ground) => ground,
             Err(error) => return Err(error),
         };
-        let spot = match find_spot(self.alloc, media, ground.clearing, form) {
-            Ok(spot) => spot,
-            Err(error) => return Err(error),
-        };
-        match numbers_of(self.alloc, &self.definition, &ground, &spot) {
-            Ok(draft) => Ok(Drafted {
-                ground,
-                seat: spot.seat,
-                draft,
-            }),
-            Err(error) => Err(error),
-        }
+        draft_in_place(self.alloc, media, form, &self.definition, ground)
     }
 }

@@ -1,5 +1,5 @@
 // Writing a new file whose store collects.
-ghost use Rattle.std.specs.Prelude.{◌≡◌, ◌⊎◌, map};
+ghost use Rattle.std.specs.Prelude.{◌⊎◌, map};
 ghost use Rattle.c2_base.specs.Causes.{Rose};
 ghost use Rattle.c2_base.specs.Source.{ReadsSource};
 ghost use Rattle.c2_spec.specs.Judges.Panel.{panel_says};
@@ -8,11 +8,11 @@ ghost use Rattle.c2_refusals.specs.Kinds.{build_heard};
 ghost use Rattle.c2_build_collect.specs.Answers.{AsksEmbedded, EmbedsCollected, ForEmbedInputs, IsEmbedCause, IsPrepareCause, LeavesBuildUndue, WritesOut};
 ghost use Rattle.c2_build_collect.specs.Steps.{IsBuildDrafted, IsPrepared};
 
-use crate::drafting::DraftedBuild;
 use crate::ready::{Builder, Maker};
 use c2_base::{Sink, Source};
 use c2_collected::{a_collected_build_comes_to_one_thing, a_made_collected_file_meets_the_rules};
 use c2_definition::each_definition_is_read_one_way;
+use c2_drafts::{DraftedBuild, make_ready};
 use c2_ground::open_media;
 use c2_hash::Hashing;
 use c2_in_place::{Ready, write_file};
@@ -123,7 +123,7 @@ impl<'h, H: Hashing> Maker<'h, H> {
             Ok(build) => build,
             Err(error) => return Err(error),
         };
-        self.ready(media, build)
+        make_ready(self.alloc, self.hashing, media, build)
     }
 }
 

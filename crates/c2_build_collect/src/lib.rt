@@ -10,7 +10,6 @@ mod drafting;
 mod embedding;
 mod planning;
 mod ready;
-mod sizes;
 
 pub use asking::{a_collected_build_asks_one_list, each_collected_build_asks_a_list};
 pub use embedding::embed_collect;

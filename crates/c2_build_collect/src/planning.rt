@@ -14,14 +14,13 @@ ghost use Rattle.c2_build_collect.specs.Steps.{ForFiles, IsBuildRead, IsFileFoun
 
 use crate::drafting::Build;
 use crate::ready::Builder;
-use c2_base::limits::PIECE_LEN;
-use c2_base::{Blob, NoMemory, Source};
-use c2_bound_parts::parts_for;
+use c2_base::{Blob, Source};
 use c2_definition::each_definition_is_read_one_way;
+use c2_drafts::signed_draft;
 use c2_ground::{open_media, read_media};
 use c2_hash::Hashing;
 use c2_judge::Judge;
-use c2_refusals::{BuildError, read_definition_file, signed_over};
+use c2_refusals::{BuildError, read_definition_file};
 use c2_validate::one_opening;
 use std::alloc::Global;
 
@@ -53,29 +52,12 @@ impl<'b, 't, H: Hashing> Build<'b, 't, H> {
             (PairHears H.digest_of (A.known media.old) (D.known other.old) self.now.file.now)
             judges.old judges.new result }
     {
-        // Matched and not handed up by `?`, here and below: each way out has clauses of its own.
+        // Matched and not handed up by `?`: each way out has clauses of its own.
         let drafted = match self.drafted(media, other, judges) {
             Ok(drafted) => drafted,
             Err(error) => return Err(error),
         };
-        let Ok(mut buf) = vec![in self.alloc; 0u8; PIECE_LEN] else {
-            return Err(BuildError::NoMemory);
-        };
-        let parts = match parts_for(
-            self.alloc,
-            self.hashing,
-            media,
-            &self.definition,
-            &drafted,
-            &mut buf,
-        ) {
-            Ok(parts) => parts,
-            Err(error) => return Err(error),
-        };
-        match signed_over(self.alloc, &self.definition, parts.claim.as_slice()) {
-            Ok(tbs) => Ok(tbs),
-            Err(NoMemory) => Err(BuildError::NoMemory),
-        }
+        signed_draft(self.alloc, self.hashing, media, &self.definition, &drafted)
     }
 }
 

@@ -1,5 +1,5 @@
-// What is ready to be written, before anything is.
-ghost use Rattle.std.specs.Prelude.{◌⊎◌, IfErr, IfOk, map};
+// What is to be built with a message.
+ghost use Rattle.std.specs.Prelude.{◌⊎◌, IfOk, map};
 ghost use Rattle.c2_base.specs.Causes.{Rose};
 ghost use Rattle.c2_base.specs.Source.{ReadsSource};
 ghost use Rattle.c2_spec.specs.C2pa.Message.{CanBePadded};
@@ -8,26 +8,21 @@ ghost use Rattle.c2_spec.specs.Cbor.Item.{Pairs};
 ghost use Rattle.c2_spec.specs.Judges.Panel.{panel_says};
 ghost use Rattle.c2_rules.specs.Asking.{HearsPanel};
 ghost use Rattle.c2_collected.specs.Outcomes.{IsMadeOver, IsPairStage, Then};
-ghost use Rattle.c2_refusals.specs.Kinds.{IsReadCause, SaysNothing, build_heard};
+ghost use Rattle.c2_refusals.specs.Kinds.{build_heard};
 ghost use Rattle.c2_in_place.specs.Numbers.{IsOfFile};
-ghost use Rattle.c2_in_place.specs.Writings.{CanWrite};
+ghost use Rattle.c2_drafts.specs.Drafts.{FitsMedia};
 ghost use Rattle.c2_collect_ground.specs.Grounds.{PairHears};
 ghost use Rattle.c2_build_collect.specs.Answers.{AsksEmbedded, IsPrepareCause, LeavesBuildUndue};
-ghost use Rattle.c2_build_collect.specs.Steps.{FitsMedia, ForFiles, IsBuildDrafted, IsBuildFor, IsBuildRead, IsFileFound, IsReadyWith, LeavesOther};
+ghost use Rattle.c2_build_collect.specs.Steps.{ForFiles, IsBuildDrafted, IsBuildFor, IsBuildRead, IsFileFound, LeavesOther};
 
-use crate::drafting::{Build, DraftedBuild};
-use c2_base::limits::PIECE_LEN;
-use c2_base::{NoMemory, Source};
-use c2_bound_parts::parts_for;
-use c2_built::a_new_store_has_one_length;
+use crate::drafting::Build;
+use c2_base::Source;
 use c2_cbor::one_item;
 use c2_definition::each_definition_is_read_one_way;
-use c2_films::a_new_film_store_has_one_length;
+use c2_drafts::DraftedBuild;
 use c2_ground::{MediaFile, read_media};
 use c2_hash::Hashing;
-use c2_in_place::Ready;
 use c2_judge::Judge;
-use c2_layout::new_store;
 use c2_message::{
     a_message_fills_its_reserve_or_needs_more, each_message_is_accepted_or_refused_for_one_test,
 };
@@ -57,48 +52,6 @@ pub(crate) struct Maker<'h, H> {
 
     /// What makes digests.
     pub(crate) hashing: &'h H,
-}
-
-impl<'h, H: Hashing> Maker<'h, H> {
-    /// What is to be written, of what was drafted with a message. The boxes that stand before the new manifest are let go once the new store
-    /// holds them.
-    pub(crate) fn ready<A: Source>(
-        &self,
-        media: &mut A,
-        build: DraftedBuild,
-    ) -> Result<Ready, BuildError>
-        requires { FitsMedia H.digest_of (A.len media.old) build }
-        ensures ready { IfOk result (IsReadyWith H.digest_of (A.known media.old)
-            build.definition build.drafted build.message) }
-        ensures nothing { IfErr result SaysNothing }
-        ensures can_write { IfOk result (CanWrite (A.len media.old)) }
-        ensures reads { ReadsSource A.len A.known A.faults IsReadCause media.old media.new result }
-    {
-        // Only the prover needs these laws.
-        a_new_store_has_one_length();
-        a_new_film_store_has_one_length();
-        let alloc = self.alloc;
-        let definition = &build.definition;
-        let drafted = &build.drafted;
-        let Ok(mut buffer) = vec![in alloc; 0u8; PIECE_LEN] else {
-            return Err(BuildError::NoMemory);
-        };
-        // Matched and not handed up by `?`, here and below: each way out has clauses of its own.
-        let parts = match parts_for(alloc, self.hashing, media, definition, drafted, &mut buffer) {
-            Ok(parts) => parts,
-            Err(error) => return Err(error),
-        };
-        let message = build.message.as_slice();
-        match new_store(alloc, definition, &drafted.ground.carried, &parts, message) {
-            Ok(store) => Ok(Ready {
-                store,
-                draft: drafted.draft,
-                clearing: drafted.ground.clearing,
-                buffer,
-            }),
-            Err(NoMemory) => Err(BuildError::NoMemory),
-        }
-    }
 }
 
 impl<'b, 't, H: Hashing> Build<'b, 't, H> {

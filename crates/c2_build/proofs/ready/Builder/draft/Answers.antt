@@ -7,7 +7,8 @@ use Rattle.c2_calls.proofs.SourceLemmas.{reads_next, stays_as_it_was}
 use Rattle.c2_container.specs.Contained.{HasRootsInside}
 use Rattle.c2_build.specs.Answers.{AsksEmbedded, prepare_effects}
 use Rattle.c2_refusals.specs.Stages.{IsMediaStage}
-use Rattle.c2_build.specs.Steps.{FitsMedia, IsPrepareCause}
+use Rattle.c2_drafts.specs.Drafts.{FitsMedia}
+use Rattle.c2_build.specs.Steps.{IsPrepareCause}
 use Rattle.c2_refusals.proofs.Stages.{comes_first}
 use Rattle.c2_refusals.proofs.Judged.{hears_none, hears_told, read_unheard}
 use Rattle.c2_refusals.proofs.Outside.{alone, plain_cause, reads_earlier}

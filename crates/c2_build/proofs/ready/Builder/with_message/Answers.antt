@@ -9,7 +9,7 @@ use Rattle.c2_build.proofs.NewStores.{draft_makes, reserve_outside}
 use Rattle.c2_build.proofs.Causes.{asks_prepare, message_stays}
 use Rattle.c2_refusals.proofs.Outside.{outside_map}
 use Rattle.c2_refusals.specs.Kinds.{message_effects}
-use Rattle.c2_build.specs.declared.ready.DraftedBuild.{DraftedBuild}
+use Rattle.c2_drafts.specs.declared.ready.DraftedBuild.{DraftedBuild}
 use Rattle.c2_build.proofs.ready.Builder.with_message.Goals as goal
 
 -- the place is refused
@@ -25,7 +25,7 @@ returns-in-Err-padded-clause-build g c = λ bytes known kind is of_file.
     let said = panel_says (map (λ j. (goal.Judge-dyn g (j.vtable, j.value)).says j.value) c.args.judges.now.items) in
     let hash = g.H.Hashing.digest_of in
     let at = c.in-Ok.ensures.passed bytes known kind is in
-    outside_map c.in-Err-padded.error (reserve_outside hash said bytes kind c.args.definition (parts_of c.args.sign.now) at.ground at.place c.in-Err-padded.error at.passed at.is.content.definition) c.in-Err-padded.ensures.refused
+    outside_map c.in-Err-padded.error (reserve_outside hash said bytes kind c.args.definition (parts_of c.args.sign.now) at.ground at.place c.in-Err-padded.error at.passed at.over.ground.content.definition) c.in-Err-padded.ensures.refused
 
 -- what was drafted makes the new file
 pub returns-in-Ok-padded-clause-build : goal.returns-in-Ok-padded-clause-build

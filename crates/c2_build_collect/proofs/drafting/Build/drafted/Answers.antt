@@ -1,17 +1,18 @@
-use Rattle.std.proofs.Common.{◌≤◌, ap, inl, map, sym, ℕ, ◌∙◌, subst}
+use Rattle.std.proofs.Common.{inl, map, ℕ, ◌∙◌, subst}
 use Rattle.std.specs.Prelude.{Err}
+use Rattle.std.proofs.lemmas.Result.{IfErr-weaker, IfOk-weaker}
 use Rattle.c2_spec.specs.Judges.Panel.{panel_says}
 use Rattle.c2_cleared.specs.Clears.{cleared_len}
 use Rattle.c2_built.specs.Store.{new_alg}
 use Rattle.c2_collected.proofs.SomeOutcome.{LeftLaws}
+use Rattle.c2_refusals.specs.Kinds.{WithoutFault}
+use Rattle.c2_refusals.proofs.Judged.{hears_behind, hears_failed, read_result}
+use Rattle.c2_refusals.proofs.Outside.{alone, outside_map, reads_earlier}
+use Rattle.c2_bound_parts.specs.Bound.{IsSmall}
+use Rattle.c2_drafts.specs.Drafts.{IsDraftedOver, IsRefusedAt, draft_effects}
+use Rattle.c2_drafts.proofs.Causes.{drafts_behind}
 use Rattle.c2_collect_ground.specs.Grounds.{ground_effects, opening_of}
-use Rattle.c2_refusals.specs.Seats.{IsSeatIn}
-use Rattle.c2_refusals.specs.declared.types.Drafted.{Drafted}
-use Rattle.c2_refusals.proofs.Judged.{hears_behind, hears_failed, older_result, read_result}
-use Rattle.c2_refusals.proofs.Outside.{alone, nothing_said, outside_map, reads_behind, reads_earlier, reads_quietly}
-use Rattle.c2_refusals.specs.Kinds.{no_effects}
-use Rattle.c2_in_place.proofs.Stored.{cleared_length}
-use Rattle.c2_build_collect.proofs.Drafts.{content_len, ground_form, ground_free, place_passed, place_refused, placed}
+use Rattle.c2_build_collect.proofs.Drafts.{can_draft, draft_of, over, over_form, over_kept}
 use Rattle.c2_build_collect.proofs.Stages.{opened_as, opened_kind}
 use Rattle.c2_build_collect.proofs.drafting.Build.drafted.Goals as goal
 
@@ -29,108 +30,42 @@ returns-in-Err-clause-other g c = record { stays = c.in-Err.ensures.other.stays;
 pub returns-in-Err-clause-panel : goal.returns-in-Err-clause-panel
 returns-in-Err-clause-panel g c = hears_failed c.args.judges.now c.ground.new.judges c.in-Err.error (λ qs asks. asks) c.in-Err.ensures.panel
 
--- ---- the walk to the place can't refuse what is left of a media file, which has a free place
+-- ---- its place is, or a test there fails; or none does
 
-pub returns-in-Err-find_spot-clause-drafted : goal.returns-in-Err-find_spot-clause-drafted
-returns-in-Err-find_spot-clause-drafted g c = λ bytes known kind is others told of_file.
+pub returns-clause-drafted : goal.returns-clause-drafted
+returns-clause-drafted g c = λ bytes known kind is others told.
     let said = panel_says (map (λ j. (goal.Judge-dyn g (j.vtable, j.value)).says j.value) c.args.judges.now.items) in
     let hash = g.H.Hashing.digest_of in
     let d = c.args.self.now.definition in
     let k = c.in-Ok.ground in
-    let over = c.in-Ok.ensures.ground bytes known kind is others told in
+    let what = opening_of kind in
+    let kept = c.in-Ok.ensures.ground bytes known kind is others told in
     let opened = opened_kind bytes kind is.stage in
     let stage = opened_as bytes kind is.stage in
+    let ground = over hash said bytes others what d k kept.0 opened stage kept.1 kept.2 in
+    let is_kept = over_kept hash said bytes others what d k kept.0 opened stage kept.1 kept.2 in
+    let has_form = c.form_of-form.ensures bytes is.container in
+    let law = c.each_media_has_a_place.ensures.container in
     let laws : LeftLaws = record { fresh = c.each_media_has_a_place.ensures.fresh; left = c.each_media_has_a_place.ensures.left; place = c.each_media_has_a_place.ensures.place } in
-    let form = ground_form hash said bytes others (opening_of kind) d k over.0 opened stage over.1 over.2 c.each_media_has_a_place.ensures.container c.form_of-form.result (c.form_of-form.ensures bytes is.container) in
-    nothing_said c.in-Err-find_spot.error _ (ground_free hash said bytes others (opening_of kind) d k over.0 opened stage over.1 over.2 laws c.in-Err-find_spot.error
-    (c.in-Err-find_spot.ensures.spot.told bytes (c.in-Ok.ensures.media.stays.same_bytes ∙ known) form))
+    let form = over_form hash said bytes others what d k kept.0 opened stage kept.1 kept.2 law c.form_of-form.result has_form in
+    draft_of hash said bytes others what d k kept.0 opened stage kept.1 kept.2 c.draft_in_place.result
+    (IfOk-weaker c.draft_in_place.result _ (λ w. IsDraftedOver (hash (new_alg d)) bytes d w ground) (λ w at. at bytes (c.in-Ok.ensures.media.stays.same_bytes ∙ known) (hash (new_alg d)) ground is_kept form) c.draft_in_place.ensures.passed)
+    (λ of_file. IfErr-weaker c.draft_in_place.result _ (λ e. WithoutFault e (IsRefusedAt ground e)) (λ e refused. refused bytes (c.in-Ok.ensures.media.stays.same_bytes ∙ known) (hash (new_alg d)) ground is_kept
+    (can_draft hash said bytes others what d k kept.0 opened stage kept.1 kept.2 law laws c.the_length_of_a_collected_store_fits.ensures.fits of_file c.form_of-form.result has_form)) c.draft_in_place.ensures.refused)
 
-pub returns-in-Err-find_spot-clause-media : goal.returns-in-Err-find_spot-clause-media
-returns-in-Err-find_spot-clause-media g c =
-    reads_behind ground_effects c.args.media.now c.ground.new.media c.find_spot.new.media c.in-Ok.ground (Err c.in-Err-find_spot.error) c.in-Ok.ensures.media c.in-Err-find_spot.ensures.reads.stays tt c.in-Err-find_spot.ensures.reads.cause
-
-pub returns-in-Err-find_spot-clause-other : goal.returns-in-Err-find_spot-clause-other
-returns-in-Err-find_spot-clause-other g c =
-    let media = reads_behind {U = Drafted} ground_effects {Other = ⊥} c.args.media.now c.ground.new.media c.find_spot.new.media c.in-Ok.ground (Err c.in-Err-find_spot.error) c.in-Ok.ensures.media c.in-Err-find_spot.ensures.reads.stays tt c.in-Err-find_spot.ensures.reads.cause in
-    reads_earlier ground_effects c.args.other.now c.ground.new.other _ _ (Err c.in-Err-find_spot.error) c.in-Ok.ensures.other.stays c.in-Ok.ensures.other.quiet (alone (λ rose. rose)) media.cause
-
-pub returns-in-Err-find_spot-clause-panel : goal.returns-in-Err-find_spot-clause-panel
-returns-in-Err-find_spot-clause-panel g c = hears_behind c.args.judges.now c.ground.new.judges c.in-Ok.ground _ (read_result {T = Drafted} no_effects _ _ (Err c.in-Err-find_spot.error) c.in-Err-find_spot.ensures.reads.cause) (λ qs asks. asks) c.in-Ok.ensures.panel
-
--- ---- a test at the place fails
-
-pub returns-in-Err-numbers_of-clause-drafted : goal.returns-in-Err-numbers_of-clause-drafted
-returns-in-Err-numbers_of-clause-drafted g c = λ bytes known kind is others told of_file.
-    let said = panel_says (map (λ j. (goal.Judge-dyn g (j.vtable, j.value)).says j.value) c.args.judges.now.items) in
-    let hash = g.H.Hashing.digest_of in
+pub returns-clause-small : goal.returns-clause-small
+returns-clause-small g c =
     let d = c.args.self.now.definition in
-    let k = c.in-Ok.ground in
-    let s = c.in-Ok-find_spot.spot in
-    let over = c.in-Ok.ensures.ground bytes known kind is others told in
-    let opened = opened_kind bytes kind is.stage in
-    let stage = opened_as bytes kind is.stage in
-    let form = ground_form hash said bytes others (opening_of kind) d k over.0 opened stage over.1 over.2 c.each_media_has_a_place.ensures.container c.form_of-form.result (c.form_of-form.ensures bytes is.container) in
-    let seat = c.in-Ok-find_spot.ensures.spot.seat bytes (c.in-Ok.ensures.media.stays.same_bytes ∙ known) form in
-    let len = g.met.A.Source.known_len c.args.media.now bytes known in
-    let size = c.in-Ok-find_spot.ensures.spot.size ∙ ap (cleared_len k.clearing) (c.in-Ok.ensures.media.stays.same_len ∙ sym len) ∙ sym (cleared_length k.clearing bytes) in
-    let at = placed hash said bytes others (opening_of kind) d k s.seat s.size over.0 over.1 over.2 seat size in
-    let has = content_len hash said bytes others (opening_of kind) d k s.seat s.size at c.the_length_of_a_collected_store_fits.ensures.fits of_file stage in
-    place_refused hash said bytes others (opening_of kind) d k s.seat s.size at c.in-Err-numbers_of.error (c.in-Err-numbers_of.ensures.refused (hash (new_alg d)) at.is.content at.pair.media.base at.place at.is.is has at.is_place at.seat)
+    let h = g.H.Hashing.digest_of (new_alg d) in
+    IfOk-weaker c.draft_in_place.result _ _ (λ w small. subst (λ (n : ℕ). IsSmall h (cleared_len w.ground.clearing n) d w) c.in-Ok.ensures.media.stays.same_len (small h c.in-Ok.ensures.some)) c.draft_in_place.ensures.small
 
-pub returns-in-Err-numbers_of-clause-media : goal.returns-in-Err-numbers_of-clause-media
-returns-in-Err-numbers_of-clause-media g c =
-    reads_quietly ground_effects tt c.args.media.now c.ground.new.media c.find_spot.new.media c.in-Ok.ground (Err c.in-Err-numbers_of.error) c.in-Ok.ensures.media c.in-Ok-find_spot.ensures.reads.stays c.in-Ok-find_spot.ensures.reads.quiet c.in-Err-numbers_of.ensures.quiet
+pub returns-clause-media : goal.returns-clause-media
+returns-clause-media g c = drafts_behind ground_effects tt c.args.media.now c.ground.new.media c.draft_in_place.new.media c.in-Ok.ground c.draft_in_place.result c.in-Ok.ensures.media c.draft_in_place.ensures.reads
 
-pub returns-in-Err-numbers_of-clause-other : goal.returns-in-Err-numbers_of-clause-other
-returns-in-Err-numbers_of-clause-other g c =
-    let media = reads_quietly {U = Drafted} ground_effects {Other = ⊥} tt c.args.media.now c.ground.new.media c.find_spot.new.media c.in-Ok.ground (Err c.in-Err-numbers_of.error) c.in-Ok.ensures.media c.in-Ok-find_spot.ensures.reads.stays c.in-Ok-find_spot.ensures.reads.quiet
-    c.in-Err-numbers_of.ensures.quiet in
-    reads_earlier ground_effects c.args.other.now c.ground.new.other _ _ (Err c.in-Err-numbers_of.error) c.in-Ok.ensures.other.stays c.in-Ok.ensures.other.quiet (alone (λ rose. rose)) media.cause
+pub returns-clause-other : goal.returns-clause-other
+returns-clause-other g c =
+    let media = drafts_behind ground_effects {Other = ⊥} tt c.args.media.now c.ground.new.media c.draft_in_place.new.media c.in-Ok.ground c.draft_in_place.result c.in-Ok.ensures.media c.draft_in_place.ensures.reads in
+    reads_earlier ground_effects c.args.other.now c.ground.new.other _ _ c.draft_in_place.result c.in-Ok.ensures.other.stays c.in-Ok.ensures.other.quiet (alone (λ rose. rose)) media.cause
 
-pub returns-in-Err-numbers_of-clause-panel : goal.returns-in-Err-numbers_of-clause-panel
-returns-in-Err-numbers_of-clause-panel g c = hears_behind c.args.judges.now c.ground.new.judges c.in-Ok.ground _ (older_result {T = Drafted} (Err c.in-Err-numbers_of.error) c.in-Err-numbers_of.ensures.quiet) (λ qs asks. asks) c.in-Ok.ensures.panel
-
--- ---- none does
-
-pub returns-in-Ok-numbers_of-clause-drafted : goal.returns-in-Ok-numbers_of-clause-drafted
-returns-in-Ok-numbers_of-clause-drafted g c = λ bytes known kind is others told.
-    let said = panel_says (map (λ j. (goal.Judge-dyn g (j.vtable, j.value)).says j.value) c.args.judges.now.items) in
-    let hash = g.H.Hashing.digest_of in
-    let d = c.args.self.now.definition in
-    let k = c.in-Ok.ground in
-    let s = c.in-Ok-find_spot.spot in
-    let over = c.in-Ok.ensures.ground bytes known kind is others told in
-    let opened = opened_kind bytes kind is.stage in
-    let stage = opened_as bytes kind is.stage in
-    let form = ground_form hash said bytes others (opening_of kind) d k over.0 opened stage over.1 over.2 c.each_media_has_a_place.ensures.container c.form_of-form.result (c.form_of-form.ensures bytes is.container) in
-    let seat = c.in-Ok-find_spot.ensures.spot.seat bytes (c.in-Ok.ensures.media.stays.same_bytes ∙ known) form in
-    let len = g.met.A.Source.known_len c.args.media.now bytes known in
-    let size = c.in-Ok-find_spot.ensures.spot.size ∙ ap (cleared_len k.clearing) (c.in-Ok.ensures.media.stays.same_len ∙ sym len) ∙ sym (cleared_length k.clearing bytes) in
-    let at = placed hash said bytes others (opening_of kind) d k s.seat s.size over.0 over.1 over.2 seat size in
-    place_passed hash said bytes others (opening_of kind) d k s.seat s.size at c.in-Ok-numbers_of.draft (c.in-Ok-numbers_of.ensures.passed (hash (new_alg d)) at.is.content at.pair.media.base at.place at.is.is at.is_place at.seat)
-    (c.in-Ok-numbers_of.ensures.draft (hash (new_alg d)) at.is.content at.is.is)
-
-pub returns-in-Ok-numbers_of-clause-small : goal.returns-in-Ok-numbers_of-clause-small
-returns-in-Ok-numbers_of-clause-small g c =
-    let k = c.in-Ok.ground in
-    let some = c.in-Ok.ensures.some in
-    let draft = c.in-Ok-numbers_of.ensures.draft (g.H.Hashing.digest_of (new_alg c.args.self.now.definition)) some.content some.is in
-    let size = c.in-Ok-find_spot.ensures.spot.size ∙ ap (cleared_len k.clearing) c.in-Ok.ensures.media.stays.same_len in
-    record {
-      content = some.content;
-      is = some.is;
-      small = draft.small;
-      size = draft.size ∙ size;
-      inside = subst (λ (n : ℕ). c.in-Ok-numbers_of.draft.start ≤ n) (sym draft.size) draft.inside;
-      seat = subst (λ (n : ℕ). IsSeatIn n c.in-Ok-find_spot.spot.seat) size c.in-Ok-find_spot.ensures.spot.inside;
-    }
-
-pub returns-in-Ok-numbers_of-clause-media : goal.returns-in-Ok-numbers_of-clause-media
-returns-in-Ok-numbers_of-clause-media g c =
-    reads_quietly ground_effects tt c.args.media.now c.ground.new.media c.find_spot.new.media c.in-Ok.ground _ c.in-Ok.ensures.media c.in-Ok-find_spot.ensures.reads.stays c.in-Ok-find_spot.ensures.reads.quiet tt
-
-pub returns-in-Ok-numbers_of-clause-other : goal.returns-in-Ok-numbers_of-clause-other
-returns-in-Ok-numbers_of-clause-other g c = record { stays = c.in-Ok.ensures.other.stays; quiet = c.in-Ok.ensures.other.quiet; cause = tt }
-
-pub returns-in-Ok-numbers_of-clause-panel : goal.returns-in-Ok-numbers_of-clause-panel
-returns-in-Ok-numbers_of-clause-panel g c = hears_behind c.args.judges.now c.ground.new.judges c.in-Ok.ground _ tt (λ qs asks. asks) c.in-Ok.ensures.panel
+pub returns-clause-panel : goal.returns-clause-panel
+returns-clause-panel g c = hears_behind c.args.judges.now c.ground.new.judges c.in-Ok.ground _ (read_result draft_effects _ _ c.draft_in_place.result c.draft_in_place.ensures.reads.cause) (λ qs asks. asks) c.in-Ok.ensures.panel

@@ -11,7 +11,7 @@ use Rattle.c2_refusals.specs.Kinds.{no_effects}
 use Rattle.c2_refusals.proofs.Judged.{hears_none, hears_told, read_unheard}
 use Rattle.c2_refusals.proofs.Outside.{alone, outside_map, plain_cause, reads_earlier}
 use Rattle.c2_build_collect.specs.Answers.{AsksEmbedded, IsPrepareCause, prepare_effects}
-use Rattle.c2_build_collect.specs.Steps.{FitsMedia}
+use Rattle.c2_drafts.specs.Drafts.{FitsMedia}
 use Rattle.c2_build_collect.proofs.Stages.{media_error, refused_first}
 use Rattle.c2_build_collect.proofs.Unasked.{refused_embed}
 use Rattle.c2_build_collect.proofs.ready.Maker.draft.Goals as goal

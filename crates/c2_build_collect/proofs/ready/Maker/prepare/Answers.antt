@@ -1,13 +1,15 @@
 use Rattle.std.proofs.Common.{inl, map, subst, sym, ℕ, ◌∙◌}
 use Rattle.std.proofs.lemmas.Result.{IfOk-weaker}
 use Rattle.c2_spec.specs.Judges.Panel.{panel_says}
+use Rattle.c2_built.specs.Store.{new_alg}
 use Rattle.c2_collected.specs.Outcomes.{IsCollectMade}
 use Rattle.c2_in_place.specs.Writings.{CanWrite}
 use Rattle.c2_refusals.specs.Kinds.{no_effects}
 use Rattle.c2_refusals.proofs.Judged.{hears_behind, hears_failed, read_result}
 use Rattle.c2_refusals.proofs.Outside.{alone, on_any, reads_behind, reads_earlier}
 use Rattle.c2_build_collect.specs.Answers.{prepare_effects}
-use Rattle.c2_build_collect.specs.Steps.{FitsMedia, IsPutReady}
+use Rattle.c2_drafts.specs.Drafts.{FitsMedia, IsPutReady}
+use Rattle.c2_build_collect.specs.Steps.{ground_of}
 use Rattle.c2_build_collect.proofs.Planned.{ready_made}
 use Rattle.c2_build_collect.proofs.ready.Maker.prepare.Goals as goal
 
@@ -37,8 +39,8 @@ returns-in-Err-clause-panel g c = hears_failed c.args.judges.now c.draft.new.jud
 
 -- ---- what is ready is the new file
 
-pub ready-requires : goal.ready-requires
-ready-requires g c = subst (λ (n : ℕ). FitsMedia g.H.Hashing.digest_of n c.in-Ok.build) (sym c.in-Ok.ensures.media.stays.same_len) c.in-Ok.ensures.build.fits
+pub make_ready-requires : goal.make_ready-requires
+make_ready-requires g c = subst (λ (n : ℕ). FitsMedia g.H.Hashing.digest_of n c.in-Ok.build) (sym c.in-Ok.ensures.media.stays.same_len) c.in-Ok.ensures.build.fits
 
 pub returns-clause-prepared : goal.returns-clause-prepared
 returns-clause-prepared g c = record {
@@ -47,29 +49,30 @@ returns-clause-prepared g c = record {
       let hash = g.H.Hashing.digest_of in
       let b = c.in-Ok.build in
       let m = c.in-Ok.ensures.build.build file known bytes due signed due' others undue in
-      ready_made hash file (IsCollectMade hash said file bytes signed others) b c.ready.result m
-      (IfOk-weaker c.ready.result _ (IsPutReady hash file b.definition m.ground b.message) (λ r h. h file (c.in-Ok.ensures.media.stays.same_bytes ∙ known) m.ground m.over) c.ready.ensures.ready) c.ready.ensures.nothing;
-  texts = λ bytes known. on_any c.ready.result (c.in-Ok.ensures.build.texts bytes known);
-  can_write = IfOk-weaker c.ready.result _ _ (λ r can. subst (λ (n : ℕ). CanWrite n r) c.in-Ok.ensures.media.stays.same_len can) c.ready.ensures.can_write;
+      ready_made hash file (IsCollectMade hash said file bytes signed others) b c.make_ready.result m
+      (IfOk-weaker c.make_ready.result _ (IsPutReady (hash (new_alg b.definition)) file (ground_of m.ground) m.ground.place b.message)
+      (λ r h. h file (c.in-Ok.ensures.media.stays.same_bytes ∙ known) (ground_of m.ground) m.ground.place m.over) c.make_ready.ensures.ready) c.make_ready.ensures.nothing;
+  texts = λ bytes known. on_any c.make_ready.result (c.in-Ok.ensures.build.texts bytes known);
+  can_write = IfOk-weaker c.make_ready.result _ _ (λ r can. subst (λ (n : ℕ). CanWrite n r) c.in-Ok.ensures.media.stays.same_len can) c.make_ready.ensures.can_write;
 }
 
 pub returns-clause-media : goal.returns-clause-media
-returns-clause-media g c = reads_behind prepare_effects c.args.media.now c.draft.new.media c.ready.new.media c.in-Ok.build c.ready.result c.in-Ok.ensures.media c.ready.ensures.reads.stays c.ready.ensures.reads.quiet c.ready.ensures.reads.cause
+returns-clause-media g c = reads_behind prepare_effects c.args.media.now c.draft.new.media c.make_ready.new.media c.in-Ok.build c.make_ready.result c.in-Ok.ensures.media c.make_ready.ensures.reads.stays c.make_ready.ensures.reads.quiet c.make_ready.ensures.reads.cause
 
 pub returns-clause-definition : goal.returns-clause-definition
 returns-clause-definition g c =
-    let media = reads_behind prepare_effects {Other = ⊥} c.args.media.now c.draft.new.media c.ready.new.media c.in-Ok.build c.ready.result c.in-Ok.ensures.media c.ready.ensures.reads.stays c.ready.ensures.reads.quiet c.ready.ensures.reads.cause in
-    reads_earlier prepare_effects c.args.definition.now c.draft.new.definition _ _ c.ready.result c.in-Ok.ensures.definition.stays c.in-Ok.ensures.definition.quiet (alone inl) media.cause
+    let media = reads_behind prepare_effects {Other = ⊥} c.args.media.now c.draft.new.media c.make_ready.new.media c.in-Ok.build c.make_ready.result c.in-Ok.ensures.media c.make_ready.ensures.reads.stays c.make_ready.ensures.reads.quiet c.make_ready.ensures.reads.cause in
+    reads_earlier prepare_effects c.args.definition.now c.draft.new.definition _ _ c.make_ready.result c.in-Ok.ensures.definition.stays c.in-Ok.ensures.definition.quiet (alone inl) media.cause
 
 pub returns-clause-message : goal.returns-clause-message
 returns-clause-message g c =
-    let media = reads_behind prepare_effects {Other = ⊥} c.args.media.now c.draft.new.media c.ready.new.media c.in-Ok.build c.ready.result c.in-Ok.ensures.media c.ready.ensures.reads.stays c.ready.ensures.reads.quiet c.ready.ensures.reads.cause in
-    reads_earlier prepare_effects c.args.signature.now c.draft.new.signature _ _ c.ready.result c.in-Ok.ensures.message.stays c.in-Ok.ensures.message.quiet (alone inl) media.cause
+    let media = reads_behind prepare_effects {Other = ⊥} c.args.media.now c.draft.new.media c.make_ready.new.media c.in-Ok.build c.make_ready.result c.in-Ok.ensures.media c.make_ready.ensures.reads.stays c.make_ready.ensures.reads.quiet c.make_ready.ensures.reads.cause in
+    reads_earlier prepare_effects c.args.signature.now c.draft.new.signature _ _ c.make_ready.result c.in-Ok.ensures.message.stays c.in-Ok.ensures.message.quiet (alone inl) media.cause
 
 pub returns-clause-other : goal.returns-clause-other
 returns-clause-other g c =
-    let media = reads_behind prepare_effects {Other = ⊥} c.args.media.now c.draft.new.media c.ready.new.media c.in-Ok.build c.ready.result c.in-Ok.ensures.media c.ready.ensures.reads.stays c.ready.ensures.reads.quiet c.ready.ensures.reads.cause in
-    reads_earlier prepare_effects c.args.other.now c.draft.new.other _ _ c.ready.result c.in-Ok.ensures.other.stays c.in-Ok.ensures.other.quiet (alone inl) media.cause
+    let media = reads_behind prepare_effects {Other = ⊥} c.args.media.now c.draft.new.media c.make_ready.new.media c.in-Ok.build c.make_ready.result c.in-Ok.ensures.media c.make_ready.ensures.reads.stays c.make_ready.ensures.reads.quiet c.make_ready.ensures.reads.cause in
+    reads_earlier prepare_effects c.args.other.now c.draft.new.other _ _ c.make_ready.result c.in-Ok.ensures.other.stays c.in-Ok.ensures.other.quiet (alone inl) media.cause
 
 pub returns-clause-panel : goal.returns-clause-panel
-returns-clause-panel g c = hears_behind c.args.judges.now c.draft.new.judges c.in-Ok.build c.ready.result (read_result no_effects _ _ c.ready.result c.ready.ensures.reads.cause) (λ qs asks. asks) c.in-Ok.ensures.panel
+returns-clause-panel g c = hears_behind c.args.judges.now c.draft.new.judges c.in-Ok.build c.make_ready.result (read_result no_effects _ _ c.make_ready.result c.make_ready.ensures.reads.cause) (λ qs asks. asks) c.in-Ok.ensures.panel

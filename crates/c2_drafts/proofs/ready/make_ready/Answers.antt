@@ -1,8 +1,8 @@
-use Rattle.std.proofs.Common.{List, ◌<◌, ap, length, refl, arith, option_map, subst, ℕ}
-use Rattle.c2_cleared.specs.Clears.{cleared, cleared_len}
-use Rattle.c2_build.proofs.NewStores.{IsMade, ready_is, draft_packs}
-use Rattle.c2_build.proofs.ready.Builder.ready.Goals as goal
+use Rattle.std.proofs.Common.{List, ◌<◌, ap, arith, length, option_map, refl, subst, ℕ}
 use Rattle.c2_built.specs.Store.{new_alg}
+use Rattle.c2_cleared.specs.Clears.{cleared, cleared_len}
+use Rattle.c2_drafts.proofs.NewStores.{IsMade, draft_packs, put_ready}
+use Rattle.c2_drafts.proofs.ready.make_ready.Goals as goal
 
 -- the store isn't too large
 pub new_store-requires-clause-small : goal.new_store-requires-clause-small
@@ -12,13 +12,12 @@ new_store-requires-clause-small g c =
 
 -- this is to be written
 pub returns-in-Ok-new_store-clause-ready : goal.returns-in-Ok-new_store-clause-ready
-returns-in-Ok-new_store-clause-ready g c = λ file known ground place over.
+returns-in-Ok-new_store-clause-ready g c = λ file known over p is.
     let d = c.args.build.definition in
     let w = c.args.build.drafted in
-    let parts = c.in-Ok-parts_for.parts in
-    let made = subst (λ (m : List ℕ). IsMade d w.ground.carried parts m c.in-Ok-new_store.store) c.as_slice-message.ensures.value c.in-Ok-new_store.ensures in
-    ready_is g.H.Hashing.digest_of file d w parts (option_map (cleared w.ground.clearing) (g.A.Source.known c.args.media.now)) c.args.build.message _ refl refl c.in-Ok-parts_for.ensures.parts (ap (option_map (cleared w.ground.clearing)) known)
-    c.requires.filled made ground place over.ground over.place over.seat over.numbers
+    let made = subst (λ (m : List ℕ). IsMade d w.ground.carried c.in-Ok-parts_for.parts m c.in-Ok-new_store.store) c.as_slice-message.ensures.value c.in-Ok-new_store.ensures in
+    put_ready (g.H.Hashing.digest_of (new_alg d)) file d w over p is (option_map (cleared w.ground.clearing) (g.A.Source.known c.args.media.now)) c.in-Ok-parts_for.parts c.in-Ok-parts_for.ensures.parts
+    (ap (option_map (cleared w.ground.clearing)) known) c.args.build.message _ refl refl c.requires.filled made
 
 -- and can be
 pub returns-in-Ok-new_store-clause-can_write : goal.returns-in-Ok-new_store-clause-can_write

@@ -1,4 +1,4 @@
-// The length of a new store that collects, and the numbers of the new file, before anything is digested.
+// The numbers of a new file over a ground, that are known before anything is digested.
 ghost use Rattle.std.specs.Prelude.{◌≡◌, ◌<◌, ◌≤◌, IfErr, IfOk, List, None, OnOk, Some, ℕ};
 ghost use Rattle.c2_base.specs.declared.limits.TheConstants as limits;
 ghost use Rattle.c2_spec.specs.declared.packets.TheConstants.{LEAST_STORE_LEN};
@@ -33,7 +33,7 @@ fn store_len(
     bound_size(alloc, definition, carried, &binding)
 }
 
-/// The numbers of a new file over a ground, at a place that was found, where no test on them refuses it.
+/// The numbers of a new file over a ground, at a place that was found in what is left of the media, where no test on them refuses it.
 pub(crate) fn numbers_of(
     alloc: Global,
     definition: &Definition,
@@ -59,6 +59,7 @@ pub(crate) fn numbers_of(
         Ok(len) => len,
         Err(NoMemory) => return Err(BuildError::NoMemory),
     };
+    // Matched and not handed up: each way out has clauses of its own.
     match draft_at(&spot.seat, spot.size, ground.manifests, len) {
         Ok(draft) => Ok(draft),
         Err(error) => Err(error),

@@ -1,13 +1,13 @@
 use Rattle.std.proofs.Common.{◌-◌, ◌^◌, ℕ, ap, min, sym, ◌∙◌}
 use Rattle.std.proofs.lemmas.Result.{IfOk-weaker}
+use Rattle.c2_spec.specs.Digest.{zero_digest}
 use Rattle.c2_definition.specs.declared.types.Definition.{Definition}
 use Rattle.c2_definition.specs.declared.types.NewAssertion.{NewAssertion}
 use Rattle.c2_built.specs.Built.{bound_len}
+use Rattle.c2_built.specs.Store.{new_alg}
 use Rattle.c2_bound_parts.specs.Bound.{seat_binding}
 use Rattle.c2_in_place.proofs.Stored.{blank_len}
-use Rattle.c2_build.proofs.draft.store_len.Goals as goal
-use Rattle.c2_spec.specs.Digest.{zero_digest}
-use Rattle.c2_built.specs.Store.{new_alg}
+use Rattle.c2_drafts.proofs.numbers.store_len.Goals as goal
 
 -- the binding is that of no range and no digest
 pub returns-clause-len : goal.returns-clause-len

@@ -1,5 +1,5 @@
 use Rattle.c2_refusals.proofs.Outside.{outside_all}
-use Rattle.c2_build.proofs.draft.numbers_of.Goals as goal
+use Rattle.c2_drafts.proofs.numbers.numbers_of.Goals as goal
 
 -- the tests are those of the length that was told
 pub returns-in-Ok-draft_at-clause-passed : goal.returns-in-Ok-draft_at-clause-passed
