@@ -19,10 +19,10 @@ OPEN = {
     "c2_succeeding", "c2_films", "c2_places", "c2_fronts", "c2_lengths", "c2_collected", "c2_written",
 }
 # the laws of a crate of code: what calls leave of a sink, what the errors of two calls come from, what the errors, stages and inputs of a
-# build say, what was found of a file and of its store's check, the manifests of a store by their places, what is carried of it, how long a new store is, what the numbers of a new file and the errors of its writing say, and what is replied
+# build say, what was found of a file and of its store's check, the manifests of a store by their places, what is carried of it, how long a new store is, what the numbers of a new file and the errors of its writing say, what the errors of what is drafted come from, and what is replied
 LAWS = {
     "c2_base": {"Growing"}, "c2_evidence": {"Leaving"}, "c2_refusals": {"Doing", "FirstRefusal", "Inputs", "Judged", "Media", "Outside", "Passing", "Stages"},
-    "c2_bound_parts": {"NewParts"}, "c2_collect": {"Manifests"}, "c2_parent": {"CarriedLemmas", "Walking"}, "c2_ground": {"Checks", "Grounds", "Opened"}, "c2_in_place": {"Endings", "Stored"}, "c2_outcome": {"Replying"},
+    "c2_bound_parts": {"NewParts"}, "c2_collect": {"Manifests"}, "c2_parent": {"CarriedLemmas", "Walking"}, "c2_ground": {"Checks", "Grounds", "Opened"}, "c2_in_place": {"Endings", "Stored"}, "c2_drafts": {"Causes"}, "c2_outcome": {"Replying"},
 }
 CITES = re.compile(r"\bRattle\.(c2_\w+)\.proofs\.(\w+)")
 
