@@ -4,7 +4,7 @@
     imports.py            a line for each such name: its file, its line and the name; then how many there are. Ends with 1 where there is one
 
 A name of a `use` (of code, and of a `ghost use`) counts as used where it stands anywhere else in its file outside comments. An operator, whose places for
-what it joins are written as circles, counts as used where its signs stand; and a trait of the crates where one of its methods is called.
+what it joins are written as circles, counts as used where its signs stand; and a trait of the crates, or one of `METHODS`, where one of its methods is called.
 """
 
 import glob
@@ -47,7 +47,8 @@ def methods_of_traits():
     return found
 
 
-METHODS = methods_of_traits()
+# the traits of the standard library that are imported for their methods, with those that are called
+METHODS = methods_of_traits() | {"FileExt": ["read_exact_at"], "OpenFile": ["open"]}
 
 
 def unused(path):

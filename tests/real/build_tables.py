@@ -1,4 +1,4 @@
-"""The tables of crates/c2_rows on `plan` and `embed`, with the rows of build_rows.py, for whole runs.
+"""The tables of crates/c2_test_rows on `plan` and `embed`, with the rows of build_rows.py, for whole runs.
 
 `builds` has what is built, and what `validate` says of it; `build_refusals` what is refused, and that nothing is written then.
 """

@@ -1,5 +1,5 @@
 #!/usr/bin/env python3
-"""Tables of rows for crates/c2_rows, of files that are drawn at random, with what the independent programs say of each.
+"""Tables of rows for crates/c2_test_rows, of files that are drawn at random, with what the independent programs say of each.
 
     chance_rows.py FOLDER COUNT [SEED [KIND]]      writes FOLDER/1.rows, FOLDER/2.rows and so on for COUNT files
 

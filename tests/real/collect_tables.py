@@ -1,4 +1,4 @@
-"""The table `collects` of crates/c2_rows: what `plan-collect` says and `embed-collect` builds of media, definitions, messages and other files, and what
+"""The table `collects` of crates/c2_test_rows: what `plan-collect` says and `embed-collect` builds of media, definitions, messages and other files, and what
 other commands say of what is built. The answers of `embed-collect` and the order of manifests are written by hand in collect_rows.py; all else is computed
 by collect.py, and by store.py and external.py. rows.py writes the table and checks it.
 """

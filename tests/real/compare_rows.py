@@ -1,12 +1,12 @@
 #!/usr/bin/env python3
 """Rows of two files that are compared, and what is reported of them.
 
-    compare_rows.py          prints the module rows.rt of crates/c2_compare_tests
+    compare_rows.py          prints the module rows.rt of crates/c2_test_compare
 
-rows.py writes the table of crates/c2_rows, which has more of them.
+rows.py writes the table of crates/c2_test_rows, which has more of them.
 
 A line that says what the row shows, and the row: the hash, both files in hex, and the lines of the report, with bars between them.
-The reports of crates/c2_rows are those of pairs.py. The texts of evidence are made here from the drafts of the files, and must be
+The reports of crates/c2_test_rows are those of pairs.py. The texts of evidence are made here from the drafts of the files, and must be
 those of pairs.py; nothing of them was taken from what c2 prints.
 """
 

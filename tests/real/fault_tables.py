@@ -1,4 +1,4 @@
-"""The tables of crates/c2_rows in which objects fail, and in which files are cut short or changed.
+"""The tables of crates/c2_test_rows in which objects fail, and in which files are cut short or changed.
 
 `faults` lets each source, the new file and the report of each command fail at each of its calls in turn, `judge_faults` each ask of a judge;
 `jpeg_prefixes` and `film_prefixes` have what `validate` says of each prefix of a small built file, and `changed_bytes` its status for each byte

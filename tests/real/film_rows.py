@@ -1,4 +1,4 @@
-"""Small BMFF files for crates/c2_tests: a film of 25 bytes, the same with a store that binds it, and what is said of each."""
+"""Small BMFF files for crates/c2_test_cmd: a film of 25 bytes, the same with a store that binds it, and what is said of each."""
 
 import hashlib
 

@@ -1,4 +1,4 @@
-"""The table `fronts` of crates/c2_rows: what `plan-front` says and `embed-front` builds of films, definitions and messages, and what other commands say of
+"""The table `fronts` of crates/c2_test_rows: what `plan-front` says and `embed-front` builds of films, definitions and messages, and what other commands say of
 what is built. The answers of `embed-front` and what a new file has in its chunk tables are written by hand in front_rows.py; all else is computed by
 front.py, and by store.py and external.py. rows.py writes the table and checks it.
 """

@@ -1,4 +1,4 @@
-"""The table `large` of crates/c2_rows: files that are too long to be gone through place by place, and a difference of very many bytes."""
+"""The table `large` of crates/c2_test_rows: files that are too long to be gone through place by place, and a difference of very many bytes."""
 
 import hashlib
 

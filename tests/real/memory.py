@@ -7,7 +7,7 @@
     memory.py C2                    `validate`, `compare`, `plan`, `embed`, `strip`, `extract`, `validate-external`, `plan-front`,
                                     `embed-front`, `plan-collect` and `embed-collect` over small files that are made here: built once and twice, and pairs of different
                                     files, of which one is evidence
-    memory.py --rows C2_ROWS        `compare` over pairs that differ under the sum of their bytes, by the program of crates/c2_rows
+    memory.py --rows C2_ROWS        `compare` over pairs that differ under the sum of their bytes, by the program of crates/c2_test_rows
 
 Each is run first with all the memory that it asks for, then with its first request refused, its second, and so on until a run ends as
 the first did. A run to which memory was refused says so by its status, 8, and has printed nothing or the begin of its report; or it

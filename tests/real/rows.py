@@ -1,7 +1,7 @@
 #!/usr/bin/env python3
 """Small stores and what c2 must say of each, computed by store.py.
 
-    rows.py write [TABLE..]    writes the tables of crates/c2_rows that are computed, or those that are named: `show`, `questions`
+    rows.py write [TABLE..]    writes the tables of crates/c2_test_rows that are computed, or those that are named: `show`, `questions`
                                without verdict files, `validate` with a judge who approves every question, `films` under
                                `validate`, `manifests`, `pairs` under `compare`, `builds` and `build_refusals` under `plan` and
                                `embed`, and those of collect_tables.py, fault_tables.py, front_tables.py,

@@ -1,4 +1,4 @@
-"""The table `sidecars` of crates/c2_rows: what `strip` and `extract` write of media files, and what `validate-external` says of a file and a
+"""The table `sidecars` of crates/c2_test_rows: what `strip` and `extract` write of media files, and what `validate-external` says of a file and a
 store that is another file. What the runs come to is computed by external.py; answers that are known by hand stand here and must be the same. rows.py
 writes the table and checks it.
 """

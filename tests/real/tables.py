@@ -1,4 +1,4 @@
-"""Tables of rows for the program crates/c2_rows: where they lie, and how they are written.
+"""Tables of rows for the program crates/c2_test_rows: where they lie, and how they are written.
 
 A line `# NAME` names the rows behind it, a line `KEY: VALUE` sets something for them, and a line `FILES => WANTED` is a row: a file in
 hex, or two with a bar between them, and what the run comes to.
@@ -21,7 +21,7 @@ class Approving(dict):
         return True
 
 
-DATA = pathlib.Path(__file__).resolve().parent.parent.parent / "crates" / "c2_rows" / "data"
+DATA = pathlib.Path(__file__).resolve().parent.parent.parent / "crates" / "c2_test_rows" / "data"
 
 
 def head(what, writer, **given):

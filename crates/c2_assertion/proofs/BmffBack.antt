@@ -11,7 +11,6 @@ use Rattle.c2_spec.specs.C2pa.Assertion.{most_exclusions}
 use Rattle.c2_spec.specs.Bmff.Hash.{BmffHash, ByteTest, Exclusion, any_item, bmff_hash_of, exclusion_from, exclusion_of, has_other_test, part_of, some_parts, test_of}
 use Rattle.c2_spec.specs.Bmff.Paths.{PathStep, enters_other, path_of, steps_text}
 use Rattle.c2_spec.specs.Cbor.Fields.{each_of, joined, require}
-use Rattle.c2_spec.specs.Cbor.Item.{Item}
 use Rattle.c2_spec.specs.Cbor.View.{items_of}
 use Rattle.c2_spec.specs.declared.assertion.FieldError.{FieldError}
 use Rattle.c2_spec.specs.declared.assertion.FieldError.TheVariants.{Form, TooMany, Test, Path}

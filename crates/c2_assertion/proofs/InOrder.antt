@@ -1,5 +1,5 @@
 -- The fields of the items that are written stand in deterministic order.
-use Rattle.std.proofs.Common.{◌≡◌, ℕ, List, [], ◌∷◌, ◌++◌, map, replicate, codes, Option, Some, None, refl, ap, ap₂, ◌∙◌}
+use Rattle.std.proofs.Common.{◌≡◌, ℕ, List, [], ◌∷◌, ◌++◌, map, replicate, codes, Option, Some, None, refl, ap, ap₂}
 use Rattle.c2_base.specs.declared.values.Range.{Range}
 use Rattle.c2_spec.specs.Bmff.Hash.{BmffHash, ByteTest, Exclusion}
 use Rattle.c2_spec.specs.Bmff.Paths.{PathStep, steps_text}

@@ -1,6 +1,6 @@
 -- A list that is written item by item is read item by item.
-use Rattle.std.proofs.Common.{◌≡◌, ℕ, zero, suc, ◌<◌, List, [], ◌∷◌, length, All, map, Option, Some, None, refl, sym, ap, ap₂, ◌∙◌, arith}
-use Rattle.c2_spec.specs.Cbor.Item.{Item, Items}
+use Rattle.std.proofs.Common.{◌≡◌, zero, suc, List, [], ◌∷◌, All, map, Option, Some, refl, ap₂, arith}
+use Rattle.c2_spec.specs.Cbor.Item.{Item}
 use Rattle.c2_spec.specs.Cbor.View.{items_of}
 use Rattle.c2_spec.specs.Cbor.Fields.{each_of, joined}
 

@@ -1,5 +1,5 @@
 -- No map of the items that are written has two keys with the same bytes.
-use Rattle.std.proofs.Common.{◌≡◌, ℕ, Bool, true, false, ◌&&◌, not, List, [], ◌∷◌, ◌++◌, map, replicate, Option, Some, None, refl, sym, ap, ◌∙◌}
+use Rattle.std.proofs.Common.{◌≡◌, ℕ, Bool, true, ◌&&◌, not, List, [], ◌∷◌, map, replicate, Option, Some, None, refl, ap}
 use Rattle.std.specs.List.{AllByRecursion}
 use Rattle.std.specs.Prelude.{codes}
 use Rattle.std.specs.Str.{bytes_eq}
@@ -10,7 +10,7 @@ use Rattle.c2_spec.specs.Bmff.Hash.{BmffHash, ByteTest, Exclusion}
 use Rattle.c2_spec.specs.Bmff.Paths.{PathStep, steps_text}
 use Rattle.c2_spec.specs.Cbor.Deterministic.{deterministic, shortest_head}
 use Rattle.c2_spec.specs.Cbor.Item.{Item, bytes, dict, list, text, uint, Pairs, no_pairs, pair}
-use Rattle.c2_spec.specs.Cbor.Plain.{DiffersFrom, HasPlainKeys, ItemsHavePlainKeys, PairsHavePlainKeys}
+use Rattle.c2_spec.specs.Cbor.Plain.{DiffersFrom, HasPlainKeys, ItemsHavePlainKeys}
 use Rattle.c2_spec.specs.Cbor.View.{items_of, pairs_of}
 use Rattle.c2_spec.specs.declared.assertion.DataHash.{DataHash}
 use Rattle.c2_spec.specs.declared.assertion.Ingredient.{Ingredient}

@@ -1,6 +1,5 @@
 -- Which exclusions are read again of the items that they are written as.
 use Rattle.std.specs.Prelude.{◌≡◌, ◌≢◌, List, [], false, Some}
-use Rattle.c2_base.specs.declared.values.Range.{Range}
 use Rattle.c2_spec.specs.Bmff.Hash.{Exclusion}
 use Rattle.c2_spec.specs.Bmff.Paths.{PathStep, enters_other, path_of, steps_text}
 

@@ -1,6 +1,6 @@
 -- The items that assertions are written as (C2PA Technical Specification 2.x, "Standard assertions"). A field that is absent is left
 -- out, and so is an empty list of byte tests. The fields of each map stand in deterministic order.
-use Rattle.std.specs.Prelude.{ℕ, ◌+◌, ◌-◌, List, [], ◌∷◌, ◌++◌, length, replicate, sum_by, map, codes, Some, None}
+use Rattle.std.specs.Prelude.{ℕ, ◌+◌, ◌-◌, List, [], ◌∷◌, ◌++◌, length, replicate, sum_by, map, codes}
 use Rattle.std.specs.declared.option.Option.{Option}
 use Rattle.c2_base.specs.declared.values.Range.{Range}
 use Rattle.c2_spec.specs.Bmff.Hash.{BmffHash, ByteTest, Exclusion}
@@ -13,8 +13,6 @@ use Rattle.c2_spec.specs.declared.assertion.DataHash.{DataHash}
 use Rattle.c2_spec.specs.declared.assertion.Ingredient.{Ingredient}
 use Rattle.c2_spec.specs.declared.assertion.Relationship.{Relationship}
 use Rattle.c2_spec.specs.declared.assertion.Relationship.TheVariants.{ParentOf, ComponentOf, InputTo}
-use Rattle.c2_spec.specs.declared.cbor.Cbor.{Cbor}
-use Rattle.c2_spec.specs.declared.cbor.Ref.{Ref}
 
 -- ---- the BMFF hash
 

@@ -1,17 +1,17 @@
 // Reading a BMFF hash.
-ghost use Rattle.std.specs.Prelude.{◌≡◌, codes, IfOk, Some, map, option_map, option_and_then};
+ghost use Rattle.std.specs.Prelude.{◌≡◌, codes, IfOk, Some, option_map, option_and_then};
 ghost use Rattle.c2_spec.specs.Cbor.View.{view, items_view};
 ghost use Rattle.c2_spec.specs.Cbor.Lookup.{field_of};
 ghost use Rattle.c2_spec.specs.Cbor.Fields.{IsAnswer, each_of, list_of, optional_list, text_of};
 ghost use Rattle.std.specs.List.{list_any};
 ghost use Rattle.c2_spec.specs.Bmff.Paths.{enters_other, path_of};
 ghost use Rattle.c2_spec.specs.Bmff.Hash as form;
-ghost use Rattle.c2_paths.specs.Exclusions.{byte_test};
+ghost use Rattle.c2_bmff_paths.specs.Exclusions.{byte_test};
 
 use c2_base::limits::MAX_EXCLUSIONS;
 use c2_base::{Blob, NoMemory, Range, Ranges, Text};
+use c2_bmff_paths::{ByteTests, Exclusion, Exclusions, Path, read_path};
 use c2_cbor::{Cbor, field};
-use c2_paths::{ByteTests, Exclusion, Exclusions, Path, read_path};
 use c2_spec::FieldError;
 use std::alloc::Global;
 use std::marker::Model;

@@ -2,15 +2,15 @@
 ghost use Rattle.std.specs.Prelude.{◌≡◌, ◌++◌, codes, OnOk, IfOk, map};
 ghost use Rattle.c2_spec.specs.Cbor.Item as item;
 ghost use Rattle.c2_spec.specs.Cbor.View.{view};
-ghost use Rattle.c2_paths.specs.Exclusions.{byte_test};
+ghost use Rattle.c2_bmff_paths.specs.Exclusions.{byte_test};
 ghost use Rattle.c2_spec.specs.Cbor.Writing.{field_if, pair_view};
 ghost use Rattle.c2_assertion.specs.Written.{bmff_hash_item, exclusion_item, part_item, parts_item, test_item, tests_field};
 
 use crate::bmff_hash::BmffHash;
 use crate::fields_written::{add_alg, add_field, byte_string};
 use c2_base::{Blob, NoMemory, Range, Ranges, Text};
+use c2_bmff_paths::{ByteTests, Exclusion};
 use c2_cbor::Cbor;
-use c2_paths::{ByteTests, Exclusion};
 use std::alloc::Global;
 
 // The item of a byte test.

@@ -1,9 +1,9 @@
 -- What calls that write leave of a sink, one after the other.
-use Rattle.std.proofs.Common.{◌≡◌, refl, sym, ap, ◌∙◌, ℕ, ◌≤◌, Bool, List, [], ◌++◌, length, take, arith}
+use Rattle.std.proofs.Common.{◌≡◌, refl, sym, ap, ◌∙◌, ℕ, ◌≤◌, Bool, List, [], ◌++◌, take, arith}
 use Rattle.std.proofs.lemmas.List.{append_assoc, append-nil}
 use Rattle.std.specs.declared.option.Option.{Option}
 use Rattle.std.specs.declared.option.Option.TheVariants.{Some, None}
-use Rattle.c2_base.specs.Sink.{Appends, Grows, HasWrittenPrefix, StaysSink, TakesPrefix, then_written}
+use Rattle.c2_base.specs.Sink.{Grows, HasWrittenPrefix, StaysSink, TakesPrefix, then_written}
 
 -- nothing was written
 pub grows_none : (a : Option (List ℕ)) → Grows a a

@@ -1,7 +1,7 @@
 // Calls over any source or sink.
-ghost use Rattle.std.specs.Prelude.{◌≡◌, ◌+◌, ◌<◌, ◌≤◌, length, OnOk, OnErr, IfOk, IfErr};
+ghost use Rattle.std.specs.Prelude.{◌≡◌, ◌+◌, ◌<◌, ◌≤◌, length, OnOk, IfOk, IfErr};
 ghost use Rattle.std.specs.Option.{ForSome};
-ghost use Rattle.c2_base.specs.Causes.{HasCause, Rose};
+ghost use Rattle.c2_base.specs.Causes.{HasCause};
 ghost use Rattle.c2_base.specs.Source.{StaysSource, FilledAt};
 ghost use Rattle.c2_base.specs.declared.calls.ReadAllError.TheVariants.{ReadFault, NoMemory};
 ghost use Rattle.c2_base.specs.ReadAll.{HasReason};

@@ -1,6 +1,5 @@
 // Sources in memory.
-ghost use Rattle.std.specs.Prelude.{◌≡◌, ◌^◌, ◌<◌, ◌≤◌, All, Ok, Some, None, length, is_err, IfOk};
-ghost use Rattle.c2_base.specs.Causes.{HasCause};
+ghost use Rattle.std.specs.Prelude.{◌≡◌, ◌^◌, ◌<◌, ◌≤◌, All, Ok, Some, None, length, IfOk};
 ghost use Rattle.c2_base.specs.Source.{ReadsBytes, piece_then_zeros};
 
 use crate::{Blob, Failed, Source};

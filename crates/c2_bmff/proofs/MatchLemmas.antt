@@ -9,13 +9,13 @@ use Rattle.std.proofs.lemmas.Slice.Eq.{bytes_eq-Decides}
 use Rattle.c2_spec.specs.Bmff.Boxes.{Box, HasRoots, box_bytes, box_len}
 use Rattle.c2_spec.specs.Bmff.Hash.{ByteTest, Exclusion, IsExcluded, IsExcludedBy, MeetsTest, in_subset}
 use Rattle.c2_spec.specs.Bmff.Paths.{PlacedBox, placed_from}
-use Rattle.c2_box_rows.specs.Paths.{on_rows, HasBox}
-use Rattle.c2_marks.specs.Marks.{excludes_row, has_length, holds_test, in_row, in_row_subset, marks, stands_at, takes}
-use Rattle.c2_box_rows.specs.Rows.{row_of, rows_of, Stands}
-use Rattle.c2_box_rows.proofs.BoxThere.{AreBytes}
+use Rattle.c2_bmff_rows.specs.Paths.{on_rows, HasBox}
+use Rattle.c2_bmff_excluded.specs.Marks.{excludes_row, has_length, holds_test, in_row, in_row_subset, marks, stands_at, takes}
+use Rattle.c2_bmff_rows.specs.Rows.{row_of, rows_of, Stands}
+use Rattle.c2_bmff_rows.proofs.BoxThere.{AreBytes}
 use Rattle.c2_spec.proofs.BmffSizes.{bytes_size}
-use Rattle.c2_box_rows.proofs.StandLemmas.{form_boxes, all_stand}
-use Rattle.c2_box_rows.proofs.PathRows.{OnRows, any_member, from_member, member_any, path_rows, rows_path, to_member}
+use Rattle.c2_bmff_rows.proofs.StandLemmas.{form_boxes, all_stand}
+use Rattle.c2_bmff_rows.proofs.PathRows.{OnRows, any_member, from_member, member_any, path_rows, rows_path, to_member}
 
 -- a piece of a box is a piece of the file
 piece_same : (file : List ℕ) (b : PlacedBox) (off n : ℕ) → Stands file b → off + n ≤ box_len b.box → take n (drop (b.at + off) file) ≡ take n (drop off (box_bytes b.box))

@@ -9,16 +9,16 @@ use Rattle.std.proofs.lemmas.List.Folds.{list_any-append}
 use Rattle.std.proofs.lemmas.Option.{slice_get_within, slice_get-get_or, get_or_from_slice_get}
 use Rattle.c2_spec.specs.Bmff.Hash.{Exclusion, in_subset}
 use Rattle.c2_spec.specs.Bmff.Paths.{PathStep, is_entered, nth_of}
-use Rattle.c2_box_rows.specs.Children.{kids}
-use Rattle.c2_box_rows.specs.Paths.{go_on, on_rows}
-use Rattle.c2_marks.specs.Marks.{SharedPath, excludes_any, in_row, in_row_subset, marks, marks_any, takes}
+use Rattle.c2_bmff_rows.specs.Children.{kids}
+use Rattle.c2_bmff_rows.specs.Paths.{go_on, on_rows}
+use Rattle.c2_bmff_excluded.specs.Marks.{SharedPath, excludes_any, in_row, in_row_subset, marks, marks_any, takes}
 use Rattle.c2_bmff.specs.Trails.{ahead, arrives, from_step, has_step, no_exclusion, of_entry, of_kind, of_option, picks, rows_ahead, through}
-use Rattle.c2_box_rows.specs.declared.row.RootBox.{RootBox}
+use Rattle.c2_bmff_rows.specs.declared.row.RootBox.{RootBox}
 use Rattle.c2_bmff.specs.declared.walking.Coming.{Coming}
 use Rattle.c2_bmff.specs.declared.walking.Coming.TheVariants as coming
 use Rattle.c2_bmff.specs.declared.walking.Trail.{Trail}
-use Rattle.c2_box_rows.proofs.Lists.{or_join}
-use Rattle.c2_box_rows.proofs.PathRows.{path_start, path_stops, steps_from}
+use Rattle.c2_bmff_rows.proofs.Lists.{or_join}
+use Rattle.c2_bmff_rows.proofs.PathRows.{path_start, path_stops, steps_from}
 
 -- ---- tests joined
 

@@ -4,8 +4,8 @@ use Rattle.c2_base.specs.declared.values.Range.{Range}
 use Rattle.c2_spec.specs.Bmff.Boxes.{Box, HasRoots}
 use Rattle.c2_spec.specs.Bmff.Hash.{Exclusion, IsExcluded, IsExcludedBy}
 use Rattle.c2_spec.specs.Cover.{is_excluded}
-use Rattle.c2_box_rows.specs.Rows.{rows_of}
-use Rattle.c2_box_rows.specs.declared.row.RootBox.{RootBox}
+use Rattle.c2_bmff_rows.specs.Rows.{rows_of}
+use Rattle.c2_bmff_rows.specs.declared.row.RootBox.{RootBox}
 
 -- where these rows are those of the root boxes of the file, the ranges hold exactly the positions that the exclusion excludes
 abbrev pub AreExcluded : List ℕ → List RootBox → Exclusion → List Range → Type 0

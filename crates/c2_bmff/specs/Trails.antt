@@ -2,12 +2,12 @@
 use Rattle.std.specs.Prelude.{All, ℕ, ◌+◌, ◌*◌, Bool, false, ◌||◌, List, [], ◌∷◌, length, take, drop, filter, nat_lt, Option, Some, None}
 use Rattle.std.specs.List.{list_any, slice_get, sum_by}
 use Rattle.std.specs.Str.{bytes_eq}
-use Rattle.c2_box_rows.specs.Rows.{IsRowWithin}
-use Rattle.c2_box_rows.specs.Children.{kids}
-use Rattle.c2_boxes.specs.Children.{rows_len}
-use Rattle.c2_box_rows.specs.Paths.{go_on, on_rows}
-use Rattle.c2_marks.specs.Marks.{SharedPath, marks_any}
-use Rattle.c2_box_rows.specs.declared.row.RootBox.{RootBox}
+use Rattle.c2_bmff_rows.specs.Rows.{IsRowWithin}
+use Rattle.c2_bmff_rows.specs.Children.{kids}
+use Rattle.c2_bmff_boxes.specs.Children.{rows_len}
+use Rattle.c2_bmff_rows.specs.Paths.{go_on, on_rows}
+use Rattle.c2_bmff_excluded.specs.Marks.{SharedPath, marks_any}
+use Rattle.c2_bmff_rows.specs.declared.row.RootBox.{RootBox}
 use Rattle.c2_bmff.specs.declared.walking.Coming.{Coming}
 use Rattle.c2_bmff.specs.declared.walking.Coming.TheVariants as coming
 use Rattle.c2_bmff.specs.declared.walking.Level.{Level}

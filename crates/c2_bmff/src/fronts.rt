@@ -3,13 +3,13 @@ ghost use Rattle.std.specs.Prelude.{◌≤◌, IfOk, length, take};
 ghost use Rattle.std.specs.Option.{ForSome};
 ghost use Rattle.c2_base.specs.Causes.{HasCause};
 ghost use Rattle.c2_base.specs.Source.{StaysSource};
-ghost use Rattle.c2_box_rows.specs.Rows.{IsRowWithin};
-ghost use Rattle.c2_marks.specs.Marks.{IsFront};
+ghost use Rattle.c2_bmff_rows.specs.Rows.{IsRowWithin};
+ghost use Rattle.c2_bmff_excluded.specs.Marks.{IsFront};
 
 use c2_base::limits::PIECE_LEN;
 use c2_base::{Failed, NoMemory, Source};
-use c2_boxes::{RootBox, fill_first};
-use c2_marks::{Ask, Entry, Runs};
+use c2_bmff_boxes::{RootBox, fill_first};
+use c2_bmff_excluded::{Ask, Entry, Runs};
 use std::alloc::Global;
 
 // Whether bytes are asked for of a box of this length.

@@ -2,15 +2,15 @@
 ghost use Rattle.std.specs.Prelude.{◌≡◌, All, OnOk, IfOk, IfErr};
 ghost use Rattle.std.specs.Option.{ForSome};
 ghost use Rattle.c2_base.specs.Source.{StaysSource};
-ghost use Rattle.c2_boxes.specs.Causes.{IsCaused, OrOutside};
-ghost use Rattle.c2_marks.specs.Marks.{IsRangeWithin};
+ghost use Rattle.c2_bmff_boxes.specs.Causes.{IsCaused, OrOutside};
+ghost use Rattle.c2_bmff_excluded.specs.Marks.{IsRangeWithin};
 ghost use Rattle.c2_bmff.specs.Matched.{AreAllExcluded, AreExcluded};
-ghost use Rattle.c2_box_rows.specs.Rows.{IsBoxWithin};
+ghost use Rattle.c2_bmff_rows.specs.Rows.{IsBoxWithin};
 
 use crate::walking::mark_all;
 use c2_base::{MediaError, Ranges, Source};
-use c2_boxes::types::Roots;
-use c2_paths::Exclusion;
+use c2_bmff_boxes::types::Roots;
+use c2_bmff_paths::Exclusion;
 use std::alloc::Global;
 use std::slice;
 

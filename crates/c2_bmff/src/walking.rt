@@ -6,18 +6,18 @@ ghost use Rattle.c2_base.specs.Source.{StaysSource};
 ghost use Rattle.c2_spec.specs.Bmff.Hash.{Exclusion as AnyExclusion};
 ghost use Rattle.c2_spec.specs.Bmff.Paths.{nth_of};
 ghost use Rattle.c2_spec.specs.Cover.{is_excluded};
-ghost use Rattle.c2_boxes.specs.Causes.{IsCaused, OrOutside};
-ghost use Rattle.c2_box_rows.specs.Rows.{IsRowWithin};
-ghost use Rattle.c2_box_rows.specs.Children.{kids};
-ghost use Rattle.c2_marks.specs.Marks.{IsFront, IsRangeWithin, SharedPath, excludes_any, excludes_row, marks};
+ghost use Rattle.c2_bmff_boxes.specs.Causes.{IsCaused, OrOutside};
+ghost use Rattle.c2_bmff_rows.specs.Rows.{IsRowWithin};
+ghost use Rattle.c2_bmff_rows.specs.Children.{kids};
+ghost use Rattle.c2_bmff_excluded.specs.Marks.{IsFront, IsRangeWithin, SharedPath, excludes_any, excludes_row, marks};
 ghost use Rattle.c2_bmff.specs.Trails.{IsLevelWithin, ahead, arrives, found, from_step, has_step, level_ahead, level_left, levels_left, no_exclusion, picks, through};
-ghost use Rattle.c2_box_rows.specs.declared.row.RootBox.{RootBox};
+ghost use Rattle.c2_bmff_rows.specs.declared.row.RootBox.{RootBox};
 
 use crate::fronts::{fill_front, room_for};
 use c2_base::{MediaError, NoMemory, Range, Source};
-use c2_boxes::{RootBox, children};
-use c2_marks::{Ask, Entry, add_sorted, entries_of, is_whole, join_full, mark_row};
-use c2_paths::{Exclusion, Segment, enters};
+use c2_bmff_boxes::{RootBox, children};
+use c2_bmff_excluded::{Ask, Entry, add_sorted, entries_of, is_whole, join_full, mark_row};
+use c2_bmff_paths::{Exclusion, Segment, enters};
 use std::alloc::Global;
 
 // Which of the coming siblings of a step's type the step means.

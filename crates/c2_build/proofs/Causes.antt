@@ -1,9 +1,9 @@
 -- The causes of errors, from one step of a build to the next, by the kind of an error.
 use Rattle.std.proofs.Common.{◌≡◌, ℕ, subst}
-use Rattle.c2_refusals.proofs.Doing.{more_cause, more_read, unwritten_sink}
-use Rattle.c2_refusals.proofs.Outside.{read_cause}
-use Rattle.c2_refusals.specs.Kinds.{ErrorKind, IsReadKind, IsSourceCause, judge_effects, message_effects}
-use Rattle.c2_refusals.specs.Sinks.{IsSinkCause}
+use Rattle.c2_build_refusals.proofs.Doing.{more_cause, more_read, unwritten_sink}
+use Rattle.c2_build_refusals.proofs.Outside.{read_cause}
+use Rattle.c2_build_refusals.specs.Kinds.{ErrorKind, IsReadKind, IsSourceCause, judge_effects, message_effects}
+use Rattle.c2_build_refusals.specs.Sinks.{IsSinkCause}
 use Rattle.c2_build.specs.Answers.{embed_effects, prepare_effects}
 
 -- a step that asks judges is one before a file is written

@@ -6,13 +6,13 @@ use Rattle.c2_spec.specs.C2pa.Sign1.{SignParts}
 use Rattle.c2_spec.specs.declared.digest.Alg.{Alg}
 use Rattle.c2_spec.specs.declared.panel.Verdict.{Verdict}
 use Rattle.c2_definition.specs.declared.types.Definition.{Definition}
-use Rattle.c2_places.specs.Places.{IsPlace, Place}
+use Rattle.c2_new_file_spec.specs.Places.{IsPlace, Place}
 use Rattle.c2_build.specs.Building.{IsEmbeddedOn, IsEmbeddedOver, IsPlannedOn, IsPlannedOver, signed_bytes}
-use Rattle.c2_refusals.specs.Stages.{IsGroundStage, IsPlaceStage, MediaKind}
-use Rattle.c2_refusals.specs.Refusals.{Ground, first_refusal, ground_tests, late_tests, reserve_tests}
+use Rattle.c2_build_refusals.specs.Stages.{IsGroundStage, IsPlaceStage, MediaKind}
+use Rattle.c2_build_refusals.specs.Refusals.{Ground, first_refusal, ground_tests, late_tests, reserve_tests}
 use Rattle.c2_build.specs.Steps.{IsPassed, IsRefusedPlace}
-use Rattle.c2_refusals.specs.declared.error.BuildError.{BuildError}
-use Rattle.c2_refusals.proofs.Stages.{first_fails, then_first, then_next, unless_fails, unless_passes}
+use Rattle.c2_build_refusals.specs.declared.error.BuildError.{BuildError}
+use Rattle.c2_build_refusals.proofs.Stages.{first_fails, then_first, then_next, unless_fails, unless_passes}
 
 -- a place that is refused refuses a plan
 pub refused_plan : (hash : Alg → List ℕ → List ℕ) (said : Question → Verdict) (media : List ℕ) (kind : MediaKind) (d : Definition) (e : BuildError) → IsRefusedPlace hash said media d kind e → IsPlannedOver hash said media kind d (Err e)

@@ -7,18 +7,18 @@ use Rattle.c2_spec.specs.declared.panel.Verdict.{Verdict}
 use Rattle.c2_copying.specs.Writing.{Breaks, WritesFile, ending_of}
 use Rattle.c2_copying.specs.declared.copying.CopyError.{CopyError}
 use Rattle.c2_copying.specs.declared.copying.CopyError.TheVariants as copying
-use Rattle.c2_putting.specs.Puts.{copy_fault_of}
-use Rattle.c2_refusals.specs.Stages.{IsMediaRefused, IsMediaStage}
-use Rattle.c2_refusals.specs.declared.error.BuildError.{BuildError}
-use Rattle.c2_refusals.specs.declared.types.Embedded.{Embedded}
-use Rattle.c2_refusals.proofs.Stages.{then_first}
+use Rattle.c2_build_writing.specs.Puts.{copy_fault_of}
+use Rattle.c2_build_refusals.specs.Stages.{IsMediaRefused, IsMediaStage}
+use Rattle.c2_build_refusals.specs.declared.error.BuildError.{BuildError}
+use Rattle.c2_build_refusals.specs.declared.types.Embedded.{Embedded}
+use Rattle.c2_build_refusals.proofs.Stages.{then_first}
 use Rattle.c2_build.specs.Answers.{EmbedsFile, HasRange, Writes, file_of}
 use Rattle.c2_build.specs.Building.{Built, IsEmbedded}
 use Rattle.c2_build.specs.Meeting.{OneEmbedding}
 use Rattle.c2_build.specs.Steps.{IsReady}
-use Rattle.c2_in_place.specs.Writings.{ready_file}
-use Rattle.c2_in_place.specs.declared.writing.Ready.{Ready}
-use Rattle.c2_in_place.proofs.Endings.{begun}
+use Rattle.c2_build_in_place.specs.Writings.{ready_file}
+use Rattle.c2_build_in_place.specs.declared.writing.Ready.{Ready}
+use Rattle.c2_build_in_place.proofs.Endings.{begun}
 
 -- ---- the file is written
 

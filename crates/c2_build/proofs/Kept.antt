@@ -19,18 +19,18 @@ use Rattle.c2_spec.specs.declared.digest.Alg.{Alg}
 use Rattle.c2_spec.specs.declared.panel.Verdict.{Verdict}
 use Rattle.c2_spec.proofs.BmffOneStore.{store_or_none, stores_once}
 use Rattle.c2_spec.proofs.BmffSizes.{bytes_size}
-use Rattle.c2_box_rows.proofs.StandLemmas.{form_boxes}
+use Rattle.c2_bmff_rows.proofs.StandLemmas.{form_boxes}
 use Rattle.c2_rules.specs.CheckList.{check_list}
 use Rattle.c2_rules.specs.Opened.{IsBoxTree, IsManifestStore, IsManifestTree, IsOpened, Opens}
 use Rattle.c2_rules.specs.Tests.{first_failing}
 use Rattle.c2_definition.specs.declared.types.Definition.{Definition}
-use Rattle.c2_boxed.specs.Laws.{EndIsCutOut}
-use Rattle.c2_places.specs.Bases.{IsLeft, IsLeftOfBoxes}
-use Rattle.c2_refusals.specs.Stages.{IsGroundOver, IsGroundStage, IsMediaStage, MediaKind, fresh, fresh_ground, stored}
+use Rattle.c2_bmff_insert_spec.specs.Laws.{EndIsCutOut}
+use Rattle.c2_new_file_spec.specs.Bases.{IsLeft, IsLeftOfBoxes}
+use Rattle.c2_build_refusals.specs.Stages.{IsGroundOver, IsGroundStage, IsMediaStage, MediaKind, fresh, fresh_ground, stored}
 use Rattle.c2_build.specs.Meeting.{IsFreedIn, IsLessStore, KeepsBytes, cut_out, made_free}
-use Rattle.c2_refusals.specs.Refusals.{Ground, first_refusal, older_tests, redaction_tests}
-use Rattle.c2_refusals.proofs.Passing.{ground_of, opened_here}
-use Rattle.c2_refusals.proofs.Stages.{unless_passed}
+use Rattle.c2_build_refusals.specs.Refusals.{Ground, first_refusal, older_tests, redaction_tests}
+use Rattle.c2_build_refusals.proofs.Passing.{ground_of, opened_here}
+use Rattle.c2_build_refusals.proofs.Stages.{unless_passed}
 
 -- ---- one box among boxes
 
@@ -123,9 +123,9 @@ roots_keep cut media base boxes start len store r h is = by (is_file_end h.after
     by false e = made_free (made e)
 
 -- the base of a BMFF file with a store in this range is that
-film_keeps : EndIsCutOut → (media base : List ℕ) (roots : List Box) (start len : ℕ) (store : List ℕ) → HasBmffStore media start len store
+bmff_keeps : EndIsCutOut → (media base : List ℕ) (roots : List Box) (start len : ℕ) (store : List ℕ) → HasBmffStore media start len store
     → IsBmffBase media base roots → IsLessStore media start len base
-film_keeps cut media base roots start len store has h = by h.are
+bmff_keeps cut media base roots start len store has h = by h.are
   where
     by : AreBaseRoots h.boxes roots → IsLessStore media start len base
     by (same others e) =
@@ -164,7 +164,7 @@ left_keeps cut media start len t base o left =
   where
     by : (store : List ℕ) (b : Bool) → MatchBool b (HasBmffStore media start len store) (jpeg.HasJpegStore media start len store)
         → MatchBool b (IsLeftOfBoxes media base) (base ≡ taken_out start len media) → IsLessStore media start len base
-    by store true h k = film_keeps cut media base k.0 start len store h k.1
+    by store true h k = bmff_keeps cut media base k.0 start len store h k.1
     by store false h k = cut_out k
 
 -- what a new file is built over keeps the bytes of its media

@@ -6,7 +6,7 @@ mod Approved
 mod Kept
 mod NewFile
 mod Worked
-mod WorkedFilm
+mod WorkedBmff
 mod WorkedOver
 mod WorkedAgain
 mod Drawn

@@ -23,32 +23,32 @@ use Rattle.c2_pad.specs.Fill.{fill_pairs}
 use Rattle.c2_definition.specs.DefinitionFile.{IsDefinition}
 use Rattle.c2_definition.specs.declared.types.Definition.{Definition}
 use Rattle.c2_definition.specs.declared.types.DefinitionField.{DefinitionField}
-use Rattle.c2_message.specs.Signed.{IsSigned}
-use Rattle.c2_built.specs.Fresh.{GivesDigests, IsFresh, Meets, fresh_content}
-use Rattle.c2_built.specs.Store.{Content, new_claim, new_alg}
-use Rattle.c2_built.specs.Written.{CanBeWritten}
-use Rattle.c2_boxed.specs.Laws.{EndIsCutOut}
-use Rattle.c2_carried.specs.Carrying.{FirstIsRefused}
-use Rattle.c2_carried.specs.Parents.{IsContentOver}
-use Rattle.c2_carried.specs.Refusing.{redaction_refusal}
-use Rattle.c2_carried.specs.declared.refused.RefusedRedaction.{RefusedRedaction}
-use Rattle.c2_succeeding.specs.Over.{ValidIsApproved}
-use Rattle.c2_places.specs.Bases.{IsLeft}
-use Rattle.c2_places.specs.Laws.{OnePlace}
-use Rattle.c2_places.specs.Meeting.{BaseStays, CanSucceedAt, FreshPlaceMeets, OverPlaceMeets}
-use Rattle.c2_places.specs.Places.{CanPut, IsFreePlace, IsPlace, Place, place_binding, place_file, place_question, place_start, place_store, put_bytes, range_len, store_len}
+use Rattle.c2_new_signature.specs.Signed.{IsSigned}
+use Rattle.c2_new_store_spec.specs.Fresh.{GivesDigests, IsFresh, Meets, fresh_content}
+use Rattle.c2_new_store_spec.specs.Store.{Content, new_claim, new_alg}
+use Rattle.c2_new_store_spec.specs.Written.{CanBeWritten}
+use Rattle.c2_bmff_insert_spec.specs.Laws.{EndIsCutOut}
+use Rattle.c2_parent_spec.specs.Carrying.{FirstIsRefused}
+use Rattle.c2_parent_spec.specs.Parents.{IsContentOver}
+use Rattle.c2_parent_spec.specs.Refusing.{redaction_refusal}
+use Rattle.c2_parent_spec.specs.declared.refused.RefusedRedaction.{RefusedRedaction}
+use Rattle.c2_new_over_spec.specs.Over.{ValidIsApproved}
+use Rattle.c2_new_file_spec.specs.Bases.{IsLeft}
+use Rattle.c2_new_file_spec.specs.Laws.{OnePlace}
+use Rattle.c2_new_file_spec.specs.Meeting.{BaseStays, CanSucceedAt, FreshPlaceMeets, OverPlaceMeets}
+use Rattle.c2_new_file_spec.specs.Places.{CanPut, IsFreePlace, IsPlace, Place, place_binding, place_file, place_question, place_start, place_store, put_bytes, range_len, store_len}
 use Rattle.c2_build.specs.Building.{Built, IsBuilt, IsEmbedded, IsEmbeddedOn, IsPlanned, IsPlannedOn, built_of, signed_bytes}
-use Rattle.c2_refusals.specs.Stages.{HasTextsIn, IsDefinitionStage, IsGroundOver, IsGroundStage, IsMediaStage, IsMessageStage, IsPlaceStage, MediaKind, definition_stage, fresh, fresh_ground, stored}
+use Rattle.c2_build_refusals.specs.Stages.{HasTextsIn, IsDefinitionStage, IsGroundOver, IsGroundStage, IsMediaStage, IsMessageStage, IsPlaceStage, MediaKind, definition_stage, fresh, fresh_ground, stored}
 use Rattle.c2_build.specs.Meeting.{ApprovedIsValid, AreApproved, BuiltFileMeets, BuiltMeets, KeepsBytes}
-use Rattle.c2_refusals.specs.Refusals.{Ground, first_refusal, ground_tests, late_tests, new_range_len, older_tests, redaction_tests, refuse_if, reserve_tests}
-use Rattle.c2_refusals.specs.declared.error.BuildError.{BuildError}
-use Rattle.c2_refusals.specs.declared.error.BuildError.TheVariants.{RedactionRefused}
-use Rattle.c2_refusals.proofs.Stages.{none_of_both, passed, then_next, unless_passed, unless_passes}
+use Rattle.c2_build_refusals.specs.Refusals.{Ground, first_refusal, ground_tests, late_tests, new_range_len, older_tests, redaction_tests, refuse_if, reserve_tests}
+use Rattle.c2_build_refusals.specs.declared.error.BuildError.{BuildError}
+use Rattle.c2_build_refusals.specs.declared.error.BuildError.TheVariants.{RedactionRefused}
+use Rattle.c2_build_refusals.proofs.Stages.{none_of_both, passed, then_next, unless_passed, unless_passes}
 use Rattle.c2_build.proofs.Kept.{ground_keeps}
-use Rattle.c2_refusals.proofs.Passing.{ground_of, is_passable, opened_absent, opened_here}
+use Rattle.c2_build_refusals.proofs.Passing.{ground_of, is_passable, opened_absent, opened_here}
 use Rattle.c2_build.proofs.Rooms.{pass_numbers}
 use Rattle.c2_build.proofs.SomeBuild.{PlaceLaws, free_place, ground_definition}
-use Rattle.c2_refusals.proofs.Inputs.{AreWellFormed, read_formed, read_taken}
+use Rattle.c2_build_refusals.proofs.Inputs.{AreWellFormed, read_formed, read_taken}
 use Rattle.std.specs.Option.{option_to_list}
 
 -- ---- what passed

@@ -10,23 +10,23 @@ use Rattle.c2_spec.specs.Jumbf.Tree.{tree_bytes}
 use Rattle.c2_spec.specs.declared.digest.Alg.{Alg}
 use Rattle.c2_spec.specs.declared.panel.Verdict.{Verdict}
 use Rattle.c2_definition.specs.declared.types.Definition.{Definition}
-use Rattle.c2_message.specs.Refusals.{reserve_needed}
-use Rattle.c2_message.specs.Signed.{FillsOrNeedsMore, IsSigned}
-use Rattle.c2_built.specs.Store.{new_claim, new_alg}
-use Rattle.c2_places.specs.Places.{Place, place_binding, place_store, put_bytes}
-use Rattle.c2_refusals.specs.Kinds.{ComesAs, ComesTo, SaysNothing}
+use Rattle.c2_new_signature.specs.Refusals.{reserve_needed}
+use Rattle.c2_new_signature.specs.Signed.{FillsOrNeedsMore, IsSigned}
+use Rattle.c2_new_store_spec.specs.Store.{new_claim, new_alg}
+use Rattle.c2_new_file_spec.specs.Places.{Place, place_binding, place_store, put_bytes}
+use Rattle.c2_build_refusals.specs.Kinds.{ComesAs, ComesTo, SaysNothing}
 use Rattle.c2_build.specs.Building.{Built, IsBuilt, IsEmbeddedOn, IsEmbeddedOver, built_of, signed_bytes}
-use Rattle.c2_refusals.specs.Stages.{IsGroundStage, IsPlaceStage, MediaKind, Then}
-use Rattle.c2_refusals.specs.Refusals.{Ground, IsReserveRefusal, first_refusal, ground_tests, late_tests, refuse_if, reserve_tests}
-use Rattle.c2_drafts.specs.Drafts.{IsPutReady, draft_signed}
-use Rattle.c2_drafts.specs.declared.ready.DraftedBuild.{DraftedBuild}
+use Rattle.c2_build_refusals.specs.Stages.{IsGroundStage, IsPlaceStage, MediaKind, Then}
+use Rattle.c2_build_refusals.specs.Refusals.{Ground, IsReserveRefusal, first_refusal, ground_tests, late_tests, refuse_if, reserve_tests}
+use Rattle.c2_build_drafts.specs.Drafts.{IsPutReady, draft_signed}
+use Rattle.c2_build_drafts.specs.declared.ready.DraftedBuild.{DraftedBuild}
 use Rattle.c2_build.specs.Steps.{IsBuildFor, IsDrafted, IsPassed, IsReady, MakesFile}
-use Rattle.c2_refusals.specs.declared.types.Drafted.{Drafted}
-use Rattle.c2_in_place.specs.declared.writing.Ready.{Ready}
-use Rattle.c2_refusals.specs.declared.error.BuildError.{BuildError}
-use Rattle.c2_refusals.specs.declared.error.BuildError.TheVariants as build
-use Rattle.c2_refusals.proofs.Stages.{first_passes, then_next, unless_fails, unless_passes}
-use Rattle.c2_refusals.proofs.Outside.{nothing_said, outside_map}
+use Rattle.c2_build_refusals.specs.declared.types.Drafted.{Drafted}
+use Rattle.c2_build_in_place.specs.declared.writing.Ready.{Ready}
+use Rattle.c2_build_refusals.specs.declared.error.BuildError.{BuildError}
+use Rattle.c2_build_refusals.specs.declared.error.BuildError.TheVariants as build
+use Rattle.c2_build_refusals.proofs.Stages.{first_passes, then_next, unless_fails, unless_passes}
+use Rattle.c2_build_refusals.proofs.Outside.{nothing_said, outside_map}
 
 -- ---- what is signed
 

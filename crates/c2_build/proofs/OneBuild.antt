@@ -16,19 +16,19 @@ use Rattle.c2_rules.specs.Readings.{Reading}
 use Rattle.c2_rules.specs.Tests.{first_failing}
 use Rattle.c2_rules.specs.Validated.{IsFileReading}
 use Rattle.c2_definition.specs.declared.types.Definition.{Definition}
-use Rattle.c2_message.specs.Message.{RefusedForOne}
-use Rattle.c2_message.specs.Signed.{FillsOrNeedsMore}
-use Rattle.c2_built.specs.Store.{Content, new_alg}
-use Rattle.c2_carried.specs.Carrying.{ContentIsOne}
-use Rattle.c2_places.specs.Laws.{OneLeft, OnePlace}
-use Rattle.c2_places.specs.Places.{Place, place_store, put_bytes}
+use Rattle.c2_new_signature.specs.Message.{RefusedForOne}
+use Rattle.c2_new_signature.specs.Signed.{FillsOrNeedsMore}
+use Rattle.c2_new_store_spec.specs.Store.{Content, new_alg}
+use Rattle.c2_parent_spec.specs.Carrying.{ContentIsOne}
+use Rattle.c2_new_file_spec.specs.Laws.{OneLeft, OnePlace}
+use Rattle.c2_new_file_spec.specs.Places.{Place, place_store, put_bytes}
 use Rattle.c2_build.specs.Building.{IsBuilt, IsEmbeddedOn, IsPlannedOn, built_of, signed_bytes}
-use Rattle.c2_refusals.specs.Stages.{IsDefinitionStage, IsGroundOver, IsGroundStage, IsMediaStage, IsMessageStage, IsPlaceStage, MediaKind, Unless, fresh, fresh_ground, stored}
+use Rattle.c2_build_refusals.specs.Stages.{IsDefinitionStage, IsGroundOver, IsGroundStage, IsMediaStage, IsMessageStage, IsPlaceStage, MediaKind, Unless, fresh, fresh_ground, stored}
 use Rattle.c2_build.specs.Meeting.{OneEmbedding, OnePlan}
-use Rattle.c2_refusals.specs.Refusals.{Ground, first_refusal, ground_tests, late_tests, older_tests, redaction_tests}
-use Rattle.c2_refusals.proofs.Stages.{IsOne, one_then, one_unless}
-use Rattle.c2_refusals.proofs.Inputs.{OneDefinition, OneItem, OneOpened, one_definition, one_media, one_message}
-use Rattle.c2_refusals.proofs.Passing.{ground_of}
+use Rattle.c2_build_refusals.specs.Refusals.{Ground, first_refusal, ground_tests, late_tests, older_tests, redaction_tests}
+use Rattle.c2_build_refusals.proofs.Stages.{IsOne, one_then, one_unless}
+use Rattle.c2_build_refusals.proofs.Inputs.{OneDefinition, OneItem, OneOpened, one_definition, one_media, one_message}
+use Rattle.c2_build_refusals.proofs.Passing.{ground_of}
 
 -- ---- what laws of other crates say
 

@@ -7,19 +7,19 @@ use Rattle.c2_spec.specs.declared.panel.Verdict.{Verdict}
 use Rattle.c2_rules.specs.Tests.{first_failing}
 use Rattle.c2_rules.specs.CheckList.{check_list}
 use Rattle.c2_definition.specs.declared.types.Definition.{Definition}
-use Rattle.c2_places.specs.Laws.{LeftHasContainer}
-use Rattle.c2_refusals.specs.Stages.{IsGroundOver, IsGroundStage, IsMediaStage, MediaKind, fresh, fresh_ground, stored}
-use Rattle.c2_refusals.specs.Refusals.{Ground, first_refusal, older_tests, redaction_tests}
+use Rattle.c2_new_file_spec.specs.Laws.{LeftHasContainer}
+use Rattle.c2_build_refusals.specs.Stages.{IsGroundOver, IsGroundStage, IsMediaStage, MediaKind, fresh, fresh_ground, stored}
+use Rattle.c2_build_refusals.specs.Refusals.{Ground, first_refusal, older_tests, redaction_tests}
 use Rattle.c2_build.specs.Steps.{IsDrafted, IsRefusedPlace}
-use Rattle.c2_refusals.specs.Seats.{IsForm}
-use Rattle.c2_refusals.specs.declared.types.Drafted.{Drafted}
-use Rattle.c2_refusals.specs.declared.error.BuildError.{BuildError}
-use Rattle.c2_refusals.specs.declared.types.FileForm.{FileForm}
-use Rattle.c2_in_place.proofs.Stored.{form_moves}
-use Rattle.c2_drafts.specs.Drafts.{IsDraftedOver, IsRefusedAt}
-use Rattle.c2_refusals.proofs.Passing.{ground_of, opened_here}
-use Rattle.c2_refusals.proofs.Stages.{unless_passed}
-use Rattle.c2_built.specs.Store.{new_alg}
+use Rattle.c2_build_refusals.specs.InsertPoints.{IsForm}
+use Rattle.c2_build_refusals.specs.declared.types.Drafted.{Drafted}
+use Rattle.c2_build_refusals.specs.declared.error.BuildError.{BuildError}
+use Rattle.c2_build_refusals.specs.declared.types.FileForm.{FileForm}
+use Rattle.c2_build_in_place.proofs.Stored.{form_moves}
+use Rattle.c2_build_drafts.specs.Drafts.{IsDraftedOver, IsRefusedAt}
+use Rattle.c2_build_refusals.proofs.Passing.{ground_of, opened_here}
+use Rattle.c2_build_refusals.proofs.Stages.{unless_passed}
+use Rattle.c2_new_store_spec.specs.Store.{new_alg}
 
 -- so it is over each kind of media file
 pub ground_form : LeftHasContainer → (hash : Alg → List ℕ → List ℕ) (said : Question → Verdict) (media : List ℕ) (d : Definition) (kind : MediaKind) (g : Ground) (f : FileForm) → IsMediaStage media (Ok kind) → IsGroundStage hash said media d kind (Ok g) → IsForm media f → IsForm g.base f

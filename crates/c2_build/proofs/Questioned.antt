@@ -5,13 +5,13 @@ use Rattle.c2_base.specs.declared.values.Question.{Question}
 use Rattle.c2_spec.specs.declared.digest.Alg.{Alg}
 use Rattle.c2_spec.specs.declared.panel.Verdict.{Verdict}
 use Rattle.c2_rules.specs.Validated.{CheckAsks}
-use Rattle.c2_message.specs.Message.{RefusedForOne}
+use Rattle.c2_new_signature.specs.Message.{RefusedForOne}
 use Rattle.c2_build.specs.Asked.{OneEmbedAsks, OnePlanAsks, SomeEmbedAsks, SomePlanAsks}
-use Rattle.c2_refusals.specs.Stages.{After, AskedBehind, AsksThen, IsDefinitionStage, IsMediaStage, IsMessageStage, KindAsks, MediaKind, Then, fresh, stored}
+use Rattle.c2_build_refusals.specs.Stages.{After, AskedBehind, AsksThen, IsDefinitionStage, IsMediaStage, IsMessageStage, KindAsks, MediaKind, Then, fresh, stored}
 use Rattle.c2_build.specs.Meeting.{SomeEmbedding, SomePlan}
-use Rattle.c2_refusals.specs.declared.error.BuildError.{BuildError}
-use Rattle.c2_refusals.proofs.Inputs.{OneDefinition, OneItem, OneOpened, one_definition, one_media, one_message}
-use Rattle.c2_refusals.proofs.Stages.{IsOne}
+use Rattle.c2_build_refusals.specs.declared.error.BuildError.{BuildError}
+use Rattle.c2_build_refusals.proofs.Inputs.{OneDefinition, OneItem, OneOpened, one_definition, one_media, one_message}
+use Rattle.c2_build_refusals.proofs.Stages.{IsOne}
 
 -- ---- one list
 

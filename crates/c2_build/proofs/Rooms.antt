@@ -6,10 +6,10 @@ use Rattle.std.proofs.lemmas.Bool.{ltb-false, leb-false}
 use Rattle.c2_base.specs.declared.limits.TheConstants.{FILE_LEN_LIMIT, MAX_MANIFESTS, MAX_ROOT_BOXES, MAX_STORE_LEN}
 use Rattle.c2_spec.specs.Bmff.Paths.{placed_from}
 use Rattle.c2_spec.specs.Bmff.Writing.{open_end}
-use Rattle.c2_places.specs.Places.{HasRoom, Place, in_boxes, in_segments, put_bytes}
-use Rattle.c2_refusals.specs.Refusals.{Ground, box_tests, first_refusal, ground_tests, new_range_len, new_store_len, place_tests, refuse_if}
-use Rattle.c2_refusals.specs.declared.error.BuildError.TheVariants.{OpenBox}
-use Rattle.c2_refusals.proofs.Stages.{none_fails, none_of_both}
+use Rattle.c2_new_file_spec.specs.Places.{HasRoom, Place, in_boxes, in_segments, put_bytes}
+use Rattle.c2_build_refusals.specs.Refusals.{Ground, box_tests, first_refusal, ground_tests, new_range_len, new_store_len, place_tests, refuse_if}
+use Rattle.c2_build_refusals.specs.declared.error.BuildError.TheVariants.{OpenBox}
+use Rattle.c2_build_refusals.proofs.Stages.{none_fails, none_of_both}
 
 -- no open box ends these root boxes
 no_open : (o : Option ℕ) → first_refusal (option_to_list (option_map (λ (at : ℕ). refuse_if true (OpenBox at)) o)) ≡ None → o ≡ None

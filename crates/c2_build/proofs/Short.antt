@@ -21,22 +21,22 @@ use Rattle.c2_rules.specs.Opened.{IsOpened}
 use Rattle.c2_rules.specs.Tests.{first_failing}
 use Rattle.c2_definition.specs.DefinitionFile.{IsDefinition}
 use Rattle.c2_definition.specs.declared.types.Definition.{Definition}
-use Rattle.c2_built.specs.Fresh.{fresh_content}
-use Rattle.c2_built.specs.Manifests.{supers_in}
-use Rattle.c2_built.specs.Store.{Content, NewIngredient}
-use Rattle.c2_built.specs.Written.{AreIngredients}
-use Rattle.c2_built.proofs.Ingredients.{no_ingredients, parent_alone}
-use Rattle.c2_carried.specs.Parents.{IsContentOver}
-use Rattle.c2_carried.specs.Redacting.{boxes_in, redacted_boxes}
-use Rattle.c2_lengths.specs.Lengths.{Fits, IsShortOver, StoresFit}
+use Rattle.c2_new_store_spec.specs.Fresh.{fresh_content}
+use Rattle.c2_new_store_spec.specs.Manifests.{supers_in}
+use Rattle.c2_new_store_spec.specs.Store.{Content, NewIngredient}
+use Rattle.c2_new_store_spec.specs.Written.{AreIngredients}
+use Rattle.c2_new_store_spec.proofs.Ingredients.{no_ingredients, parent_alone}
+use Rattle.c2_parent_spec.specs.Parents.{IsContentOver}
+use Rattle.c2_parent_spec.specs.Redacting.{boxes_in, redacted_boxes}
+use Rattle.c2_new_lengths_spec.specs.Lengths.{Fits, IsShortOver, StoresFit}
 use Rattle.c2_parent.proofs.CarriedLemmas.{carried_bound}
 use Rattle.c2_parent.proofs.Walking.{root_box}
-use Rattle.c2_refusals.specs.Refusals.{Ground, first_refusal, older_tests, redaction_tests}
-use Rattle.c2_refusals.specs.Stages.{IsGroundOver, IsGroundStage, IsMediaStage, MediaKind, fresh, fresh_ground, stored}
-use Rattle.c2_refusals.specs.declared.types.Seat.{Seat}
-use Rattle.c2_refusals.proofs.Passing.{ground_of, opened_here}
-use Rattle.c2_refusals.proofs.Stages.{unless_passed}
-use Rattle.c2_in_place.specs.Numbers.{HasLen, IsOfFile}
+use Rattle.c2_build_refusals.specs.Refusals.{Ground, first_refusal, older_tests, redaction_tests}
+use Rattle.c2_build_refusals.specs.Stages.{IsGroundOver, IsGroundStage, IsMediaStage, MediaKind, fresh, fresh_ground, stored}
+use Rattle.c2_build_refusals.specs.declared.types.InsertPoint.{InsertPoint}
+use Rattle.c2_build_refusals.proofs.Passing.{ground_of, opened_here}
+use Rattle.c2_build_refusals.proofs.Stages.{unless_passed}
+use Rattle.c2_build_in_place.specs.Numbers.{HasLen, IsOfFile}
 use Rattle.c2_build.proofs.Kept.{located_here}
 
 -- ---- what is carried of an older store
@@ -115,9 +115,9 @@ ground_fits law hash said media d (stored start len t) g of_file m h =
     subst (λ (x : Ground). Fits x.content) same (law of_file.0 is.1.0 own (over_short media start len t d is.1.0 (opened_here media start len t m) over))
 
 -- in each place
-pub ground_len : StoresFit → (hash : Alg → List ℕ → List ℕ) (said : Question → Verdict) (media : List ℕ) (d : Definition) (kind : MediaKind) (g : Ground) (s : Seat) → IsOfFile d → IsMediaStage media (Ok kind) → IsGroundStage hash said media d kind (Ok g) → HasLen s g.content
+pub ground_len : StoresFit → (hash : Alg → List ℕ → List ℕ) (said : Question → Verdict) (media : List ℕ) (d : Definition) (kind : MediaKind) (g : Ground) (s : InsertPoint) → IsOfFile d → IsMediaStage media (Ok kind) → IsGroundStage hash said media d kind (Ok g) → HasLen s g.content
 ground_len law hash said media d kind g s of_file m h = by s (ground_fits law hash said media d kind g of_file m h)
   where
-    by : (x : Seat) → Fits g.content → HasLen x g.content
-    by (Seat.Segments start number) fits = fits.jpeg
-    by (Seat.Boxes rows) fits = fits.film
+    by : (x : InsertPoint) → Fits g.content → HasLen x g.content
+    by (InsertPoint.Segments start number) fits = fits.jpeg
+    by (InsertPoint.Boxes rows) fits = fits.film

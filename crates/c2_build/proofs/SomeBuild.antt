@@ -15,23 +15,23 @@ use Rattle.c2_rules.specs.Validated.{IsAnswer, IsOpenedAnswer}
 use Rattle.c2_rules.specs.declared.answer.Answer.{Answer}
 use Rattle.c2_definition.specs.DefinitionFile.{IsWellFormed}
 use Rattle.c2_definition.specs.declared.types.Definition.{Definition}
-use Rattle.c2_message.specs.Message.{RefusedForOne}
-use Rattle.c2_message.specs.Refusals.{reserve_needed}
-use Rattle.c2_message.specs.Signed.{FillsOrNeedsMore, IsPaddable, IsSigned, NeedsMore}
-use Rattle.c2_carried.specs.Carrying.{SomeContentOver}
-use Rattle.c2_places.specs.Laws.{FreshHasPlace, LeftHasPlace, SomeLeft}
-use Rattle.c2_places.specs.Places.{IsFreePlace, Place, place_store}
+use Rattle.c2_new_signature.specs.Message.{RefusedForOne}
+use Rattle.c2_new_signature.specs.Refusals.{reserve_needed}
+use Rattle.c2_new_signature.specs.Signed.{FillsOrNeedsMore, IsPaddable, IsSigned, NeedsMore}
+use Rattle.c2_parent_spec.specs.Carrying.{SomeContentOver}
+use Rattle.c2_new_file_spec.specs.Laws.{FreshHasPlace, LeftHasPlace, SomeLeft}
+use Rattle.c2_new_file_spec.specs.Places.{IsFreePlace, Place, place_store}
 use Rattle.c2_build.specs.Building.{IsBuilt, IsEmbeddedOn, IsPlannedOn, built_of, signed_bytes}
-use Rattle.c2_refusals.specs.Stages.{IsDefinitionStage, IsGroundOver, IsGroundStage, IsMediaStage, IsMessageStage, IsPlaceStage, MediaKind, fresh, fresh_ground, media_stage, stored}
+use Rattle.c2_build_refusals.specs.Stages.{IsDefinitionStage, IsGroundOver, IsGroundStage, IsMediaStage, IsMessageStage, IsPlaceStage, MediaKind, fresh, fresh_ground, media_stage, stored}
 use Rattle.c2_build.specs.Meeting.{SomeEmbedding, SomePlan}
-use Rattle.c2_refusals.specs.Refusals.{Ground, first_refusal, ground_tests, late_tests, older_tests, redaction_tests, reserve_tests, refuse_if}
-use Rattle.c2_refusals.proofs.Inputs.{AreWellFormed, EachDefinition, IsTaken, OneOpened, read_formed, read_taken, some_definition, some_message}
-use Rattle.c2_refusals.proofs.Passing.{ground_of, is_passable, opened_absent, opened_here, stands_over}
+use Rattle.c2_build_refusals.specs.Refusals.{Ground, first_refusal, ground_tests, late_tests, older_tests, redaction_tests, reserve_tests, refuse_if}
+use Rattle.c2_build_refusals.proofs.Inputs.{AreWellFormed, EachDefinition, IsTaken, OneOpened, read_formed, read_taken, some_definition, some_message}
+use Rattle.c2_build_refusals.proofs.Passing.{ground_of, is_passable, opened_absent, opened_here, stands_over}
 use Rattle.c2_build.proofs.Rooms.{pass_numbers, some_bytes}
-use Rattle.c2_refusals.proofs.Stages.{Something, none_of_both, some_then, some_unless, unless_passed}
-use Rattle.c2_refusals.specs.declared.error.BuildError.TheVariants.{ReserveTooSmall}
+use Rattle.c2_build_refusals.proofs.Stages.{Something, none_of_both, some_then, some_unless, unless_passed}
+use Rattle.c2_build_refusals.specs.declared.error.BuildError.TheVariants.{ReserveTooSmall}
 use Rattle.std.specs.Option.{option_to_list}
-use Rattle.c2_built.specs.Store.{new_alg}
+use Rattle.c2_new_store_spec.specs.Store.{new_alg}
 
 -- ---- what laws of other crates say
 

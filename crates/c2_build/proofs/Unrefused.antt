@@ -8,16 +8,16 @@ use Rattle.c2_spec.specs.declared.panel.Verdict.{Verdict}
 use Rattle.c2_rules.specs.CheckList.{check_list}
 use Rattle.c2_rules.specs.Tests.{first_failing}
 use Rattle.c2_definition.specs.declared.types.Definition.{Definition}
-use Rattle.c2_places.specs.Places.{Place}
+use Rattle.c2_new_file_spec.specs.Places.{Place}
 use Rattle.c2_build.specs.Building.{IsBuilt, IsEmbedded, IsEmbeddedOn, IsPlanned, IsPlannedOn, signed_bytes}
-use Rattle.c2_refusals.specs.Stages.{After, IsDefinitionStage, IsGroundOver, IsGroundStage, IsMediaStage, IsMessageStage, IsPlaceStage, MediaKind, Then, Unless, fresh, fresh_ground, stored}
+use Rattle.c2_build_refusals.specs.Stages.{After, IsDefinitionStage, IsGroundOver, IsGroundStage, IsMediaStage, IsMessageStage, IsPlaceStage, MediaKind, Then, Unless, fresh, fresh_ground, stored}
 use Rattle.c2_build.specs.Meeting.{GroundPasses, IsEmbedUnrefused, IsPlanUnrefused, SomeEmbedding, SomePlan, UnrefusedIsEmbedded, UnrefusedIsPlanned}
-use Rattle.c2_refusals.specs.Refusals.{AllPass, BuildTest, Ground, IsRefusalOf, first_refusal, ground_tests, late_tests, older_tests, redaction_tests, reserve_tests}
-use Rattle.c2_refusals.specs.declared.error.BuildError.{BuildError}
+use Rattle.c2_build_refusals.specs.Refusals.{AllPass, BuildTest, Ground, IsRefusalOf, first_refusal, ground_tests, late_tests, older_tests, redaction_tests, reserve_tests}
+use Rattle.c2_build_refusals.specs.declared.error.BuildError.{BuildError}
 use Rattle.c2_build.proofs.Drawn.{place_at}
-use Rattle.c2_refusals.proofs.FirstRefusal.{refusal_is_least}
+use Rattle.c2_build_refusals.proofs.FirstRefusal.{refusal_is_least}
 use Rattle.c2_build.proofs.SomeBuild.{ground_definition}
-use Rattle.c2_refusals.proofs.Stages.{none_fails}
+use Rattle.c2_build_refusals.proofs.Stages.{none_fails}
 
 -- ---- tests that pass
 

@@ -29,20 +29,20 @@ use Rattle.c2_definition.specs.DefinitionFile.{HavePayloads, HasPayload, IsDefin
 use Rattle.c2_definition.specs.Json.{object_of}
 use Rattle.c2_definition.specs.declared.types.Definition.{Definition}
 use Rattle.c2_definition.specs.declared.types.NewAssertion.{NewAssertion}
-use Rattle.c2_message.specs.Message.{AreFew, HasNoPadding, IsAccepted}
-use Rattle.c2_message.specs.Refusals.{reserve_needed}
-use Rattle.c2_message.specs.Signed.{FillsOrNeedsMore, IsSigned, NeedsMore}
-use Rattle.c2_built.specs.Written.{HasTexts}
+use Rattle.c2_new_signature.specs.Message.{AreFew, HasNoPadding, IsAccepted}
+use Rattle.c2_new_signature.specs.Refusals.{reserve_needed}
+use Rattle.c2_new_signature.specs.Signed.{FillsOrNeedsMore, IsSigned, NeedsMore}
+use Rattle.c2_new_store_spec.specs.Written.{HasTexts}
 use Rattle.c2_spec.specs.Jumbf.Tree.{tree_bytes}
-use Rattle.c2_places.specs.Places.{IsPlace, Place, in_segments, place_store}
+use Rattle.c2_new_file_spec.specs.Places.{IsPlace, Place, in_segments, place_store}
 use Rattle.c2_build.specs.Building.{Built, IsBuilt, IsEmbedded, IsEmbeddedOn, built_of}
-use Rattle.c2_refusals.specs.Stages.{HasTextsIn, IsDefinitionStage, IsGroundStage, IsMediaStage, IsMessageStage, IsPlaceStage, fresh, fresh_ground}
+use Rattle.c2_build_refusals.specs.Stages.{HasTextsIn, IsDefinitionStage, IsGroundStage, IsMediaStage, IsMessageStage, IsPlaceStage, fresh, fresh_ground}
 use Rattle.c2_build.specs.Meeting.{SomeBuildSucceeds}
-use Rattle.c2_refusals.specs.Refusals.{Ground, first_refusal, ground_tests, late_tests, reserve_tests}
-use Rattle.c2_refusals.proofs.Inputs.{OneDefinition, OneItem, same_message}
-use Rattle.c2_refusals.proofs.Stages.{none_of_both, then_next, unless_passes}
+use Rattle.c2_build_refusals.specs.Refusals.{Ground, first_refusal, ground_tests, late_tests, reserve_tests}
+use Rattle.c2_build_refusals.proofs.Inputs.{OneDefinition, OneItem, same_message}
+use Rattle.c2_build_refusals.proofs.Stages.{none_of_both, then_next, unless_passes}
 use Rattle.c2_build.proofs.Rooms.{pass_numbers, some_bytes}
-use Rattle.c2_built.specs.Store.{new_alg}
+use Rattle.c2_new_store_spec.specs.Store.{new_alg}
 
 -- ---- the definition
 

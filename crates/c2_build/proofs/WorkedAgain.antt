@@ -6,13 +6,13 @@ use Rattle.c2_spec.specs.Bmff.Writing.{IsBmffBase, c2pa_box, insert_place}
 use Rattle.c2_spec.specs.Cbor.Deterministic.{shortest_head}
 use Rattle.c2_spec.specs.Jumbf.Tree.{tree_bytes}
 use Rattle.c2_spec.specs.PutIn.{put_in}
-use Rattle.c2_films.specs.Films.{FilmBaseIsItsBase, film_store}
-use Rattle.c2_places.specs.Meeting.{BaseStays}
-use Rattle.c2_places.specs.Places.{in_boxes}
+use Rattle.c2_new_bmff_spec.specs.Films.{BmffBaseIsItsBase, bmff_store}
+use Rattle.c2_new_file_spec.specs.Meeting.{BaseStays}
+use Rattle.c2_new_file_spec.specs.Places.{in_boxes}
 use Rattle.c2_build.specs.Meeting.{SomeBuildOverStoreSucceeds}
 use Rattle.c2_build.proofs.Worked.{is_place, media, none_begins, none_fails, place}
-use Rattle.c2_build.proofs.WorkedFilm.{are_others, film}
-use Rattle.c2_build.proofs.WorkedFilm.{is_place as film_place, media as film_media, none_fails as film_passes}
+use Rattle.c2_build.proofs.WorkedBmff.{are_others, film}
+use Rattle.c2_build.proofs.WorkedBmff.{is_place as bmff_place, media as bmff_media, none_fails as bmff_passes}
 use Rattle.c2_build.proofs.WorkedOver.{IsLeftAgain, IsWorked, OverLaws, first, no_binding, over_succeeds, range_of, refusal_with, second, total}
 
 -- ---- the JPEG file
@@ -33,24 +33,24 @@ jpeg_worked law = record { free = record { is = is_place; free = none_begins }; 
 -- ---- the BMFF file
 
 -- no test fails over the first BMFF file
-film_over : refusal_with (in_boxes film) (length film_media) second 2 (total (no_binding (in_boxes film))) (range_of (in_boxes film) (total (no_binding (in_boxes film)))) ≡ None
+bmff_over : refusal_with (in_boxes film) (length bmff_media) second 2 (total (no_binding (in_boxes film))) (range_of (in_boxes film) (total (no_binding (in_boxes film)))) ≡ None
 unfolding shortest_head
-film_over = refl
+bmff_over = refl
 
 -- without its store it is what it was
-film_left : FilmBaseIsItsBase → IsLeftAgain film_media (in_boxes film)
-film_left law hash padded bytes digests can put =
-    let is : IsBmffBase (put_in (insert_place film) (box_bytes (c2pa_box (tree_bytes (film_store hash first padded film)))) film_media) film_media film =
-    law hash first padded film_media film digests (record { has_roots = can.place.is.1; closed = can.room.0; small = can.small; fits = can.fits; few = can.room.1 }) are_others in
-    (film, subst (λ (x : List ℕ). IsBmffBase (put_in (insert_place film) x film_media) film_media film) (same_Some (box_bytes (c2pa_box (tree_bytes (film_store hash first padded film)))) bytes put) is)
+bmff_left : BmffBaseIsItsBase → IsLeftAgain bmff_media (in_boxes film)
+bmff_left law hash padded bytes digests can put =
+    let is : IsBmffBase (put_in (insert_place film) (box_bytes (c2pa_box (tree_bytes (bmff_store hash first padded film)))) bmff_media) bmff_media film =
+    law hash first padded bmff_media film digests (record { has_roots = can.place.is.1; closed = can.room.0; small = can.small; fits = can.fits; few = can.room.1 }) are_others in
+    (film, subst (λ (x : List ℕ). IsBmffBase (put_in (insert_place film) x bmff_media) bmff_media film) (same_Some (box_bytes (c2pa_box (tree_bytes (bmff_store hash first padded film)))) bytes put) is)
 
 -- so this is known of it
-film_worked : FilmBaseIsItsBase → IsWorked true film_media (in_boxes film)
-film_worked law = record { free = record { is = film_place; free = are_others }; container = λ bytes. refl; passes = film_passes; passes_over = film_over; left = film_left law }
+bmff_worked : BmffBaseIsItsBase → IsWorked true bmff_media (in_boxes film)
+bmff_worked law = record { free = record { is = bmff_place; free = are_others }; container = λ bytes. refl; passes = bmff_passes; passes_over = bmff_over; left = bmff_left law }
 
 -- ---- both
 
 -- so some build into a file with a store succeeds, of either container
-pub again_succeeds : OverLaws → BaseStays → FilmBaseIsItsBase → SomeBuildOverStoreSucceeds
-again_succeeds l base film_base false hash said digests all = over_succeeds l hash said digests all (jpeg_worked base)
-again_succeeds l base film_base true hash said digests all = over_succeeds l hash said digests all (film_worked film_base)
+pub again_succeeds : OverLaws → BaseStays → BmffBaseIsItsBase → SomeBuildOverStoreSucceeds
+again_succeeds l base bmff_base false hash said digests all = over_succeeds l hash said digests all (jpeg_worked base)
+again_succeeds l base bmff_base true hash said digests all = over_succeeds l hash said digests all (bmff_worked bmff_base)

@@ -33,32 +33,32 @@ use Rattle.c2_definition.specs.DefinitionFile.{HavePayloads, HasPayload, IsDefin
 use Rattle.c2_definition.specs.Json.{object_of}
 use Rattle.c2_definition.specs.declared.types.Definition.{Definition}
 use Rattle.c2_definition.specs.declared.types.NewAssertion.{NewAssertion}
-use Rattle.c2_message.specs.Signed.{FillsOrNeedsMore, IsSigned}
-use Rattle.c2_built.specs.Built.{HasDigestLen, no_digest}
-use Rattle.c2_built.specs.Fresh.{GivesDigests, Meets, fresh_content}
-use Rattle.c2_built.specs.FreshBoxes.{contents_of, item_box, store_box}
-use Rattle.c2_built.specs.Manifests.{manifest_of}
-use Rattle.c2_built.specs.Store.{Content, NamedManifest, data_binding, new_alg, new_manifest, parent_ingredient}
-use Rattle.c2_built.specs.Written.{HasTexts}
-use Rattle.c2_built.proofs.ByIndex.{same_manifests}
-use Rattle.c2_built.proofs.StoreSize.{store_len as store_len_is}
-use Rattle.c2_carried.specs.Parents.{IsContentOver}
-use Rattle.c2_carried.specs.Redacting.{boxes_in, redacted_boxes}
-use Rattle.c2_carried.specs.Refusing.{has_manifest}
-use Rattle.c2_films.specs.Films.{film_binding}
-use Rattle.c2_places.specs.Bases.{IsLeft}
-use Rattle.c2_places.specs.Laws.{PlaceSizeIsFixed}
-use Rattle.c2_places.specs.Meeting.{FreshPlaceMeets}
-use Rattle.c2_places.specs.Places.{CanPut, HasRoom, IsFreePlace, Place, bound_text, in_boxes, in_segments, place_binding, place_file, place_question, place_start, place_store, put_bytes, range_len, store_len}
+use Rattle.c2_new_signature.specs.Signed.{FillsOrNeedsMore, IsSigned}
+use Rattle.c2_new_store_spec.specs.Built.{HasDigestLen, no_digest}
+use Rattle.c2_new_store_spec.specs.Fresh.{GivesDigests, Meets, fresh_content}
+use Rattle.c2_new_store_spec.specs.FreshBoxes.{contents_of, item_box, store_box}
+use Rattle.c2_new_store_spec.specs.Manifests.{manifest_of}
+use Rattle.c2_new_store_spec.specs.Store.{Content, NamedManifest, data_binding, new_alg, new_manifest, parent_ingredient}
+use Rattle.c2_new_store_spec.specs.Written.{HasTexts}
+use Rattle.c2_new_store_spec.proofs.ByIndex.{same_manifests}
+use Rattle.c2_new_store_spec.proofs.StoreSize.{store_len as store_len_is}
+use Rattle.c2_parent_spec.specs.Parents.{IsContentOver}
+use Rattle.c2_parent_spec.specs.Redacting.{boxes_in, redacted_boxes}
+use Rattle.c2_parent_spec.specs.Refusing.{has_manifest}
+use Rattle.c2_new_bmff_spec.specs.Films.{new_bmff_binding}
+use Rattle.c2_new_file_spec.specs.Bases.{IsLeft}
+use Rattle.c2_new_file_spec.specs.Laws.{PlaceSizeIsFixed}
+use Rattle.c2_new_file_spec.specs.Meeting.{FreshPlaceMeets}
+use Rattle.c2_new_file_spec.specs.Places.{CanPut, HasRoom, IsFreePlace, Place, bound_text, in_boxes, in_segments, place_binding, place_file, place_question, place_start, place_store, put_bytes, range_len, store_len}
 use Rattle.c2_build.specs.Building.{Built, IsBuilt, IsEmbedded, IsEmbeddedOn, built_of}
-use Rattle.c2_refusals.specs.Stages.{HasTextsIn, IsDefinitionStage, IsGroundOver, IsGroundStage, IsMediaStage, IsMessageStage, IsPlaceStage, MediaKind, fresh_ground, stored}
+use Rattle.c2_build_refusals.specs.Stages.{HasTextsIn, IsDefinitionStage, IsGroundOver, IsGroundStage, IsMediaStage, IsMessageStage, IsPlaceStage, MediaKind, fresh_ground, stored}
 use Rattle.c2_build.specs.Meeting.{ApprovedIsValid, AreApproved}
-use Rattle.c2_refusals.specs.Refusals.{Ground, box_tests, first_refusal, ground_tests, late_tests, older_tests, place_tests, refuse_if, reserve_tests}
-use Rattle.c2_refusals.specs.declared.error.BuildError.{BuildError}
-use Rattle.c2_refusals.specs.declared.error.BuildError.TheVariants.{LabelTaken, MediaRefused, StoreTooLarge, TooManyManifests}
-use Rattle.c2_refusals.proofs.Stages.{none_of_both, then_next, unless_passes}
-use Rattle.c2_refusals.proofs.Inputs.{AreWellFormed, OneDefinition, OneItem}
-use Rattle.c2_refusals.proofs.Passing.{ground_of}
+use Rattle.c2_build_refusals.specs.Refusals.{Ground, box_tests, first_refusal, ground_tests, late_tests, older_tests, place_tests, refuse_if, reserve_tests}
+use Rattle.c2_build_refusals.specs.declared.error.BuildError.{BuildError}
+use Rattle.c2_build_refusals.specs.declared.error.BuildError.TheVariants.{LabelTaken, MediaRefused, StoreTooLarge, TooManyManifests}
+use Rattle.c2_build_refusals.proofs.Stages.{none_of_both, then_next, unless_passes}
+use Rattle.c2_build_refusals.proofs.Inputs.{AreWellFormed, OneDefinition, OneItem}
+use Rattle.c2_build_refusals.proofs.Passing.{ground_of}
 use Rattle.c2_build.proofs.Rooms.{PassNumbers, pass_numbers, some_bytes}
 use Rattle.c2_build.proofs.Worked.{accepted, defined, definition_file, is_defined, message, parts, signed, spelled, texts}
 use Rattle.c2_spec.specs.Digest.{zero_digest}
@@ -148,7 +148,7 @@ IsLeftAgain file p = (hash : List ℕ → List ℕ) (padded bytes : List ℕ) �
 -- a binding in such a place by this algorithm, without a digest
 abbrev no_binding_by : Alg → Place → NewAssertion
 no_binding_by alg (in_segments segments number) = data_binding alg 0 0 (zero_digest alg)
-no_binding_by alg (in_boxes roots) = film_binding alg (zero_digest alg)
+no_binding_by alg (in_boxes roots) = new_bmff_binding alg (zero_digest alg)
 
 -- that of both definitions
 abbrev pub no_binding : Place → NewAssertion

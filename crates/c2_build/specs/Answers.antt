@@ -8,11 +8,11 @@ use Rattle.c2_base.specs.declared.values.Question.{Question}
 use Rattle.c2_copying.specs.Writing.{WritesFile}
 use Rattle.c2_spec.specs.declared.digest.Alg.{Alg}
 use Rattle.c2_spec.specs.declared.panel.Verdict.{Verdict}
-use Rattle.c2_refusals.specs.Kinds.{ComesAs, Effects, IsSourceCause, judge_effects, kind_of, no_effects}
-use Rattle.c2_refusals.specs.Stages.{HasNothingToAsk, IsDefinitionRefused, IsDefinitionTold, IsMessageTold, IsToldOf, IsToldRefused}
-use Rattle.c2_refusals.specs.declared.error.BuildError.{BuildError}
-use Rattle.c2_refusals.specs.declared.types.Embedded.{Embedded}
-use Rattle.c2_endings.specs.Endings.{build_ending}
+use Rattle.c2_build_refusals.specs.Kinds.{ComesAs, Effects, IsSourceCause, judge_effects, kind_of, no_effects}
+use Rattle.c2_build_refusals.specs.Stages.{HasNothingToAsk, IsDefinitionRefused, IsDefinitionTold, IsMessageTold, IsToldOf, IsToldRefused}
+use Rattle.c2_build_refusals.specs.declared.error.BuildError.{BuildError}
+use Rattle.c2_build_refusals.specs.declared.types.Embedded.{Embedded}
+use Rattle.c2_build_endings.specs.Endings.{build_ending}
 use Rattle.c2_build.specs.Building.{Built, EmbedAsks, IsEmbedded, PlanAsks}
 use Rattle.c2_build.specs.Meeting.{IsMet}
 

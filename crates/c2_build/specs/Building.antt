@@ -11,12 +11,12 @@ use Rattle.c2_spec.specs.Jumbf.Tree.{tree_bytes}
 use Rattle.c2_spec.specs.declared.digest.Alg.{Alg}
 use Rattle.c2_spec.specs.declared.panel.Verdict.{Verdict}
 use Rattle.c2_definition.specs.declared.types.Definition.{Definition}
-use Rattle.c2_message.specs.Signed.{IsSigned}
-use Rattle.c2_built.specs.Store.{new_claim, new_alg}
-use Rattle.c2_places.specs.Places.{Place, place_binding, place_file, place_start, place_store, put_bytes}
-use Rattle.c2_refusals.specs.Refusals.{Ground, first_refusal, ground_tests, late_tests, new_range_len}
-use Rattle.c2_refusals.specs.declared.error.BuildError.{BuildError}
-use Rattle.c2_refusals.specs.Stages.{AsksThen, IsDefinitionStage, IsGroundStage, IsMediaStage, IsMessageStage, IsPlaceStage, KindAsks, MediaKind, Then, Unless}
+use Rattle.c2_new_signature.specs.Signed.{IsSigned}
+use Rattle.c2_new_store_spec.specs.Store.{new_claim, new_alg}
+use Rattle.c2_new_file_spec.specs.Places.{Place, place_binding, place_file, place_start, place_store, put_bytes}
+use Rattle.c2_build_refusals.specs.Refusals.{Ground, first_refusal, ground_tests, late_tests, new_range_len}
+use Rattle.c2_build_refusals.specs.declared.error.BuildError.{BuildError}
+use Rattle.c2_build_refusals.specs.Stages.{AsksThen, IsDefinitionStage, IsGroundStage, IsMediaStage, IsMessageStage, IsPlaceStage, KindAsks, MediaKind, Then, Unless}
 
 -- ---- what is built
 

@@ -22,15 +22,15 @@ use Rattle.c2_rules.specs.declared.answer.Answer.TheVariants as answer
 use Rattle.c2_rules.specs.declared.answer.Summary.{Summary}
 use Rattle.c2_definition.specs.DefinitionFile.{IsDefinition}
 use Rattle.c2_definition.specs.declared.types.Definition.{Definition}
-use Rattle.c2_message.specs.Signed.{IsSigned}
-use Rattle.c2_built.specs.Fresh.{GivesDigests, Meets}
-use Rattle.c2_places.specs.Places.{IsPlace, Place, place_start, place_store}
+use Rattle.c2_new_signature.specs.Signed.{IsSigned}
+use Rattle.c2_new_store_spec.specs.Fresh.{GivesDigests, Meets}
+use Rattle.c2_new_file_spec.specs.Places.{IsPlace, Place, place_start, place_store}
 use Rattle.c2_build.specs.Building.{Built, IsEmbedded, IsPlanned}
-use Rattle.c2_refusals.specs.Stages.{HasTextsIn, IsDefinitionRefused, IsDefinitionStage, IsGroundStage, IsMediaRefused, IsMediaStage, IsMessageRefused, IsMessageStage, MediaKind, fresh, stored}
-use Rattle.c2_refusals.specs.Refusals.{AllPass, Ground, ground_tests, older_tests, redaction_tests, reserve_tests}
-use Rattle.c2_refusals.specs.declared.error.BuildError.{BuildError}
-use Rattle.c2_refusals.specs.declared.types.Embedded.{Embedded}
-use Rattle.c2_built.specs.Store.{new_alg}
+use Rattle.c2_build_refusals.specs.Stages.{HasTextsIn, IsDefinitionRefused, IsDefinitionStage, IsGroundStage, IsMediaRefused, IsMediaStage, IsMessageRefused, IsMessageStage, MediaKind, fresh, stored}
+use Rattle.c2_build_refusals.specs.Refusals.{AllPass, Ground, ground_tests, older_tests, redaction_tests, reserve_tests}
+use Rattle.c2_build_refusals.specs.declared.error.BuildError.{BuildError}
+use Rattle.c2_build_refusals.specs.declared.types.Embedded.{Embedded}
+use Rattle.c2_new_store_spec.specs.Store.{new_alg}
 
 -- ---- one outcome
 
@@ -185,8 +185,8 @@ SomeBuildSucceeds = (hash : Alg → List ℕ → List ℕ) (said : Question → 
     × HasTextsIn definition × IsEmbedded hash said media definition message (Ok b)
 
 -- Some build into a BMFF file succeeds, whatever the hash.
-abbrev pub SomeFilmSucceeds : Type 0
-SomeFilmSucceeds = (hash : Alg → List ℕ → List ℕ) (said : Question → Verdict)
+abbrev pub SomeBmffSucceeds : Type 0
+SomeBmffSucceeds = (hash : Alg → List ℕ → List ℕ) (said : Question → Verdict)
     → (media : List ℕ) × (definition : List ℕ) × (message : List ℕ) × (b : Built)
     × (is_bmff media ≡ true) × HasTextsIn definition × IsEmbedded hash said media definition message (Ok b)
 

@@ -10,19 +10,19 @@ use Rattle.c2_spec.specs.Jumbf.Tree.{tree_bytes}
 use Rattle.c2_spec.specs.declared.digest.Alg.{Alg}
 use Rattle.c2_spec.specs.declared.panel.Verdict.{Verdict}
 use Rattle.c2_definition.specs.declared.types.Definition.{Definition}
-use Rattle.c2_built.specs.Store.{new_alg}
-use Rattle.c2_places.specs.Places.{Place, place_store, put_bytes}
-use Rattle.c2_refusals.specs.Kinds.{ComesAs, IsSourceCause, WithoutFault, kind_of}
-use Rattle.c2_refusals.specs.Refusals.{Ground, first_refusal, ground_tests}
-use Rattle.c2_refusals.specs.Stages.{HasTextsIn, IsDefinitionTold, IsGroundStage, IsMessageTold, IsPlaceStage, MediaKind}
-use Rattle.c2_refusals.specs.declared.error.BuildError.{BuildError}
-use Rattle.c2_refusals.specs.declared.types.Drafted.{Drafted}
-use Rattle.c2_drafts.specs.Drafts.{FitsMedia, IsOver}
-use Rattle.c2_drafts.specs.declared.ready.DraftedBuild.{DraftedBuild}
+use Rattle.c2_new_store_spec.specs.Store.{new_alg}
+use Rattle.c2_new_file_spec.specs.Places.{Place, place_store, put_bytes}
+use Rattle.c2_build_refusals.specs.Kinds.{ComesAs, IsSourceCause, WithoutFault, kind_of}
+use Rattle.c2_build_refusals.specs.Refusals.{Ground, first_refusal, ground_tests}
+use Rattle.c2_build_refusals.specs.Stages.{HasTextsIn, IsDefinitionTold, IsGroundStage, IsMessageTold, IsPlaceStage, MediaKind}
+use Rattle.c2_build_refusals.specs.declared.error.BuildError.{BuildError}
+use Rattle.c2_build_refusals.specs.declared.types.Drafted.{Drafted}
+use Rattle.c2_build_drafts.specs.Drafts.{FitsMedia, IsOver}
+use Rattle.c2_build_drafts.specs.declared.ready.DraftedBuild.{DraftedBuild}
 use Rattle.c2_build.specs.Answers.{prepare_effects}
 use Rattle.c2_build.specs.Building.{Built, IsEmbedded, built_of}
-use Rattle.c2_in_place.specs.Writings.{CanWrite, ready_file}
-use Rattle.c2_in_place.specs.declared.writing.Ready.{Ready}
+use Rattle.c2_build_in_place.specs.Writings.{CanWrite, ready_file}
+use Rattle.c2_build_in_place.specs.declared.writing.Ready.{Ready}
 
 -- ---- causes
 

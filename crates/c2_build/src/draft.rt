@@ -2,26 +2,26 @@
 ghost use Rattle.std.specs.Prelude.{IfErr, IfOk, map};
 ghost use Rattle.std.specs.Option.{ForSome};
 ghost use Rattle.c2_base.specs.Source.{ReadsSource};
-ghost use Rattle.c2_cleared.specs.Clears.{cleared_len};
+ghost use Rattle.c2_without_store.specs.Clears.{cleared_len};
 ghost use Rattle.c2_spec.specs.Judges.Panel.{panel_says};
 ghost use Rattle.c2_rules.specs.Asking.{HearsPanel};
-ghost use Rattle.c2_built.specs.Store.{new_alg};
-ghost use Rattle.c2_refusals.specs.Kinds.{IsAskCause, WithoutFault, build_heard};
-ghost use Rattle.c2_refusals.specs.Stages.{MediaKind};
-ghost use Rattle.c2_bound_parts.specs.Bound.{IsSmall};
-ghost use Rattle.c2_in_place.specs.Numbers.{IsOfFile};
-ghost use Rattle.c2_ground.specs.Grounds.{IsKind, IsReadIn, KindHears};
+ghost use Rattle.c2_new_store_spec.specs.Store.{new_alg};
+ghost use Rattle.c2_build_refusals.specs.Kinds.{IsAskCause, WithoutFault, build_heard};
+ghost use Rattle.c2_build_refusals.specs.Stages.{MediaKind};
+ghost use Rattle.c2_build_parts.specs.Bound.{IsSmall};
+ghost use Rattle.c2_build_in_place.specs.Numbers.{IsOfFile};
+ghost use Rattle.c2_build_base.specs.Grounds.{IsKind, IsReadIn, KindHears};
 ghost use Rattle.c2_build.specs.Steps.{IsDrafted, IsRefusedPlace};
 
 use c2_base::Source;
+use c2_build_base::{MediaRead, form_of, grounded};
+use c2_build_drafts::draft_in_place;
+use c2_build_refusals::{BuildError, Drafted};
 use c2_definition::Definition;
-use c2_drafts::draft_in_place;
-use c2_ground::{MediaRead, form_of, grounded};
 use c2_hash::Hashing;
 use c2_judge::Judge;
-use c2_lengths::the_length_of_a_new_store_fits;
-use c2_places::each_media_has_a_place;
-use c2_refusals::{BuildError, Drafted};
+use c2_new_file_spec::each_media_has_a_place;
+use c2_new_lengths_spec::the_length_of_a_new_store_fits;
 use std::alloc::Global;
 
 /// What is to be built, where this was read of a media file. Judges are asked what the check of its store asks, where it has one, and

@@ -6,19 +6,19 @@ ghost use Rattle.c2_base.specs.Sink.{WritesSink, unsaid};
 ghost use Rattle.c2_base.specs.Source.{ReadsSource};
 ghost use Rattle.c2_spec.specs.Judges.Panel.{panel_says};
 ghost use Rattle.c2_rules.specs.Asking.{HearsPanel};
-ghost use Rattle.c2_refusals.specs.Kinds.{build_heard};
-ghost use Rattle.c2_refusals.specs.Sinks.{EndsOut, IsOutCause};
-ghost use Rattle.c2_refusals.specs.Stages.{IsDefinitionTold, IsMessageTold, LeavesUndue};
+ghost use Rattle.c2_build_refusals.specs.Kinds.{build_heard};
+ghost use Rattle.c2_build_refusals.specs.Sinks.{EndsOut, IsOutCause};
+ghost use Rattle.c2_build_refusals.specs.Stages.{IsDefinitionTold, IsMessageTold, LeavesUndue};
 ghost use Rattle.c2_build.specs.Answers.{AsksEmbedded, EmbedsFile, IsEmbedCause};
 
 use crate::laws::{a_build_comes_to_one_thing, a_new_file_meets_the_rules};
 use crate::ready::prepare;
 use c2_base::{Sink, Source};
+use c2_build_in_place::write_file;
+use c2_build_refusals::{BuildError, Embedded};
+use c2_build_writing::copy_fault;
 use c2_hash::Hashing;
-use c2_in_place::write_file;
 use c2_judge::Judge;
-use c2_putting::copy_fault;
-use c2_refusals::{BuildError, Embedded};
 use std::alloc::Global;
 
 /// Writes the new file: the media with a new store, of a definition and of a signed message, in its place. That is behind the APP0

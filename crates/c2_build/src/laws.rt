@@ -1,28 +1,28 @@
 // What holds of each build; nothing is computed.
 ghost use Rattle.c2_build.specs.Meeting.{ApprovedIsValid, BuiltFileMeets};
-ghost use Rattle.c2_build.specs.Meeting.{SomeBuildOverStoreSucceeds, SomeBuildSucceeds, SomeFilmSucceeds};
+ghost use Rattle.c2_build.specs.Meeting.{SomeBuildOverStoreSucceeds, SomeBuildSucceeds, SomeBmffSucceeds};
 ghost use Rattle.c2_build.specs.Meeting.{OneEmbedding, OnePlan, SomeEmbedding, SomePlan};
 ghost use Rattle.c2_build.specs.Meeting.{UnrefusedIsEmbedded, UnrefusedIsPlanned};
 
-use c2_boxed::a_base_has_no_store;
-use c2_boxes::a_file_has_one_list_of_roots;
-use c2_carried::{
-    a_valid_store_is_carried, redactions_that_pass_may_be_made, what_is_taken_over_is_one,
-};
+use c2_bmff_boxes::a_file_has_one_list_of_roots;
+use c2_bmff_insert_spec::a_base_has_no_store;
 use c2_cbor::one_item;
 use c2_chain::one_reading;
 use c2_definition::{definitions_are_well_formed, each_definition_is_read_one_way};
-use c2_films::a_built_film_has_its_base;
-use c2_message::{
-    a_message_fills_its_reserve_or_needs_more, each_message_is_accepted_or_refused_for_one_test,
-};
-use c2_places::{
+use c2_new_bmff_spec::a_built_bmff_has_its_base;
+use c2_new_file_spec::{
     a_new_store_has_one_length_in_its_place, a_place_is_one, each_media_has_a_place,
     what_is_left_is_one,
 };
+use c2_new_over_spec::a_valid_store_is_approved;
+use c2_new_signature::{
+    a_message_fills_its_reserve_or_needs_more, each_message_is_accepted_or_refused_for_one_test,
+};
+use c2_new_split_spec::{a_base_stays, a_file_built_in_its_place_meets_the_rules};
+use c2_parent_spec::{
+    a_valid_store_is_carried, redactions_that_pass_may_be_made, what_is_taken_over_is_one,
+};
 use c2_rules::a_question_where_the_claim_rules_hold;
-use c2_splits::{a_base_stays, a_file_built_in_its_place_meets_the_rules};
-use c2_succeeding::a_valid_store_is_approved;
 use c2_validate::{each_file_has_a_check, one_opening};
 
 /// The same inputs come to one thing: the bytes that are to be signed, the new file, or what is refused first.
@@ -106,8 +106,8 @@ pub fn some_build_succeeds()
 }
 
 /// Some inputs with a BMFF file come to a new file.
-pub fn some_film_succeeds()
-    ensures { SomeFilmSucceeds }
+pub fn some_bmff_succeeds()
+    ensures { SomeBmffSucceeds }
 {
     // Only the prover needs these laws.
     each_definition_is_read_one_way();
@@ -127,7 +127,7 @@ pub fn some_build_over_a_store_succeeds()
     a_message_fills_its_reserve_or_needs_more();
     a_file_built_in_its_place_meets_the_rules();
     a_base_stays();
-    a_built_film_has_its_base();
+    a_built_bmff_has_its_base();
     a_new_store_has_one_length_in_its_place();
     approval_of_each_question_is_enough();
 }

@@ -11,27 +11,27 @@ ghost use Rattle.c2_rules.specs.Asking.{HearsPanel};
 ghost use Rattle.c2_container.specs.Contained.{HasRootsInside};
 ghost use Rattle.c2_definition.specs.DefinitionFile.{IsWellFormed};
 ghost use Rattle.c2_build.specs.Answers.{AsksEmbedded};
-ghost use Rattle.c2_refusals.specs.Kinds.{build_heard};
-ghost use Rattle.c2_refusals.specs.Stages.{LeavesUndue, MediaKind};
+ghost use Rattle.c2_build_refusals.specs.Kinds.{build_heard};
+ghost use Rattle.c2_build_refusals.specs.Stages.{LeavesUndue, MediaKind};
 ghost use Rattle.c2_build.specs.Building.{IsEmbeddedOver};
-ghost use Rattle.c2_in_place.specs.Numbers.{IsOfFile};
-ghost use Rattle.c2_drafts.specs.Drafts.{FitsMedia};
+ghost use Rattle.c2_build_in_place.specs.Numbers.{IsOfFile};
+ghost use Rattle.c2_build_drafts.specs.Drafts.{FitsMedia};
 ghost use Rattle.c2_build.specs.Steps.{IsBuildDrafted, IsBuildFor, IsPrepareCause, IsPrepared, IsReadyCause};
-ghost use Rattle.c2_ground.specs.Grounds.{IsFoundIn, IsKind, IsReadIn, KindHears};
+ghost use Rattle.c2_build_base.specs.Grounds.{IsFoundIn, IsKind, IsReadIn, KindHears};
 
 use crate::draft::draft_over;
 use c2_base::Source;
+use c2_build_base::{MediaFile, MediaRead, open_media, read_media};
+use c2_build_drafts::{DraftedBuild, make_ready};
+use c2_build_in_place::Ready;
+use c2_build_refusals::{BuildError, padded, read_definition_file, read_message_file};
 use c2_cbor::one_item;
 use c2_definition::{Definition, each_definition_is_read_one_way};
-use c2_drafts::{DraftedBuild, make_ready};
-use c2_ground::{MediaFile, MediaRead, open_media, read_media};
 use c2_hash::Hashing;
-use c2_in_place::Ready;
 use c2_judge::Judge;
-use c2_message::{
+use c2_new_signature::{
     a_message_fills_its_reserve_or_needs_more, each_message_is_accepted_or_refused_for_one_test,
 };
-use c2_refusals::{BuildError, padded, read_definition_file, read_message_file};
 use c2_sigstruct::Sign1;
 use c2_validate::one_opening;
 use std::alloc::Global;

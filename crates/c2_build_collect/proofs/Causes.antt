@@ -1,10 +1,10 @@
 -- The causes of errors, from one step of a build that collects to the next.
 use Rattle.std.proofs.Common.{◌≡◌, ◌⊎◌, inl, inr, ℕ, subst}
-use Rattle.c2_refusals.proofs.Doing.{more_cause, more_read, unwritten_sink}
-use Rattle.c2_refusals.proofs.Outside.{read_cause}
-use Rattle.c2_refusals.specs.Kinds.{ErrorKind, IsReadKind, IsSourceCause, message_effects}
-use Rattle.c2_refusals.specs.Sinks.{IsSinkCause}
-use Rattle.c2_collect_ground.specs.Grounds.{ground_effects}
+use Rattle.c2_build_refusals.proofs.Doing.{more_cause, more_read, unwritten_sink}
+use Rattle.c2_build_refusals.proofs.Outside.{read_cause}
+use Rattle.c2_build_refusals.specs.Kinds.{ErrorKind, IsReadKind, IsSourceCause, message_effects}
+use Rattle.c2_build_refusals.specs.Sinks.{IsSinkCause}
+use Rattle.c2_build_collect_base.specs.Grounds.{ground_effects}
 use Rattle.c2_build_collect.specs.Answers.{embed_effects, prepare_effects}
 
 -- what is done over both files is done before a file is written

@@ -7,29 +7,29 @@ use Rattle.c2_spec.specs.Located.{Opening, absent, here, refused}
 use Rattle.c2_spec.specs.declared.digest.Alg.{Alg}
 use Rattle.c2_spec.specs.declared.panel.Verdict.{Verdict}
 use Rattle.c2_rules.specs.Opened.{IsOpened}
-use Rattle.c2_built.specs.Store.{new_alg}
+use Rattle.c2_new_store_spec.specs.Store.{new_alg}
 use Rattle.c2_definition.specs.declared.types.Definition.{Definition}
-use Rattle.c2_places.specs.Laws.{LeftHasContainer}
-use Rattle.c2_places.specs.Places.{Place, in_boxes, in_segments, store_len}
-use Rattle.c2_collected.specs.Lengths.{CollectedStoresFit}
-use Rattle.c2_collected.specs.Order.{FilePair, IsMediaFile, MediaFile, pair_readings}
-use Rattle.c2_collected.specs.Outcomes.{CollectGround, IsPairStage}
-use Rattle.c2_collected.specs.Outcomes as collect
-use Rattle.c2_collected.proofs.SomeOutcome.{LeftLaws, free_place, pair_passed}
-use Rattle.c2_refusals.specs.Kinds.{WithoutFault}
-use Rattle.c2_refusals.specs.Refusals.{Ground}
-use Rattle.c2_refusals.specs.Seats.{IsForm}
-use Rattle.c2_refusals.specs.declared.error.BuildError.{BuildError}
-use Rattle.c2_refusals.specs.declared.types.Drafted.{Drafted}
-use Rattle.c2_refusals.specs.declared.types.FileForm.{FileForm}
-use Rattle.c2_refusals.specs.declared.types.KeptGround.{KeptGround}
-use Rattle.c2_refusals.specs.declared.types.Seat.{Seat}
-use Rattle.c2_refusals.proofs.Outside.{outside_map}
-use Rattle.c2_ground.specs.Grounds.{IsGround}
-use Rattle.c2_in_place.specs.Numbers.{HasLen, IsOfFile}
-use Rattle.c2_in_place.proofs.Stored.{form_moves}
-use Rattle.c2_drafts.specs.Drafts.{CanBeDrafted, IsDraftedOver, IsRefusedAt}
-use Rattle.c2_collect_ground.specs.Grounds.{IsCollectedGround}
+use Rattle.c2_new_file_spec.specs.Laws.{LeftHasContainer}
+use Rattle.c2_new_file_spec.specs.Places.{Place, in_boxes, in_segments, store_len}
+use Rattle.c2_collect_spec.specs.Lengths.{CollectedStoresFit}
+use Rattle.c2_collect_spec.specs.Order.{FilePair, IsMediaFile, MediaFile, pair_readings}
+use Rattle.c2_collect_spec.specs.Outcomes.{CollectGround, IsPairStage}
+use Rattle.c2_collect_spec.specs.Outcomes as collect
+use Rattle.c2_collect_spec.proofs.SomeOutcome.{LeftLaws, free_place, pair_passed}
+use Rattle.c2_build_refusals.specs.Kinds.{WithoutFault}
+use Rattle.c2_build_refusals.specs.Refusals.{Ground}
+use Rattle.c2_build_refusals.specs.InsertPoints.{IsForm}
+use Rattle.c2_build_refusals.specs.declared.error.BuildError.{BuildError}
+use Rattle.c2_build_refusals.specs.declared.types.Drafted.{Drafted}
+use Rattle.c2_build_refusals.specs.declared.types.FileForm.{FileForm}
+use Rattle.c2_build_refusals.specs.declared.types.BuildBase.{BuildBase}
+use Rattle.c2_build_refusals.specs.declared.types.InsertPoint.{InsertPoint}
+use Rattle.c2_build_refusals.proofs.Outside.{outside_map}
+use Rattle.c2_build_base.specs.Grounds.{IsGround}
+use Rattle.c2_build_in_place.specs.Numbers.{HasLen, IsOfFile}
+use Rattle.c2_build_in_place.proofs.Stored.{form_moves}
+use Rattle.c2_build_drafts.specs.Drafts.{CanBeDrafted, IsDraftedOver, IsRefusedAt}
+use Rattle.c2_build_collect_base.specs.Grounds.{IsCollectedGround}
 use Rattle.c2_build_collect.specs.Steps.{IsDraftOf, IsDrafted, IsRefusedDraft}
 use Rattle.c2_build_collect.proofs.Refused.{numbers_passed, numbers_refused}
 
@@ -41,7 +41,7 @@ left_form law hash said file (refused reason number) m f opened is form = absurd
 left_form law hash said file absent m f opened is form = subst (λ (x : MediaFile). IsForm x.base f) (sym is) form
 left_form law hash said file (here start len t) m f opened is form = form_moves f file m.base (law file start len t m.base opened is.left) form
 
-module _ (hash : Alg → List ℕ → List ℕ) (said : Question → Verdict) (media other : List ℕ) (what : Opening Tree) (d : Definition) (k : KeptGround) (p : FilePair)
+module _ (hash : Alg → List ℕ → List ℕ) (said : Question → Verdict) (media other : List ℕ) (what : Opening Tree) (d : Definition) (k : BuildBase) (p : FilePair)
     (opened : IsOpened media what) (stage : collect.IsMediaStage media (Ok what)) (pair : IsPairStage hash said media other what d (Ok p)) (is : IsCollectedGround (hash (new_alg d)) media d k p) where
   -- what the new file is built of at a place
   abbrev built_at : Place → CollectGround
@@ -64,7 +64,7 @@ module _ (hash : Alg → List ℕ → List ℕ) (said : Question → Verdict) (m
   over_form law f form = left_form law hash said media what p.media f opened (pair_passed hash said media other what d p stage pair).is_media form
 
   -- 64 bits hold the length of the new store, where a file is the definition
-  over_len : CollectedStoresFit → IsOfFile d → (s : Seat) → HasLen s is.content
+  over_len : CollectedStoresFit → IsOfFile d → (s : InsertPoint) → HasLen s is.content
   over_len law of_file s = by s
     where
       fits : (place : Place) → store_len place is.content is.content.definition.reserve < 2 ^ 64 - 1
@@ -72,9 +72,9 @@ module _ (hash : Alg → List ℕ → List ℕ) (said : Question → Verdict) (m
           let read = (pair_passed hash said media other what d p stage pair).is_pair in
           subst (λ (n : ℕ). store_len place is.content n < 2 ^ 64 - 1) room_is (law hash said media of_file.0 other d p is.content place of_file.1 read is.collects)
 
-      by : (x : Seat) → HasLen x is.content
-      by (Seat.Segments start number) = fits (in_segments [] None)
-      by (Seat.Boxes rows) = fits (in_boxes [])
+      by : (x : InsertPoint) → HasLen x is.content
+      by (InsertPoint.Segments start number) = fits (in_segments [] None)
+      by (InsertPoint.Boxes rows) = fits (in_boxes [])
 
   -- so it can be drafted over it
   pub can_draft : LeftHasContainer → LeftLaws → CollectedStoresFit → IsOfFile d → (f : FileForm) → IsForm media f → CanBeDrafted f over

@@ -6,10 +6,10 @@ use Rattle.c2_spec.specs.C2pa.Sign1.{SignParts}
 use Rattle.c2_spec.specs.declared.digest.Alg.{Alg}
 use Rattle.c2_spec.specs.declared.panel.Verdict.{Verdict}
 use Rattle.c2_definition.specs.declared.types.Definition.{Definition}
-use Rattle.c2_message.specs.Message.{RefusedForOne}
-use Rattle.c2_refusals.specs.Stages.{IsDefinitionRefused, IsDefinitionStage, IsDefinitionTold, IsMediaStage, IsMessageRefused, IsMessageStage, IsMessageTold, IsToldRefused, MediaKind}
-use Rattle.c2_refusals.proofs.Inputs.{OneDefinition, OneItem, OneOpened, not_both_definitions, not_both_media, not_both_messages, told_where_both, told_where_due}
-use Rattle.c2_collect_ground.specs.Grounds.{IsOtherTold, IsParentRefused, opening_of}
+use Rattle.c2_new_signature.specs.Message.{RefusedForOne}
+use Rattle.c2_build_refusals.specs.Stages.{IsDefinitionRefused, IsDefinitionStage, IsDefinitionTold, IsMediaStage, IsMessageRefused, IsMessageStage, IsMessageTold, IsToldRefused, MediaKind}
+use Rattle.c2_build_refusals.proofs.Inputs.{OneDefinition, OneItem, OneOpened, not_both_definitions, not_both_media, not_both_messages, told_where_both, told_where_due}
+use Rattle.c2_build_collect_base.specs.Grounds.{IsOtherTold, IsParentRefused, opening_of}
 use Rattle.c2_build_collect.specs.Answers.{IsNotAccepted, IsOtherDue}
 use Rattle.c2_build_collect.proofs.Stages.{opened_kind}
 

@@ -10,18 +10,18 @@ use Rattle.c2_rules.specs.Opened.{IsOpened}
 use Rattle.c2_copying.specs.Writing.{Breaks, WritesFile, ending_of}
 use Rattle.c2_copying.specs.declared.copying.CopyError.{CopyError}
 use Rattle.c2_copying.specs.declared.copying.CopyError.TheVariants as copying
-use Rattle.c2_putting.specs.Puts.{copy_fault_of}
-use Rattle.c2_collected.specs.Order.{CollectRefusal}
-use Rattle.c2_collected.specs.Outcomes.{IsCollectMade, NewFile}
-use Rattle.c2_collected.specs.Outcomes as collect
-use Rattle.c2_collected.proofs.Stages.{passed}
-use Rattle.c2_refusals.specs.Stages.{IsDefinitionTold, IsMediaStage, MediaKind, fresh, stored}
-use Rattle.c2_refusals.specs.declared.error.BuildError.{BuildError}
-use Rattle.c2_refusals.specs.declared.types.Embedded.{Embedded}
-use Rattle.c2_refusals.proofs.Inputs.{OneOpened, not_both_media, told_where_due}
-use Rattle.c2_in_place.specs.Writings.{ready_file}
-use Rattle.c2_in_place.specs.declared.writing.Ready.{Ready}
-use Rattle.c2_in_place.proofs.Endings.{begun}
+use Rattle.c2_build_writing.specs.Puts.{copy_fault_of}
+use Rattle.c2_collect_spec.specs.Order.{CollectRefusal}
+use Rattle.c2_collect_spec.specs.Outcomes.{IsCollectMade, NewFile}
+use Rattle.c2_collect_spec.specs.Outcomes as collect
+use Rattle.c2_collect_spec.proofs.Stages.{passed}
+use Rattle.c2_build_refusals.specs.Stages.{IsDefinitionTold, IsMediaStage, MediaKind, fresh, stored}
+use Rattle.c2_build_refusals.specs.declared.error.BuildError.{BuildError}
+use Rattle.c2_build_refusals.specs.declared.types.Embedded.{Embedded}
+use Rattle.c2_build_refusals.proofs.Inputs.{OneOpened, not_both_media, told_where_due}
+use Rattle.c2_build_in_place.specs.Writings.{ready_file}
+use Rattle.c2_build_in_place.specs.declared.writing.Ready.{Ready}
+use Rattle.c2_build_in_place.proofs.Endings.{begun}
 use Rattle.c2_build_collect.specs.Answers.{EmbedsCollected, HasRange, Writes, file_of}
 use Rattle.c2_build_collect.specs.Steps.{IsReady}
 

@@ -9,22 +9,22 @@ use Rattle.c2_spec.specs.Located.{Opening}
 use Rattle.c2_spec.specs.declared.digest.Alg.{Alg}
 use Rattle.c2_spec.specs.declared.panel.Verdict.{Verdict}
 use Rattle.c2_definition.specs.declared.types.Definition.{Definition}
-use Rattle.c2_message.specs.Refusals.{reserve_needed}
-use Rattle.c2_message.specs.Signed.{FillsOrNeedsMore, IsSigned}
-use Rattle.c2_built.specs.Store.{new_alg}
-use Rattle.c2_places.specs.Places.{range_len}
-use Rattle.c2_collected.specs.Order.{CollectRefusal, reserve_refusals}
-use Rattle.c2_collected.specs.Outcomes.{CollectGround, IsGroundStage, IsMadeOn, IsMadeOver, IsNewFile, IsPairStage, IsPlannedOn, IsPlannedOver, IsPutIn, NewFile, Then, ground_refusals, ground_signed, new_file}
-use Rattle.c2_collected.proofs.Stages.{then_next, unless_passes}
-use Rattle.c2_refusals.specs.Kinds.{SaysNothing}
-use Rattle.c2_refusals.specs.Refusals.{IsReserveRefusal}
-use Rattle.c2_refusals.specs.declared.error.BuildError.{BuildError}
-use Rattle.c2_refusals.specs.declared.types.Drafted.{Drafted}
-use Rattle.c2_refusals.proofs.Outside.{nothing_said}
-use Rattle.c2_in_place.specs.declared.writing.Ready.{Ready}
-use Rattle.c2_drafts.specs.Drafts.{IsPutReady}
-use Rattle.c2_drafts.specs.declared.ready.DraftedBuild.{DraftedBuild}
-use Rattle.c2_collect_ground.specs.Errors.{IsAnswerTo, IsRefusedWith}
+use Rattle.c2_new_signature.specs.Refusals.{reserve_needed}
+use Rattle.c2_new_signature.specs.Signed.{FillsOrNeedsMore, IsSigned}
+use Rattle.c2_new_store_spec.specs.Store.{new_alg}
+use Rattle.c2_new_file_spec.specs.Places.{range_len}
+use Rattle.c2_collect_spec.specs.Order.{CollectRefusal, reserve_refusals}
+use Rattle.c2_collect_spec.specs.Outcomes.{CollectGround, IsGroundStage, IsMadeOn, IsMadeOver, IsNewFile, IsPairStage, IsPlannedOn, IsPlannedOver, IsPutIn, NewFile, Then, ground_refusals, ground_signed, new_file}
+use Rattle.c2_collect_spec.proofs.Stages.{then_next, unless_passes}
+use Rattle.c2_build_refusals.specs.Kinds.{SaysNothing}
+use Rattle.c2_build_refusals.specs.Refusals.{IsReserveRefusal}
+use Rattle.c2_build_refusals.specs.declared.error.BuildError.{BuildError}
+use Rattle.c2_build_refusals.specs.declared.types.Drafted.{Drafted}
+use Rattle.c2_build_refusals.proofs.Outside.{nothing_said}
+use Rattle.c2_build_in_place.specs.declared.writing.Ready.{Ready}
+use Rattle.c2_build_drafts.specs.Drafts.{IsPutReady}
+use Rattle.c2_build_drafts.specs.declared.ready.DraftedBuild.{DraftedBuild}
+use Rattle.c2_build_collect_base.specs.Errors.{IsAnswerTo, IsRefusedWith}
 use Rattle.c2_build_collect.specs.Steps.{IsDrafted, IsFirstError, IsPassed, IsReadyFor, IsRefusedDraft, MakesFile, ground_of}
 use Rattle.c2_build_collect.proofs.Refused.{first_before, first_behind, none_behind, reserve_first, reserve_none}
 use Rattle.c2_build_collect.proofs.Stages.{refused_first, refused_next, unless_first}

@@ -10,12 +10,12 @@ use Rattle.c2_rules.specs.CheckList.{check_asks}
 use Rattle.c2_rules.specs.Opened.{IsOpened}
 use Rattle.c2_rules.specs.Validated.{CheckAsks, IsAnswer, OpenedAsks}
 use Rattle.c2_rules.specs.declared.answer.Answer.{Answer}
-use Rattle.c2_collected.specs.Order.{CollectRefusal, MediaFile, parent_refusals}
-use Rattle.c2_collected.specs.Outcomes.{After, AskedBehind, AsksThen, HasCheck, IsDefinitionStage, IsMediaStage, IsMessageStage, IsParentStage, PairAsks, SomeCollectMade, SomeCollectPlan, Then, Unless}
-use Rattle.c2_collected.proofs.OneOutcome.{OneLaws, one_media_file}
-use Rattle.c2_collected.proofs.SomeOutcome.{opened_as}
-use Rattle.c2_collected.proofs.Stages.{IsOne, one_unless, one_value}
-use Rattle.c2_refusals.proofs.Inputs.{OneOpened}
+use Rattle.c2_collect_spec.specs.Order.{CollectRefusal, MediaFile, parent_refusals}
+use Rattle.c2_collect_spec.specs.Outcomes.{After, AskedBehind, AsksThen, HasCheck, IsDefinitionStage, IsMediaStage, IsMessageStage, IsParentStage, PairAsks, SomeCollectMade, SomeCollectPlan, Then, Unless}
+use Rattle.c2_collect_spec.proofs.OneOutcome.{OneLaws, one_media_file}
+use Rattle.c2_collect_spec.proofs.SomeOutcome.{opened_as}
+use Rattle.c2_collect_spec.proofs.Stages.{IsOne, one_unless, one_value}
+use Rattle.c2_build_refusals.proofs.Inputs.{OneOpened}
 use Rattle.c2_build_collect.specs.Asked.{OneCollectAsks, OneCollectPlanAsks, SomeCollectAsks, SomeCollectPlanAsks}
 use Rattle.c2_build_collect.proofs.Stages.{one_definition, one_media, one_signed}
 

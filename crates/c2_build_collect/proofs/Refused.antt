@@ -8,16 +8,16 @@ use Rattle.c2_spec.specs.Bmff.Writing.{open_end}
 use Rattle.c2_spec.specs.C2pa.Message.{bare_bytes}
 use Rattle.c2_spec.specs.C2pa.Sign1.{SignParts}
 use Rattle.c2_spec.specs.declared.reason.Reason.TheVariants.{FileTooLarge, TooManyBoxes}
-use Rattle.c2_built.specs.Store.{Content}
+use Rattle.c2_new_store_spec.specs.Store.{Content}
 use Rattle.c2_definition.specs.declared.types.Definition.{Definition}
-use Rattle.c2_message.specs.Refusals.{reserve_needed}
-use Rattle.c2_places.specs.Places.{Place, in_boxes, in_segments, range_len, store_len}
-use Rattle.c2_collected.specs.Order.{CollectRefusal, box_refusals, file_refusals, media_refused, no_instance, open_box, place_refusals, reserve_refusals, reserve_too_small, size_refusals, store_too_large, too_many_manifests}
-use Rattle.c2_refusals.specs.Refusals.{BuildTest, IsReserveRefusal, box_tests, first_refusal, number_tests, place_tests, refuse_if}
-use Rattle.c2_refusals.specs.declared.error.BuildError.{BuildError}
-use Rattle.c2_refusals.specs.declared.error.BuildError.TheVariants as build
-use Rattle.c2_refusals.proofs.Stages.{first_of_both}
-use Rattle.c2_collect_ground.specs.Errors.{error_of}
+use Rattle.c2_new_signature.specs.Refusals.{reserve_needed}
+use Rattle.c2_new_file_spec.specs.Places.{Place, in_boxes, in_segments, range_len, store_len}
+use Rattle.c2_collect_spec.specs.Order.{CollectRefusal, box_refusals, file_refusals, media_refused, no_instance, open_box, place_refusals, reserve_refusals, reserve_too_small, size_refusals, store_too_large, too_many_manifests}
+use Rattle.c2_build_refusals.specs.Refusals.{BuildTest, IsReserveRefusal, box_tests, first_refusal, number_tests, place_tests, refuse_if}
+use Rattle.c2_build_refusals.specs.declared.error.BuildError.{BuildError}
+use Rattle.c2_build_refusals.specs.declared.error.BuildError.TheVariants as build
+use Rattle.c2_build_refusals.proofs.Stages.{first_of_both}
+use Rattle.c2_build_collect_base.specs.Errors.{error_of}
 use Rattle.c2_build_collect.specs.Steps.{IsFirstError}
 
 -- ---- lists one after the other

@@ -10,20 +10,20 @@ use Rattle.c2_rules.specs.Opened.{IsOpened}
 use Rattle.c2_definition.specs.DefinitionFile.{IsDefinition}
 use Rattle.c2_definition.specs.declared.types.Definition.{Definition}
 use Rattle.c2_definition.specs.declared.types.DefinitionField.{DefinitionField}
-use Rattle.c2_message.specs.Message.{RefusedForOne}
-use Rattle.c2_message.specs.declared.error.SignaturePart.{SignaturePart}
-use Rattle.c2_collected.specs.Order.{CollectRefusal, bad_definition, bad_signature, media_refused}
-use Rattle.c2_collected.specs.Outcomes.{AskedBehind, AsksThen, NewFile, Then, Unless}
-use Rattle.c2_collected.specs.Outcomes as collect
-use Rattle.c2_collected.proofs.Stages.{IsOne}
-use Rattle.c2_refusals.specs.Stages.{IsDefinitionStage, IsMediaStage, IsMessageRead, IsMessageStage, MediaKind, definition_stage, fresh, media_stage, message_stage, stored}
-use Rattle.c2_refusals.specs.declared.error.BuildError.{BuildError}
-use Rattle.c2_refusals.proofs.Inputs.{OneDefinition, OneItem, OneOpened, one_message}
-use Rattle.c2_refusals.proofs.Outside.{outside_map}
-use Rattle.c2_refusals.proofs.Passing.{opened_absent, opened_here}
-use Rattle.c2_drafts.specs.declared.ready.DraftedBuild.{DraftedBuild}
-use Rattle.c2_collect_ground.specs.Errors.{IsAnswerTo, IsRefusedWith}
-use Rattle.c2_collect_ground.specs.Grounds.{opening_of}
+use Rattle.c2_new_signature.specs.Message.{RefusedForOne}
+use Rattle.c2_new_signature.specs.declared.error.SignaturePart.{SignaturePart}
+use Rattle.c2_collect_spec.specs.Order.{CollectRefusal, bad_definition, bad_signature, media_refused}
+use Rattle.c2_collect_spec.specs.Outcomes.{AskedBehind, AsksThen, NewFile, Then, Unless}
+use Rattle.c2_collect_spec.specs.Outcomes as collect
+use Rattle.c2_collect_spec.proofs.Stages.{IsOne}
+use Rattle.c2_build_refusals.specs.Stages.{IsDefinitionStage, IsMediaStage, IsMessageRead, IsMessageStage, MediaKind, definition_stage, fresh, media_stage, message_stage, stored}
+use Rattle.c2_build_refusals.specs.declared.error.BuildError.{BuildError}
+use Rattle.c2_build_refusals.proofs.Inputs.{OneDefinition, OneItem, OneOpened, one_message}
+use Rattle.c2_build_refusals.proofs.Outside.{outside_map}
+use Rattle.c2_build_refusals.proofs.Passing.{opened_absent, opened_here}
+use Rattle.c2_build_drafts.specs.declared.ready.DraftedBuild.{DraftedBuild}
+use Rattle.c2_build_collect_base.specs.Errors.{IsAnswerTo, IsRefusedWith}
+use Rattle.c2_build_collect_base.specs.Grounds.{opening_of}
 use Rattle.c2_build_collect.specs.Steps.{IsBuildFor}
 
 -- ---- the media

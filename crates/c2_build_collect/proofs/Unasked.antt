@@ -6,16 +6,16 @@ use Rattle.c2_spec.specs.C2pa.Sign1.{SignParts}
 use Rattle.c2_spec.specs.declared.digest.Alg.{Alg}
 use Rattle.c2_spec.specs.declared.panel.Verdict.{Verdict}
 use Rattle.c2_definition.specs.declared.types.Definition.{Definition}
-use Rattle.c2_message.specs.Message.{RefusedForOne}
-use Rattle.c2_collected.specs.Outcomes as collect
-use Rattle.c2_refusals.specs.Kinds.{WithoutFault}
-use Rattle.c2_refusals.specs.Stages.{IsDefinitionRefused, IsDefinitionStage, IsMediaStage, IsMessageStage, IsToldRefused, MediaKind}
-use Rattle.c2_refusals.specs.declared.error.BuildError.{BuildError}
-use Rattle.c2_refusals.proofs.Inputs.{OneDefinition, OneItem, OneOpened, not_both_definitions, not_both_media}
-use Rattle.c2_refusals.proofs.Outside.{outside_all, outside_map, said_each}
-use Rattle.c2_ground.specs.Grounds.{IsKind}
-use Rattle.c2_ground.specs.declared.media.MediaRead.{MediaRead}
-use Rattle.c2_collect_ground.specs.Grounds.{PairHears, opening_of}
+use Rattle.c2_new_signature.specs.Message.{RefusedForOne}
+use Rattle.c2_collect_spec.specs.Outcomes as collect
+use Rattle.c2_build_refusals.specs.Kinds.{WithoutFault}
+use Rattle.c2_build_refusals.specs.Stages.{IsDefinitionRefused, IsDefinitionStage, IsMediaStage, IsMessageStage, IsToldRefused, MediaKind}
+use Rattle.c2_build_refusals.specs.declared.error.BuildError.{BuildError}
+use Rattle.c2_build_refusals.proofs.Inputs.{OneDefinition, OneItem, OneOpened, not_both_definitions, not_both_media}
+use Rattle.c2_build_refusals.proofs.Outside.{outside_all, outside_map, said_each}
+use Rattle.c2_build_base.specs.Grounds.{IsKind}
+use Rattle.c2_build_base.specs.declared.media.MediaRead.{MediaRead}
+use Rattle.c2_build_collect_base.specs.Grounds.{PairHears, opening_of}
 use Rattle.c2_build_collect.specs.Answers.{AsksEmbed, AsksEmbedded, AsksPlanned, IsEitherRefused}
 use Rattle.c2_build_collect.proofs.Due.{definition_told, message_told, other_told, undefined, unsigned, untold}
 use Rattle.c2_build_collect.proofs.Stages.{asks_behind, asks_none, defined_as, definition_error, media_error, message_as, message_error, one_definition, one_media, one_signed, opened_as}

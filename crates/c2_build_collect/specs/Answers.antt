@@ -14,17 +14,17 @@ use Rattle.c2_spec.specs.Jumbf.Tree.{Tree}
 use Rattle.c2_spec.specs.declared.digest.Alg.{Alg}
 use Rattle.c2_spec.specs.declared.panel.Verdict.{Verdict}
 use Rattle.c2_rules.specs.Opened.{IsOpened}
-use Rattle.c2_collected.specs.Made.{CollectedMeets}
-use Rattle.c2_collected.specs.Order.{CollectRefusal}
-use Rattle.c2_collected.specs.Outcomes.{CollectAsks, CollectPlanAsks, IsCollectMade, NewFile}
-use Rattle.c2_refusals.specs.Kinds.{Effects, IsSourceCause, WithoutFault, kind_of}
-use Rattle.c2_refusals.specs.Sinks.{EndsOut, IsOutCause}
-use Rattle.c2_refusals.specs.Stages.{IsDefinitionRefused, IsDefinitionTold, IsMediaRefused, IsMessageRefused, IsMessageTold, IsToldOf, IsToldRefused, LeavesUndue}
-use Rattle.c2_refusals.specs.declared.error.BuildError.{BuildError}
-use Rattle.c2_refusals.specs.declared.types.Embedded.{Embedded}
-use Rattle.c2_endings.specs.Endings.{build_ending}
-use Rattle.c2_collect_ground.specs.Errors.{IsRefusedWith}
-use Rattle.c2_collect_ground.specs.Grounds.{IsParentRefused, ground_effects}
+use Rattle.c2_collect_spec.specs.Made.{CollectedMeets}
+use Rattle.c2_collect_spec.specs.Order.{CollectRefusal}
+use Rattle.c2_collect_spec.specs.Outcomes.{CollectAsks, CollectPlanAsks, IsCollectMade, NewFile}
+use Rattle.c2_build_refusals.specs.Kinds.{Effects, IsSourceCause, WithoutFault, kind_of}
+use Rattle.c2_build_refusals.specs.Sinks.{EndsOut, IsOutCause}
+use Rattle.c2_build_refusals.specs.Stages.{IsDefinitionRefused, IsDefinitionTold, IsMediaRefused, IsMessageRefused, IsMessageTold, IsToldOf, IsToldRefused, LeavesUndue}
+use Rattle.c2_build_refusals.specs.declared.error.BuildError.{BuildError}
+use Rattle.c2_build_refusals.specs.declared.types.Embedded.{Embedded}
+use Rattle.c2_build_endings.specs.Endings.{build_ending}
+use Rattle.c2_build_collect_base.specs.Errors.{IsRefusedWith}
+use Rattle.c2_build_collect_base.specs.Grounds.{IsParentRefused, ground_effects}
 
 -- ---- the inputs that are due
 

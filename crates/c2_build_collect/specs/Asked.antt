@@ -3,7 +3,7 @@ use Rattle.std.specs.Prelude.{◌≡◌, ℕ, ◌<◌, ◌^◌, List, All}
 use Rattle.c2_base.specs.declared.values.Question.{Question}
 use Rattle.c2_spec.specs.declared.digest.Alg.{Alg}
 use Rattle.c2_spec.specs.declared.panel.Verdict.{Verdict}
-use Rattle.c2_collected.specs.Outcomes.{CollectAsks, CollectPlanAsks}
+use Rattle.c2_collect_spec.specs.Outcomes.{CollectAsks, CollectPlanAsks}
 
 -- `plan_collect` asks one list of questions at most over the same inputs
 abbrev pub OneCollectPlanAsks : Type 0

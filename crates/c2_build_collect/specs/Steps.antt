@@ -11,25 +11,25 @@ use Rattle.c2_spec.specs.declared.digest.Alg.{Alg}
 use Rattle.c2_spec.specs.declared.panel.Verdict.{Verdict}
 use Rattle.c2_definition.specs.DefinitionFile.{IsWellFormed}
 use Rattle.c2_definition.specs.declared.types.Definition.{Definition}
-use Rattle.c2_built.specs.Store.{new_alg}
-use Rattle.c2_collected.specs.Order.{CollectRefusal, pair_readings}
-use Rattle.c2_collected.specs.Outcomes.{CollectGround, IsCollectMade, IsGroundStage, IsPairStage, IsPutIn, NewFile, ground_refusals, new_file}
+use Rattle.c2_new_store_spec.specs.Store.{new_alg}
+use Rattle.c2_collect_spec.specs.Order.{CollectRefusal, pair_readings}
+use Rattle.c2_collect_spec.specs.Outcomes.{CollectGround, IsCollectMade, IsGroundStage, IsPairStage, IsPutIn, NewFile, ground_refusals, new_file}
 use Rattle.c2_container.specs.Contained.{HasRootsInside}
-use Rattle.c2_refusals.specs.Kinds.{WithoutFault}
-use Rattle.c2_refusals.specs.Refusals.{Ground}
-use Rattle.c2_refusals.specs.Stages.{HasTextsIn, MediaKind}
-use Rattle.c2_refusals.specs.declared.error.BuildError.{BuildError}
-use Rattle.c2_refusals.specs.declared.types.Drafted.{Drafted}
-use Rattle.c2_ground.specs.Grounds.{IsFoundIn, IsKind, IsReadIn}
-use Rattle.c2_ground.specs.declared.media.MediaFile.{MediaFile}
-use Rattle.c2_ground.specs.declared.media.MediaRead.{MediaRead}
-use Rattle.c2_in_place.specs.Numbers.{IsOfFile}
-use Rattle.c2_in_place.specs.Writings.{CanWrite, ready_file}
-use Rattle.c2_in_place.specs.declared.writing.Ready.{Ready}
-use Rattle.c2_drafts.specs.Drafts.{FitsMedia, IsOver}
-use Rattle.c2_drafts.specs.declared.ready.DraftedBuild.{DraftedBuild}
-use Rattle.c2_collect_ground.specs.Errors.{IsRefusedWith, error_of}
-use Rattle.c2_collect_ground.specs.Grounds.{IsOtherTold, IsParentRefused, opening_of}
+use Rattle.c2_build_refusals.specs.Kinds.{WithoutFault}
+use Rattle.c2_build_refusals.specs.Refusals.{Ground}
+use Rattle.c2_build_refusals.specs.Stages.{HasTextsIn, MediaKind}
+use Rattle.c2_build_refusals.specs.declared.error.BuildError.{BuildError}
+use Rattle.c2_build_refusals.specs.declared.types.Drafted.{Drafted}
+use Rattle.c2_build_base.specs.Grounds.{IsFoundIn, IsKind, IsReadIn}
+use Rattle.c2_build_base.specs.declared.media.MediaFile.{MediaFile}
+use Rattle.c2_build_base.specs.declared.media.MediaRead.{MediaRead}
+use Rattle.c2_build_in_place.specs.Numbers.{IsOfFile}
+use Rattle.c2_build_in_place.specs.Writings.{CanWrite, ready_file}
+use Rattle.c2_build_in_place.specs.declared.writing.Ready.{Ready}
+use Rattle.c2_build_drafts.specs.Drafts.{FitsMedia, IsOver}
+use Rattle.c2_build_drafts.specs.declared.ready.DraftedBuild.{DraftedBuild}
+use Rattle.c2_build_collect_base.specs.Errors.{IsRefusedWith, error_of}
+use Rattle.c2_build_collect_base.specs.Grounds.{IsOtherTold, IsParentRefused, opening_of}
 use Rattle.c2_build_collect.specs.Answers.{ForEmbedInputs}
 
 -- ---- errors

@@ -2,13 +2,13 @@
 ghost use Rattle.c2_build_collect.specs.Asked.{OneCollectAsks, OneCollectPlanAsks, SomeCollectAsks, SomeCollectPlanAsks};
 
 use c2_cbor::one_item;
-use c2_collected::{each_collected_build_comes_to_something, what_is_collected_is_one};
+use c2_collect_spec::{each_collected_build_comes_to_something, what_is_collected_is_one};
 use c2_definition::each_definition_is_read_one_way;
-use c2_message::{
+use c2_new_file_spec::{a_place_is_one, what_is_left_is_one};
+use c2_new_signature::{
     a_message_fills_its_reserve_or_needs_more, each_message_is_accepted_or_refused_for_one_test,
 };
-use c2_places::{a_place_is_one, what_is_left_is_one};
-use c2_reading::one_reading;
+use c2_read_manifests::one_reading;
 use c2_validate::{each_file_has_a_check, one_check, one_opening};
 
 /// The same inputs ask one list of questions at most.

@@ -4,24 +4,24 @@ ghost use Rattle.c2_base.specs.Causes.{Rose};
 ghost use Rattle.c2_base.specs.Source.{ReadsSource};
 ghost use Rattle.c2_spec.specs.Judges.Panel.{panel_says};
 ghost use Rattle.c2_rules.specs.Asking.{HearsPanel};
-ghost use Rattle.c2_built.specs.Store.{new_alg};
-ghost use Rattle.c2_cleared.specs.Clears.{cleared_len};
-ghost use Rattle.c2_refusals.specs.Kinds.{build_heard};
-ghost use Rattle.c2_ground.specs.Grounds.{IsReadIn};
-ghost use Rattle.c2_collect_ground.specs.Grounds.{IsGroundCause, PairHears};
-ghost use Rattle.c2_bound_parts.specs.Bound.{IsSmall};
+ghost use Rattle.c2_new_store_spec.specs.Store.{new_alg};
+ghost use Rattle.c2_without_store.specs.Clears.{cleared_len};
+ghost use Rattle.c2_build_refusals.specs.Kinds.{build_heard};
+ghost use Rattle.c2_build_base.specs.Grounds.{IsReadIn};
+ghost use Rattle.c2_build_collect_base.specs.Grounds.{IsGroundCause, PairHears};
+ghost use Rattle.c2_build_parts.specs.Bound.{IsSmall};
 ghost use Rattle.c2_build_collect.specs.Steps.{ForFiles, IsDraftOf, LeavesOther};
 
 use c2_base::Source;
-use c2_collect_ground::Collector;
-use c2_collected::the_length_of_a_collected_store_fits;
+use c2_build_base::{MediaRead, form_of};
+use c2_build_collect_base::Collector;
+use c2_build_drafts::draft_in_place;
+use c2_build_refusals::{BuildError, Drafted};
+use c2_collect_spec::the_length_of_a_collected_store_fits;
 use c2_definition::Definition;
-use c2_drafts::draft_in_place;
-use c2_ground::{MediaRead, form_of};
 use c2_hash::Hashing;
 use c2_judge::Judge;
-use c2_places::each_media_has_a_place;
-use c2_refusals::{BuildError, Drafted};
+use c2_new_file_spec::each_media_has_a_place;
 use std::alloc::Global;
 
 /// What a build is made of, once the media file and the definition are read.

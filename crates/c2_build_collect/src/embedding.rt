@@ -4,21 +4,23 @@ ghost use Rattle.c2_base.specs.Causes.{Rose};
 ghost use Rattle.c2_base.specs.Source.{ReadsSource};
 ghost use Rattle.c2_spec.specs.Judges.Panel.{panel_says};
 ghost use Rattle.c2_rules.specs.Asking.{HearsPanel};
-ghost use Rattle.c2_refusals.specs.Kinds.{build_heard};
+ghost use Rattle.c2_build_refusals.specs.Kinds.{build_heard};
 ghost use Rattle.c2_build_collect.specs.Answers.{AsksEmbedded, EmbedsCollected, ForEmbedInputs, IsEmbedCause, IsPrepareCause, LeavesBuildUndue, WritesOut};
 ghost use Rattle.c2_build_collect.specs.Steps.{IsBuildDrafted, IsPrepared};
 
 use crate::ready::{Builder, Maker};
 use c2_base::{Sink, Source};
-use c2_collected::{a_collected_build_comes_to_one_thing, a_made_collected_file_meets_the_rules};
+use c2_build_base::open_media;
+use c2_build_drafts::{DraftedBuild, make_ready};
+use c2_build_in_place::{Ready, write_file};
+use c2_build_refusals::{BuildError, Embedded};
+use c2_build_writing::copy_fault;
+use c2_collect_spec::{
+    a_collected_build_comes_to_one_thing, a_made_collected_file_meets_the_rules,
+};
 use c2_definition::each_definition_is_read_one_way;
-use c2_drafts::{DraftedBuild, make_ready};
-use c2_ground::open_media;
 use c2_hash::Hashing;
-use c2_in_place::{Ready, write_file};
 use c2_judge::Judge;
-use c2_putting::copy_fault;
-use c2_refusals::{BuildError, Embedded};
 use c2_validate::one_opening;
 use std::alloc::Global;
 

@@ -1,8 +1,8 @@
 //! What is built into a media file with a new store that collects from another file: the last manifest of the other file becomes an ingredient of the
 //! new one, and what that reaches is carried.
 //!
-//! What each call comes to stands in `c2_collected`, module `Outcomes`, what a new file meets in its module `Made`, and the error of each refusal in
-//! `c2_collect_ground`, module `Errors`.
+//! What each call comes to stands in `c2_collect_spec`, module `Outcomes`, what a new file meets in its module `Made`, and the error of each refusal in
+//! `c2_build_collect_base`, module `Errors`.
 #![tactic(auto)]
 
 mod asking;

@@ -7,26 +7,26 @@ ghost use Rattle.c2_spec.specs.C2pa.Sign1.{parts_of};
 ghost use Rattle.c2_spec.specs.Cbor.Item.{Pairs};
 ghost use Rattle.c2_spec.specs.Judges.Panel.{panel_says};
 ghost use Rattle.c2_rules.specs.Asking.{HearsPanel};
-ghost use Rattle.c2_collected.specs.Outcomes.{IsMadeOver, IsPairStage, Then};
-ghost use Rattle.c2_refusals.specs.Kinds.{build_heard};
-ghost use Rattle.c2_in_place.specs.Numbers.{IsOfFile};
-ghost use Rattle.c2_drafts.specs.Drafts.{FitsMedia};
-ghost use Rattle.c2_collect_ground.specs.Grounds.{PairHears};
+ghost use Rattle.c2_collect_spec.specs.Outcomes.{IsMadeOver, IsPairStage, Then};
+ghost use Rattle.c2_build_refusals.specs.Kinds.{build_heard};
+ghost use Rattle.c2_build_in_place.specs.Numbers.{IsOfFile};
+ghost use Rattle.c2_build_drafts.specs.Drafts.{FitsMedia};
+ghost use Rattle.c2_build_collect_base.specs.Grounds.{PairHears};
 ghost use Rattle.c2_build_collect.specs.Answers.{AsksEmbedded, IsPrepareCause, LeavesBuildUndue};
 ghost use Rattle.c2_build_collect.specs.Steps.{ForFiles, IsBuildDrafted, IsBuildFor, IsBuildRead, IsFileFound, LeavesOther};
 
 use crate::drafting::Build;
 use c2_base::Source;
+use c2_build_base::{MediaFile, read_media};
+use c2_build_drafts::DraftedBuild;
+use c2_build_refusals::{BuildError, padded, read_definition_file, read_message_file};
 use c2_cbor::one_item;
 use c2_definition::each_definition_is_read_one_way;
-use c2_drafts::DraftedBuild;
-use c2_ground::{MediaFile, read_media};
 use c2_hash::Hashing;
 use c2_judge::Judge;
-use c2_message::{
+use c2_new_signature::{
     a_message_fills_its_reserve_or_needs_more, each_message_is_accepted_or_refused_for_one_test,
 };
-use c2_refusals::{BuildError, padded, read_definition_file, read_message_file};
 use c2_sigstruct::Sign1;
 use c2_validate::one_opening;
 use std::alloc::Global;

@@ -3,11 +3,11 @@ use Rattle.std.proofs.Common.{◌≡◌, ℕ, List, subst}
 use Rattle.std.specs.Prelude.{IfErr, Result, Ok, Err}
 use Rattle.c2_base.specs.Source.{ReadsSource}
 use Rattle.std.specs.declared.option.Option.{Option}
-use Rattle.c2_refusals.proofs.Doing.{more_cause, more_read, unwritten_sink}
-use Rattle.c2_refusals.proofs.Outside.{read_cause}
-use Rattle.c2_refusals.specs.Kinds.{Effects, ErrorKind, IsQuietKind, IsReadKind, IsSourceCause, front_refusal, judge_fault, kind_of, message_effects, message_refusal, no_memory, older_refusal, other_refusal, read_fault, refusal, write_fault}
-use Rattle.c2_refusals.specs.Sinks.{IsSinkCause}
-use Rattle.c2_refusals.specs.declared.error.BuildError.{BuildError}
+use Rattle.c2_build_refusals.proofs.Doing.{more_cause, more_read, unwritten_sink}
+use Rattle.c2_build_refusals.proofs.Outside.{read_cause}
+use Rattle.c2_build_refusals.specs.Kinds.{Effects, ErrorKind, IsQuietKind, IsReadKind, IsSourceCause, front_refusal, judge_fault, kind_of, message_effects, message_refusal, no_memory, older_refusal, other_refusal, read_fault, refusal, write_fault}
+use Rattle.c2_build_refusals.specs.Sinks.{IsSinkCause}
+use Rattle.c2_build_refusals.specs.declared.error.BuildError.{BuildError}
 use Rattle.c2_build_front.specs.Answers.{embed_effects, plan_effects, prepare_effects}
 
 -- a step that reads nothing is one that reads

@@ -13,28 +13,28 @@ use Rattle.c2_spec.specs.Located.{Opening}
 use Rattle.c2_spec.specs.PutIn.{put_in}
 use Rattle.c2_spec.specs.declared.digest.Alg.{Alg}
 use Rattle.c2_spec.proofs.BmffOneList.{roots_once}
-use Rattle.c2_chunks.specs.Laws.{AreBytes}
-use Rattle.c2_chunks.specs.Shifted.{shifted}
-use Rattle.c2_chunks.specs.declared.table.ChunkTable.{ChunkTable}
+use Rattle.c2_bmff_chunks.specs.Laws.{AreBytes}
+use Rattle.c2_bmff_chunks.specs.Shifted.{shifted}
+use Rattle.c2_bmff_chunks.specs.declared.table.ChunkTable.{ChunkTable}
 use Rattle.c2_definition.specs.declared.types.Definition.{Definition}
-use Rattle.c2_message.specs.Refusals.{reserve_needed}
-use Rattle.c2_message.specs.Signed.{FillsOrNeedsMore, IsSigned}
-use Rattle.c2_built.specs.Fresh.{fresh_content}
-use Rattle.c2_built.specs.Store.{new_alg, new_claim, new_store}
+use Rattle.c2_new_signature.specs.Refusals.{reserve_needed}
+use Rattle.c2_new_signature.specs.Signed.{FillsOrNeedsMore, IsSigned}
+use Rattle.c2_new_store_spec.specs.Fresh.{fresh_content}
+use Rattle.c2_new_store_spec.specs.Store.{new_alg, new_claim, new_store}
 use Rattle.c2_layout.specs.declared.parts.NewParts.{NewParts}
-use Rattle.c2_films.specs.Films.{AreOthers, film_binding, film_len}
-use Rattle.c2_front_hash.specs.Digests.{IsRootsDigest}
-use Rattle.c2_front_hash.specs.Putting.{range_of, with_blank, with_store}
-use Rattle.c2_front_hash.specs.declared.front.Front.{Front}
-use Rattle.c2_fronts.specs.Fronts.{CoveredTextIsKnown, front_covered, front_store, moved_media, moved_roots}
-use Rattle.c2_fronts.specs.InFront.{front_place, front_with}
-use Rattle.c2_fronts.specs.Order.{FrontRefusal, UnrefusedCanBePlanned, film_refusals, front_refusals, plan_refusals, reserve_refusals, reserve_too_small}
-use Rattle.c2_fronts.specs.Outcomes.{IsFilmStage, IsMadeIn, IsMediaStage, IsNewFile, IsPlannedIn, NewFile, Then, front_signed, new_file}
-use Rattle.c2_fronts.proofs.SomeOutcome.{FreeRoots, free_roots}
-use Rattle.c2_fronts.proofs.Stages.{then_next, unless_passes}
-use Rattle.c2_refusals.specs.declared.error.BuildError.{BuildError}
-use Rattle.c2_refusals.proofs.Outside.{outside_map}
-use Rattle.c2_refusals.specs.Refusals.{IsReserveRefusal}
+use Rattle.c2_new_bmff_spec.specs.Films.{AreOthers, new_bmff_binding, bmff_len}
+use Rattle.c2_bmff_binding_front.specs.Digests.{IsRootsDigest}
+use Rattle.c2_bmff_binding_front.specs.Putting.{range_of, with_blank, with_store}
+use Rattle.c2_bmff_binding_front.specs.declared.front.Front.{Front}
+use Rattle.c2_new_front_spec.specs.Fronts.{CoveredTextIsKnown, front_covered, front_store, moved_media, moved_roots}
+use Rattle.c2_new_front_spec.specs.InFront.{front_place, front_with}
+use Rattle.c2_new_front_spec.specs.Order.{FrontRefusal, UnrefusedCanBePlanned, bmff_refusals, front_refusals, plan_refusals, reserve_refusals, reserve_too_small}
+use Rattle.c2_new_front_spec.specs.Outcomes.{IsBmffStage, IsMadeIn, IsMediaStage, IsNewFile, IsPlannedIn, NewFile, Then, front_signed, new_file}
+use Rattle.c2_new_front_spec.proofs.SomeOutcome.{FreeRoots, free_roots}
+use Rattle.c2_new_front_spec.proofs.Stages.{then_next, unless_passes}
+use Rattle.c2_build_refusals.specs.declared.error.BuildError.{BuildError}
+use Rattle.c2_build_refusals.proofs.Outside.{outside_map}
+use Rattle.c2_build_refusals.specs.Refusals.{IsReserveRefusal}
 use Rattle.c2_build_front.proofs.First.{none_behind}
 use Rattle.c2_build_front.proofs.Stages.{refused_next, unless_first}
 use Rattle.c2_build_front.specs.Errors.{IsRefusedWith}
@@ -44,7 +44,7 @@ use Rattle.c2_build_front.specs.declared.ready.Ready.{Ready}
 -- ---- what is drafted
 
 -- a draft over a film of which nothing is refused
-pub drafted_over : UnrefusedCanBePlanned → (media : List ℕ) (what : Opening Tree) (roots : List Box) (d : Definition) (f : Front) → AreBytes media → IsMediaStage media (Ok what) → film_refusals media what ≡ [] → HasRoots media roots → IsDrafted media roots d f
+pub drafted_over : UnrefusedCanBePlanned → (media : List ℕ) (what : Opening Tree) (roots : List Box) (d : Definition) (f : Front) → AreBytes media → IsMediaStage media (Ok what) → bmff_refusals media what ≡ [] → HasRoots media roots → IsDrafted media roots d f
     → IsDraftedOver media what d f
 drafted_over law media what roots d f bytes stage none has is =
     let free : FreeRoots media = free_roots media what stage none in
@@ -52,8 +52,8 @@ drafted_over law media what roots d f bytes stage none has is =
     record { roots = roots; has_roots = has; film = none; can = law media roots d free.film bytes has others is.unrefused; is = is }
 
 -- the film stage of a draft
-film_stage : (media : List ℕ) (what : Opening Tree) (d : Definition) (f : Front) → (k : IsDraftedOver media what d f) → IsFilmStage media what (Ok k.roots)
-film_stage media what d f k = unless_passes (film_refusals media what) (λ r. (roots : List Box) × HasRoots media roots × (r ≡ Ok roots)) (Ok k.roots) k.film (k.roots, k.has_roots, refl)
+bmff_stage : (media : List ℕ) (what : Opening Tree) (d : Definition) (f : Front) → (k : IsDraftedOver media what d f) → IsBmffStage media what (Ok k.roots)
+bmff_stage media what d f k = unless_passes (bmff_refusals media what) (λ r. (roots : List Box) × HasRoots media roots × (r ≡ Ok roots)) (Ok k.roots) k.film (k.roots, k.has_roots, refl)
 
 -- ---- the file
 
@@ -88,12 +88,12 @@ roots_of_new law media what d f k =
 
 -- what is signed over the claim of these parts is what a plan comes to
 pub planned_of : (hash : Alg → List ℕ → List ℕ) (media : List ℕ) (what : Opening Tree) (d : Definition) (f : Front) (p : NewParts) (known : Option (List ℕ)) (tbs : List ℕ) → (k : IsDraftedOver media what d f) → AreFrontParts (hash (new_alg d)) known d f p → known ≡ Some media
-    → tbs ≡ deterministic (sig_structure d.protected p.claim) → Then (IsFilmStage media what) (IsPlannedIn hash media d) (Ok tbs)
+    → tbs ≡ deterministic (sig_structure d.protected p.claim) → Then (IsBmffStage media what) (IsPlannedIn hash media d) (Ok tbs)
 planned_of hash media what d f p known tbs k parts is tbs_is =
     let digest : parts.digest ≡ hash (new_alg d) (front_covered (box_len d) media k.roots) = parts.is_digest media is what k in
-    let claim = parts.parts.claim ∙ ap (λ (x : List ℕ). new_claim (hash (new_alg d)) (fresh_content d) (film_binding (new_alg d) x)) digest in
+    let claim = parts.parts.claim ∙ ap (λ (x : List ℕ). new_claim (hash (new_alg d)) (fresh_content d) (new_bmff_binding (new_alg d) x)) digest in
     let same : tbs ≡ front_signed hash media k.roots d = tbs_is ∙ ap (λ (x : List ℕ). deterministic (sig_structure d.protected x)) claim in
-    then_next (IsFilmStage media what) (IsPlannedIn hash media d) k.roots (Ok tbs) (film_stage media what d f k)
+    then_next (IsBmffStage media what) (IsPlannedIn hash media d) k.roots (Ok tbs) (bmff_stage media what d f k)
     (unless_passes (plan_refusals media k.roots d) (λ r. r ≡ Ok (front_signed hash media k.roots d)) (Ok tbs) k.is.unrefused (ap Ok same))
 
 -- ---- a build
@@ -105,32 +105,32 @@ none_needed (Some n) h = absurd (h n refl)
 
 -- a new file with a message that fills what is reserved is what a build comes to
 pub made_of : FillsOrNeedsMore → (hash : Alg → List ℕ → List ℕ) (media : List ℕ) (what : Opening Tree) (d : Definition) (f : Front) (p : SignParts) (message : List ℕ) → (k : IsDraftedOver media what d f) → IsSigned p d.reserve message
-    → Then (IsFilmStage media what) (IsMadeIn hash media d p) (Ok (new_file hash media k.roots d message))
+    → Then (IsBmffStage media what) (IsMadeIn hash media d p) (Ok (new_file hash media k.roots d message))
 made_of fills hash media what d f p message k signed =
     let enough : reserve_needed d.reserve (length (bare_bytes p)) ≡ None = none_needed _ (λ n e. fills.never_both p d.reserve message signed (n, e)) in
     let none : front_refusals media k.roots d p ≡ [] = none_behind (plan_refusals media k.roots d) (reserve_refusals d p) k.is.unrefused (ap (λ (o : Option ℕ). option_to_list (option_map reserve_too_small o)) enough) in
-    then_next (IsFilmStage media what) (IsMadeIn hash media d p) k.roots (Ok (new_file hash media k.roots d message)) (film_stage media what d f k)
+    then_next (IsBmffStage media what) (IsMadeIn hash media d p) k.roots (Ok (new_file hash media k.roots d message)) (bmff_stage media what d f k)
     (unless_passes (front_refusals media k.roots d p) (IsNewFile hash media d p k.roots) (Ok (new_file hash media k.roots d message)) none (message, signed, refl))
 
 -- a message that doesn't fit is refused last
-pub reserve_refused : (hash : Alg → List ℕ → List ℕ) (media : List ℕ) (what : Opening Tree) (d : Definition) (f : Front) (p : SignParts) (e : BuildError) → IsDraftedOver media what d f → IsReserveRefusal d p e → IsRefusedWith (Then (IsFilmStage media what) (IsMadeIn hash media d p)) e
+pub reserve_refused : (hash : Alg → List ℕ → List ℕ) (media : List ℕ) (what : Opening Tree) (d : Definition) (f : Front) (p : SignParts) (e : BuildError) → IsDraftedOver media what d f → IsReserveRefusal d p e → IsRefusedWith (Then (IsBmffStage media what) (IsMadeIn hash media d p)) e
 reserve_refused hash media what d f p e k h =
     let first : reserve_refusals d p ≡ reserve_too_small h.0 ∷ [] = ap (λ (o : Option ℕ). option_to_list (option_map reserve_too_small o)) h.1 in
     let all : front_refusals media k.roots d p ≡ reserve_too_small h.0 ∷ [] = ap (λ (xs : List FrontRefusal). xs ++ reserve_refusals d p) k.is.unrefused ∙ first in
-    refused_next (IsFilmStage media what) (IsMadeIn hash media d p) k.roots e (film_stage media what d f k)
+    refused_next (IsBmffStage media what) (IsMadeIn hash media d p) k.roots e (bmff_stage media what d f k)
     (reserve_too_small h.0, unless_first (front_refusals media k.roots d p) (IsNewFile hash media d p k.roots) (reserve_too_small h.0) [] all, h.2)
 
 -- a store of these parts, put in by the draft, makes the new file
 pub ready_of : (hash : Alg → List ℕ → List ℕ) (media : List ℕ) (what : Opening Tree) (d : Definition) (r : Ready) (p : NewParts) (known : Option (List ℕ)) (message : List ℕ) → (k : IsDraftedOver media what d r.front) → (parts : AreFrontParts (hash (new_alg d)) known d r.front p) → known ≡ Some media
-    → length message ≡ d.reserve → r.store ≡ tree_bytes (new_store (hash (new_alg d)) (fresh_content d) (film_binding (new_alg d) parts.digest) message)
+    → length message ≡ d.reserve → r.store ≡ tree_bytes (new_store (hash (new_alg d)) (fresh_content d) (new_bmff_binding (new_alg d) parts.digest) message)
     → IsReady media r (new_file hash media k.roots d message)
 ready_of hash media what d r p known message k parts is filled store_is =
     let h : List ℕ → List ℕ = hash (new_alg d) in
     let digest : parts.digest ≡ h (front_covered (box_len d) media k.roots) = parts.is_digest media is what k in
-    let len : film_len (fresh_content d) (length message) ≡ box_len d = ap (film_len (fresh_content d)) filled in
+    let len : bmff_len (fresh_content d) (length message) ≡ box_len d = ap (bmff_len (fresh_content d)) filled in
     let store : r.store ≡ tree_bytes (front_store h (fresh_content d) message media k.roots) = store_is
-    ∙ ap (λ (x : List ℕ). tree_bytes (new_store h (fresh_content d) (film_binding (new_alg d) x) message)) digest
-    ∙ ap (λ (n : ℕ). tree_bytes (new_store h (fresh_content d) (film_binding (new_alg d) (h (front_covered n media k.roots))) message)) (sym len) in
+    ∙ ap (λ (x : List ℕ). tree_bytes (new_store h (fresh_content d) (new_bmff_binding (new_alg d) x) message)) digest
+    ∙ ap (λ (n : ℕ). tree_bytes (new_store h (fresh_content d) (new_bmff_binding (new_alg d) (h (front_covered n media k.roots))) message)) (sym len) in
     record {
       file = sym (file_is media k.roots d r.front r.store k.is
           ∙ ap (λ (x : List ℕ). put_in (front_place k.roots) (box_bytes (c2pa_box x)) (moved_media (box_len d) media k.roots)) store

@@ -11,18 +11,18 @@ use Rattle.c2_copying.specs.Writing.{Begins, Breaks, Delivers, WritesFile, compl
 use Rattle.c2_copying.specs.Writing.{IsReadCause as CopyReadCause, IsWriteCause as CopyWriteCause}
 use Rattle.c2_copying.specs.declared.copying.CopyError.{CopyError}
 use Rattle.c2_copying.specs.declared.copying.CopyError.TheVariants as copying
-use Rattle.c2_putting.specs.Puts.{copy_fault_of}
-use Rattle.c2_fronts.specs.Order.{FrontRefusal}
-use Rattle.c2_fronts.specs.Outcomes.{IsFrontMade, IsMadeOver, IsOpenedOnce, NewFile}
-use Rattle.c2_fronts.specs.Outcomes as front
-use Rattle.c2_fronts.proofs.Stages.{passed}
-use Rattle.c2_refusals.specs.Kinds.{kind_of}
-use Rattle.c2_refusals.specs.Sinks.{IsOutCause, KindLeaves}
-use Rattle.c2_refusals.specs.declared.error.BuildError.{BuildError}
-use Rattle.c2_refusals.specs.Stages.{IsDefinitionTold, IsMediaStage, MediaKind, fresh, stored}
-use Rattle.c2_refusals.proofs.Inputs.{OneOpened, not_both_media, told_where_due}
-use Rattle.c2_refusals.specs.declared.types.Embedded.{Embedded}
-use Rattle.c2_front_hash.specs.Putting.{range_of, with_store}
+use Rattle.c2_build_writing.specs.Puts.{copy_fault_of}
+use Rattle.c2_new_front_spec.specs.Order.{FrontRefusal}
+use Rattle.c2_new_front_spec.specs.Outcomes.{IsFrontMade, IsMadeOver, IsOpenedOnce, NewFile}
+use Rattle.c2_new_front_spec.specs.Outcomes as front
+use Rattle.c2_new_front_spec.proofs.Stages.{passed}
+use Rattle.c2_build_refusals.specs.Kinds.{kind_of}
+use Rattle.c2_build_refusals.specs.Sinks.{IsOutCause, KindLeaves}
+use Rattle.c2_build_refusals.specs.declared.error.BuildError.{BuildError}
+use Rattle.c2_build_refusals.specs.Stages.{IsDefinitionTold, IsMediaStage, MediaKind, fresh, stored}
+use Rattle.c2_build_refusals.proofs.Inputs.{OneOpened, not_both_media, told_where_due}
+use Rattle.c2_build_refusals.specs.declared.types.Embedded.{Embedded}
+use Rattle.c2_bmff_binding_front.specs.Putting.{range_of, with_store}
 use Rattle.c2_build_front.specs.Answers.{EmbedsFront, HasRange, IsEmbedCause, Writes, file_of}
 use Rattle.c2_build_front.specs.Steps.{IsReady}
 use Rattle.c2_build_front.specs.declared.ready.Ready.{Ready}

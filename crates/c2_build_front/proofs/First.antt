@@ -7,22 +7,22 @@ use Rattle.std.proofs.lemmas.Bool.{le-leb, le-ltb, lt-leb, lt-ltb}
 use Rattle.c2_base.specs.declared.limits.TheConstants.{FILE_LEN_LIMIT, MAX_ROOT_BOXES, MAX_STORE_LEN}
 use Rattle.c2_spec.specs.Bmff.Boxes.{Box}
 use Rattle.c2_spec.specs.declared.reason.Reason.TheVariants.{FileTooLarge, TooManyBoxes}
-use Rattle.c2_box_rows.specs.Rows.{rows_of}
-use Rattle.c2_chunks.specs.Fields.{overflow_places}
-use Rattle.c2_chunks.specs.Refusals.{IsFirstRefusal, shift_refusals}
-use Rattle.c2_chunks.specs.declared.table.ChunkTable.{ChunkTable}
-use Rattle.c2_chunks.specs.declared.table.ShiftError.{ShiftError}
-use Rattle.c2_chunks.specs.declared.table.ShiftError.TheVariants as shift
+use Rattle.c2_bmff_rows.specs.Rows.{rows_of}
+use Rattle.c2_bmff_chunks.specs.Fields.{overflow_places}
+use Rattle.c2_bmff_chunks.specs.Refusals.{IsFirstRefusal, shift_refusals}
+use Rattle.c2_bmff_chunks.specs.declared.table.ChunkTable.{ChunkTable}
+use Rattle.c2_bmff_chunks.specs.declared.table.ShiftError.{ShiftError}
+use Rattle.c2_bmff_chunks.specs.declared.table.ShiftError.TheVariants as shift
 use Rattle.c2_shift.specs.Causes.{IsCheckCause, IsFirstOverflow, IsTablesCause, OrOutside}
 use Rattle.c2_definition.specs.declared.types.Definition.{Definition}
-use Rattle.c2_carried.specs.Refusing.{redaction_refusal}
-use Rattle.c2_carried.specs.declared.refused.RefusedRedaction.{RefusedRedaction}
-use Rattle.c2_fronts.specs.Fronts.{tables_of}
-use Rattle.c2_fronts.specs.InFront.{front_place, open_first}
-use Rattle.c2_fronts.specs.Order.{FrontRefusal, media_refused, open_box, overflow, overflow_refusals, plan_refusals, redaction_refused, shift_refusal, size_refusals, store_too_large}
-use Rattle.c2_refusals.specs.Kinds.{WithoutFault}
-use Rattle.c2_refusals.specs.declared.error.BuildError.{BuildError}
-use Rattle.c2_refusals.specs.declared.error.BuildError.TheVariants as build
+use Rattle.c2_parent_spec.specs.Refusing.{redaction_refusal}
+use Rattle.c2_parent_spec.specs.declared.refused.RefusedRedaction.{RefusedRedaction}
+use Rattle.c2_new_front_spec.specs.Fronts.{tables_of}
+use Rattle.c2_new_front_spec.specs.InFront.{front_place, open_first}
+use Rattle.c2_new_front_spec.specs.Order.{FrontRefusal, media_refused, open_box, overflow, overflow_refusals, plan_refusals, redaction_refused, shift_refusal, size_refusals, store_too_large}
+use Rattle.c2_build_refusals.specs.Kinds.{WithoutFault}
+use Rattle.c2_build_refusals.specs.declared.error.BuildError.{BuildError}
+use Rattle.c2_build_refusals.specs.declared.error.BuildError.TheVariants as build
 use Rattle.c2_build_front.specs.Steps.{IsFirstError, IsPlanStep, error_of_shift, box_len, store_size}
 
 -- ---- lists one after the other

@@ -5,11 +5,11 @@ use Rattle.std.specs.Option.{option_to_list}
 use Rattle.c2_spec.specs.Bmff.Boxes.{Box, HasRoots, box_bytes, box_len, is_to_end}
 use Rattle.c2_spec.proofs.BmffOneList.{first_box}
 use Rattle.c2_spec.proofs.BmffSizes.{bytes_size}
-use Rattle.c2_box_rows.specs.Rows.{rows_of}
-use Rattle.c2_box_rows.specs.declared.row.RootBox.{RootBox}
-use Rattle.c2_fronts.specs.InFront.{front_place, open_first}
-use Rattle.c2_fronts.specs.Order.{open_box}
-use Rattle.c2_refusals.specs.declared.error.BuildError.TheVariants as build
+use Rattle.c2_bmff_rows.specs.Rows.{rows_of}
+use Rattle.c2_bmff_rows.specs.declared.row.RootBox.{RootBox}
+use Rattle.c2_new_front_spec.specs.InFront.{front_place, open_first}
+use Rattle.c2_new_front_spec.specs.Order.{open_box}
+use Rattle.c2_build_refusals.specs.declared.error.BuildError.TheVariants as build
 use Rattle.c2_build_front.specs.Steps.{IsFirstError}
 
 -- a row that stands first among rows

@@ -7,17 +7,17 @@ use Rattle.c2_spec.specs.Jumbf.Tree.{tree_bytes}
 use Rattle.c2_spec.specs.declared.digest.Alg.{Alg}
 use Rattle.c2_spec.proofs.Digests.{zero_len}
 use Rattle.c2_definition.specs.declared.types.Definition.{Definition}
-use Rattle.c2_built.specs.Built.{HasDigestLen, bound_len, no_digest}
-use Rattle.c2_built.specs.Fresh.{fresh_content}
-use Rattle.c2_built.specs.Store.{new_alg, new_store}
-use Rattle.c2_built.specs.Unbound.{IsKnownBinding}
-use Rattle.c2_built.proofs.Ingredients.{no_ingredients}
-use Rattle.c2_films.specs.Films.{FilmSizeIsFixed, film_binding, film_store_size}
+use Rattle.c2_new_store_spec.specs.Built.{HasDigestLen, bound_len, no_digest}
+use Rattle.c2_new_store_spec.specs.Fresh.{fresh_content}
+use Rattle.c2_new_store_spec.specs.Store.{new_alg, new_store}
+use Rattle.c2_new_store_spec.specs.Unbound.{IsKnownBinding}
+use Rattle.c2_new_store_spec.proofs.Ingredients.{no_ingredients}
+use Rattle.c2_new_bmff_spec.specs.Films.{BmffSizeIsFixed, new_bmff_binding, bmff_store_size}
 use Rattle.c2_layout.specs.Parts.{IsContent}
 use Rattle.c2_layout.specs.declared.carried.Carried.{Carried}
-use Rattle.c2_lengths.specs.Lengths.{StoresFit}
-use Rattle.c2_fronts.proofs.SomeOutcome.{defined_of}
-use Rattle.c2_refusals.specs.Stages.{IsDefinitionStage}
+use Rattle.c2_new_lengths_spec.specs.Lengths.{StoresFit}
+use Rattle.c2_new_front_spec.proofs.SomeOutcome.{defined_of}
+use Rattle.c2_build_refusals.specs.Stages.{IsDefinitionStage}
 use Rattle.c2_build_front.proofs.Stages.{defined_as}
 use Rattle.c2_build_front.specs.Steps.{HasSize, store_size}
 
@@ -26,17 +26,17 @@ pub fresh_is : (hash : List ℕ → List ℕ) (d : Definition) (k : Carried) →
 fresh_is hash d k boxes ingredients digests = record { definition = refl; boxes = boxes; assertions = ingredients; ingredients = no_ingredients; digests = digests }
 
 -- its binding is of a kind that is known
-pub known_binding : (alg : Alg) (digest : List ℕ) → IsKnownBinding (film_binding alg digest)
+pub known_binding : (alg : Alg) (digest : List ℕ) → IsKnownBinding (new_bmff_binding alg digest)
 known_binding alg digest = record { label = inr refl; item = refl }
 
 -- its length is the same with each digest
-pub bound_is : FilmSizeIsFixed → (d : Definition) (digest : List ℕ) → length digest ≡ digest_len (new_alg d) → bound_len (fresh_content d) (film_binding (new_alg d) digest) d.reserve ≡ store_size d
-bound_is law d digest sized = law (no_digest (new_alg d)) (fresh_content d) digest (replicate d.reserve 0) (λ text. zero_len (new_alg d)) sized ∙ ap (film_store_size (fresh_content d)) (length-replicate {A = ℕ} d.reserve 0)
+pub bound_is : BmffSizeIsFixed → (d : Definition) (digest : List ℕ) → length digest ≡ digest_len (new_alg d) → bound_len (fresh_content d) (new_bmff_binding (new_alg d) digest) d.reserve ≡ store_size d
+bound_is law d digest sized = law (no_digest (new_alg d)) (fresh_content d) digest (replicate d.reserve 0) (λ text. zero_len (new_alg d)) sized ∙ ap (bmff_store_size (fresh_content d)) (length-replicate {A = ℕ} d.reserve 0)
 
 -- and with each message that fills what is reserved
-pub filled_is : FilmSizeIsFixed → (hash : List ℕ → List ℕ) (d : Definition) (digest message : List ℕ) → HasDigestLen (new_alg d) hash → length digest ≡ digest_len (new_alg d) → length message ≡ d.reserve
-    → length (tree_bytes (new_store hash (fresh_content d) (film_binding (new_alg d) digest) message)) ≡ store_size d
-filled_is law hash d digest message digests sized filled = law hash (fresh_content d) digest message digests sized ∙ ap (film_store_size (fresh_content d)) filled
+pub filled_is : BmffSizeIsFixed → (hash : List ℕ → List ℕ) (d : Definition) (digest message : List ℕ) → HasDigestLen (new_alg d) hash → length digest ≡ digest_len (new_alg d) → length message ≡ d.reserve
+    → length (tree_bytes (new_store hash (fresh_content d) (new_bmff_binding (new_alg d) digest) message)) ≡ store_size d
+filled_is law hash d digest message digests sized filled = law hash (fresh_content d) digest message digests sized ∙ ap (bmff_store_size (fresh_content d)) filled
 
 -- a length to which nothing is added
 pub sized_is : (boxes parts size : ℕ) → boxes ≡ 0 → boxes + parts ≡ size → parts ≡ size

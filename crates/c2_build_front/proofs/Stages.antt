@@ -11,15 +11,15 @@ use Rattle.c2_rules.specs.Opened.{IsOpened}
 use Rattle.c2_definition.specs.DefinitionFile.{IsDefinition}
 use Rattle.c2_definition.specs.declared.types.Definition.{Definition}
 use Rattle.c2_definition.specs.declared.types.DefinitionField.{DefinitionField}
-use Rattle.c2_message.specs.declared.error.SignaturePart.{SignaturePart}
-use Rattle.c2_fronts.specs.Order.{FrontRefusal, bad_definition, bad_signature, film_refusals, has_store, media_refused, not_bmff, plan_refusals, reserve_refusals, store_refusals}
-use Rattle.c2_fronts.specs.Outcomes.{IsFilmStage, IsMadeIn, IsMessageRead, IsNewFile, IsPlannedIn, Then, Unless, front_signed}
-use Rattle.c2_fronts.specs.Outcomes as front
-use Rattle.c2_fronts.proofs.Stages.{unless_passes}
-use Rattle.c2_refusals.proofs.Outside.{outside_map}
-use Rattle.c2_refusals.specs.Stages.{IsDefinitionStage, IsMediaStage, IsMessageStage, MediaKind, definition_stage, fresh, media_stage, message_stage, stored}
-use Rattle.c2_refusals.specs.declared.error.BuildError.{BuildError}
-use Rattle.c2_refusals.specs.declared.error.BuildError.TheVariants as build
+use Rattle.c2_new_signature.specs.declared.error.SignaturePart.{SignaturePart}
+use Rattle.c2_new_front_spec.specs.Order.{FrontRefusal, bad_definition, bad_signature, bmff_refusals, has_store, media_refused, not_bmff, plan_refusals, reserve_refusals, store_refusals}
+use Rattle.c2_new_front_spec.specs.Outcomes.{IsBmffStage, IsMadeIn, IsMessageRead, IsNewFile, IsPlannedIn, Then, Unless, front_signed}
+use Rattle.c2_new_front_spec.specs.Outcomes as front
+use Rattle.c2_new_front_spec.proofs.Stages.{unless_passes}
+use Rattle.c2_build_refusals.proofs.Outside.{outside_map}
+use Rattle.c2_build_refusals.specs.Stages.{IsDefinitionStage, IsMediaStage, IsMessageStage, MediaKind, definition_stage, fresh, media_stage, message_stage, stored}
+use Rattle.c2_build_refusals.specs.declared.error.BuildError.{BuildError}
+use Rattle.c2_build_refusals.specs.declared.error.BuildError.TheVariants as build
 use Rattle.c2_build_front.proofs.First.{first_behind}
 use Rattle.c2_build_front.specs.Errors.{IsAnswerTo, IsRefusedWith}
 use Rattle.c2_build_front.specs.Steps.{IsFirstError, IsRefusedOver}
@@ -100,35 +100,35 @@ pub unless_first : {A : Type 0} (es : List FrontRefusal) (Next : Result A FrontR
 unless_first {A} es Next refusal others is = subst (λ (xs : List FrontRefusal). Unless {A = A} xs Next (Err refusal)) (sym is) refl
 
 -- a JPEG file is no BMFF file
-pub jpeg_first : (media : List ℕ) (what : Opening Tree) → begins_jpeg media ≡ true → IsFirstError (film_refusals media what) build.NotBmff
+pub jpeg_first : (media : List ℕ) (what : Opening Tree) → begins_jpeg media ≡ true → IsFirstError (bmff_refusals media what) build.NotBmff
 jpeg_first media what jpeg =
     let none : is_bmff media ≡ false = ap (λ (b : Bool). not b && begins_bmff media) jpeg in
     (not_bmff, store_refusals what, ap (λ (b : Bool). cond b [] (not_bmff ∷ []) ++ store_refusals what) none, refl)
 
 -- nothing is refused of a BMFF file for its form
-film_form : (media : List ℕ) → is_bmff media ≡ true → cond (is_bmff media) [] (not_bmff ∷ []) ≡ []
-film_form media film = ap (λ (b : Bool). cond b [] (not_bmff ∷ [])) film
+bmff_form : (media : List ℕ) → is_bmff media ≡ true → cond (is_bmff media) [] (not_bmff ∷ []) ≡ []
+bmff_form media film = ap (λ (b : Bool). cond b [] (not_bmff ∷ [])) film
 
 -- one with a store has it already
-pub store_first : (media : List ℕ) (what : Opening Tree) (start len : ℕ) (t : Tree) → is_bmff media ≡ true → ◌≡◌ {A = Result MediaKind BuildError} (Ok (stored start len t)) (media_stage what) → IsFirstError (film_refusals media what) build.HasStore
+pub store_first : (media : List ℕ) (what : Opening Tree) (start len : ℕ) (t : Tree) → is_bmff media ≡ true → ◌≡◌ {A = Result MediaKind BuildError} (Ok (stored start len t)) (media_stage what) → IsFirstError (bmff_refusals media what) build.HasStore
 store_first media (refused reason number) start len t film e = absurd (cc (e))
 store_first media absent start len t film e = absurd (cc (e))
-store_first media (here at n old) start len t film e = first_behind (cond (is_bmff media) [] (not_bmff ∷ [])) (has_store ∷ []) build.HasStore (film_form media film) (has_store, [], refl, refl)
+store_first media (here at n old) start len t film e = first_behind (cond (is_bmff media) [] (not_bmff ∷ [])) (has_store ∷ []) build.HasStore (bmff_form media film) (has_store, [], refl, refl)
 
 -- of one without a store nothing is refused
-pub film_passes : (media : List ℕ) (what : Opening Tree) → is_bmff media ≡ true → ◌≡◌ {A = Result MediaKind BuildError} (Ok fresh) (media_stage what) → film_refusals media what ≡ []
-film_passes media (refused reason number) film e = absurd (cc (e))
-film_passes media absent film e = ap (λ (xs : List FrontRefusal). xs ++ []) (film_form media film)
-film_passes media (here at n old) film e = absurd (cc (e))
+pub bmff_passes : (media : List ℕ) (what : Opening Tree) → is_bmff media ≡ true → ◌≡◌ {A = Result MediaKind BuildError} (Ok fresh) (media_stage what) → bmff_refusals media what ≡ []
+bmff_passes media (refused reason number) film e = absurd (cc (e))
+bmff_passes media absent film e = ap (λ (xs : List FrontRefusal). xs ++ []) (bmff_form media film)
+bmff_passes media (here at n old) film e = absurd (cc (e))
 
 -- what is refused of the film or of a plan over it is refused with its error, of whatever comes behind
 pub refused_over : {A : Type 0} (media : List ℕ) (what : Opening Tree) (d : Definition) (e : BuildError) (Next : List Box → Result A FrontRefusal → Type 0)
     → ((roots : List Box) (refusal : FrontRefusal) (others : List FrontRefusal) → plan_refusals media roots d ≡ refusal ∷ others → Next roots (Err refusal))
-    → IsRefusedOver media what d e → IsRefusedWith (Then (IsFilmStage media what) Next) e
+    → IsRefusedOver media what d e → IsRefusedWith (Then (IsBmffStage media what) Next) e
 refused_over {A} media what d e Next plan (inl h) =
-    refused_first (IsFilmStage media what) Next e (h.0, unless_first (film_refusals media what) (λ r. (roots : List Box) × HasRoots media roots × (r ≡ Ok roots)) h.0 h.1 h.2, h.3)
+    refused_first (IsBmffStage media what) Next e (h.0, unless_first (bmff_refusals media what) (λ r. (roots : List Box) × HasRoots media roots × (r ≡ Ok roots)) h.0 h.1 h.2, h.3)
 refused_over {A} media what d e Next plan (inr h) =
-    refused_next (IsFilmStage media what) Next h.0 e (unless_passes (film_refusals media what) (λ r. (roots : List Box) × HasRoots media roots × (r ≡ Ok roots)) (Ok h.0) h.2 (h.0, h.1, refl))
+    refused_next (IsBmffStage media what) Next h.0 e (unless_passes (bmff_refusals media what) (λ r. (roots : List Box) × HasRoots media roots × (r ≡ Ok roots)) (Ok h.0) h.2 (h.0, h.1, refl))
     (h.3.0, plan h.0 h.3.0 h.3.1 h.3.2, h.3.3)
 
 -- a plan refuses it

@@ -1,8 +1,8 @@
 -- The error of each refusal.
 use Rattle.std.proofs.Common.{◌≡◌, Option, Some, None, refl, sym, ap, ◌∙◌}
-use Rattle.c2_fronts.specs.Order.{FrontRefusal, bad_definition, bad_signature, bad_table, bad_tree, has_store, media_refused, not_bmff, offset_table, open_box, overflow, redaction_refused, reserve_too_small, store_too_large}
-use Rattle.c2_refusals.specs.declared.error.BuildError.{BuildError}
-use Rattle.c2_refusals.specs.declared.error.BuildError.TheVariants as build
+use Rattle.c2_new_front_spec.specs.Order.{FrontRefusal, bad_definition, bad_signature, bad_table, bad_tree, has_store, media_refused, not_bmff, offset_table, open_box, overflow, redaction_refused, reserve_too_small, store_too_large}
+use Rattle.c2_build_refusals.specs.declared.error.BuildError.{BuildError}
+use Rattle.c2_build_refusals.specs.declared.error.BuildError.TheVariants as build
 use Rattle.c2_build_front.specs.Answers.{ErrorsAreOfRefusals}
 use Rattle.c2_build_front.specs.Errors.{ErrorsAreNoFaults, ErrorsTellRefusals, error_of}
 

@@ -5,13 +5,13 @@ use Rattle.std.specs.declared.result.Result.{Result}
 use Rattle.std.specs.declared.result.Result.TheVariants.{Ok, Err}
 use Rattle.c2_copying.specs.Writing.{WritesFile}
 use Rattle.c2_spec.specs.declared.digest.Alg.{Alg}
-use Rattle.c2_fronts.specs.Made.{FrontMeets}
-use Rattle.c2_fronts.specs.Order.{FrontRefusal}
-use Rattle.c2_fronts.specs.Outcomes.{IsFrontMade, NewFile}
-use Rattle.c2_refusals.specs.Kinds.{Effects, IsSourceCause, WithoutFault, kind_of, no_effects}
-use Rattle.c2_refusals.specs.declared.error.BuildError.{BuildError}
-use Rattle.c2_refusals.specs.declared.types.Embedded.{Embedded}
-use Rattle.c2_endings.specs.Endings.{build_ending}
+use Rattle.c2_new_front_spec.specs.Made.{FrontMeets}
+use Rattle.c2_new_front_spec.specs.Order.{FrontRefusal}
+use Rattle.c2_new_front_spec.specs.Outcomes.{IsFrontMade, NewFile}
+use Rattle.c2_build_refusals.specs.Kinds.{Effects, IsSourceCause, WithoutFault, kind_of, no_effects}
+use Rattle.c2_build_refusals.specs.declared.error.BuildError.{BuildError}
+use Rattle.c2_build_refusals.specs.declared.types.Embedded.{Embedded}
+use Rattle.c2_build_endings.specs.Endings.{build_ending}
 use Rattle.c2_build_front.specs.Errors.{IsRefusedWith, error_of}
 
 -- ---- causes

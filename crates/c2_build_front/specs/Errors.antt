@@ -2,10 +2,10 @@
 use Rattle.std.specs.Prelude.{◌≡◌}
 use Rattle.std.specs.declared.result.Result.{Result}
 use Rattle.std.specs.declared.result.Result.TheVariants.{Ok, Err}
-use Rattle.c2_fronts.specs.Order.{FrontRefusal, bad_definition, bad_signature, bad_table, bad_tree, has_store, media_refused, not_bmff, offset_table, open_box, overflow, redaction_refused, reserve_too_small, store_too_large}
-use Rattle.c2_refusals.specs.Kinds.{SaysNothing, WithoutFault}
-use Rattle.c2_refusals.specs.declared.error.BuildError.{BuildError}
-use Rattle.c2_refusals.specs.declared.error.BuildError.TheVariants.{MediaRefused, BadDefinition, BadSignature, NotBmff, HasStore, RedactionRefused, OpenBox, OffsetTable, BadTree, BadTable, StoreTooLarge, Overflow, ReserveTooSmall}
+use Rattle.c2_new_front_spec.specs.Order.{FrontRefusal, bad_definition, bad_signature, bad_table, bad_tree, has_store, media_refused, not_bmff, offset_table, open_box, overflow, redaction_refused, reserve_too_small, store_too_large}
+use Rattle.c2_build_refusals.specs.Kinds.{SaysNothing, WithoutFault}
+use Rattle.c2_build_refusals.specs.declared.error.BuildError.{BuildError}
+use Rattle.c2_build_refusals.specs.declared.error.BuildError.TheVariants.{MediaRefused, BadDefinition, BadSignature, NotBmff, HasStore, RedactionRefused, OpenBox, OffsetTable, BadTree, BadTable, StoreTooLarge, Overflow, ReserveTooSmall}
 
 -- the error that is answered for this refusal
 abbrev pub error_of : FrontRefusal → BuildError

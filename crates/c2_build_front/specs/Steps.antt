@@ -12,24 +12,24 @@ use Rattle.c2_spec.specs.Jpeg.Writing.{IsPacketStore}
 use Rattle.c2_spec.specs.Jumbf.Tree.{Tree}
 use Rattle.c2_spec.specs.Located.{Opening}
 use Rattle.c2_spec.specs.declared.digest.Alg.{Alg}
-use Rattle.c2_chunks.specs.declared.table.ShiftError.{ShiftError}
-use Rattle.c2_chunks.specs.declared.table.ShiftError.TheVariants as shift
+use Rattle.c2_bmff_chunks.specs.declared.table.ShiftError.{ShiftError}
+use Rattle.c2_bmff_chunks.specs.declared.table.ShiftError.TheVariants as shift
 use Rattle.c2_definition.specs.declared.types.Definition.{Definition}
-use Rattle.c2_built.specs.Fresh.{fresh_content}
-use Rattle.c2_built.specs.Store.{new_alg}
+use Rattle.c2_new_store_spec.specs.Fresh.{fresh_content}
+use Rattle.c2_new_store_spec.specs.Store.{new_alg}
 use Rattle.c2_layout.specs.Parts.{AreParts}
 use Rattle.c2_layout.specs.declared.parts.NewParts.{NewParts}
-use Rattle.c2_films.specs.Films.{film_binding, film_len, film_store_size}
-use Rattle.c2_front_hash.specs.Putting.{FitsIn, range_of, with_store}
-use Rattle.c2_front_hash.specs.declared.front.Front.{Front}
-use Rattle.c2_fronts.specs.Fronts.{front_covered, tables_of}
-use Rattle.c2_fronts.specs.InFront.{front_place}
-use Rattle.c2_fronts.specs.Order.{CanPlanFront, FrontRefusal, film_refusals, plan_refusals}
-use Rattle.c2_fronts.specs.Outcomes.{IsFrontMade, NewFile}
-use Rattle.c2_refusals.specs.Kinds.{IsReadKind, WithoutFault, kind_of}
-use Rattle.c2_refusals.specs.Stages.{HasTextsIn, IsDefinitionTold, IsMessageTold}
-use Rattle.c2_refusals.specs.declared.error.BuildError.{BuildError}
-use Rattle.c2_refusals.specs.declared.error.BuildError.TheVariants.{OffsetTable, BadTree, BadTable, Overflow, ReadFault, NoMemory}
+use Rattle.c2_new_bmff_spec.specs.Films.{new_bmff_binding, bmff_len, bmff_store_size}
+use Rattle.c2_bmff_binding_front.specs.Putting.{FitsIn, range_of, with_store}
+use Rattle.c2_bmff_binding_front.specs.declared.front.Front.{Front}
+use Rattle.c2_new_front_spec.specs.Fronts.{front_covered, tables_of}
+use Rattle.c2_new_front_spec.specs.InFront.{front_place}
+use Rattle.c2_new_front_spec.specs.Order.{CanPlanFront, FrontRefusal, bmff_refusals, plan_refusals}
+use Rattle.c2_new_front_spec.specs.Outcomes.{IsFrontMade, NewFile}
+use Rattle.c2_build_refusals.specs.Kinds.{IsReadKind, WithoutFault, kind_of}
+use Rattle.c2_build_refusals.specs.Stages.{HasTextsIn, IsDefinitionTold, IsMessageTold}
+use Rattle.c2_build_refusals.specs.declared.error.BuildError.{BuildError}
+use Rattle.c2_build_refusals.specs.declared.error.BuildError.TheVariants.{OffsetTable, BadTree, BadTable, Overflow, ReadFault, NoMemory}
 use Rattle.c2_build_front.specs.Answers.{plan_effects, prepare_effects}
 use Rattle.c2_build_front.specs.Errors.{IsRefusedWith, error_of}
 use Rattle.c2_build_front.specs.declared.drafting.Sizes.{Sizes}
@@ -62,7 +62,7 @@ error_of_shift shift.NoMemory = NoMemory
 
 -- how many bytes the new store of a definition has, with what it reserves for its message
 abbrev pub store_size : Definition → ℕ
-store_size d = film_store_size (fresh_content d) d.reserve
+store_size d = bmff_store_size (fresh_content d) d.reserve
 
 -- 64 bits hold that number
 abbrev pub HasSize : Definition → Type 0
@@ -90,28 +90,28 @@ pub record IsDrafted (media : List ℕ) (roots : List Box) (d : Definition) (f :
 pub record IsDraftedOver (media : List ℕ) (what : Opening Tree) (d : Definition) (f : Front) : Type 0 where
   pub roots : List Box
   pub has_roots : HasRoots media roots
-  pub film : film_refusals media what ≡ []
+  pub film : bmff_refusals media what ≡ []
   pub can : CanPlanFront media roots d
   pub is : IsDrafted media roots d f
 
 -- What is refused first of a media file that is opened so has this error: what it is, or something of a plan over its root boxes.
 abbrev pub IsRefusedOver : List ℕ → Opening Tree → Definition → BuildError → Type 0
 IsRefusedOver media what d e =
-    IsFirstError (film_refusals media what) e
-    ⊎ ((roots : List Box) × HasRoots media roots × (film_refusals media what ≡ []) × IsFirstError (plan_refusals media roots d) e)
+    IsFirstError (bmff_refusals media what) e
+    ⊎ ((roots : List Box) × HasRoots media roots × (bmff_refusals media what ≡ []) × IsFirstError (plan_refusals media roots d) e)
 
 -- ---- the parts
 
 -- how many bytes the new file's box has
 abbrev pub box_len : Definition → ℕ
-box_len d = film_len (fresh_content d) d.reserve
+box_len d = bmff_len (fresh_content d) d.reserve
 
 -- The parts of the new manifest, made with a digest that is the one of what the exclusions leave of the new file, where the media's bytes are
 -- known and it was drafted so.
 pub record AreFrontParts (hash : List ℕ → List ℕ) (known : Option (List ℕ)) (d : Definition) (f : Front) (p : NewParts) : Type 0 where
   pub digest : List ℕ
   pub sized : length digest ≡ digest_len (new_alg d)
-  pub parts : AreParts hash (fresh_content d) (film_binding (new_alg d) digest) p
+  pub parts : AreParts hash (fresh_content d) (new_bmff_binding (new_alg d) digest) p
   pub is_digest : ForSome known (λ file. (what : Opening Tree) → (k : IsDraftedOver file what d f)
       → digest ≡ hash (front_covered (box_len d) file k.roots))
 

@@ -4,19 +4,19 @@ ghost use Rattle.std.specs.Option.{ForSome};
 ghost use Rattle.c2_base.specs.Causes.{Rose};
 ghost use Rattle.c2_base.specs.Sink.{WritesSink, unsaid};
 ghost use Rattle.c2_base.specs.Source.{ReadsSource};
-ghost use Rattle.c2_refusals.specs.Sinks.{EndsOut, IsOutCause};
-ghost use Rattle.c2_refusals.specs.Stages.{IsDefinitionTold, IsMessageTold, LeavesUndue};
+ghost use Rattle.c2_build_refusals.specs.Sinks.{EndsOut, IsOutCause};
+ghost use Rattle.c2_build_refusals.specs.Stages.{IsDefinitionTold, IsMessageTold, LeavesUndue};
 ghost use Rattle.c2_build_front.specs.Answers.{EmbedsFront, IsEmbedCause};
 
 use crate::ready::prepare;
 use crate::writing::write_front;
 use c2_base::{Sink, Source};
+use c2_bmff_binding_front::FRAME_LEN;
+use c2_build_refusals::{BuildError, Embedded};
+use c2_build_writing::copy_fault;
 use c2_definition::each_definition_is_read_one_way;
-use c2_front_hash::FRAME_LEN;
-use c2_fronts::{a_front_comes_to_one_thing, a_made_front_meets_the_rules};
 use c2_hash::Hashing;
-use c2_putting::copy_fault;
-use c2_refusals::{BuildError, Embedded};
+use c2_new_front_spec::{a_front_comes_to_one_thing, a_made_front_meets_the_rules};
 use c2_validate::one_opening;
 use std::alloc::Global;
 

@@ -1,7 +1,7 @@
 //! What is built in front of a BMFF file: a new store, from a definition file and a signed message, right after the file type box, with the
 //! chunk offsets of the media moved.
 //!
-//! What each call comes to stands in `c2_fronts`, module `Outcomes`, what a new file meets in its module `Made`, and the error of each refusal in
+//! What each call comes to stands in `c2_new_front_spec`, module `Outcomes`, what a new file meets in its module `Made`, and the error of each refusal in
 //! `specs/Errors.antt`.
 #![tactic(auto)]
 

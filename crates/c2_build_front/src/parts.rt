@@ -3,27 +3,27 @@ ghost use Rattle.std.specs.Prelude.{◌≡◌, ◌<◌, ◌≤◌, IfErr, IfOk, 
 ghost use Rattle.std.specs.Option.{ForSome};
 ghost use Rattle.c2_base.specs.Source.{ReadsSource};
 ghost use Rattle.c2_base.specs.declared.limits.TheConstants.{MAX_STORE_LEN};
-ghost use Rattle.c2_built.specs.Fresh.{fresh_content};
-ghost use Rattle.c2_built.specs.Store.{new_alg};
+ghost use Rattle.c2_new_store_spec.specs.Fresh.{fresh_content};
+ghost use Rattle.c2_new_store_spec.specs.Store.{new_alg};
 ghost use Rattle.c2_definition.specs.DefinitionFile.{IsWellFormed};
-ghost use Rattle.c2_films.specs.Films as films;
-ghost use Rattle.c2_front_hash.specs.Putting.{FitsIn};
+ghost use Rattle.c2_new_bmff_spec.specs.Films as films;
+ghost use Rattle.c2_bmff_binding_front.specs.Putting.{FitsIn};
 ghost use Rattle.c2_layout.specs.Parts.{AreParts, parts_size};
-ghost use Rattle.c2_refusals.specs.Kinds.{SaysNothing};
+ghost use Rattle.c2_build_refusals.specs.Kinds.{SaysNothing};
 ghost use Rattle.c2_spec.specs.Digest.{digest_len};
 ghost use Rattle.c2_spec.specs.Located.{Opening};
 ghost use Rattle.c2_spec.specs.Jumbf.Tree.{Tree};
 ghost use Rattle.c2_build_front.specs.Steps.{AreFrontParts, IsDraftedOver, IsPlanStep, store_size};
 
 use c2_base::{NoMemory, Source};
+use c2_bmff_binding::new_bmff_binding;
+use c2_bmff_binding_front::{Front, front_digest};
+use c2_build_refusals::{BuildError, media_error};
 use c2_definition::Definition;
-use c2_film_binding::film_binding;
-use c2_films::a_new_film_store_has_one_length;
-use c2_front_hash::{Front, front_digest};
-use c2_fronts::the_covered_text_is_known_first;
 use c2_hash::{Digest, Hashing};
 use c2_layout::{Carried, NewParts, bound_parts};
-use c2_refusals::{BuildError, media_error};
+use c2_new_bmff_spec::a_new_bmff_store_has_one_length;
+use c2_new_front_spec::the_covered_text_is_known_first;
 use std::alloc::Global;
 
 // The parts of the new manifest of a definition, whose store isn't too large, with this digest of what its binding binds.
@@ -38,13 +38,13 @@ fn parts_with<H: Hashing>(
     requires digest { length digest.now ≡ digest_len (new_alg definition.now) }
     ensures parts { IfOk result (AreParts (H.digest_of (new_alg definition.now))
         (fresh_content definition.now)
-        (films.film_binding (new_alg definition.now) digest.now)) }
+        (films.new_bmff_binding (new_alg definition.now) digest.now)) }
     ensures size { IfOk result (λ p. parts_size definition.now.label p definition.now.reserve
         ≡ store_size definition.now) }
 {
     // Only the prover needs this law.
-    a_new_film_store_has_one_length();
-    let binding = film_binding(alloc, definition.alg, digest.as_slice())?;
+    a_new_bmff_store_has_one_length();
+    let binding = new_bmff_binding(alloc, definition.alg, digest.as_slice())?;
     let nothing = Carried::nothing(alloc);
     bound_parts(alloc, hashing, definition, &nothing, &binding)
 }

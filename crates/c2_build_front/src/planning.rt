@@ -5,9 +5,9 @@ ghost use Rattle.c2_base.specs.Causes.{Rose};
 ghost use Rattle.c2_base.specs.Source.{ReadsSource};
 ghost use Rattle.c2_container.specs.Contained.{HasRootsInside};
 ghost use Rattle.c2_definition.specs.DefinitionFile.{IsWellFormed};
-ghost use Rattle.c2_fronts.specs.Outcomes.{IsFilmStage, IsFrontPlanned, IsPlannedIn, Then};
-ghost use Rattle.c2_ground.specs.Grounds.{IsFoundIn, IsKind, IsReadIn};
-ghost use Rattle.c2_refusals.specs.Stages.{IsDefinitionTold, IsMediaRefused, MediaKind};
+ghost use Rattle.c2_new_front_spec.specs.Outcomes.{IsBmffStage, IsFrontPlanned, IsPlannedIn, Then};
+ghost use Rattle.c2_build_base.specs.Grounds.{IsFoundIn, IsKind, IsReadIn};
+ghost use Rattle.c2_build_refusals.specs.Stages.{IsDefinitionTold, IsMediaRefused, MediaKind};
 ghost use Rattle.c2_build_front.specs.Answers.{IsPlanCause};
 ghost use Rattle.c2_build_front.specs.Errors.{IsAnswerTo};
 ghost use Rattle.c2_build_front.specs.Steps.{HasSize, IsPlanStep};
@@ -16,11 +16,11 @@ use crate::drafting::drafted;
 use crate::parts::parts_over;
 use c2_base::limits::PIECE_LEN;
 use c2_base::{Blob, NoMemory, Source};
+use c2_build_base::{MediaFile, MediaRead, open_media, read_media};
+use c2_build_refusals::{BuildError, read_definition_file, signed_over};
 use c2_definition::{Definition, each_definition_is_read_one_way};
-use c2_ground::{MediaFile, MediaRead, open_media, read_media};
 use c2_hash::Hashing;
-use c2_lengths::the_length_of_a_new_store_fits;
-use c2_refusals::{BuildError, read_definition_file, signed_over};
+use c2_new_lengths_spec::the_length_of_a_new_store_fits;
 use c2_validate::one_opening;
 use std::alloc::Global;
 
@@ -36,7 +36,7 @@ fn plan_over<A: Source, H: Hashing>(
     requires read { IsReadIn (A.len media.old) file.now }
     ensures planned { ForSome (A.known media.old) (λ bytes. (kind : MediaKind)
         → (is : IsKind bytes file.now kind) → HasSize definition.now
-        → IsAnswerTo (Then (IsFilmStage bytes is.stage.0)
+        → IsAnswerTo (Then (IsBmffStage bytes is.stage.0)
         (IsPlannedIn H.digest_of bytes definition.now)) result) }
     ensures reads { ReadsSource A.len A.known A.faults IsPlanStep media.old media.new result }
 {

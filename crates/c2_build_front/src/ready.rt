@@ -5,11 +5,11 @@ ghost use Rattle.c2_base.specs.Causes.{Rose};
 ghost use Rattle.c2_base.specs.Source.{ReadsSource};
 ghost use Rattle.c2_container.specs.Contained.{HasRootsInside};
 ghost use Rattle.c2_definition.specs.DefinitionFile.{IsWellFormed};
-ghost use Rattle.c2_front_hash.specs.Putting.{FitsIn};
-ghost use Rattle.c2_fronts.specs.Outcomes.{IsFilmStage, IsMadeIn, Then, new_file};
-ghost use Rattle.c2_ground.specs.Grounds.{IsFoundIn, IsKind, IsReadIn};
-ghost use Rattle.c2_refusals.specs.Kinds.{SaysNothing};
-ghost use Rattle.c2_refusals.specs.Stages.{LeavesUndue, MediaKind};
+ghost use Rattle.c2_bmff_binding_front.specs.Putting.{FitsIn};
+ghost use Rattle.c2_new_front_spec.specs.Outcomes.{IsBmffStage, IsMadeIn, Then, new_file};
+ghost use Rattle.c2_build_base.specs.Grounds.{IsFoundIn, IsKind, IsReadIn};
+ghost use Rattle.c2_build_refusals.specs.Kinds.{SaysNothing};
+ghost use Rattle.c2_build_refusals.specs.Stages.{LeavesUndue, MediaKind};
 ghost use Rattle.c2_spec.specs.C2pa.Message.{CanBePadded};
 ghost use Rattle.c2_spec.specs.C2pa.Sign1.{parts_of};
 ghost use Rattle.c2_spec.specs.Cbor.Item.{Pairs};
@@ -22,18 +22,18 @@ use crate::drafting::drafted;
 use crate::parts::parts_over;
 use c2_base::limits::PIECE_LEN;
 use c2_base::{Blob, NoMemory, Source};
+use c2_bmff_binding_front::Front;
+use c2_build_base::{MediaFile, MediaRead, open_media, read_media};
+use c2_build_refusals::{BuildError, padded, read_definition_file, read_message_file};
 use c2_cbor::one_item;
 use c2_definition::{Definition, each_definition_is_read_one_way};
-use c2_films::a_new_film_store_has_one_length;
-use c2_front_hash::Front;
-use c2_ground::{MediaFile, MediaRead, open_media, read_media};
 use c2_hash::Hashing;
 use c2_layout::{Carried, new_store};
-use c2_lengths::the_length_of_a_new_store_fits;
-use c2_message::{
+use c2_new_bmff_spec::a_new_bmff_store_has_one_length;
+use c2_new_lengths_spec::the_length_of_a_new_store_fits;
+use c2_new_signature::{
     a_message_fills_its_reserve_or_needs_more, each_message_is_accepted_or_refused_for_one_test,
 };
-use c2_refusals::{BuildError, padded, read_definition_file, read_message_file};
 use c2_sigstruct::Sign1;
 use c2_validate::one_opening;
 use std::alloc::Global;
@@ -73,7 +73,7 @@ fn ready_with<A: Source, H: Hashing>(
     ensures reads { ReadsSource A.len A.known A.faults IsPlanStep media.old media.new result }
 {
     // Only the prover needs this law.
-    a_new_film_store_has_one_length();
+    a_new_bmff_store_has_one_length();
     let Ok(mut buffer) = vec![in alloc; 0u8; PIECE_LEN] else {
         return Err(BuildError::NoMemory);
     };
@@ -114,7 +114,7 @@ impl<'h, H: Hashing> Builder<'h, H> {
         requires read { IsReadIn (A.len media.old) file.now }
         ensures ready { ForSome (A.known media.old) (λ bytes. (kind : MediaKind)
             → (is : IsKind bytes file.now kind) → HasSize definition.now
-            → IsReadyFor bytes (Then (IsFilmStage bytes is.stage.0)
+            → IsReadyFor bytes (Then (IsBmffStage bytes is.stage.0)
             (IsMadeIn H.digest_of bytes definition.now (parts_of sign.now))) result) }
         ensures can_write { IfOk result (CanWrite (A.len media.old)) }
         ensures reads { ReadsSource A.len A.known A.faults IsPrepareStep

@@ -1,17 +1,17 @@
 // The size of a new store that stands in front, and of the new file, before anything is digested.
 ghost use Rattle.std.specs.Prelude.{◌≡◌, ℕ, ◌-◌, ◌<◌, ◌≤◌, ◌^◌, [], min, IfErr, IfOk, OnOk};
 ghost use Rattle.c2_base.specs.declared.limits.TheConstants as limits;
-ghost use Rattle.c2_fronts.specs.Order.{size_refusals};
+ghost use Rattle.c2_new_front_spec.specs.Order.{size_refusals};
 ghost use Rattle.c2_build_front.specs.Steps.{HasSize, IsFirstError, store_size};
-ghost use Rattle.c2_refusals.specs.Kinds.{IsQuiet, WithoutFault};
+ghost use Rattle.c2_build_refusals.specs.Kinds.{IsQuiet, WithoutFault};
 
 use c2_base::NoMemory;
 use c2_base::limits::{FILE_LEN_LIMIT, MAX_ROOT_BOXES, MAX_STORE_LEN};
+use c2_bmff_binding::new_bmff_binding;
+use c2_build_refusals::BuildError;
 use c2_definition::Definition;
-use c2_film_binding::film_binding;
 use c2_hash::Digest;
 use c2_layout::{Carried, bound_size};
-use c2_refusals::BuildError;
 use c2_spec::Reason;
 use std::alloc::Global;
 
@@ -20,7 +20,7 @@ fn told_store_len(alloc: Global, definition: &Definition) -> Result<u64, NoMemor
     ensures { IfOk result (λ n. n ≡ min (store_size definition.now) (2 ^ 64 - 1)) }
 {
     let blank = Digest::zeros(definition.alg);
-    let binding = film_binding(alloc, definition.alg, blank.as_slice())?;
+    let binding = new_bmff_binding(alloc, definition.alg, blank.as_slice())?;
     let nothing = Carried::nothing(alloc);
     bound_size(alloc, definition, &nothing, &binding)
 }

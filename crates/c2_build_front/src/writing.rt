@@ -3,15 +3,15 @@ ghost use Rattle.std.specs.Prelude.{◌≡◌, length};
 ghost use Rattle.c2_base.specs.Sink.{WritesSink, unsaid};
 ghost use Rattle.c2_base.specs.Source.{ReadsSource};
 ghost use Rattle.c2_copying.specs.Writing.{IsReadCause, IsWriteCause};
-ghost use Rattle.c2_front_hash.specs.Putting.{with_store};
-ghost use Rattle.c2_putting.specs.Puts.{WritesOver};
+ghost use Rattle.c2_bmff_binding_front.specs.Putting.{with_store};
+ghost use Rattle.c2_build_writing.specs.Puts.{WritesOver};
 ghost use Rattle.c2_build_front.specs.Steps.{CanWriteFront};
 
 use c2_base::{Sink, Source};
+use c2_bmff_binding_front::{FRAME_LEN, Front};
+use c2_build_refusals::{Draft, Put};
+use c2_build_writing::write_whole;
 use c2_copying::CopyError;
-use c2_front_hash::{FRAME_LEN, Front};
-use c2_putting::write_whole;
-use c2_refusals::{Draft, Put};
 use c2_shift::{NamedTables, Shifted};
 use std::marker::Brand;
 

@@ -1,5 +1,5 @@
 -- What keys share at their start.
-use Rattle.std.proofs.Common.{◌≡◌, refl, ℕ, ◌+◌, ◌<◌, ◌≤◌, true, false, ltb, List, [], ◌∷◌, ◌++◌, length, get_or, take, drop, take_all, ap, sym, subst, ltb-true, ltb-false, arith}
+use Rattle.std.proofs.Common.{◌≡◌, ℕ, ◌+◌, ◌<◌, ◌≤◌, List, [], ◌∷◌, ◌++◌, length, get_or, take, drop, ap, sym, subst, arith}
 use Rattle.std.proofs.lemmas.List.{length-map, take_more}
 use Rattle.c2_cbor.specs.Marks.{flat, lengths, AgreeBelow, AllAgree, SharesFront}
 use Rattle.c2_cbor.proofs.Marks.{key_cut}

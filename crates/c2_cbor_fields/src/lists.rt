@@ -5,7 +5,7 @@ ghost use Rattle.c2_spec.specs.Cbor.Lookup.{field_of, ref_of};
 ghost use Rattle.c2_spec.specs.Cbor.Fields as form;
 
 use crate::single::text_in;
-use c2_base::{NoMemory, Text, Texts};
+use c2_base::{NoMemory, Texts};
 use c2_cbor::{Cbor, Refs, field, read_ref};
 use std::alloc::Global;
 

@@ -13,18 +13,18 @@ ghost use Rattle.c2_rules.specs.Questions.{HasQuestion, IsQuestionOf};
 ghost use Rattle.c2_rules.specs.Readings.{AreReadings, question_in};
 ghost use Rattle.c2_rules.specs.Rules.{claim_tests};
 ghost use Rattle.c2_rules.specs.Tests.{first_failing};
-ghost use Rattle.c2_calls.specs.Asks.{AsksThese};
+ghost use Rattle.c2_calls_spec.specs.Asks.{AsksThese};
 ghost use Rattle.c2_chain.specs.Checked.{chain_heard};
-ghost use Rattle.c2_manifests.specs.Facts.{AreFacts};
+ghost use Rattle.c2_check_facts.specs.Facts.{AreFacts};
 
 use crate::asking::{ChainError, own_question};
 use crate::manifest::{check_alone, check_place};
 use c2_base::{NoMemory, Question};
+use c2_check_facts::{Facts, child_in, facts_of_children, ingredient_in};
 use c2_hash::Hashing;
 use c2_judge::Judge;
 use c2_jumbf::{Tree, count};
-use c2_manifests::{Facts, child_in, facts_of_children, ingredient_in};
-use c2_reading::{
+use c2_read_manifests::{
     ReadManifests, a_reading_is_the_claim_and_the_question, is_reached, is_redacted, is_touched,
     labels_of_a_store_differ, manifests, one_question, reaches as is_below, read_claim_at,
     read_manifests,

@@ -1,5 +1,5 @@
 -- What a map in which a value is put is found to have under a text.
-use Rattle.std.proofs.Common.{◌≡◌, ℕ, bytes_eq, Bool, true, false, cond, List, Option, Some, None, refl, sym, ap, ◌∙◌}
+use Rattle.std.proofs.Common.{◌≡◌, ℕ, bytes_eq, true, false, cond, List, Some, None, refl, sym, ap, ◌∙◌}
 use Rattle.std.specs.Option.{option_and_then}
 use Rattle.std.proofs.lemmas.Slice.Eq.{bytes_eq-Decides}
 use Rattle.c2_spec.specs.Cbor.Item.{Item, dict, Pairs, no_pairs, pair}

@@ -1,5 +1,4 @@
 // Reading a claim of version 1.
-ghost use Rattle.std.specs.Prelude.{◌≡◌};
 ghost use Rattle.c2_claim.specs.Apart.{v1_claim_apart, redactions_of};
 ghost use Rattle.c2_spec.specs.Cbor.View.{view};
 ghost use Rattle.c2_spec.specs.C2pa.Claim.{Agrees};

@@ -1,5 +1,4 @@
 // Reading a claim of version 2.
-ghost use Rattle.std.specs.Prelude.{◌≡◌};
 ghost use Rattle.c2_claim.specs.Apart.{v2_claim_apart, redactions_of};
 ghost use Rattle.c2_spec.specs.Cbor.View.{view};
 ghost use Rattle.c2_spec.specs.C2pa.Claim.{Agrees};

@@ -4,17 +4,17 @@ use Rattle.std.specs.Prelude.{◌≢◌, ⊤, IfErr, IfOk, Ok, Err, Result}
 use Rattle.c2_base.specs.Causes.{Rose}
 use Rattle.c2_spec.specs.Judges.Panel.{SomeRose}
 use Rattle.c2_rules.specs.Asking.{IsJudgeCause}
-use Rattle.c2_words.specs.CommandLine.{has_word, is_fourth, is_media, is_out, is_second, is_third, lets_ask}
-use Rattle.c2_words.specs.declared.types.Command.{Command}
-use Rattle.c2_words.specs.declared.types.Roles.{Roles}
-use Rattle.c2_outcome.specs.Reply.{CausedBy, IsCopyingCause, IsInputCause, IsMediaCause, IsOutputCause, IsPanelCause, IsReadingCause, IsSourcesCause, IsWritingCause, end_of, fault_heard}
-use Rattle.c2_outcome.specs.Status.{HasNoReply, status_of}
-use Rattle.c2_outcome.specs.declared.reply.Fault.{Fault}
-use Rattle.c2_outcome.specs.declared.reply.Fault.TheVariants.{Input, Output, Judge, Memory}
-use Rattle.c2_outcome.specs.declared.reply.Reply.{Reply}
-use Rattle.c2_outcome.specs.declared.types.Answer.{Answer}
-use Rattle.c2_outcome.specs.declared.types.Answer.TheVariants as answer
-use Rattle.c2_outcome.specs.declared.types.Status.TheVariants.{Usage, InputFault, OutputFault, JudgeFault}
+use Rattle.c2_usage.specs.CommandLine.{has_word, is_fourth, is_media, is_out, is_second, is_third, lets_ask}
+use Rattle.c2_usage.specs.declared.types.Command.{Command}
+use Rattle.c2_usage.specs.declared.types.Roles.{Roles}
+use Rattle.c2_cmd_outcome.specs.Reply.{CausedBy, IsCopyingCause, IsInputCause, IsMediaCause, IsOutputCause, IsPanelCause, IsReadingCause, IsSourcesCause, IsWritingCause, end_of, fault_heard}
+use Rattle.c2_cmd_outcome.specs.Status.{HasNoReply, status_of}
+use Rattle.c2_cmd_outcome.specs.declared.reply.Fault.{Fault}
+use Rattle.c2_cmd_outcome.specs.declared.reply.Fault.TheVariants.{Input, Output, Judge, Memory}
+use Rattle.c2_cmd_outcome.specs.declared.reply.Reply.{Reply}
+use Rattle.c2_cmd_outcome.specs.declared.types.Answer.{Answer}
+use Rattle.c2_cmd_outcome.specs.declared.types.Answer.TheVariants as answer
+use Rattle.c2_cmd_outcome.specs.declared.types.Status.TheVariants.{Usage, InputFault, OutputFault, JudgeFault}
 use Rattle.c2_cmd.specs.Run.{Faults, IsCaused, JudgeFailed, SinkFailed, SourceFailed}
 use Rattle.c2_cmd.specs.Sources.{the_fourth, the_media, the_second, the_third}
 use Rattle.c2_cmd.proofs.Commands.{named_by}

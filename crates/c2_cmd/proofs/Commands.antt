@@ -7,25 +7,25 @@ use Rattle.std.specs.declared.vec.Vec.{Vec}
 use Rattle.std.proofs.lemmas.Bool.{false≢true}
 use Rattle.c2_base.specs.Source.{IsKnownWhereDue}
 use Rattle.c2_base.specs.declared.values.Question.{Question}
-use Rattle.c2_refusals.specs.Stages.{IsMessageRefused, IsToldRefused}
-use Rattle.c2_calls.specs.Asks.{AsksKnown}
-use Rattle.c2_calls.proofs.PanelLemmas.{asked_none}
+use Rattle.c2_build_refusals.specs.Stages.{IsMessageRefused, IsToldRefused}
+use Rattle.c2_calls_spec.specs.Asks.{AsksKnown}
+use Rattle.c2_calls_spec.proofs.PanelLemmas.{asked_none}
 use Rattle.c2_spec.specs.Judges.Panel.{Judges, judges_of, panel_says}
 use Rattle.c2_spec.specs.declared.panel.Verdict.{Verdict}
 use Rattle.c2_rules.specs.Asking.{HasHeard, HearsPanel}
-use Rattle.c2_words.specs.CommandLine.{has_word, reports_whole}
-use Rattle.c2_words.specs.declared.types.Command.{Command}
-use Rattle.c2_words.specs.declared.types.Role.{Role}
-use Rattle.c2_words.specs.declared.types.Roles.{Roles}
-use Rattle.c2_outcome.specs.Left.{SinkState}
-use Rattle.c2_outcome.specs.Outcome.{IsOneOutcome, Outcome, reports}
-use Rattle.c2_outcome.specs.declared.types.Answer.TheVariants as answer
+use Rattle.c2_usage.specs.CommandLine.{has_word, reports_whole}
+use Rattle.c2_usage.specs.declared.types.Command.{Command}
+use Rattle.c2_usage.specs.declared.types.Role.{Role}
+use Rattle.c2_usage.specs.declared.types.Roles.{Roles}
+use Rattle.c2_cmd_outcome.specs.Left.{SinkState}
+use Rattle.c2_cmd_outcome.specs.Outcome.{IsOneOutcome, Outcome, reports}
+use Rattle.c2_cmd_outcome.specs.declared.types.Answer.TheVariants as answer
 use Rattle.c2_texts.specs.Texts.{usage_line}
-use Rattle.c2_outcome.specs.Reply.{Begins, CausedBy, HasWhole, MakesFile, Replies, StandsFor, TakesFile, fault_heard, outcome_of}
-use Rattle.c2_outcome.specs.declared.reply.Fault.{Fault}
-use Rattle.c2_outcome.specs.declared.reply.Fault.TheVariants.{Input, Output, Judge, Memory}
-use Rattle.c2_outcome.specs.declared.reply.Reply.{Reply}
-use Rattle.c2_outcome.proofs.Replying.{no_reply, nothing_written, one_reply, then_nothing}
+use Rattle.c2_cmd_outcome.specs.Reply.{Begins, CausedBy, HasWhole, MakesFile, Replies, StandsFor, TakesFile, fault_heard, outcome_of}
+use Rattle.c2_cmd_outcome.specs.declared.reply.Fault.{Fault}
+use Rattle.c2_cmd_outcome.specs.declared.reply.Fault.TheVariants.{Input, Output, Judge, Memory}
+use Rattle.c2_cmd_outcome.specs.declared.reply.Reply.{Reply}
+use Rattle.c2_cmd_outcome.proofs.Replying.{no_reply, nothing_written, one_reply, then_nothing}
 use Rattle.c2_cmd.specs.Outcome.{Asks, CommandAsks, CommandMeets, IsCommandOutcome, IsOutcome, Meets, has_whole_report, names}
 use Rattle.c2_cmd.specs.Run.{Call, HasNotDue, IsKnown, IsKnownAs, IsNotDue, IsOfCommand, RepliesTo, RunState, handed}
 use Rattle.c2_cmd.specs.Sources.{SourceName, is_source, of_source, the_media}

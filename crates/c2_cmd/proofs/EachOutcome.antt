@@ -2,21 +2,21 @@
 use Rattle.std.proofs.Common.{◌≡◌, true, refl, ℕ, ◌<◌, ◌^◌, List, [], Option, Some, None}
 use Rattle.std.specs.Prelude.{All}
 use Rattle.c2_base.specs.declared.values.Question.{Question}
-use Rattle.c2_building_commands.specs.Laws.{EachBuildingOutcome, EachBuildingQuestions}
-use Rattle.c2_built.specs.Fresh.{GivesDigests}
-use Rattle.c2_collect_commands.specs.Laws.{EachCollectOutcome, EachCollectQuestions}
-use Rattle.c2_extract_command.specs.Outcomes.{IsExtractOutcome}
-use Rattle.c2_front_commands.specs.Outcomes.{IsEmbedFrontOutcome, IsPlanFrontOutcome}
-use Rattle.c2_outcome.specs.Outcome.{Outcome, reports}
-use Rattle.c2_outcome.specs.declared.types.Answer.TheVariants as answer
-use Rattle.c2_reading_commands.specs.Laws.{EachReadingOutcome, EachReadingQuestions}
+use Rattle.c2_cmd_building.specs.Laws.{EachBuildingOutcome, EachBuildingQuestions}
+use Rattle.c2_new_store_spec.specs.Fresh.{GivesDigests}
+use Rattle.c2_cmd_collect.specs.Laws.{EachCollectOutcome, EachCollectQuestions}
+use Rattle.c2_cmd_extract.specs.Outcomes.{IsExtractOutcome}
+use Rattle.c2_cmd_front.specs.Outcomes.{IsEmbedFrontOutcome, IsPlanFrontOutcome}
+use Rattle.c2_cmd_outcome.specs.Outcome.{Outcome, reports}
+use Rattle.c2_cmd_outcome.specs.declared.types.Answer.TheVariants as answer
+use Rattle.c2_cmd_reading.specs.Laws.{EachReadingOutcome, EachReadingQuestions}
 use Rattle.c2_spec.specs.declared.digest.Alg.{Alg}
-use Rattle.c2_strip_command.specs.Outcomes.{IsStripOutcome}
+use Rattle.c2_cmd_strip.specs.Outcomes.{IsStripOutcome}
 use Rattle.c2_texts.specs.Texts.{usage_line}
-use Rattle.c2_words.specs.CommandLine.{makes_media}
-use Rattle.c2_words.specs.declared.types.Command.{Command}
-use Rattle.c2_words.specs.declared.types.Command.TheVariants as command
-use Rattle.c2_words.specs.declared.types.Roles.{Roles}
+use Rattle.c2_usage.specs.CommandLine.{makes_media}
+use Rattle.c2_usage.specs.declared.types.Command.{Command}
+use Rattle.c2_usage.specs.declared.types.Command.TheVariants as command
+use Rattle.c2_usage.specs.declared.types.Roles.{Roles}
 use Rattle.c2_cmd.specs.Outcome.{AreBytes, Asks, CommandAsks, HasDigests, Inputs, IsCommandOutcome, IsOutcome, digest_alg, pieces_in}
 use Rattle.c2_cmd.specs.Sources.{the_fourth, the_media, the_second, the_third}
 

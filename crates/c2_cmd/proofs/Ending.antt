@@ -4,25 +4,25 @@ use Rattle.std.specs.Prelude.{All, Ok, Err}
 use Rattle.std.specs.Option.{ForSome}
 use Rattle.c2_base.specs.Causes.{Rose}
 use Rattle.c2_base.specs.Sink.{HasWrittenPrefix}
-use Rattle.c2_words.specs.declared.types.Roles.{Roles}
-use Rattle.c2_outcome.specs.Outcome.{Outcome}
-use Rattle.c2_outcome.specs.Reply.{TakesFile, end_of}
-use Rattle.c2_outcome.specs.Left.{Delivers, SinkState}
-use Rattle.c2_outcome.specs.Status.{WithFault, status_of}
-use Rattle.c2_outcome.specs.declared.reply.Fault.TheVariants.{Input, Output, Judge, Memory}
-use Rattle.c2_outcome.specs.declared.reply.Reply.{Reply}
-use Rattle.c2_outcome.specs.declared.types.Answer.{Answer}
-use Rattle.c2_outcome.specs.declared.types.Answer.TheVariants as answer
-use Rattle.c2_outcome.specs.declared.types.Status.{Status}
-use Rattle.c2_outcome.specs.declared.types.Status.TheVariants.{InputFault, OutputFault, JudgeFault, NoMemory}
+use Rattle.c2_usage.specs.declared.types.Roles.{Roles}
+use Rattle.c2_cmd_outcome.specs.Outcome.{Outcome}
+use Rattle.c2_cmd_outcome.specs.Reply.{TakesFile, end_of}
+use Rattle.c2_cmd_outcome.specs.Left.{Delivers, SinkState}
+use Rattle.c2_cmd_outcome.specs.Status.{WithFault, status_of}
+use Rattle.c2_cmd_outcome.specs.declared.reply.Fault.TheVariants.{Input, Output, Judge, Memory}
+use Rattle.c2_cmd_outcome.specs.declared.reply.Reply.{Reply}
+use Rattle.c2_cmd_outcome.specs.declared.types.Answer.{Answer}
+use Rattle.c2_cmd_outcome.specs.declared.types.Answer.TheVariants as answer
+use Rattle.c2_cmd_outcome.specs.declared.types.Status.{Status}
+use Rattle.c2_cmd_outcome.specs.declared.types.Status.TheVariants.{InputFault, OutputFault, JudgeFault, NoMemory}
 use Rattle.c2_cmd.specs.Left.{KeepsOut, LeavesOut}
-use Rattle.c2_built.specs.Fresh.{GivesDigests}
+use Rattle.c2_new_store_spec.specs.Fresh.{GivesDigests}
 use Rattle.c2_cmd.specs.Outcome.{has_whole_report}
 use Rattle.c2_cmd.specs.Run.{Call, ComesTo, Faults, HasAll, HasAnswered, IsCaused, RepliesTo, RunState, RunsTo, SinkFailed}
 use Rattle.c2_cmd.proofs.Delivering.{EachOutcome, asked_whole, comes_to, file_before, file_delivered, file_input, file_judge, file_memory, file_output, first_filed, first_unwritten, no_fault, whole_answered, whole_failed, whole_where_filed, wrote_all, wrote_prefix}
 use Rattle.c2_cmd.proofs.Causing.{no_output}
 use Rattle.c2_cmd.proofs.Keeping.{without}
-use Rattle.c2_outcome.proofs.Replying.{written_behind}
+use Rattle.c2_cmd_outcome.proofs.Replying.{written_behind}
 
 -- ---- statuses of answers
 

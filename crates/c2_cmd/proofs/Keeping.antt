@@ -4,26 +4,26 @@ use Rattle.std.specs.Prelude.{IfErr, OnOk, Ok, Err, Result}
 use Rattle.std.proofs.lemmas.Bool.{false≢true}
 use Rattle.c2_base.proofs.Growing.{grows_none}
 use Rattle.c2_base.specs.Sink.{WritesSink, unsaid}
-use Rattle.c2_calls.proofs.SourceLemmas.{stays_as_it_was}
+use Rattle.c2_calls_spec.proofs.SourceLemmas.{stays_as_it_was}
 use Rattle.c2_spec.specs.Judges.Panel.{Judges, LeavesJudges, NoneFell}
-use Rattle.c2_words.specs.CommandLine.{has_word, is_fourth, is_media, is_out, is_second, is_third, lets_ask}
-use Rattle.c2_words.specs.declared.types.Command.{Command}
-use Rattle.c2_words.specs.declared.types.Role.{Role}
-use Rattle.c2_words.specs.declared.types.Roles.{Roles}
-use Rattle.c2_outcome.specs.Reply.{EndsFile, FileEnd, end_of}
+use Rattle.c2_usage.specs.CommandLine.{has_word, is_fourth, is_media, is_out, is_second, is_third, lets_ask}
+use Rattle.c2_usage.specs.declared.types.Command.{Command}
+use Rattle.c2_usage.specs.declared.types.Role.{Role}
+use Rattle.c2_usage.specs.declared.types.Roles.{Roles}
+use Rattle.c2_cmd_outcome.specs.Reply.{EndsFile, FileEnd, end_of}
 use Rattle.c2_cmd.specs.Left.{FileEnds, KeepsOut, LeavesOut, LeavesReport, LeavesSource}
 use Rattle.c2_cmd.specs.Outcome.{names}
 use Rattle.c2_cmd.specs.Run.{Call, HasNotDue, IsUnused, LeavesUnused, Untouched}
 use Rattle.c2_cmd.specs.Sources.{SourceName, is_source, of_source, the_fourth, the_media, the_second, the_third}
 use Rattle.c2_cmd.proofs.Commands.{of_command}
-use Rattle.c2_outcome.specs.Status.{WithoutFault, status_of}
-use Rattle.c2_outcome.specs.declared.reply.Fault.{Fault}
-use Rattle.c2_outcome.specs.declared.reply.Fault.TheVariants.{Input, Output, Judge, Memory}
-use Rattle.c2_outcome.specs.declared.reply.Reply.{Reply}
-use Rattle.c2_outcome.specs.declared.types.Answer.{Answer}
-use Rattle.c2_outcome.specs.declared.types.Answer.TheVariants as answer
-use Rattle.c2_outcome.specs.declared.types.Status.{Status}
-use Rattle.c2_outcome.specs.declared.types.Status.TheVariants.{Done, Failing, Refused, NoStore, Usage, InputFault, OutputFault, JudgeFault, NoMemory, DifferentClaims, Evidence, BuildRefused, NotAccepted, StripRefused}
+use Rattle.c2_cmd_outcome.specs.Status.{WithoutFault, status_of}
+use Rattle.c2_cmd_outcome.specs.declared.reply.Fault.{Fault}
+use Rattle.c2_cmd_outcome.specs.declared.reply.Fault.TheVariants.{Input, Output, Judge, Memory}
+use Rattle.c2_cmd_outcome.specs.declared.reply.Reply.{Reply}
+use Rattle.c2_cmd_outcome.specs.declared.types.Answer.{Answer}
+use Rattle.c2_cmd_outcome.specs.declared.types.Answer.TheVariants as answer
+use Rattle.c2_cmd_outcome.specs.declared.types.Status.{Status}
+use Rattle.c2_cmd_outcome.specs.declared.types.Status.TheVariants.{Done, Failing, Refused, NoStore, Usage, InputFault, OutputFault, JudgeFault, NoMemory, DifferentClaims, Evidence, BuildRefused, NotAccepted, StripRefused}
 
 -- ---- statuses
 

@@ -1,17 +1,17 @@
 -- Words and inputs come to one outcome, and to one list of questions.
 use Rattle.std.proofs.Common.{◌≡◌, sym, ◌∙◌, ℕ, List, Option, Some, None}
 use Rattle.c2_base.specs.declared.values.Question.{Question}
-use Rattle.c2_building_commands.specs.Laws.{OneBuildingOutcome, OneBuildingQuestions}
-use Rattle.c2_collect_commands.specs.Laws.{OneCollectOutcome, OneCollectQuestions}
-use Rattle.c2_extract_command.specs.Outcomes.{IsExtractOutcome}
-use Rattle.c2_front_commands.specs.Outcomes.{IsEmbedFrontOutcome, IsPlanFrontOutcome}
-use Rattle.c2_outcome.specs.Outcome.{IsOneOutcome, Outcome}
-use Rattle.c2_reading_commands.specs.Laws.{OneReadingOutcome, OneReadingQuestions}
+use Rattle.c2_cmd_building.specs.Laws.{OneBuildingOutcome, OneBuildingQuestions}
+use Rattle.c2_cmd_collect.specs.Laws.{OneCollectOutcome, OneCollectQuestions}
+use Rattle.c2_cmd_extract.specs.Outcomes.{IsExtractOutcome}
+use Rattle.c2_cmd_front.specs.Outcomes.{IsEmbedFrontOutcome, IsPlanFrontOutcome}
+use Rattle.c2_cmd_outcome.specs.Outcome.{IsOneOutcome, Outcome}
+use Rattle.c2_cmd_reading.specs.Laws.{OneReadingOutcome, OneReadingQuestions}
 use Rattle.c2_spec.specs.declared.digest.Alg.{Alg}
-use Rattle.c2_strip_command.specs.Outcomes.{IsStripOutcome}
-use Rattle.c2_words.specs.declared.types.Command.{Command}
-use Rattle.c2_words.specs.declared.types.Command.TheVariants as command
-use Rattle.c2_words.specs.declared.types.Roles.{Roles}
+use Rattle.c2_cmd_strip.specs.Outcomes.{IsStripOutcome}
+use Rattle.c2_usage.specs.declared.types.Command.{Command}
+use Rattle.c2_usage.specs.declared.types.Command.TheVariants as command
+use Rattle.c2_usage.specs.declared.types.Roles.{Roles}
 use Rattle.c2_cmd.specs.Outcome.{Asks, CommandAsks, Inputs, IsCommandOutcome, IsOutcome, digest_alg, pieces_in}
 
 -- what the laws of the crates of the commands say

@@ -3,13 +3,13 @@ use Rattle.std.proofs.Common.{◌≡◌, refl, ◌∙◌, ap, ℕ, List, None}
 use Rattle.std.specs.declared.result.Result.{Result}
 use Rattle.std.specs.declared.result.Result.TheVariants.{Ok, Err}
 use Rattle.c2_base.specs.declared.values.Question.{Question}
-use Rattle.c2_binding.specs.declared.compared.Compared.{Compared}
-use Rattle.c2_binding.specs.declared.compared.Compared.TheVariants as compared
-use Rattle.c2_collected.specs.Order.{CollectRefusal}
-use Rattle.c2_collect_commands.specs.Outcomes.{IsPlanCollectOutcome, plan_outcome as plan_collect_outcome}
-use Rattle.c2_refusals.specs.declared.error.BuildError.{BuildError}
-use Rattle.c2_front_commands.specs.Outcomes.{IsPlanFrontOutcome, plan_outcome as plan_front_outcome}
-use Rattle.c2_fronts.specs.Order.{FrontRefusal}
+use Rattle.c2_compare_spec.specs.declared.compared.Compared.{Compared}
+use Rattle.c2_compare_spec.specs.declared.compared.Compared.TheVariants as compared
+use Rattle.c2_collect_spec.specs.Order.{CollectRefusal}
+use Rattle.c2_cmd_collect.specs.Outcomes.{IsPlanCollectOutcome, plan_outcome as plan_collect_outcome}
+use Rattle.c2_build_refusals.specs.declared.error.BuildError.{BuildError}
+use Rattle.c2_cmd_front.specs.Outcomes.{IsPlanFrontOutcome, plan_outcome as plan_front_outcome}
+use Rattle.c2_new_front_spec.specs.Order.{FrontRefusal}
 use Rattle.c2_rules.specs.declared.answer.Answer.{Answer as Checked}
 use Rattle.c2_rules.specs.declared.answer.Answer.TheVariants as checked
 use Rattle.c2_spec.specs.Located.{Opening, refused, absent, here}
@@ -19,9 +19,9 @@ use Rattle.c2_sample.specs.declared.types.Sampled.{Sampled}
 use Rattle.c2_sample.specs.declared.types.Sampled.TheVariants as sampled
 use Rattle.c2_validate.specs.declared.external.External.{External}
 use Rattle.c2_validate.specs.declared.external.External.TheVariants.{Of, StoreRefused}
-use Rattle.c2_outcome.specs.Outcome.{Outcome, Reports, answered}
-use Rattle.c2_building_commands.specs.Outcomes.{IsPlanOutcome, IsSampleOutcome, plan_outcome, sample_outcome}
-use Rattle.c2_reading_commands.specs.Outcomes.{IsCompareOutcome, IsDigestOutcome, IsExternalOutcome, IsListOutcome, IsMediaOutcome, IsQuestioned, IsShown, IsValidated, compare_outcome, external_outcome}
+use Rattle.c2_cmd_outcome.specs.Outcome.{Outcome, Reports, answered}
+use Rattle.c2_cmd_building.specs.Outcomes.{IsPlanOutcome, IsSampleOutcome, plan_outcome, sample_outcome}
+use Rattle.c2_cmd_reading.specs.Outcomes.{IsCompareOutcome, IsDigestOutcome, IsExternalOutcome, IsListOutcome, IsMediaOutcome, IsQuestioned, IsShown, IsValidated, compare_outcome, external_outcome}
 
 -- what is reported of what was opened has no file, if none has over a store
 unfiled_report : {A : Type 0} (Is : ℕ → ℕ → A → Outcome → Type 0)

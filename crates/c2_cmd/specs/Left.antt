@@ -6,13 +6,13 @@ use Rattle.std.specs.declared.result.Result.{Result}
 use Rattle.c2_base.specs.Sink.{Grows}
 use Rattle.c2_base.specs.Source.{StaysSource}
 use Rattle.c2_spec.specs.Judges.Panel.{NoneFell, Judges}
-use Rattle.c2_outcome.specs.Reply.{FileEnd}
-use Rattle.c2_outcome.specs.Status.{HasNoReply, WithFault, WithoutFault}
-use Rattle.c2_outcome.specs.declared.reply.Fault.{Fault}
-use Rattle.c2_outcome.specs.declared.reply.Fault.TheVariants.{Judge}
-use Rattle.c2_outcome.specs.declared.reply.Reply.{Reply}
-use Rattle.c2_outcome.specs.declared.types.Status.{Status}
-use Rattle.c2_outcome.specs.declared.types.Status.TheVariants.{Done, InputFault, OutputFault, JudgeFault, NoMemory}
+use Rattle.c2_cmd_outcome.specs.Reply.{FileEnd}
+use Rattle.c2_cmd_outcome.specs.Status.{HasNoReply, WithFault, WithoutFault}
+use Rattle.c2_cmd_outcome.specs.declared.reply.Fault.{Fault}
+use Rattle.c2_cmd_outcome.specs.declared.reply.Fault.TheVariants.{Judge}
+use Rattle.c2_cmd_outcome.specs.declared.reply.Reply.{Reply}
+use Rattle.c2_cmd_outcome.specs.declared.types.Status.{Status}
+use Rattle.c2_cmd_outcome.specs.declared.types.Status.TheVariants.{Done, InputFault, OutputFault, JudgeFault, NoMemory}
 
 -- ---- by the status of the run
 

@@ -9,31 +9,31 @@ use Rattle.c2_spec.specs.declared.panel.Verdict.{Verdict}
 use Rattle.c2_spec.specs.Container.{IsLocated}
 use Rattle.c2_spec.specs.Located.{absent}
 use Rattle.c2_rules.specs.Validated.{AreQuestions, CheckAsks}
-use Rattle.c2_binding.specs.Comparison.{CompareAsks}
+use Rattle.c2_compare_spec.specs.Comparison.{CompareAsks}
 use Rattle.c2_build.specs.Building.{Built, EmbedAsks, IsEmbedded, PlanAsks}
 use Rattle.c2_build.specs.Meeting.{BuiltMeets}
-use Rattle.c2_built.specs.Fresh.{GivesDigests}
-use Rattle.c2_collected.specs.Made.{CollectedMeets}
-use Rattle.c2_collected.specs.Outcomes.{CollectAsks, CollectPlanAsks, IsCollectMade, NewFile as CollectedFile}
-use Rattle.c2_fronts.specs.Made.{FrontMeets}
-use Rattle.c2_fronts.specs.Outcomes.{IsFrontMade, NewFile}
-use Rattle.c2_restored.specs.Restored.{Restores}
+use Rattle.c2_new_store_spec.specs.Fresh.{GivesDigests}
+use Rattle.c2_collect_spec.specs.Made.{CollectedMeets}
+use Rattle.c2_collect_spec.specs.Outcomes.{CollectAsks, CollectPlanAsks, IsCollectMade, NewFile as CollectedFile}
+use Rattle.c2_new_front_spec.specs.Made.{FrontMeets}
+use Rattle.c2_new_front_spec.specs.Outcomes.{IsFrontMade, NewFile}
+use Rattle.c2_build_restored_spec.specs.Restored.{Restores}
 use Rattle.c2_sample.specs.Sample.{SampleAsks}
 use Rattle.c2_texts.specs.Texts.{usage_line}
 use Rattle.c2_validate.specs.External.{ExternalAsks}
-use Rattle.c2_outcome.specs.Outcome.{Outcome, reports}
-use Rattle.c2_outcome.specs.declared.types.Answer.TheVariants as answer
-use Rattle.c2_reading_commands.specs.Outcomes.{IsCompareOutcome, IsDigestOutcome, IsExternalOutcome, IsListOutcome, IsMediaOutcome, IsQuestioned, IsShown, IsValidated}
-use Rattle.c2_building_commands.specs.Outcomes.{IsEmbedOutcome, IsPlanOutcome, IsSampleOutcome}
-use Rattle.c2_collect_commands.specs.Outcomes.{IsEmbedCollectOutcome, IsPlanCollectOutcome}
-use Rattle.c2_extract_command.specs.Outcomes.{IsExtractOutcome}
-use Rattle.c2_front_commands.specs.Outcomes.{IsEmbedFrontOutcome, IsPlanFrontOutcome}
-use Rattle.c2_strip_command.specs.Outcomes.{IsStripOutcome}
-use Rattle.c2_words.specs.declared.types.Command.{Command}
-use Rattle.c2_words.specs.declared.types.Command.TheVariants as command
-use Rattle.c2_words.specs.declared.types.Roles.{Roles}
-use Rattle.c2_words.specs.CommandLine.{has_word, makes_media, reports_whole}
-use Rattle.c2_words.specs.declared.types.Role.{Role}
+use Rattle.c2_cmd_outcome.specs.Outcome.{Outcome, reports}
+use Rattle.c2_cmd_outcome.specs.declared.types.Answer.TheVariants as answer
+use Rattle.c2_cmd_reading.specs.Outcomes.{IsCompareOutcome, IsDigestOutcome, IsExternalOutcome, IsListOutcome, IsMediaOutcome, IsQuestioned, IsShown, IsValidated}
+use Rattle.c2_cmd_building.specs.Outcomes.{IsEmbedOutcome, IsPlanOutcome, IsSampleOutcome}
+use Rattle.c2_cmd_collect.specs.Outcomes.{IsEmbedCollectOutcome, IsPlanCollectOutcome}
+use Rattle.c2_cmd_extract.specs.Outcomes.{IsExtractOutcome}
+use Rattle.c2_cmd_front.specs.Outcomes.{IsEmbedFrontOutcome, IsPlanFrontOutcome}
+use Rattle.c2_cmd_strip.specs.Outcomes.{IsStripOutcome}
+use Rattle.c2_usage.specs.declared.types.Command.{Command}
+use Rattle.c2_usage.specs.declared.types.Command.TheVariants as command
+use Rattle.c2_usage.specs.declared.types.Roles.{Roles}
+use Rattle.c2_usage.specs.CommandLine.{has_word, makes_media, reports_whole}
+use Rattle.c2_usage.specs.declared.types.Role.{Role}
 use Rattle.c2_cmd.specs.Sources.{Each, SourceName, map_each, of_source}
 
 -- what an outcome depends on beside the words: the bytes of the sources, what the panel of judges says of a question,

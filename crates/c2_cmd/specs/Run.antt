@@ -12,21 +12,21 @@ use Rattle.c2_rules.specs.Asking.{HaveAsked, HaveAskedPrefix, HaveFailed, HasHea
 use Rattle.c2_build_collect.specs.Answers as collect
 use Rattle.c2_compare.specs.Comparing.{IsNotAccepted}
 use Rattle.c2_sidecar.specs.Checking.{IsRefusedFile}
-use Rattle.c2_refusals.specs.Stages.{IsDefinitionRefused, IsMediaRefused, IsToldRefused}
-use Rattle.c2_words.specs.CommandLine.{is_out, lets_ask, roles_of}
-use Rattle.c2_outcome.specs.Left.{Delivers, Finishes, Leaves, SinkState}
-use Rattle.c2_outcome.specs.Outcome.{Outcome}
-use Rattle.c2_outcome.specs.Reply.{Begins, HasWhole, TakesFile, fault_heard}
-use Rattle.c2_outcome.specs.Status.{WithoutFault, status_of}
-use Rattle.c2_outcome.specs.declared.reply.Fault.{Fault}
-use Rattle.c2_outcome.specs.declared.reply.Reply.{Reply}
-use Rattle.c2_outcome.specs.declared.types.Status.{Status}
-use Rattle.c2_outcome.specs.declared.types.Status.TheVariants.{Done, Usage, InputFault, OutputFault, JudgeFault, NoMemory}
+use Rattle.c2_build_refusals.specs.Stages.{IsDefinitionRefused, IsMediaRefused, IsToldRefused}
+use Rattle.c2_usage.specs.CommandLine.{is_out, lets_ask, roles_of}
+use Rattle.c2_cmd_outcome.specs.Left.{Delivers, Finishes, Leaves, SinkState}
+use Rattle.c2_cmd_outcome.specs.Outcome.{Outcome}
+use Rattle.c2_cmd_outcome.specs.Reply.{Begins, HasWhole, TakesFile, fault_heard}
+use Rattle.c2_cmd_outcome.specs.Status.{WithoutFault, status_of}
+use Rattle.c2_cmd_outcome.specs.declared.reply.Fault.{Fault}
+use Rattle.c2_cmd_outcome.specs.declared.reply.Reply.{Reply}
+use Rattle.c2_cmd_outcome.specs.declared.types.Status.{Status}
+use Rattle.c2_cmd_outcome.specs.declared.types.Status.TheVariants.{Done, Usage, InputFault, OutputFault, JudgeFault, NoMemory}
 use Rattle.c2_cmd.specs.Outcome.{Asks, Inputs, inputs, IsOutcome, Meets, names}
 use Rattle.c2_cmd.specs.Sources.{Each, SourceName, is_source, of_source, the_fourth, the_media, the_second, the_third}
-use Rattle.c2_words.specs.declared.types.Command.{Command}
-use Rattle.c2_words.specs.declared.types.Command.TheVariants as command
-use Rattle.c2_words.specs.declared.types.Roles.{Roles}
+use Rattle.c2_usage.specs.declared.types.Command.{Command}
+use Rattle.c2_usage.specs.declared.types.Command.TheVariants as command
+use Rattle.c2_usage.specs.declared.types.Roles.{Roles}
 
 -- ---- calls
 

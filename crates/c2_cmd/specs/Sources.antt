@@ -1,7 +1,7 @@
 -- The sources of a run: the media file, and a second, a third and a fourth file.
 use Rattle.std.specs.Prelude.{Bool}
-use Rattle.c2_words.specs.CommandLine.{is_fourth, is_media, is_second, is_third}
-use Rattle.c2_words.specs.declared.types.Role.{Role}
+use Rattle.c2_usage.specs.CommandLine.{is_fourth, is_media, is_second, is_third}
+use Rattle.c2_usage.specs.declared.types.Role.{Role}
 
 -- One of the four sources that a run is handed.
 pub data SourceName : Type 0 where

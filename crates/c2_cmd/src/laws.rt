@@ -3,18 +3,18 @@ ghost use Rattle.std.specs.Prelude.{◌≡◌, ◌⊎◌, List, Option};
 ghost use Rattle.c2_base.specs.declared.values.Question.{Question};
 ghost use Rattle.c2_cmd.specs.Outcome.{AreBytes, Asks, HasDigests, Inputs, IsOutcome};
 ghost use Rattle.c2_cmd.specs.Run.{Faults, HasAnswered, IsCaused, NoneFailed, RunState};
-ghost use Rattle.c2_outcome.specs.Outcome.{Outcome};
-ghost use Rattle.c2_outcome.specs.Status.{WithoutFault};
-ghost use Rattle.c2_outcome.specs.declared.types.Status.{Status as AnyStatus};
-ghost use Rattle.c2_outcome.specs.declared.types.Status.TheVariants.{NoMemory};
-ghost use Rattle.c2_words.specs.declared.types.Roles.{Roles as AnyRoles};
+ghost use Rattle.c2_cmd_outcome.specs.Outcome.{Outcome};
+ghost use Rattle.c2_cmd_outcome.specs.Status.{WithoutFault};
+ghost use Rattle.c2_cmd_outcome.specs.declared.types.Status.{Status as AnyStatus};
+ghost use Rattle.c2_cmd_outcome.specs.declared.types.Status.TheVariants.{NoMemory};
+ghost use Rattle.c2_usage.specs.declared.types.Roles.{Roles as AnyRoles};
 
-use c2_building_commands::{each_building_outcome, one_building_outcome};
-use c2_collect_commands::{each_collect_outcome, one_collect_outcome};
-use c2_extract_command::an_extract_comes_to_one_outcome;
-use c2_front_commands::{each_front_outcome, one_front_outcome};
-use c2_reading_commands::{each_reading_outcome, one_reading_outcome};
-use c2_strip_command::a_strip_comes_to_one_outcome;
+use c2_cmd_building::{each_building_outcome, one_building_outcome};
+use c2_cmd_collect::{each_collect_outcome, one_collect_outcome};
+use c2_cmd_extract::an_extract_comes_to_one_outcome;
+use c2_cmd_front::{each_front_outcome, one_front_outcome};
+use c2_cmd_reading::{each_reading_outcome, one_reading_outcome};
+use c2_cmd_strip::a_strip_comes_to_one_outcome;
 
 /// Words and inputs come to one outcome at most, and to one list of questions at most.
 pub fn one_outcome()

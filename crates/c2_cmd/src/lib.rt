@@ -8,6 +8,6 @@ mod laws;
 mod run_command;
 pub mod types;
 
-pub use c2_words::roles;
+pub use c2_usage::roles;
 pub use laws::{a_run_that_nothing_fails_answers, each_run_has_an_outcome, one_outcome};
 pub use run_command::run;

@@ -3,32 +3,32 @@ ghost use Rattle.std.specs.Prelude.{◌≡◌, ◌⊎◌, true, map, string_byte
 ghost use Rattle.c2_base.specs.Causes.{HasCause, Rose};
 ghost use Rattle.c2_base.specs.Sink.{HasWrittenPrefix};
 ghost use Rattle.c2_spec.specs.Judges.Panel.{LeavesJudges, judges_of};
-ghost use Rattle.c2_words.specs.CommandLine.{is_out};
-ghost use Rattle.c2_outcome.specs.Left.{Delivers, state_of};
-ghost use Rattle.c2_outcome.specs.Outcome.{Outcome};
-ghost use Rattle.c2_outcome.specs.Reply.{end_of};
+ghost use Rattle.c2_usage.specs.CommandLine.{is_out};
+ghost use Rattle.c2_cmd_outcome.specs.Left.{Delivers, state_of};
+ghost use Rattle.c2_cmd_outcome.specs.Outcome.{Outcome};
+ghost use Rattle.c2_cmd_outcome.specs.Reply.{end_of};
 ghost use Rattle.c2_cmd.specs.Left.{KeepsOut, KeepsPanel, KeepsReport, KeepsSource, LeavesOut, LeavesReport, LeavesSource};
 ghost use Rattle.c2_cmd.specs.Outcome.{digest_alg, has_whole_report, names};
 ghost use Rattle.c2_cmd.specs.Run.{ComesTo, Faults, IsCaused, IsKnown, LeavesUnused, RepliesTo, RunState, RunsTo, Untouched, call_of, roles_in};
 
 use crate::laws::each_run_has_an_outcome;
 use c2_base::{Failed, Sink, Source, write_all};
-use c2_building_commands::{one_building_outcome, reply_to_embed, reply_to_plan, reply_to_sample};
-use c2_collect_commands::{one_collect_outcome, reply_to_embed_collect, reply_to_plan_collect};
-use c2_extract_command::reply_to_extract;
-use c2_front_commands::{one_front_outcome, reply_to_embed_front, reply_to_plan_front};
-use c2_hash::{Alg, Hashing};
-use c2_judge::Judge;
-use c2_outcome::types::Status;
-use c2_outcome::{Fault, Reply, usage_reply};
-use c2_reading_commands::{
+use c2_build_restored_spec::a_built_file_is_restored;
+use c2_cmd_building::{one_building_outcome, reply_to_embed, reply_to_plan, reply_to_sample};
+use c2_cmd_collect::{one_collect_outcome, reply_to_embed_collect, reply_to_plan_collect};
+use c2_cmd_extract::reply_to_extract;
+use c2_cmd_front::{one_front_outcome, reply_to_embed_front, reply_to_plan_front};
+use c2_cmd_outcome::types::Status;
+use c2_cmd_outcome::{Fault, Reply, usage_reply};
+use c2_cmd_reading::{
     one_reading_outcome, reply_to_compare, reply_to_digest, reply_to_list, reply_to_questions,
     reply_to_show, reply_to_validate, reply_to_validate_external,
 };
-use c2_restored::a_built_file_is_restored;
-use c2_strip_command::reply_to_strip;
-use c2_words::roles;
-use c2_words::types::{Command, Roles, RolesError};
+use c2_cmd_strip::reply_to_strip;
+use c2_hash::{Alg, Hashing};
+use c2_judge::Judge;
+use c2_usage::roles;
+use c2_usage::types::{Command, Roles, RolesError};
 use std::alloc::Global;
 
 /// Runs the command that the words spell, over the files, the sinks and the judges that it is handed: `second` is the other file of

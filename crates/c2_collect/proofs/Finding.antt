@@ -11,10 +11,10 @@ use Rattle.std.proofs.lemmas.Slice.Eq.{bytes_eq-Decides}
 use Rattle.c2_spec.specs.C2pa.Manifest.{is_given}
 use Rattle.c2_spec.specs.Jumbf.Tree.{AreDistinctLabels, IsNewLabel, Tree, tree_bytes, tree_label}
 use Rattle.c2_rules.proofs.ListLemmas.{in_any}
-use Rattle.c2_joined.proofs.Places.{contains_at}
-use Rattle.c2_lookup.specs.Places.{ArePlaces, kept_place}
-use Rattle.c2_lookup.specs.declared.places.Places.{Places}
-use Rattle.c2_collected.specs.Sides.{has_same_label}
+use Rattle.c2_chain_spec.proofs.Places.{contains_at}
+use Rattle.c2_label_index.specs.Places.{ArePlaces, kept_place}
+use Rattle.c2_label_index.specs.declared.places.Places.{Places}
+use Rattle.c2_collect_spec.specs.Sides.{has_same_label}
 use Rattle.c2_collect.specs.Carried.{FindsLabels, IsFound, IsShared, StoresClash}
 use Rattle.c2_collect.specs.Marked.{MarkedStore, box_labels, is_marked, manifests_in}
 use Rattle.c2_collect.proofs.Manifests.{MappedFrom, mapped_from}

@@ -6,9 +6,9 @@ use Rattle.std.proofs.lemmas.List.{get_or_append_left}
 use Rattle.std.proofs.Math.Seq.{get_or-append_seam}
 use Rattle.std.proofs.lemmas.Option.{slice_get_within}
 use Rattle.c2_spec.specs.Jumbf.Tree.{Tree, Trees, more, none, tree_bytes, trees_bytes}
-use Rattle.c2_joined.specs.Joined.{picked}
-use Rattle.c2_built.specs.Manifests.{supers_in}
-use Rattle.c2_collected.specs.Sides.{ClashFirst, boxes_then, carried_trees, is_carried_box, joined_boxes}
+use Rattle.c2_chain_spec.specs.Joined.{picked}
+use Rattle.c2_new_store_spec.specs.Manifests.{supers_in}
+use Rattle.c2_collect_spec.specs.Sides.{ClashFirst, boxes_then, carried_trees, is_carried_box, joined_boxes}
 use Rattle.c2_collect.specs.Carried.{AreCarried, IsFound, StoresClash, is_carried_over, wanted_bytes, wanted_in}
 use Rattle.c2_collect.specs.Marked.{MarkedStore, flag_at, is_marked, manifests_in}
 

@@ -5,10 +5,10 @@ use Rattle.std.proofs.Math.ListN.{drop_of_length-le}
 use Rattle.std.proofs.lemmas.List.{drop_more, length-map}
 use Rattle.std.proofs.lemmas.Option.{slice_get_within}
 use Rattle.c2_spec.specs.Jumbf.Tree.{Tree, Trees, more, none, tree_bytes, trees_bytes}
-use Rattle.c2_joined.proofs.Places.{some_at}
-use Rattle.c2_built.specs.Manifests.{supers_in}
-use Rattle.c2_carried.specs.Redacting.{redacted_box, redacted_boxes}
-use Rattle.c2_collected.specs.Sides.{boxes_then, carried_trees, is_carried_box, joined_boxes}
+use Rattle.c2_chain_spec.proofs.Places.{some_at}
+use Rattle.c2_new_store_spec.specs.Manifests.{supers_in}
+use Rattle.c2_parent_spec.specs.Redacting.{redacted_box, redacted_boxes}
+use Rattle.c2_collect_spec.specs.Sides.{boxes_then, carried_trees, is_carried_box, joined_boxes}
 use Rattle.c2_collect.specs.Carried.{AreCarried, less_in, wanted_bytes, wanted_from, wanted_in}
 use Rattle.c2_collect.specs.Marked.{MarkedStore, flag_at, is_marked, manifests_in}
 use Rattle.c2_collect.proofs.Flags.{all_carried, carried_by, then_bytes}

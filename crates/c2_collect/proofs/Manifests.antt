@@ -7,11 +7,11 @@ use Rattle.c2_spec.specs.C2pa.Manifest.{IsStoreOf, manifest_boxes, superboxes}
 use Rattle.c2_spec.specs.Jumbf.Boxes.{any_bytes, any_label, box_at, node}
 use Rattle.c2_spec.specs.Jumbf.Tree.{AreDistinctLabels, IsLegalTree, IsNewLabel, Tree, Trees, leaf, more, none, super, tree_bytes, tree_label, tree_labels}
 use Rattle.c2_spec.specs.declared.store.ManifestBoxes.{ManifestBoxes}
-use Rattle.c2_joined.proofs.Places.{some_at}
-use Rattle.c2_built.proofs.ByIndex.{At, Both, at_box, supers_any}
-use Rattle.c2_built.specs.Manifests.{supers_in, supers_of}
-use Rattle.c2_carried.specs.Redacting.{boxes_in}
-use Rattle.c2_carried.proofs.Stores.{legal_inside, supers_are}
+use Rattle.c2_chain_spec.proofs.Places.{some_at}
+use Rattle.c2_new_store_spec.proofs.ByIndex.{At, Both, at_box, supers_any}
+use Rattle.c2_new_store_spec.specs.Manifests.{supers_in, supers_of}
+use Rattle.c2_parent_spec.specs.Redacting.{boxes_in}
+use Rattle.c2_parent_spec.proofs.Stores.{legal_inside, supers_are}
 use Rattle.c2_collect.specs.Marked.{IsSide, MarkedStore, box_bytes, box_labels, manifests_in, marked}
 
 -- ---- manifests by their indices

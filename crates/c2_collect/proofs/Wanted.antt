@@ -4,10 +4,10 @@ use Rattle.std.proofs.Math.ListN.{drop_of_length-le}
 use Rattle.std.proofs.lemmas.List.{drop_more}
 use Rattle.std.proofs.lemmas.Option.{get_or_from_slice_get, slice_get_within}
 use Rattle.c2_spec.specs.Jumbf.Tree.{Tree, Trees, leaf, more, none, super, tree_bytes, trees_bytes}
-use Rattle.c2_joined.specs.Joined.{picked}
-use Rattle.c2_joined.proofs.Places.{some_at}
-use Rattle.c2_built.specs.Manifests.{supers_in}
-use Rattle.c2_collected.specs.Sides.{boxes_then}
+use Rattle.c2_chain_spec.specs.Joined.{picked}
+use Rattle.c2_chain_spec.proofs.Places.{some_at}
+use Rattle.c2_new_store_spec.specs.Manifests.{supers_in}
+use Rattle.c2_collect_spec.specs.Sides.{boxes_then}
 use Rattle.c2_collect.specs.Carried.{wanted_bytes, wanted_from}
 use Rattle.c2_collect.specs.Marked.{box_bytes, flag_at}
 use Rattle.c2_collect.proofs.Manifests.{mapped_from}

@@ -3,11 +3,11 @@ use Rattle.std.specs.Prelude.{◌≡◌, ◌<◌, ◌&&◌, ℕ, Bool, List, byt
 use Rattle.std.specs.declared.option.Option.{Option}
 use Rattle.std.specs.declared.option.Option.TheVariants.{None, Some}
 use Rattle.c2_spec.specs.Jumbf.Tree.{AreDistinctLabels, Tree, none, tree_bytes, trees_bytes}
-use Rattle.c2_lookup.specs.Places.{ArePlaces}
-use Rattle.c2_lookup.specs.declared.places.Places.{Places}
-use Rattle.c2_joined.specs.Joined.{picked}
-use Rattle.c2_carried.specs.Redacting.{redacted_box}
-use Rattle.c2_collected.specs.Sides.{ClashesAt, boxes_then, is_carried_box}
+use Rattle.c2_label_index.specs.Places.{ArePlaces}
+use Rattle.c2_label_index.specs.declared.places.Places.{Places}
+use Rattle.c2_chain_spec.specs.Joined.{picked}
+use Rattle.c2_parent_spec.specs.Redacting.{redacted_box}
+use Rattle.c2_collect_spec.specs.Sides.{ClashesAt, boxes_then, is_carried_box}
 use Rattle.c2_collect.specs.Marked.{MarkedStore, box_labels, flag_at, is_marked, manifests_in}
 
 -- Of each label of these manifests, which all differ, its place is kept.

@@ -1,6 +1,6 @@
 // Which manifests of a store are carried behind the boxes of another.
 ghost use Rattle.std.specs.Prelude.{◌≡◌, ◌<◌, ◌++◌, ◌∷◌, ◌&&◌, [], ℕ, Err, IfOk, OnOk, bytes_eq, length};
-ghost use Rattle.c2_collected.specs.Sides.{ClashFirst};
+ghost use Rattle.c2_collect_spec.specs.Sides.{ClashFirst};
 ghost use Rattle.c2_collect.specs.Marked.{is_marked, manifests_in};
 ghost use Rattle.c2_collect.specs.Carried.{AreCarried, FindsLabels, IsFound, IsShared};
 ghost use Rattle.c2_collect.specs.declared.error.JoinError.TheVariants.{LabelClash};
@@ -8,7 +8,7 @@ ghost use Rattle.c2_collect.specs.declared.error.JoinError.TheVariants.{LabelCla
 use crate::error::JoinError;
 use crate::side::Side;
 use c2_base::NoMemory;
-use c2_lookup::{Places, add_place, first_place, no_places};
+use c2_label_index::{Places, add_place, first_place, no_places};
 use std::alloc::Global;
 
 /// Where the labels of a store's manifests stand.

@@ -1,7 +1,7 @@
 //! The boxes of two stores joined (C2PA Technical Specification 2.x, "Ingredient"): those of a media file's store, and behind them the
 //! manifests of another store that are reached there.
 //!
-//! What the joined boxes are, and where two stores clash, stands in `Sides` of c2_collected.
+//! What the joined boxes are, and where two stores clash, stands in `Sides` of c2_collect_spec.
 #![tactic(auto)]
 
 mod appending;

@@ -6,14 +6,14 @@ use Rattle.c2_spec.specs.declared.digest.Alg.{Alg}
 use Rattle.c2_spec.specs.declared.panel.Verdict.{Verdict}
 use Rattle.c2_rules.specs.CheckList.{StoreReading}
 use Rattle.c2_rules.specs.declared.answer.Answer.{Answer}
-use Rattle.c2_binding.specs.Accepted.{IsAccepted}
-use Rattle.c2_binding.specs.Comparison.{IsComparison, IsRefusedFirst}
-use Rattle.c2_binding.specs.declared.compared.Compared.{Compared}
-use Rattle.c2_binding.specs.declared.compared.Compared.TheVariants as compared
-use Rattle.c2_binding.specs.declared.compared.Side.TheVariants.{First, Second}
-use Rattle.c2_binding.proofs.Unwritten.{prefix_none, then_nothing}
-use Rattle.c2_evidence.specs.declared.error.CompareError.{CompareError}
-use Rattle.c2_settling.specs.Comparing.{IsComparedAs}
+use Rattle.c2_compare_spec.specs.Accepted.{IsAccepted}
+use Rattle.c2_compare_spec.specs.Comparison.{IsComparison, IsRefusedFirst}
+use Rattle.c2_compare_spec.specs.declared.compared.Compared.{Compared}
+use Rattle.c2_compare_spec.specs.declared.compared.Compared.TheVariants as compared
+use Rattle.c2_compare_spec.specs.declared.compared.Side.TheVariants.{First, Second}
+use Rattle.c2_compare_spec.proofs.Unwritten.{prefix_none, then_nothing}
+use Rattle.c2_compare_evidence.specs.declared.error.CompareError.{CompareError}
+use Rattle.c2_compare_opened.specs.Comparing.{IsComparedAs}
 use Rattle.c2_compare.specs.Accepting.{IsUnaccepted, ended_as}
 use Rattle.c2_compare.specs.Comparing.{IsCompared}
 use Rattle.c2_compare.specs.declared.accepting.Unaccepted.{Unaccepted}

@@ -5,14 +5,14 @@ use Rattle.c2_base.specs.Sink.{WritesSink}
 use Rattle.c2_base.specs.Source.{ReadsSource, StaysSource}
 use Rattle.c2_opening.specs.declared.error.ValidateError.{ValidateError}
 use Rattle.c2_opening.specs.declared.error.ValidateError.TheVariants as error
-use Rattle.c2_binding.specs.declared.compared.Compared.{Compared}
-use Rattle.c2_binding.specs.declared.compared.Side.{Side}
-use Rattle.c2_evidence.specs.Causes.{IsReadCause, IsUnjudged, IsWriteCause}
-use Rattle.c2_evidence.specs.declared.error.CompareError.{CompareError}
-use Rattle.c2_evidence.specs.declared.error.CompareError.TheVariants.{JudgeFault, NoMemory}
-use Rattle.c2_calls.proofs.BesideLemmas.{reads_beside}
-use Rattle.c2_calls.proofs.SinkLemmas.{writes_nothing}
-use Rattle.c2_calls.proofs.SourceLemmas.{reads_nothing, stays_next}
+use Rattle.c2_compare_spec.specs.declared.compared.Compared.{Compared}
+use Rattle.c2_compare_spec.specs.declared.compared.Side.{Side}
+use Rattle.c2_compare_evidence.specs.Causes.{IsReadCause, IsUnjudged, IsWriteCause}
+use Rattle.c2_compare_evidence.specs.declared.error.CompareError.{CompareError}
+use Rattle.c2_compare_evidence.specs.declared.error.CompareError.TheVariants.{JudgeFault, NoMemory}
+use Rattle.c2_calls_spec.proofs.BesideLemmas.{reads_beside}
+use Rattle.c2_calls_spec.proofs.SinkLemmas.{writes_nothing}
+use Rattle.c2_calls_spec.proofs.SourceLemmas.{reads_nothing, stays_next}
 use Rattle.c2_compare.specs.Accepting.{IsEnded, IsUnread, LeavesFiles, ended_as}
 use Rattle.c2_compare.specs.declared.accepting.Unaccepted.{Unaccepted}
 use Rattle.c2_compare.specs.declared.accepting.Unaccepted.TheVariants.{Refused, Failed}

@@ -29,14 +29,14 @@ use Rattle.c2_opening.specs.declared.types.Opened.TheVariants as opened
 use Rattle.c2_opening.specs.declared.types.StoreRead.{StoreRead}
 use Rattle.c2_opening.specs.declared.types.StoreRead.TheVariants as read
 use Rattle.c2_hard_binding.specs.declared.bound.BoundText.{BoundText}
-use Rattle.c2_binding.specs.Accepted.{IsAccepted, summary_in}
-use Rattle.c2_binding.specs.Comparison.{IsRefusedFirst, is_valid}
-use Rattle.c2_binding.specs.Differences.{binding_alg}
+use Rattle.c2_compare_spec.specs.Accepted.{IsAccepted, summary_in}
+use Rattle.c2_compare_spec.specs.Comparison.{IsRefusedFirst, is_valid}
+use Rattle.c2_compare_spec.specs.Differences.{binding_alg}
 use Rattle.c2_validate.specs.Checked.{IsCheckedOver, IsOpenedFrom, readings_of}
 use Rattle.c2_validate.specs.Validation.{IsAnswered}
 use Rattle.c2_validate.specs.declared.checking.Checked.TheVariants as checked
 use Rattle.c2_validate.specs.declared.checking.OpenedStore.{OpenedStore}
-use Rattle.c2_settling.specs.Sides.{IsCompareSide}
+use Rattle.c2_compare_opened.specs.Sides.{IsCompareSide}
 use Rattle.c2_compare.specs.Accepting.{IsStoreless, IsUnaccepted, IsUnopened}
 use Rattle.c2_compare.specs.declared.accepting.Unaccepted.{Unaccepted}
 use Rattle.c2_compare.specs.declared.accepting.Unaccepted.TheVariants.{Refused, Failed}

@@ -14,18 +14,18 @@ use Rattle.c2_rules.specs.Validated.{CheckAsks}
 use Rattle.c2_rules.specs.declared.answer.Answer.{Answer}
 use Rattle.c2_rules.specs.declared.answer.Answer.TheVariants as answer
 use Rattle.c2_rules.proofs.AskingLemmas.{failed_more, front_more, stays}
-use Rattle.c2_calls.proofs.PanelLemmas.{append_none, asked_none, cause_next, heard_next, hears_early, hears_error, hears_later, leaves_next}
+use Rattle.c2_calls_spec.proofs.PanelLemmas.{append_none, asked_none, cause_next, heard_next, hears_early, hears_error, hears_later, leaves_next}
 use Rattle.c2_opening.specs.Opened.{IsCause}
 use Rattle.c2_opening.specs.declared.error.ValidateError.{ValidateError}
 use Rattle.c2_opening.specs.declared.error.ValidateError.TheVariants as error
-use Rattle.c2_binding.specs.Accepted.{IsAccepted, summary_in}
-use Rattle.c2_binding.specs.Comparison.{CompareAsks, IsRefusedFirst, SecondAsks, is_valid}
-use Rattle.c2_binding.specs.declared.compared.Compared.{Compared}
-use Rattle.c2_binding.specs.declared.compared.Side.{Side}
-use Rattle.c2_binding.specs.declared.compared.Side.TheVariants.{First}
-use Rattle.c2_evidence.specs.Causes.{IsUnjudged}
-use Rattle.c2_evidence.specs.declared.error.CompareError.{CompareError}
-use Rattle.c2_evidence.specs.declared.error.CompareError.TheVariants.{ReadFault, WriteFault, JudgeFault, NoMemory}
+use Rattle.c2_compare_spec.specs.Accepted.{IsAccepted, summary_in}
+use Rattle.c2_compare_spec.specs.Comparison.{CompareAsks, IsRefusedFirst, SecondAsks, is_valid}
+use Rattle.c2_compare_spec.specs.declared.compared.Compared.{Compared}
+use Rattle.c2_compare_spec.specs.declared.compared.Side.{Side}
+use Rattle.c2_compare_spec.specs.declared.compared.Side.TheVariants.{First}
+use Rattle.c2_compare_evidence.specs.Causes.{IsUnjudged}
+use Rattle.c2_compare_evidence.specs.declared.error.CompareError.{CompareError}
+use Rattle.c2_compare_evidence.specs.declared.error.CompareError.TheVariants.{ReadFault, WriteFault, JudgeFault, NoMemory}
 use Rattle.c2_validate.specs.Checked.{validate_heard}
 use Rattle.c2_compare.specs.Accepting.{AsksChecked, IsEnded, IsUnaccepted, IsUnopened, IsUnread, ended_as, ended_heard, fault_of}
 use Rattle.c2_compare.specs.Comparing.{AsksCompared, IsNotAccepted, compare_heard}

@@ -16,13 +16,13 @@ use Rattle.c2_rules.specs.declared.answer.Answer.{Answer}
 use Rattle.c2_rules.specs.declared.answer.Answer.TheVariants as answer
 use Rattle.c2_opening.specs.declared.error.ValidateError.{ValidateError}
 use Rattle.c2_opening.specs.declared.error.ValidateError.TheVariants as error
-use Rattle.c2_binding.specs.Comparison.{IsRefusedFirst}
-use Rattle.c2_binding.specs.declared.compared.Compared.{Compared}
-use Rattle.c2_binding.specs.declared.compared.Compared.TheVariants.{NotAccepted}
-use Rattle.c2_binding.specs.declared.compared.Side.{Side}
-use Rattle.c2_evidence.specs.Causes.{IsReadCause, IsWriteCause}
-use Rattle.c2_evidence.specs.declared.error.CompareError.{CompareError}
-use Rattle.c2_evidence.specs.declared.error.CompareError.TheVariants.{ReadFault, JudgeFault, NoMemory}
+use Rattle.c2_compare_spec.specs.Comparison.{IsRefusedFirst}
+use Rattle.c2_compare_spec.specs.declared.compared.Compared.{Compared}
+use Rattle.c2_compare_spec.specs.declared.compared.Compared.TheVariants.{NotAccepted}
+use Rattle.c2_compare_spec.specs.declared.compared.Side.{Side}
+use Rattle.c2_compare_evidence.specs.Causes.{IsReadCause, IsWriteCause}
+use Rattle.c2_compare_evidence.specs.declared.error.CompareError.{CompareError}
+use Rattle.c2_compare_evidence.specs.declared.error.CompareError.TheVariants.{ReadFault, JudgeFault, NoMemory}
 use Rattle.c2_validate.specs.Checked.{validate_heard}
 use Rattle.c2_compare.specs.declared.accepting.Unaccepted.{Unaccepted}
 use Rattle.c2_compare.specs.declared.accepting.Unaccepted.TheVariants.{Refused, Failed}

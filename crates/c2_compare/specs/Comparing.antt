@@ -9,10 +9,10 @@ use Rattle.c2_spec.specs.declared.digest.Alg.{Alg}
 use Rattle.c2_spec.specs.declared.panel.Verdict.{Verdict}
 use Rattle.c2_rules.specs.Asking.{Heard, all, part, broken}
 use Rattle.c2_rules.specs.declared.answer.Answer.{Answer}
-use Rattle.c2_binding.specs.Comparison.{CompareAsks, IsComparison, IsRefusedFirst}
-use Rattle.c2_binding.specs.declared.compared.Compared.{Compared}
-use Rattle.c2_evidence.specs.declared.error.CompareError.{CompareError}
-use Rattle.c2_evidence.specs.declared.error.CompareError.TheVariants.{ReadFault, WriteFault, JudgeFault, NoMemory}
+use Rattle.c2_compare_spec.specs.Comparison.{CompareAsks, IsComparison, IsRefusedFirst}
+use Rattle.c2_compare_spec.specs.declared.compared.Compared.{Compared}
+use Rattle.c2_compare_evidence.specs.declared.error.CompareError.{CompareError}
+use Rattle.c2_compare_evidence.specs.declared.error.CompareError.TheVariants.{ReadFault, WriteFault, JudgeFault, NoMemory}
 
 -- ---- what two files come to
 

@@ -9,13 +9,13 @@ ghost use Rattle.c2_opening.specs.Opened.{IsCause, IsFound, IsRead};
 ghost use Rattle.c2_opening.specs.declared.types.Opened.TheVariants as opened;
 ghost use Rattle.c2_opening.specs.declared.types.StoreRead.TheVariants as store_read;
 ghost use Rattle.c2_validate.specs.Checked.{IsOpenedFrom, IsReadCause, readings_of};
-ghost use Rattle.c2_settling.specs.Sides.{IsCompareSide};
+ghost use Rattle.c2_compare_opened.specs.Sides.{IsCompareSide};
 ghost use Rattle.c2_compare.specs.Accepting.{AsksChecked, IsEnded, IsUnaccepted, IsUnopened, IsUnread, ended_as, ended_heard, fault_of};
 
 use c2_base::{NoMemory, Source};
-use c2_binding::{Compared, Side, accepted_is_valid};
 use c2_chain::one_reading;
-use c2_evidence::CompareError;
+use c2_compare_evidence::CompareError;
+use c2_compare_spec::{Compared, Side, accepted_is_valid};
 use c2_hard_binding::BoundText;
 use c2_hash::Hashing;
 use c2_judge::Judge;

@@ -9,22 +9,22 @@ ghost use Rattle.c2_container.specs.Contained.{HasRootsInside};
 ghost use Rattle.c2_opening.specs.Opened.{IsFound};
 ghost use Rattle.c2_opening.specs.declared.types.Opened.TheVariants as opened;
 ghost use Rattle.c2_validate.specs.Checked.{IsOpenedFrom};
-ghost use Rattle.c2_evidence.specs.Causes.{IsReadCause, IsWriteCause};
-ghost use Rattle.c2_settling.specs.Comparing.{IsComparedAs};
-ghost use Rattle.c2_settling.specs.Sides.{IsSided};
+ghost use Rattle.c2_compare_evidence.specs.Causes.{IsReadCause, IsWriteCause};
+ghost use Rattle.c2_compare_opened.specs.Comparing.{IsComparedAs};
+ghost use Rattle.c2_compare_opened.specs.Sides.{IsSided};
 ghost use Rattle.c2_compare.specs.Accepting.{AsksChecked, LeavesFiles};
 ghost use Rattle.c2_compare.specs.Comparing.{AsksCompared, IsCompared, IsNotAccepted, compare_heard};
 
 use crate::accepting::{accept, find, read};
 use c2_base::{NoMemory, Range, Sink, Source};
-use c2_binding::{Compared, Side, accepted_is_valid, one_comparison};
 use c2_chain::{Chain, of_store, readings};
-use c2_evidence::CompareError;
+use c2_compare_evidence::CompareError;
+use c2_compare_opened::{Sided, compare_stores};
+use c2_compare_spec::{Compared, Side, accepted_is_valid, one_comparison};
 use c2_hash::Hashing;
 use c2_judge::Judge;
 use c2_opening::one_opening;
 use c2_opening::types::Media;
-use c2_settling::{Sided, compare_stores};
 use c2_validate::{OpenedStore, a_file_answers_by_what_it_is_opened_as, one_check};
 use std::alloc::Global;
 

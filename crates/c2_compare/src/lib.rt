@@ -2,12 +2,12 @@
 //! evidence where they aren't.
 //!
 //! Here each file is opened once and checked, the second only where the first is accepted. What two accepted files come to is found
-//! out by `c2_settling`, over `c2_differences`, `c2_sameness` and `c2_evidence`; what it is stands in `c2_binding`.
+//! out by `c2_compare_opened`, over `c2_compare_difference`, `c2_compare_sameness` and `c2_compare_evidence`; what it is stands in `c2_compare_spec`.
 #![tactic(auto)]
 
 mod accepting;
 mod comparing;
 
-pub use c2_binding::{Compared, EvidenceKind, Side};
-pub use c2_evidence::CompareError;
+pub use c2_compare_evidence::CompareError;
+pub use c2_compare_spec::{Compared, EvidenceKind, Side};
 pub use comparing::compare;

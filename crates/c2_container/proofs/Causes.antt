@@ -4,7 +4,7 @@ use Rattle.c2_base.specs.Causes.{Rose}
 use Rattle.c2_base.specs.declared.limits.TheConstants.{FILE_LEN_LIMIT}
 use Rattle.c2_base.specs.declared.media.MediaError.{MediaError}
 use Rattle.c2_base.specs.declared.media.MediaError.TheVariants as media
-use Rattle.c2_boxes.specs.Causes.{IsRootsCause, IsStoreCause}
+use Rattle.c2_bmff_boxes.specs.Causes.{IsRootsCause, IsStoreCause}
 use Rattle.c2_spec.specs.Jpeg.Store.{IsJpegRefusal}
 use Rattle.c2_spec.specs.Located.{HasReason}
 use Rattle.c2_container.specs.Contained.{IsLocateCause}

@@ -6,12 +6,12 @@ use Rattle.std.specs.Str.{bytes_eq}
 use Rattle.c2_base.specs.declared.media.Found.{Found}
 use Rattle.c2_base.specs.declared.media.MediaError.{MediaError}
 use Rattle.c2_base.specs.declared.media.MediaError.TheVariants as media
-use Rattle.c2_boxes.specs.Causes.{OrOutside}
-use Rattle.c2_boxes.specs.Roots.{AreRootsOf}
-use Rattle.c2_boxes.specs.Search.{IsStoreOr}
-use Rattle.c2_box_rows.specs.declared.row.RootBox.{RootBox}
-use Rattle.c2_box_rows.specs.Faults.{FirstRootsFault}
-use Rattle.c2_box_rows.proofs.Faults.{first_of_all}
+use Rattle.c2_bmff_boxes.specs.Causes.{OrOutside}
+use Rattle.c2_bmff_boxes.specs.Roots.{AreRootsOf}
+use Rattle.c2_bmff_boxes.specs.Search.{IsStoreOr}
+use Rattle.c2_bmff_rows.specs.declared.row.RootBox.{RootBox}
+use Rattle.c2_bmff_rows.specs.Faults.{FirstRootsFault}
+use Rattle.c2_bmff_rows.proofs.Faults.{first_of_all}
 use Rattle.c2_spec.specs.Bmff.Boxes.{begins_bmff, ftyp_kind}
 use Rattle.c2_spec.specs.Bmff.Store.{FirstBmffFault, IsBmffLocated, provenance}
 use Rattle.c2_spec.specs.Container.{IsLocated, begins_jpeg, is_bmff}

@@ -7,8 +7,8 @@ use Rattle.c2_base.specs.declared.media.MediaError.{MediaError}
 use Rattle.c2_base.specs.declared.media.MediaError.TheVariants.{NotMedia, FileTooLarge, Truncated, BadMarker, BadSegment, BadPacket, TwoStores, BadBox, BadProvenanceBox, StoreTooLarge, TooManyBoxes, ReadFault, NoMemory}
 use Rattle.c2_spec.specs.Container.{IsLocated, begins_jpeg, is_bmff}
 use Rattle.c2_spec.specs.Located.{Located, refusal, said}
-use Rattle.c2_boxes.specs.Roots.{AreRootsOf, FillSource}
-use Rattle.c2_box_rows.specs.Rows.{IsBoxWithin}
+use Rattle.c2_bmff_boxes.specs.Roots.{AreRootsOf, FillSource}
+use Rattle.c2_bmff_rows.specs.Rows.{IsBoxWithin}
 use Rattle.c2_container.specs.declared.types.Contained.{Contained}
 use Rattle.c2_container.specs.declared.types.Container.{Container}
 use Rattle.c2_container.specs.declared.types.Container.TheVariants.{Jpeg, Bmff}

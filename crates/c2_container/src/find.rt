@@ -8,7 +8,7 @@ ghost use Rattle.c2_container.specs.Contained.{IsLocateCause, IsSaid, IsWithin};
 
 use crate::types::{Contained, Container};
 use c2_base::{Failed, MediaError, Source, fill_at};
-use c2_boxes::{a_bmff_file_comes_to_one_thing, roots};
+use c2_bmff_boxes::{a_bmff_file_comes_to_one_thing, roots};
 use c2_spec::markers::{FILL, SOI};
 use std::alloc::Global;
 
@@ -104,7 +104,7 @@ fn locate_boxes<S: Source>(alloc: Global, source: &mut S) -> Result<Contained, M
         Ok(roots) => roots,
         Err(error) => return Err(error),
     };
-    match c2_boxes::locate(alloc, source, &roots) {
+    match c2_bmff_boxes::locate(alloc, source, &roots) {
         Ok(found) => Ok(Contained {
             container: Container::Bmff(roots),
             found,

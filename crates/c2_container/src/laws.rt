@@ -4,7 +4,7 @@ ghost use Rattle.c2_base.specs.declared.limits.TheConstants.{MAX_STORE_LEN};
 ghost use Rattle.c2_spec.specs.Container.{IsLocated};
 ghost use Rattle.c2_spec.specs.Located.{Located, here};
 
-use c2_boxes::{
+use c2_bmff_boxes::{
     a_bmff_file_comes_to_one_thing, bmff_store_bytes_are_of_the_file,
     each_bmff_file_comes_to_something,
 };

@@ -5,8 +5,8 @@ use Rattle.std.specs.Int.{w64, to_be_bytes}
 use Rattle.std.specs.List.{flat_map}
 use Rattle.std.proofs.lemmas.List.{take_at, drop_at, drop-take, take-append-drop, length-take-le, length-drop, drop-drop}
 use Rattle.c2_base.specs.declared.values.Range.{Range}
-use Rattle.c2_box_rows.specs.Rows.{row_of, rows_of}
-use Rattle.c2_box_rows.specs.declared.row.RootBox.{RootBox}
+use Rattle.c2_bmff_rows.specs.Rows.{row_of, rows_of}
+use Rattle.c2_bmff_rows.specs.declared.row.RootBox.{RootBox}
 use Rattle.c2_spec.specs.Bmff.Boxes.{Box, IsBox, AreBoxForms, HasRoots, SizeForm, short, long, to_end, box_bytes, box_len, header_bytes, header_len}
 use Rattle.c2_spec.specs.Bmff.Cover.{IsBmffCover, after_offset, bmff_text, root_text}
 use Rattle.c2_spec.specs.Bmff.Hash.{Exclusion, IsExcluded}

@@ -7,7 +7,7 @@ use Rattle.std.proofs.lemmas.Bool.{cases_lt, false≢true, le-leb, lt-leb}
 use Rattle.std.proofs.lemmas.Grind.{flat_map-append}
 use Rattle.std.proofs.lemmas.List.{append-nil}
 use Rattle.c2_base.specs.declared.values.Range.{Range}
-use Rattle.c2_box_rows.specs.declared.row.RootBox.{RootBox}
+use Rattle.c2_bmff_rows.specs.declared.row.RootBox.{RootBox}
 use Rattle.c2_spec.specs.Cover.{is_excluded}
 use Rattle.c2_cover.specs.Covers.{AreMerged}
 use Rattle.c2_cover.specs.Telling.{Follow, StandBy, TellsAll, TellsTo, ending_after, skipped}

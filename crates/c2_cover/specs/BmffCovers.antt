@@ -3,8 +3,8 @@ use Rattle.std.specs.Prelude.{◌≡◌, ℕ, List, length}
 use Rattle.c2_spec.specs.Bmff.Boxes.{Box, HasRoots}
 use Rattle.c2_spec.specs.Bmff.Cover.{IsBmffCover}
 use Rattle.c2_spec.specs.Bmff.Hash.{Exclusion}
-use Rattle.c2_box_rows.specs.Rows.{rows_of}
-use Rattle.c2_box_rows.specs.declared.row.RootBox.{RootBox}
+use Rattle.c2_bmff_rows.specs.Rows.{rows_of}
+use Rattle.c2_bmff_rows.specs.declared.row.RootBox.{RootBox}
 use Rattle.c2_cover.specs.Covers.{Covered, excluded_of, text_of}
 
 -- where these rows are those of the root boxes of the file, the cover is what the exclusions leave of it

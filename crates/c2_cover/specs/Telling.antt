@@ -1,7 +1,7 @@
 -- For private clauses: the words of a cover while they are made.
 use Rattle.std.specs.Prelude.{◌≡◌, ℕ, ◌+◌, ◌-◌, ◌≤◌, ⊤, nat_le, Bool, List, [], ◌∷◌, take, drop, if◌then◌else◌}
 use Rattle.c2_base.specs.declared.values.Range.{Range}
-use Rattle.c2_box_rows.specs.declared.row.RootBox.{RootBox}
+use Rattle.c2_bmff_rows.specs.declared.row.RootBox.{RootBox}
 use Rattle.c2_spec.specs.Cover.{is_excluded}
 use Rattle.c2_cover.specs.Covers.{Covered, AreMerged}
 use Rattle.c2_cover.specs.Words.{AreWords, words_of}

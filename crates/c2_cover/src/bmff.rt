@@ -2,8 +2,8 @@
 ghost use Rattle.std.specs.Prelude.{◌≡◌, ℕ, All, OnOk, IfOk, IfErr};
 ghost use Rattle.std.specs.Option.{ForSome};
 ghost use Rattle.c2_base.specs.Source.{StaysSource};
-ghost use Rattle.c2_boxes.specs.Causes.{IsCaused, OrOutside};
-ghost use Rattle.c2_box_rows.specs.Rows.{IsBoxWithin};
+ghost use Rattle.c2_bmff_boxes.specs.Causes.{IsCaused, OrOutside};
+ghost use Rattle.c2_bmff_rows.specs.Rows.{IsBoxWithin};
 ghost use Rattle.c2_cover.specs.BmffCovers.{IsBmffCoverOf};
 ghost use Rattle.c2_cover.specs.Refused.{IsBmffCause};
 ghost use Rattle.c2_cover.specs.Words.{AreWords};

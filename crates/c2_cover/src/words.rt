@@ -1,7 +1,7 @@
 // The starts of root boxes, which a covered text has between the bytes of the file.
 ghost use Rattle.std.specs.Prelude.{◌≡◌, ◌+◌, not, nat_le, All, IfOk};
 ghost use Rattle.c2_spec.specs.Cover.{is_excluded};
-ghost use Rattle.c2_box_rows.specs.Rows.{IsBoxWithin};
+ghost use Rattle.c2_bmff_rows.specs.Rows.{IsBoxWithin};
 ghost use Rattle.c2_cover.specs.Telling.{Follow, IsToldBy, ending_after, skipped};
 ghost use Rattle.c2_cover.specs.Words.{AreWords, words_of};
 

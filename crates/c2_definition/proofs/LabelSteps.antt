@@ -3,8 +3,8 @@ use Rattle.std.proofs.Common.{◌≡◌, ℕ, zero, suc, ◌+◌, ◌<◌, ◌�
 use Rattle.std.specs.List.{list_any}
 use Rattle.std.proofs.lemmas.Bool.{and_parts, both_ways, false_from_ne_true}
 use Rattle.std.proofs.lemmas.List.{drop_more}
-use Rattle.c2_lookup.specs.Labels.{is_among}
-use Rattle.c2_lookup.specs.declared.labels.Labels.{Labels}
+use Rattle.c2_label_index.specs.Labels.{is_among}
+use Rattle.c2_label_index.specs.declared.labels.Labels.{Labels}
 use Rattle.c2_definition.specs.declared.types.NewAssertion.{NewAssertion}
 use Rattle.c2_definition.specs.DefinitionFile.{has_label, labels_differ}
 

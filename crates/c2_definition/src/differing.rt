@@ -4,7 +4,7 @@ ghost use Rattle.c2_definition.specs.DefinitionFile as file;
 
 use crate::types::NewAssertion;
 use c2_base::NoMemory;
-use c2_lookup::{add_label, has_label, no_labels};
+use c2_label_index::{add_label, has_label, no_labels};
 use std::alloc::Global;
 
 /// Whether no two assertions have one label. Each is looked up among those behind it, from the last one on.

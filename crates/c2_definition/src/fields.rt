@@ -1,5 +1,5 @@
 // The fields of a definition before its assertions.
-ghost use Rattle.std.specs.Prelude.{◌≡◌, codes, option_map, IfOk, IfErr};
+ghost use Rattle.std.specs.Prelude.{◌≡◌, option_map, IfOk, IfErr};
 ghost use Rattle.serde_json.specs.View.{view};
 ghost use Rattle.c2_definition.specs.DefinitionFile as file;
 ghost use Rattle.c2_definition.specs.Stages.{Passes, RefusesFirst};

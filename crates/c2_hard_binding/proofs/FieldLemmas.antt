@@ -3,8 +3,8 @@ use Rattle.std.proofs.Common.{◌≡◌, ◌⊎◌, inl, inr, ℕ, true, false, 
 use Rattle.std.specs.Prelude.{MatchResult}
 use Rattle.std.specs.Option.{ForSome}
 use Rattle.c2_base.specs.Source.{ReadsSource, StaysSource}
-use Rattle.c2_box_rows.specs.Rows.{rows_of}
-use Rattle.c2_box_rows.specs.declared.row.RootBox.{RootBox}
+use Rattle.c2_bmff_rows.specs.Rows.{rows_of}
+use Rattle.c2_bmff_rows.specs.declared.row.RootBox.{RootBox}
 use Rattle.c2_spec.specs.Bmff.Boxes.{Box, HasRoots}
 use Rattle.c2_spec.specs.Bmff.Cover.{IsBmffCover}
 use Rattle.c2_spec.specs.Bmff.Hash.{BmffHash, Exclusion, bmff_hash_of}

@@ -2,7 +2,7 @@
 use Rattle.std.specs.Prelude.{◌≡◌, ◌⊎◌, ℕ, ⊤, true, false, List, All, Option, Ok, Err, length}
 use Rattle.std.specs.declared.result.Result.{Result}
 use Rattle.c2_base.specs.Causes.{Rose}
-use Rattle.c2_box_rows.specs.Rows.{IsBoxWithin, rows_of}
+use Rattle.c2_bmff_rows.specs.Rows.{IsBoxWithin, rows_of}
 use Rattle.c2_spec.specs.Bmff.Boxes.{Box, HasRoots}
 use Rattle.c2_spec.specs.Cbor.Item.{Item}
 use Rattle.c2_spec.specs.declared.assertion.FieldError.{FieldError}

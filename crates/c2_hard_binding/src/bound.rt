@@ -23,12 +23,12 @@ use c2_assertion::FieldError;
 use c2_base::limits::PIECE_LEN;
 use c2_base::{Failed, NoMemory, Source, Text};
 use c2_cbor::one_item;
+use c2_check_facts::{alg_name, label_kind};
 use c2_container::Container;
 use c2_cover::{Cover, CoverError, digest_cover};
 use c2_hash::{Alg, Digest, Hashing, alg_of};
-use c2_manifests::{alg_name, label_kind};
 use c2_opening::ValidateError;
-use c2_reading::{Kept, label};
+use c2_read_manifests::{Kept, label};
 use c2_rules::{Code, Failing};
 use std::alloc::Global;
 

@@ -1,5 +1,5 @@
 // Box segments of APP11 (ISO/IEC 18477-3, annex B.2).
-ghost use Rattle.std.specs.Prelude.{◌≡◌, ◌==◌, ◌+◌, ◌<◌, ◌≤◌, length, take, drop, true, false, IfSome, IfNone};
+ghost use Rattle.std.specs.Prelude.{◌≡◌, ◌==◌, ◌+◌, ◌<◌, ◌≤◌, length, take, drop};
 ghost use Rattle.std.specs.Int.{w16, w32, w64, from_be_bytes};
 ghost use Rattle.c2_spec.specs.Jpeg.Packets as jpeg;
 ghost use Rattle.c2_spec.specs.declared.kinds.TheConstants.{JUMB};

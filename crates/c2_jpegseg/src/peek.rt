@@ -1,9 +1,8 @@
 // A few bytes of a source that were read last, for walks that take no memory.
-ghost use Rattle.std.specs.Prelude.{◌≡◌, ◌+◌, ◌<◌, ◌≤◌, ℕ, List, Option, OnOk, IfOk};
+ghost use Rattle.std.specs.Prelude.{◌+◌, ◌<◌, ℕ, List, Option, OnOk};
 ghost use Rattle.c2_base.specs.Causes.{HasCause};
 ghost use Rattle.c2_base.specs.Source.{StaysSource};
 ghost use Rattle.c2_jpegseg.specs.Peeks.{Peeks, HasByte};
-ghost use Rattle.c2_jpegseg.specs.Windows.{IsByteAt};
 
 use crate::window::{Bytes, fill_first};
 use c2_base::{Failed, Source};

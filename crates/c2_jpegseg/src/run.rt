@@ -1,5 +1,5 @@
 // The run of packets that holds a store.
-ghost use Rattle.std.specs.Prelude.{◌≡◌, ◌+◌, ◌++◌, ◌-◌, ◌<◌, ◌≤◌, length, take, vec_len, true, None, Some, OnOk, IfOk, IfErr};
+ghost use Rattle.std.specs.Prelude.{◌≡◌, ◌+◌, ◌++◌, ◌-◌, ◌<◌, ◌≤◌, length, vec_len, true, None, OnOk, IfOk, IfErr};
 ghost use Rattle.c2_spec.specs.Jpeg.Store as jpeg;
 ghost use Rattle.c2_base.specs.declared.limits.TheConstants.{MAX_STORE_LEN};
 ghost use Rattle.c2_jpegseg.specs.Packets.{view, IsHeader};

@@ -1,23 +1,20 @@
 // The C2PA store of a JPEG file.
-ghost use Rattle.std.specs.Prelude.{◌≡◌, ℕ, ◌+◌, ◌-◌, ◌^◌, ◌<◌, ◌≤◌, true, List, length, OnOk, IfOk, IfErr, IfSome, None, Some};
+ghost use Rattle.std.specs.Prelude.{◌≡◌, ◌+◌, ◌-◌, ◌<◌, ◌≤◌, true, length, OnOk, IfOk, IfErr, IfSome, None, Some};
 ghost use Rattle.std.specs.Option.{ForSome};
 ghost use Rattle.c2_base.specs.Causes.{HasCause};
 ghost use Rattle.c2_base.specs.Source.{StaysSource};
 ghost use Rattle.c2_spec.specs.Located.{Located, said, HasReason};
-ghost use Rattle.c2_spec.specs.Jpeg.Segments.{EndsSegments};
 ghost use Rattle.c2_base.specs.declared.limits.TheConstants.{FILE_LEN_LIMIT};
 ghost use Rattle.c2_spec.specs.Jpeg.Store.{IsLocated, IsJpegRefusal, EndsWithin, HasSmallStore};
 ghost use Rattle.c2_jpegseg.specs.Answers.{IsBegun, IsWalkedOr, IsFoundOr, IsWalkError};
-ghost use Rattle.c2_jpegseg.specs.Causes.{IsCaused, OrOutside};
-ghost use Rattle.c2_jpegseg.specs.Packets.{PacketOf, HasHeader};
-ghost use Rattle.c2_jpegseg.specs.Runs.{all_collected, EndsBy};
-ghost use Rattle.c2_jpegseg.specs.Segments.{IsExtent, IsExtentBy, longest_payload};
+ghost use Rattle.c2_jpegseg.specs.Causes.{IsCaused};
+ghost use Rattle.c2_jpegseg.specs.Packets.{HasHeader};
+ghost use Rattle.c2_jpegseg.specs.Segments.{longest_payload};
 ghost use Rattle.c2_jpegseg.specs.Walks.{Walks};
 ghost use Rattle.c2_jpegseg.specs.Windows.{Shows, CoversPacket, ShowsPacket};
 
 use crate::marker::{self, Extent, Next};
 use crate::packet::{self, Packet};
-use crate::run::Run;
 use crate::segment;
 use crate::window::{Bytes, Window};
 use c2_base::limits::FILE_LEN_LIMIT;

@@ -1,5 +1,5 @@
 // One segment of the walk.
-ghost use Rattle.std.specs.Prelude.{◌≡◌, ◌<◌, ◌≤◌, ℕ, List, length, None, Some, OnOk, IfOk, IfErr};
+ghost use Rattle.std.specs.Prelude.{◌<◌, ◌≤◌, length, None, Some, OnOk, IfOk, IfErr};
 ghost use Rattle.c2_jpegseg.specs.Packets.{HasHeader};
 ghost use Rattle.c2_jpegseg.specs.Runs.{collected, all_collected, EndsBy, IsSegmentError};
 ghost use Rattle.c2_jpegseg.specs.Walks.{StepsTo, StepFails};

@@ -1,5 +1,5 @@
 // A store written in packets (ISO/IEC 18477-3, annex B.2).
-ghost use Rattle.std.specs.Prelude.{◌≡◌, ◌+◌, ◌-◌, ◌<◌, ◌≤◌, ◌^◌, ◌++◌, length, OnOk};
+ghost use Rattle.std.specs.Prelude.{◌≡◌, ◌+◌, ◌-◌, ◌<◌, ◌≤◌, length, OnOk};
 ghost use Rattle.c2_base.specs.Causes.{HasCause};
 ghost use Rattle.c2_base.specs.Sink.{Appends, Spends, TakesPrefix, OkWithinSpare};
 ghost use Rattle.c2_spec.specs.declared.packets.TheConstants.{PACKET_BODY_LEN};

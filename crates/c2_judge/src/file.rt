@@ -1,5 +1,5 @@
 // Reading a verdict file into a map.
-ghost use Rattle.std.specs.Prelude.{◌≡◌, List, ℕ, OnOk};
+ghost use Rattle.std.specs.Prelude.{OnOk};
 ghost use Rattle.c2_judge.specs.Reading.{HasReadRows, AddsRow};
 
 use crate::rows::{read_row, split_line};

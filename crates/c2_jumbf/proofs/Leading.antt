@@ -1,9 +1,9 @@
 -- Labels lead to one box: siblings with one label are one.
-use Rattle.std.proofs.Common.{◌≡◌, ◌≢◌, ℕ, zero, suc, ◌+◌, ◌<◌, List, [], ◌∷◌, ◌++◌, length, get_or, drop, map, Option, Some, None, refl, sym, ap, ◌∙◌, subst, append_assoc, arith}
-use Rattle.std.proofs.lemmas.List.{drop-drop, drop_at, drop_more, drop_all, get_or-map, length-map}
+use Rattle.std.proofs.Common.{◌≡◌, ◌≢◌, ℕ, zero, suc, ◌+◌, ◌<◌, List, [], ◌∷◌, length, get_or, drop, map, Option, Some, None, refl, sym, ap, ◌∙◌, subst, arith}
+use Rattle.std.proofs.lemmas.List.{drop_more, drop_all, get_or-map, length-map}
 use Rattle.std.specs.List.{AllByRecursion, Contains}
-use Rattle.c2_spec.specs.Jumbf.Tree.{description_bytes, head_len, Tree, Trees, leaf, super, none, more, tree_bytes, tree_label, tree_labels, IsNewLabel, AreDistinctLabels, IsLegalTree}
-use Rattle.c2_spec.specs.Jumbf.Boxes.{AnyBox, node, described, IndexedBox, tree_count, boxes_from, boxes_from_all, boxes_of, box_at, any_label, indices_from, children_of, child_indices, LabelsLead, IsLegalBox, index_after}
+use Rattle.c2_spec.specs.Jumbf.Tree.{Tree, IsNewLabel, AreDistinctLabels, IsLegalTree}
+use Rattle.c2_spec.specs.Jumbf.Boxes.{tree_count, box_at, any_label, child_indices, LabelsLead, index_after}
 use Rattle.c2_spec.proofs.JumbfChildren.{Chain, chain_of, label_at, distinct_children}
 
 -- a label that differs from each of some labels is at none of their places

@@ -1,5 +1,5 @@
 -- Boxes by their heads, once they are read whole.
-use Rattle.std.proofs.Common.{◌≡◌, ◌≢◌, ℕ, ◌+◌, ◌-◌, ◌^◌, ◌<◌, ◌≤◌, List, [], ◌∷◌, ◌++◌, length, get_or, take, drop, set, Option, refl, sym, ap, ◌∙◌, subst, append_assoc, arith, length-append}
+use Rattle.std.proofs.Common.{◌≡◌, ◌≢◌, ℕ, ◌+◌, ◌-◌, ◌^◌, ◌<◌, ◌≤◌, List, [], ◌∷◌, ◌++◌, length, get_or, take, drop, set, refl, sym, ap, ◌∙◌, subst, append_assoc, arith, length-append}
 use Rattle.std.proofs.lemmas.List.{length-drop, drop-take, set_at, length-take-le, get_or_at, append-nil}
 use Rattle.c2_spec.specs.declared.kinds.TheConstants.{JUMB}
 use Rattle.c2_spec.specs.declared.jumbf.JumbfError.{JumbfError}

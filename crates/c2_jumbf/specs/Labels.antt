@@ -1,5 +1,5 @@
 -- The labels of the siblings so far, as the reader keeps them; for private clauses.
-use Rattle.std.specs.Prelude.{◌≡◌, ◌<◌, ◌≤◌, true, false, Bool, ℕ, suc, min, List, [], ◌∷◌, map, Option, Some, None, slice_index, slice_index_or}
+use Rattle.std.specs.Prelude.{◌≡◌, ◌<◌, ◌≤◌, false, Bool, ℕ, suc, min, List, [], ◌∷◌, map, Option, Some, None, slice_index, slice_index_or}
 use Rattle.std.specs.List.{Contains}
 use Rattle.std.specs.Int.{w64, from_be_bytes}
 use Rattle.std.specs.Str.{bytes_eq}

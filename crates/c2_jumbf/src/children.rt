@@ -1,5 +1,5 @@
 // The children of a box, and where labels lead.
-ghost use Rattle.std.specs.Prelude.{◌≡◌, ◌+◌, ◌<◌, ◌≤◌, ℕ, List, Option, Some, None, IfSome, IfNone};
+ghost use Rattle.std.specs.Prelude.{◌≡◌, ◌+◌, ◌<◌, ℕ, Option, Some, None, IfSome, IfNone};
 ghost use Rattle.std.specs.List.{slice_get, Contains};
 ghost use Rattle.c2_spec.specs.Jumbf.Tree.{IsLegalTree};
 ghost use Rattle.c2_spec.specs.Jumbf.Boxes.{tree_count, box_at, any_label, child_indices, path_labels, LabelsLead};

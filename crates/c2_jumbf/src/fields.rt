@@ -1,5 +1,5 @@
 // The fields of a description.
-ghost use Rattle.std.specs.Prelude.{◌≡◌, ℕ, List, Option, slice_index, ◌+◌, ◌<◌, ◌≤◌, length, take, drop, true, None, Some, IfSome, IfNone};
+ghost use Rattle.std.specs.Prelude.{◌≡◌, ℕ, List, Option, slice_index, ◌+◌, ◌<◌, ◌≤◌, length, true, None, Some, IfSome, IfNone};
 ghost use Rattle.std.specs.Bool.{OnTrue, OnFalse};
 ghost use Rattle.c2_spec.specs.Jumbf.Tree.{PlainBox, IsLabelByte};
 ghost use Rattle.c2_spec.specs.Jumbf.Faults.{IsLabelPart, IsFixedPart, LabelFault, DescriptionFault};

@@ -4,7 +4,7 @@ use Rattle.std.proofs.Math.Seq.{drop-cons}
 use Rattle.std.proofs.lemmas.List.{drop_all, map-append}
 use Rattle.c2_spec.specs.Jumbf.Tree.{tree_bytes, trees_bytes}
 use Rattle.c2_definition.specs.declared.types.NewAssertion.{NewAssertion}
-use Rattle.c2_built.specs.Store.{assertion_box, assertion_boxes}
+use Rattle.c2_new_store_spec.specs.Store.{assertion_box, assertion_boxes}
 
 -- the boxes of two lists, one after the other
 pub boxes_over : (xs ys : List NewAssertion) → trees_bytes (assertion_boxes xs) ++ trees_bytes (assertion_boxes ys) ≡ trees_bytes (assertion_boxes (xs ++ ys))

@@ -7,7 +7,7 @@ use Rattle.c2_spec.specs.declared.cbor.Ref.{Ref}
 use Rattle.c2_claim.specs.Written.{claim_item}
 use Rattle.c2_claim.specs.declared.writing.ClaimParts.{ClaimParts}
 use Rattle.c2_definition.specs.declared.types.Definition.{Definition}
-use Rattle.c2_built.specs.Store.{claim_with, new_alg}
+use Rattle.c2_new_store_spec.specs.Store.{claim_with, new_alg}
 use Rattle.c2_spec.specs.Digest.{alg_name}
 
 -- the parts of a claim

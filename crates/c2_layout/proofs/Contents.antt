@@ -13,12 +13,12 @@ use Rattle.c2_claim.specs.Written.{claim_item}
 use Rattle.c2_definition.specs.DefinitionFile.{IsWellFormed, is_new_label}
 use Rattle.c2_definition.specs.declared.types.Definition.{Definition}
 use Rattle.c2_definition.specs.declared.types.NewAssertion.{NewAssertion}
-use Rattle.c2_built.specs.Built.{HasDigestLen, StoreSizesAreSame, bound_len, no_digest}
-use Rattle.c2_built.specs.FreshBoxes.{store_box}
-use Rattle.c2_built.specs.Store.{Content, NewIngredient, assertion_box, assertion_boxes, claim_with, entry_of, ingredient_assertion, manifest_box, new_alg, new_assertions, new_claim, new_store}
-use Rattle.c2_built.specs.Unbound.{IsKnownLabel}
-use Rattle.c2_built.specs.Written.{IsIngredientLabel}
-use Rattle.c2_built.proofs.Labels.{new_label, written_label}
+use Rattle.c2_new_store_spec.specs.Built.{HasDigestLen, StoreSizesAreSame, bound_len, no_digest}
+use Rattle.c2_new_store_spec.specs.FreshBoxes.{store_box}
+use Rattle.c2_new_store_spec.specs.Store.{Content, NewIngredient, assertion_box, assertion_boxes, claim_with, entry_of, ingredient_assertion, manifest_box, new_alg, new_assertions, new_claim, new_store}
+use Rattle.c2_new_store_spec.specs.Unbound.{IsKnownLabel}
+use Rattle.c2_new_store_spec.specs.Written.{IsIngredientLabel}
+use Rattle.c2_new_store_spec.proofs.Labels.{new_label, written_label}
 use Rattle.c2_layout.specs.Parts.{AreParts, CanBeBoxed, IsContent, parts_size}
 use Rattle.c2_layout.specs.declared.carried.Carried.{Carried}
 use Rattle.c2_layout.specs.declared.parts.NewParts.{NewParts}
@@ -143,13 +143,13 @@ data_label : IsWrittenLabel (codes "c2pa.hash.data")
 data_label = written_label (codes "c2pa.hash.data") (record { some = lit< tt; named = grind arith })
 
 -- the label of a binding to boxes can be written
-film_label : IsWrittenLabel (codes "c2pa.hash.bmff.v2")
-film_label = written_label (codes "c2pa.hash.bmff.v2") (record { some = lit< tt; named = grind arith })
+bmff_label : IsWrittenLabel (codes "c2pa.hash.bmff.v2")
+bmff_label = written_label (codes "c2pa.hash.bmff.v2") (record { some = lit< tt; named = grind arith })
 
 -- so a label of a kind that is known can
 known_label : (l : List ℕ) → IsKnownLabel l → IsWrittenLabel l
 known_label l (inl e) = subst IsWrittenLabel (sym e) data_label
-known_label l (inr e) = subst IsWrittenLabel (sym e) film_label
+known_label l (inr e) = subst IsWrittenLabel (sym e) bmff_label
 
 -- the assertions of a definition, those of ingredients and a binding can be boxed
 pub record AreBoxed (d : Definition) (ingredients : List NewAssertion) (b : NewAssertion) : Type 0 where

@@ -10,10 +10,10 @@ use Rattle.c2_assertion.specs.Written.{ingredient_item}
 use Rattle.c2_definition.specs.declared.types.NewAssertion.{NewAssertion}
 use Rattle.c2_definition.specs.declared.types.Payload.{Payload}
 use Rattle.c2_definition.specs.declared.types.Payload.TheVariants as payload
-use Rattle.c2_built.specs.Store.{NamedManifest, ingredient_assertion, target_ref}
-use Rattle.c2_built.specs.Written.{IsIngredientLabel}
-use Rattle.c2_built.proofs.Ingredients.{good_label}
-use Rattle.c2_built.proofs.Labels.{written_label}
+use Rattle.c2_new_store_spec.specs.Store.{NamedManifest, ingredient_assertion, target_ref}
+use Rattle.c2_new_store_spec.specs.Written.{IsIngredientLabel}
+use Rattle.c2_new_store_spec.proofs.Ingredients.{good_label}
+use Rattle.c2_new_store_spec.proofs.Labels.{written_label}
 use Rattle.c2_layout.specs.Parts.{AreRefs, told}
 use Rattle.c2_layout.specs.declared.carried.ManifestRefs.{ManifestRefs}
 

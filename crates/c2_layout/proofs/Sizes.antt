@@ -7,9 +7,9 @@ use Rattle.c2_spec.specs.Jumbf.Tree.{tree_bytes, trees_bytes}
 use Rattle.c2_spec.specs.declared.digest.Alg.{Alg}
 use Rattle.c2_spec.proofs.Digests.{zero_len}
 use Rattle.c2_definition.specs.declared.types.NewAssertion.{NewAssertion}
-use Rattle.c2_built.specs.Built.{HasDigestLen, StoreSizesAreSame, bound_len, no_digest}
-use Rattle.c2_built.specs.Store.{Content, assertion_box, assertion_boxes, new_alg, new_assertions, new_claim, new_manifest, new_store}
-use Rattle.c2_built.proofs.StoreSize.{assertion_len, manifest_len, store_len}
+use Rattle.c2_new_store_spec.specs.Built.{HasDigestLen, StoreSizesAreSame, bound_len, no_digest}
+use Rattle.c2_new_store_spec.specs.Store.{Content, assertion_box, assertion_boxes, new_alg, new_assertions, new_claim, new_manifest, new_store}
+use Rattle.c2_new_store_spec.proofs.StoreSize.{assertion_len, manifest_len, store_len}
 
 -- ---- assertions
 

@@ -4,7 +4,7 @@ use Rattle.c2_base.specs.declared.limits.TheConstants.{MAX_STORE_LEN}
 use Rattle.c2_spec.specs.Jumbf.Writing.{IsWrittenLabel, super_size, SuperRefused, bad_label, too_large}
 use Rattle.c2_spec.specs.declared.jumbf.WriteError.{WriteError}
 use Rattle.c2_spec.specs.declared.jumbf.WriteError.TheVariants.{BadLabel, TooLarge, NoMemory}
-use Rattle.c2_built.proofs.Labels.{written_label}
+use Rattle.c2_new_store_spec.proofs.Labels.{written_label}
 use Rattle.c2_layout.specs.Parts.{manifest_size}
 use Rattle.c2_layout.specs.Unwritten.{IsBoxRefused, IsContentRefused, IsManifestRefused, IsSuperboxRefused}
 

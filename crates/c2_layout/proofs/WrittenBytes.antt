@@ -6,10 +6,10 @@ use Rattle.c2_spec.specs.Jumbf.Tree.{Tree, Trees, none, more, tree_bytes, trees_
 use Rattle.c2_spec.specs.Jumbf.Writing.{fresh_description, fresh_super, super_size}
 use Rattle.c2_spec.specs.declared.kinds.TheConstants.{JUMB}
 use Rattle.c2_definition.specs.declared.types.NewAssertion.{NewAssertion}
-use Rattle.c2_built.specs.FreshBoxes.{fresh_box, item_box, store_box, trees_then}
-use Rattle.c2_built.specs.Store.{assertion_boxes, manifest_box}
-use Rattle.c2_built.proofs.BoxLemmas.{payload_len}
-use Rattle.c2_built.proofs.StoreSize.{one_box_len, store_len}
+use Rattle.c2_new_store_spec.specs.FreshBoxes.{fresh_box, item_box, store_box, trees_then}
+use Rattle.c2_new_store_spec.specs.Store.{assertion_boxes, manifest_box}
+use Rattle.c2_new_store_spec.proofs.BoxLemmas.{payload_len}
+use Rattle.c2_new_store_spec.proofs.StoreSize.{one_box_len, store_len}
 
 -- the assertion store, the claim and the signature, one after the other, are the contents of the manifest's box
 pub manifest_bytes : (label boxes claim message a b s : List ℕ) (assertions : List NewAssertion) → boxes ≡ trees_bytes (assertion_boxes assertions)

@@ -4,19 +4,19 @@ ghost use Rattle.c2_spec.specs.Cbor.Deterministic.{deterministic};
 ghost use Rattle.c2_spec.specs.Jumbf.Tree.{trees_bytes};
 ghost use Rattle.c2_claim.specs.Written.{claim_item};
 ghost use Rattle.c2_definition.specs.DefinitionFile.{IsWellFormed};
-ghost use Rattle.c2_built.specs.Built.{bound_len};
+ghost use Rattle.c2_new_store_spec.specs.Built.{bound_len};
 ghost use Rattle.c2_layout.specs.Parts.{AreParts, CanBeBound, CanBeBoxed, IsContent, parts_size};
-ghost use Rattle.c2_built.specs.Store as store;
-ghost use Rattle.c2_built.specs.Store.{Content};
-ghost use Rattle.c2_built.specs.Unbound.{IsKnownBinding};
+ghost use Rattle.c2_new_store_spec.specs.Store as store;
+ghost use Rattle.c2_new_store_spec.specs.Store.{Content};
+ghost use Rattle.c2_new_store_spec.specs.Unbound.{IsKnownBinding};
 
 use crate::assertions::push_all;
 use crate::carried::Carried;
 use crate::claims::claim_of;
 use c2_base::{Blob, NoMemory};
-use c2_built::new_stores_have_one_length;
 use c2_definition::{Definition, NewAssertion};
 use c2_hash::Hashing;
+use c2_new_store_spec::new_stores_have_one_length;
 use std::alloc::Global;
 use std::slice::from_ref;
 

@@ -4,20 +4,20 @@ ghost use Rattle.c2_spec.specs.declared.packets.TheConstants.{LEAST_STORE_LEN};
 ghost use Rattle.c2_spec.specs.Cbor.Deterministic.{deterministic};
 ghost use Rattle.c2_spec.specs.Jumbf.Tree.{trees_bytes};
 ghost use Rattle.c2_claim.specs.Written.{claim_item};
-ghost use Rattle.c2_built.specs.Built as built;
-ghost use Rattle.c2_built.specs.Built.{no_digest};
+ghost use Rattle.c2_new_store_spec.specs.Built as built;
+ghost use Rattle.c2_new_store_spec.specs.Built.{no_digest};
 ghost use Rattle.c2_layout.specs.Parts.{IsContent};
-ghost use Rattle.c2_built.specs.Store as store;
-ghost use Rattle.c2_built.specs.Store.{Content};
+ghost use Rattle.c2_new_store_spec.specs.Store as store;
+ghost use Rattle.c2_new_store_spec.specs.Store.{Content};
 
 use crate::carried::Carried;
 use crate::claims::claim_of;
 use crate::entries::own_ref;
 use c2_base::NoMemory;
-use c2_built::new_stores_have_one_length;
 use c2_cbor::Ref;
 use c2_definition::{Definition, NewAssertion};
 use c2_hash::{Alg, Digest};
+use c2_new_store_spec::new_stores_have_one_length;
 use std::alloc::Global;
 use std::slice::from_ref;
 

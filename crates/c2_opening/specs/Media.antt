@@ -4,7 +4,7 @@ use Rattle.c2_spec.specs.Bmff.Boxes.{Box, HasRoots}
 use Rattle.c2_spec.specs.Container.{jpeg, bmff}
 use Rattle.c2_spec.specs.Container as container
 use Rattle.c2_rules.specs.Binding as rules
-use Rattle.c2_box_rows.specs.Rows.{rows_of}
+use Rattle.c2_bmff_rows.specs.Rows.{rows_of}
 use Rattle.c2_container.specs.declared.types.Container as types
 use Rattle.c2_container.specs.declared.types.Container.TheVariants.{Jpeg, Bmff}
 

@@ -1,5 +1,4 @@
 // Why a media file was not judged.
-ghost use Rattle.std.specs.Prelude.{◌≡◌};
 
 /// Why a call has no answer about its media file.
 #[derive(Clone, Copy, Debug, PartialEq, Eq)]

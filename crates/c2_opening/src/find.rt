@@ -1,5 +1,5 @@
 // The store of a media file, by its container.
-ghost use Rattle.std.specs.Prelude.{◌≡◌, ◌+◌, ◌≤◌, ℕ, List, None, Some, Ok, IfOk, IfErr, OnOk};
+ghost use Rattle.std.specs.Prelude.{◌≡◌, ℕ, List, None, Some, Ok, IfOk, IfErr, OnOk};
 ghost use Rattle.std.specs.Option.{ForSome};
 ghost use Rattle.c2_base.specs.Source.{StaysSource};
 ghost use Rattle.c2_spec.specs.Located.{refusal, said};

@@ -9,7 +9,7 @@ ghost use Rattle.c2_container.specs.Contained.{IsContainerOf};
 ghost use Rattle.c2_container.specs.declared.types.Container.{Container};
 ghost use Rattle.c2_opening.specs.Media.{IsMediaOf};
 
-use c2_boxes::a_file_has_one_list_of_roots;
+use c2_bmff_boxes::a_file_has_one_list_of_roots;
 use c2_container::each_media_file_is_located;
 use c2_jumbf::each_list_is_a_tree_or_not;
 

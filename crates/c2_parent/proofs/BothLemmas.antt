@@ -18,15 +18,15 @@ use Rattle.c2_rules.specs.declared.code.Code.{Code}
 use Rattle.c2_rules.specs.declared.code.Code.TheVariants.{ProfileRedactionTarget, ProfileIngredientSignature}
 use Rattle.c2_rules.proofs.ListLemmas.{and_true, both_true, from_any, from_below, from_passes, in_any, in_below, or_cases, or_left, or_right}
 use Rattle.c2_rules.proofs.ReachLemmas.{placed, place_is}
-use Rattle.c2_joined.specs.Joined.{is_carried, picked}
-use Rattle.c2_joined.proofs.Places.{at_contains, contains_at, contains_either, contains_left, contains_right, get_left, picked_at, picked_of}
-use Rattle.c2_joined.proofs.Standing.{same_test}
-use Rattle.c2_carried.specs.Redacting.{takes_out}
-use Rattle.c2_carried.specs.Refusing.{any_reached, has_manifest, is_target, names_unsigned, new_claim_uri, redaction_refusal, refused_by}
-use Rattle.c2_carried.specs.declared.refused.RefusedRedaction.{RefusedRedaction}
-use Rattle.c2_collected.specs.Collected.{JoinedReaches, WasReached, in_media, in_other, collected_readings}
-use Rattle.c2_collected.specs.Refusals.{any_reached_by, entry_tests_by, has_target_by, has_unsigned_by, redaction_refusal_by, refusal_after_by}
-use Rattle.c2_collected.proofs.Accepted.{refusals_standing}
+use Rattle.c2_chain_spec.specs.Joined.{is_carried, picked}
+use Rattle.c2_chain_spec.proofs.Places.{at_contains, contains_at, contains_either, contains_left, contains_right, get_left, picked_at, picked_of}
+use Rattle.c2_chain_spec.proofs.Standing.{same_test}
+use Rattle.c2_parent_spec.specs.Redacting.{takes_out}
+use Rattle.c2_parent_spec.specs.Refusing.{any_reached, has_manifest, is_target, names_unsigned, new_claim_uri, redaction_refusal, refused_by}
+use Rattle.c2_parent_spec.specs.declared.refused.RefusedRedaction.{RefusedRedaction}
+use Rattle.c2_collect_spec.specs.Collected.{JoinedReaches, WasReached, in_media, in_other, collected_readings}
+use Rattle.c2_collect_spec.specs.Refusals.{any_reached_by, entry_tests_by, has_target_by, has_unsigned_by, redaction_refusal_by, refusal_after_by}
+use Rattle.c2_collect_spec.proofs.Accepted.{refusals_standing}
 use Rattle.c2_parent.specs.Both.{IsCodeOfBoth, IsFirstRefusedOfBoth, PassBothSoFar, later_in_both}
 use Rattle.c2_parent.specs.Named.{AreNamed, is_among}
 use Rattle.c2_parent.specs.Refused.{any_so, assertion_of, code_of}

@@ -6,8 +6,8 @@ use Rattle.c2_spec.specs.Jumbf.Boxes.{AnyBox, node, any_bytes, any_label, box_at
 use Rattle.c2_spec.specs.Jumbf.Tree.{Tree, Trees, leaf, super, none, more, tree_bytes, trees_bytes}
 use Rattle.c2_spec.proofs.JumbfBoxes.{any_size}
 use Rattle.c2_rules.specs.Chains.{passes_some}
-use Rattle.c2_built.specs.Manifests.{is_assertion_store}
-use Rattle.c2_carried.specs.Redacting.{boxes_in, redacted_box, redacted_boxes, takes_out, thin_boxes, thin_store, without}
+use Rattle.c2_new_store_spec.specs.Manifests.{is_assertion_store}
+use Rattle.c2_parent_spec.specs.Redacting.{boxes_in, redacted_box, redacted_boxes, takes_out, thin_boxes, thin_store, without}
 use Rattle.c2_parent.specs.Boxes.{any_boxes, changed, lost_in_store, name_in, redacted_any, taken_in}
 use Rattle.c2_parent.specs.Named.{AreNamed, is_among}
 use Rattle.c2_parent.specs.declared.named.Named.{Named}

@@ -9,8 +9,8 @@ use Rattle.c2_spec.specs.Jumbf.Boxes.{AnyBox, node, described, any_bytes, any_co
 use Rattle.c2_rules.specs.Chains.{passes_some}
 use Rattle.c2_spec.proofs.JumbfBoxes.{any_size}
 use Rattle.c2_parent.specs.Boxes.{any_boxes, changed, front_bytes, lost, lost_in_store}
-use Rattle.c2_built.specs.Manifests.{is_assertion_store}
-use Rattle.c2_carried.specs.Redacting.{without, thin_store, thin_boxes, boxes_in}
+use Rattle.c2_new_store_spec.specs.Manifests.{is_assertion_store}
+use Rattle.c2_parent_spec.specs.Redacting.{without, thin_store, thin_boxes, boxes_in}
 
 -- behind its header a box has its front and its boxes
 pub contents_split : (b : AnyBox) → any_contents b ≡ front_bytes b ++ trees_bytes (any_boxes b)

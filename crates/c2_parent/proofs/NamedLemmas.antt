@@ -12,7 +12,7 @@ use Rattle.c2_spec.specs.C2pa.Uri.{uri_of, uri_view}
 use Rattle.c2_spec.specs.declared.uri.Uri.{Uri}
 use Rattle.c2_spec.specs.declared.uri.Target.TheVariants.{Assertion}
 use Rattle.c2_rules.specs.Chains.{names_assertion}
-use Rattle.c2_carried.specs.Redacting.{takes_out}
+use Rattle.c2_parent_spec.specs.Redacting.{takes_out}
 use Rattle.c2_parent.specs.Named.{is_among, AreNamed}
 use Rattle.c2_parent.specs.declared.named.Named.{Named}
 

@@ -10,12 +10,12 @@ use Rattle.c2_spec.specs.Jumbf.Tree.{Tree, Trees, leaf, super, none, more}
 use Rattle.c2_spec.specs.declared.store.ManifestBoxes.{ManifestBoxes}
 use Rattle.std.specs.Option.{IfSome}
 use Rattle.c2_spec.proofs.BoxesOfManifests.{signature_inside}
-use Rattle.c2_built.proofs.ByIndex.{At, Both, at_box, manifest_is, supers_any}
-use Rattle.c2_built.specs.FreshBoxes.{contents_of}
-use Rattle.c2_built.specs.Manifests.{is_assertion_store, is_signature_box, is_super, superbox_of, supers_in, supers_of}
-use Rattle.c2_built.specs.Store.{NamedManifest}
-use Rattle.c2_carried.specs.Parents.{IsParentOf}
-use Rattle.c2_carried.specs.Redacting.{boxes_in, redacted_box, redacted_boxes, thin_boxes, thin_store, takes_out}
+use Rattle.c2_new_store_spec.proofs.ByIndex.{At, Both, at_box, manifest_is, supers_any}
+use Rattle.c2_new_store_spec.specs.FreshBoxes.{contents_of}
+use Rattle.c2_new_store_spec.specs.Manifests.{is_assertion_store, is_signature_box, is_super, superbox_of, supers_in, supers_of}
+use Rattle.c2_new_store_spec.specs.Store.{NamedManifest}
+use Rattle.c2_parent_spec.specs.Parents.{IsParentOf}
+use Rattle.c2_parent_spec.specs.Redacting.{boxes_in, redacted_box, redacted_boxes, thin_boxes, thin_store, takes_out}
 use Rattle.c2_parent.specs.Boxes.{name_in, redacted_any}
 
 -- ---- lists

@@ -26,10 +26,10 @@ use Rattle.c2_rules.specs.declared.code.Code.TheVariants.{ProfileRedactionTarget
 use Rattle.c2_rules.proofs.ListLemmas.{from_below, in_below}
 use Rattle.c2_rules.proofs.ReachLemmas.{placed, place_is}
 use Rattle.c2_rules.proofs.TestLemmas.{first_failing_append}
-use Rattle.c2_older.specs.Older.{has_signature, is_kept}
-use Rattle.c2_carried.specs.Redacting.{takes_out}
-use Rattle.c2_carried.specs.Refusing.{any_reached, entry_tests, has_assertion, is_target, kept_boxes, names_unsigned, redaction_refusal, refusal_after, refused_by}
-use Rattle.c2_carried.specs.declared.refused.RefusedRedaction.{RefusedRedaction}
+use Rattle.c2_chain_older_spec.specs.Older.{has_signature, is_kept}
+use Rattle.c2_parent_spec.specs.Redacting.{takes_out}
+use Rattle.c2_parent_spec.specs.Refusing.{any_reached, entry_tests, has_assertion, is_target, kept_boxes, names_unsigned, redaction_refusal, refusal_after, refused_by}
+use Rattle.c2_parent_spec.specs.declared.refused.RefusedRedaction.{RefusedRedaction}
 use Rattle.c2_parent.specs.Named.{AreNamed}
 use Rattle.c2_parent.specs.Named as named
 use Rattle.c2_parent.specs.Refused.{PassSoFar, any_so, assertion_of, code_of, later_code, still_there, unsigned_in, uri_entry_tests}

@@ -4,8 +4,8 @@ use Rattle.c2_spec.specs.Jumbf.Tree.{Tree, Trees, leaf, super, none, more, tree_
 use Rattle.c2_spec.specs.Jumbf.Boxes.{AnyBox, node, index_after, box_at, any_bytes, any_label}
 use Rattle.c2_rules.specs.Chains.{passes_some}
 use Rattle.c2_parent.specs.Boxes.{AreFrom, ToCome, any_boxes, changed, child_of, is_any_store, lost, lost_in_store, redacted_any, thin_rest}
-use Rattle.c2_built.specs.Manifests.{is_assertion_store}
-use Rattle.c2_carried.specs.Redacting.{without, thin_store, thin_boxes, boxes_in, redacted_box, redacted_boxes}
+use Rattle.c2_new_store_spec.specs.Manifests.{is_assertion_store}
+use Rattle.c2_parent_spec.specs.Redacting.{without, thin_store, thin_boxes, boxes_in, redacted_box, redacted_boxes}
 use Rattle.c2_parent.proofs.Walking.{Next, next}
 
 -- what is left to come where the next box is passed, and something else holds

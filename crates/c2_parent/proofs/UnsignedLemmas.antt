@@ -3,8 +3,8 @@ use Rattle.std.proofs.Common.{◌≡◌, ℕ, ◌+◌, ◌<◌, Bool, true, fals
 use Rattle.std.specs.List.{list_any}
 use Rattle.std.specs.Str.{bytes_eq}
 use Rattle.std.proofs.lemmas.List.{take_more}
-use Rattle.c2_lookup.specs.Labels.{is_among}
-use Rattle.c2_lookup.specs.declared.labels.Labels.{Labels}
+use Rattle.c2_label_index.specs.Labels.{is_among}
+use Rattle.c2_label_index.specs.declared.labels.Labels.{Labels}
 use Rattle.c2_rules.specs.Chains.{passes_some}
 use Rattle.c2_rules.specs.Readings.{ReadBox}
 use Rattle.c2_parent.specs.Refused.{unsigned_in}

@@ -5,10 +5,10 @@ use Rattle.c2_rules.specs.Readings.{Reading}
 use Rattle.c2_rules.specs.Rules.{redaction_tests}
 use Rattle.c2_rules.specs.declared.code.Code.{Code}
 use Rattle.c2_rules.specs.declared.code.Code.TheVariants.{ProfileRedactionTarget, ProfileIngredientSignature}
-use Rattle.c2_carried.specs.Refusing.{new_claim_uri}
-use Rattle.c2_carried.specs.declared.refused.RefusedRedaction.{RefusedRedaction}
-use Rattle.c2_collected.specs.Collected.{JoinedReaches, collected_readings}
-use Rattle.c2_collected.specs.Refusals.{entry_tests_by, redaction_refusal_by, refusal_after_by}
+use Rattle.c2_parent_spec.specs.Refusing.{new_claim_uri}
+use Rattle.c2_parent_spec.specs.declared.refused.RefusedRedaction.{RefusedRedaction}
+use Rattle.c2_collect_spec.specs.Collected.{JoinedReaches, collected_readings}
+use Rattle.c2_collect_spec.specs.Refusals.{entry_tests_by, redaction_refusal_by, refusal_after_by}
 use Rattle.c2_parent.specs.Named.{AreNamed}
 use Rattle.c2_parent.specs.Refused.{any_so, assertion_of, code_of, still_there}
 use Rattle.c2_parent.specs.declared.both.Assertion.{Assertion}

@@ -4,8 +4,8 @@ use Rattle.c2_spec.specs.Jumbf.Tree.{Tree, Trees, leaf, super, none, more, descr
 use Rattle.c2_spec.specs.Jumbf.Boxes.{AnyBox, IndexedBox, node, described, trees_count, boxes_from_all, boxes_of, any_label}
 use Rattle.c2_spec.specs.C2pa.Manifest.{is_named}
 use Rattle.c2_rules.specs.Chains.{passes_some}
-use Rattle.c2_built.specs.Manifests.{is_assertion_store}
-use Rattle.c2_carried.specs.Redacting.{takes_out, without, thin_boxes, boxes_in}
+use Rattle.c2_new_store_spec.specs.Manifests.{is_assertion_store}
+use Rattle.c2_parent_spec.specs.Redacting.{takes_out, without, thin_boxes, boxes_in}
 
 -- the boxes of a box behind its description
 abbrev pub any_boxes : AnyBox → Trees

@@ -3,7 +3,7 @@ use Rattle.std.specs.Prelude.{◌≡◌, ℕ, List, Bool}
 use Rattle.std.specs.BTreeSet.{contains_by}
 use Rattle.std.specs.Cmp.Lexicographic.{slice_cmp}
 use Rattle.std.specs.Ordering.{nat_cmp, ordering_then}
-use Rattle.c2_carried.specs.Redacting.{takes_out}
+use Rattle.c2_parent_spec.specs.Redacting.{takes_out}
 use Rattle.c2_parent.specs.declared.named.Named.{Named}
 
 -- the assertion with this label in the manifest with that one is among them

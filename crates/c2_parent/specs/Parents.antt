@@ -1,8 +1,8 @@
 -- The parent of a new manifest by its digests.
 use Rattle.std.specs.Prelude.{◌≡◌, ℕ, List}
 use Rattle.c2_spec.specs.Jumbf.Tree.{Tree}
-use Rattle.c2_built.specs.Store.{NamedManifest}
-use Rattle.c2_carried.specs.Parents.{IsParentOf}
+use Rattle.c2_new_store_spec.specs.Store.{NamedManifest}
+use Rattle.c2_parent_spec.specs.Parents.{IsParentOf}
 use Rattle.c2_parent.specs.declared.parent.ParentDigests.{ParentDigests}
 
 -- These are its label and the digests of its contents and of those of its signature box, where `hash` gives that of a list.

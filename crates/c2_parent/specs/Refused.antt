@@ -1,8 +1,8 @@
 -- For private clauses: what is looked up of a store when redactions are tested.
 use Rattle.std.specs.Prelude.{◌≡◌, ℕ, Bool, not, ◌&&◌, List, [], ◌∷◌, ◌++◌, Option, None, Some, length, take, drop, slice_get, bytes_eq, option_map, if◌then◌else◌}
 use Rattle.std.specs.List.{list_any}
-use Rattle.c2_lookup.specs.Labels.{is_among}
-use Rattle.c2_lookup.specs.declared.labels.Labels.{Labels}
+use Rattle.c2_label_index.specs.Labels.{is_among}
+use Rattle.c2_label_index.specs.declared.labels.Labels.{Labels}
 use Rattle.c2_spec.specs.C2pa.Uri.{PlainUri, assertion}
 use Rattle.c2_rules.specs.Chains.{LabelsDiffer, any_below, is_reached, label_in, named_in, passes_some}
 use Rattle.c2_rules.specs.Readings.{ReadBox, Reading}
@@ -11,8 +11,8 @@ use Rattle.c2_rules.specs.Tests.{Test, first_failing, test}
 use Rattle.c2_rules.specs.declared.answer.Failing.{Failing}
 use Rattle.c2_rules.specs.declared.code.Code.{Code}
 use Rattle.c2_rules.specs.declared.code.Code.TheVariants.{ProfileRedactionTarget, ProfileIngredientSignature}
-use Rattle.c2_older.specs.Older.{has_signature}
-use Rattle.c2_carried.specs.Refusing.{any_reached, has_assertion, is_target, names_unsigned, new_claim_uri, redaction_refusal, refusal_after}
+use Rattle.c2_chain_older_spec.specs.Older.{has_signature}
+use Rattle.c2_parent_spec.specs.Refusing.{any_reached, has_assertion, is_target, names_unsigned, new_claim_uri, redaction_refusal, refusal_after}
 use Rattle.c2_parent.specs.Named.{AreNamed}
 use Rattle.c2_parent.specs.declared.named.Named.{Named}
 

@@ -3,9 +3,9 @@
 ghost use Rattle.std.specs.Prelude.{◌≡◌, ◌||◌, [], ℕ, List, IfErr, IfOk, Some, length};
 ghost use Rattle.c2_rules.specs.Chains.{LabelsDiffer};
 ghost use Rattle.c2_rules.specs.Rules.{redaction_tests};
-ghost use Rattle.c2_carried.specs.Refusing as form;
-ghost use Rattle.c2_carried.specs.Refusing.{new_claim_uri};
-ghost use Rattle.c2_collected.specs.Collected.{collected_readings};
+ghost use Rattle.c2_parent_spec.specs.Refusing as form;
+ghost use Rattle.c2_parent_spec.specs.Refusing.{new_claim_uri};
+ghost use Rattle.c2_collect_spec.specs.Collected.{collected_readings};
 ghost use Rattle.c2_parent.specs.Both.{IsCodeOfBoth, IsFirstRefusedOfBoth, IsRedactable, later_in_both};
 ghost use Rattle.c2_parent.specs.Named.{AreNamed};
 ghost use Rattle.c2_parent.specs.Refused.{any_so, code_of, still_there};
@@ -18,9 +18,9 @@ use crate::refused::{
 use crate::targets::targets_of;
 use crate::unsigned::unsigned_labels;
 use c2_base::{NoMemory, Text};
-use c2_carried::RefusedRedaction;
 use c2_chain::{Chain, label_kind, readings};
-use c2_reading::{is_reached, manifests, place_of};
+use c2_parent_spec::RefusedRedaction;
+use c2_read_manifests::{is_reached, manifests, place_of};
 use c2_rules::Code;
 use c2_uri::{Target, parse};
 use std::alloc::Global;
@@ -34,7 +34,7 @@ pub struct Assertion<'u> {
 
 /// Whether a manifest that is reached has this label. Takes no memory.
 ///
-/// The labels of a store's manifests differ, which `c2_reading::labels_of_a_store_differ` says.
+/// The labels of a store's manifests differ, which `c2_read_manifests::labels_of_a_store_differ` says.
 pub fn has_reached_manifest(chain: &Chain<'_>, label: &str) -> bool
     requires { LabelsDiffer chain.now.readings }
     ensures { result
@@ -50,7 +50,7 @@ pub fn has_reached_manifest(chain: &Chain<'_>, label: &str) -> bool
 /// Whether one of the joined manifests of two stores has this label: one of the first store, or one that is reached in the other. Takes no
 /// memory.
 ///
-/// The labels of a store's manifests differ, which `c2_reading::labels_of_a_store_differ` says.
+/// The labels of a store's manifests differ, which `c2_read_manifests::labels_of_a_store_differ` says.
 pub fn has_joined_manifest(old: &Chain<'_>, other: &Chain<'_>, label: &str) -> bool
     requires { LabelsDiffer other.now.readings }
     ensures { result ≡ form.has_manifest
@@ -167,7 +167,7 @@ fn first_refused(
 /// The first of these redactions that is refused in a new manifest with this label, over the joined manifests of two stores, which these
 /// chains are of; none where each may be made. An earlier redaction counts as made.
 ///
-/// The labels of a store's manifests differ, which `c2_reading::labels_of_a_store_differ` says.
+/// The labels of a store's manifests differ, which `c2_read_manifests::labels_of_a_store_differ` says.
 pub fn refused_in_both(
     alloc: Global,
     old: &Chain<'_>,
@@ -197,7 +197,7 @@ pub fn refused_in_both(
 /// The first of these redactions that is refused in a new manifest with this label, over the manifests that are carried of the store of this
 /// chain where there is no other; none where each may be made. An earlier redaction counts as made.
 ///
-/// The labels of a store's manifests differ, which `c2_reading::labels_of_a_store_differ` says.
+/// The labels of a store's manifests differ, which `c2_read_manifests::labels_of_a_store_differ` says.
 pub fn refused_in_carried(
     alloc: Global,
     other: &Chain<'_>,

@@ -3,8 +3,8 @@ ghost use Rattle.std.specs.Prelude.{◌≡◌, ℕ, List, [], IfOk, Some, length
 ghost use Rattle.c2_spec.specs.C2pa.Uri.{target_view};
 ghost use Rattle.c2_rules.specs.Chains.{LabelsDiffer};
 ghost use Rattle.c2_rules.specs.Rules.{names_own, redacted_tests};
-ghost use Rattle.c2_carried.specs.Refusing as form;
-ghost use Rattle.c2_carried.specs.Refusing.{entry_tests, redaction_refusal};
+ghost use Rattle.c2_parent_spec.specs.Refusing as form;
+ghost use Rattle.c2_parent_spec.specs.Refusing.{entry_tests, redaction_refusal};
 ghost use Rattle.c2_parent.specs.Named.{AreNamed};
 ghost use Rattle.c2_parent.specs.Refused.{IsKnown, any_so, assertion_of, code_of, later_code, still_there, uri_entry_tests};
 
@@ -13,10 +13,10 @@ use crate::targets::{is_still_there, targets_of};
 use crate::unsigned::unsigned_labels;
 use c2_assertion::Kind;
 use c2_base::{NoMemory, Text};
-use c2_carried::RefusedRedaction;
 use c2_chain::{Chain, Labelled, label_kind, readings};
-use c2_lookup::{Labels, has_label};
-use c2_reading::{ReadManifests, manifests, place_of};
+use c2_label_index::{Labels, has_label};
+use c2_parent_spec::RefusedRedaction;
+use c2_read_manifests::{ReadManifests, manifests, place_of};
 use c2_rules::Code;
 use c2_uri::{Target, parse};
 use std::alloc::Global;
@@ -212,7 +212,7 @@ fn first_refused(
 /// The first of these redactions that is refused in a new manifest with this label, over the store of this chain; none where each
 /// may be made. An earlier redaction counts as made.
 ///
-/// The labels of a store's manifests differ, which `c2_reading::labels_of_a_store_differ` says.
+/// The labels of a store's manifests differ, which `c2_read_manifests::labels_of_a_store_differ` says.
 pub fn refused_redaction(
     alloc: Global,
     chain: &Chain<'_>,

@@ -1,14 +1,16 @@
 // The manifests that ingredients of reached manifests name without their signatures.
 ghost use Rattle.std.specs.Prelude.{◌≡◌, ◌||◌, ◌&&◌, ◌<◌, ℕ, List, IfOk, OnOk, Some, bytes_eq, length, option_map, slice_get};
 ghost use Rattle.std.specs.List.{list_any};
-ghost use Rattle.c2_lookup.specs.Labels.{is_among};
+ghost use Rattle.c2_label_index.specs.Labels.{is_among};
 ghost use Rattle.c2_rules.specs.Chains as form;
 ghost use Rattle.c2_rules.specs.Chains.{passes_some};
 ghost use Rattle.c2_parent.specs.Refused.{AreUnsigned, names_so, unsigned_in};
 
 use c2_base::NoMemory;
-use c2_lookup::{Labels, add_label, no_labels};
-use c2_reading::{KeptBox, ReadManifests, boxes, ingredient, is_reached, manifests, named};
+use c2_label_index::{Labels, add_label, no_labels};
+use c2_read_manifests::{
+    AssertionBox, ReadManifests, boxes, ingredient, is_reached, manifests, named,
+};
 use c2_rules::Parsed;
 use c2_spec::Ingredient;
 use std::alloc::Global;
@@ -24,7 +26,7 @@ fn named_by<'c>(g: &'c Ingredient) -> Option<&'c str>
 }
 
 /// The label of the manifest that a box names without its signature.
-fn unsigned_label<'c>(b: &'c KeptBox<'_>) -> Option<&'c str>
+fn unsigned_label<'c>(b: &'c AssertionBox<'_>) -> Option<&'c str>
     ensures { option_map (λ x. x.now) result ≡ unsigned_in b.now }
 {
     match ingredient(b) {
@@ -39,7 +41,7 @@ fn unsigned_label<'c>(b: &'c KeptBox<'_>) -> Option<&'c str>
 }
 
 /// Adds what a box names so.
-fn add_unsigned(alloc: Global, labels: &mut Labels, b: &KeptBox<'_>) -> Result<(), NoMemory>
+fn add_unsigned(alloc: Global, labels: &mut Labels, b: &AssertionBox<'_>) -> Result<(), NoMemory>
     ensures { OnOk result ((label : List ℕ) → is_among labels.new label
         ≡ (is_among labels.old label || passes_some (bytes_eq label) (unsigned_in b.now))) }
 {
@@ -50,7 +52,7 @@ fn add_unsigned(alloc: Global, labels: &mut Labels, b: &KeptBox<'_>) -> Result<(
 }
 
 /// Adds what these boxes name so.
-fn add_each(alloc: Global, labels: &mut Labels, found: &[KeptBox<'_>]) -> Result<(), NoMemory>
+fn add_each(alloc: Global, labels: &mut Labels, found: &[AssertionBox<'_>]) -> Result<(), NoMemory>
     ensures { OnOk result ((label : List ℕ) → is_among labels.new label
         ≡ (is_among labels.old label
         || list_any (λ b. passes_some (bytes_eq label) (unsigned_in b)) found.now)) }

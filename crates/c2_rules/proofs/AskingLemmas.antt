@@ -1,5 +1,5 @@
 -- A panel that was asked one question after the other.
-use Rattle.std.proofs.Common.{◌≡◌, ℕ, ◌≤◌, arith, Result, Ok, Err, List, [], ◌∷◌, ◌++◌, Option, Some, None, option_to_list, is_some, refl, sym, ap, ◌∙◌, subst, append_assoc, append-nil}
+use Rattle.std.proofs.Common.{◌≡◌, ℕ, arith, Result, Ok, Err, List, [], ◌∷◌, ◌++◌, Option, Some, None, option_to_list, is_some, refl, sym, ap, ◌∙◌, subst, append_assoc, append-nil}
 use Rattle.c2_base.specs.declared.values.Question.{Question}
 use Rattle.c2_spec.specs.declared.panel.Verdict.{Verdict}
 use Rattle.c2_spec.specs.Judges.Panel.{verdicts, panel_size, Counted, MovedBelow, FailedAt, Judges, LeavesJudges, NoneFell}

@@ -1,6 +1,6 @@
 -- The assertion boxes of a store by their indices in the box tree: which are read as ingredients, and which child they name
 -- (C2PA Technical Specification 2.x, "Ingredient").
-use Rattle.std.specs.Prelude.{◌≡◌, ℕ, ◌+◌, ◌==◌, List, [], ◌∷◌, Some, None, slice_get, position, option_and_then}
+use Rattle.std.specs.Prelude.{ℕ, ◌+◌, ◌==◌, List, [], ◌∷◌, Some, None, slice_get, position, option_and_then}
 use Rattle.std.specs.declared.option.Option.{Option}
 use Rattle.c2_spec.specs.declared.assertion.Ingredient.{Ingredient}
 use Rattle.c2_spec.specs.declared.store.ManifestBoxes.{ManifestBoxes}

@@ -10,9 +10,9 @@ use Rattle.c2_spec.specs.declared.digest.Alg.{Alg}
 use Rattle.c2_spec.specs.declared.panel.Verdict.{Verdict}
 use Rattle.c2_spec.specs.Judges.Panel.{panel_says}
 use Rattle.c2_rules.specs.Validated.{CheckAsks}
-use Rattle.c2_refusals.specs.Kinds.{ErrorKind, KindSays, WithoutFault, front_refusal, judge_fault, kind_of, message_refusal, no_memory, older_refusal, other_refusal, read_fault, refusal, write_fault}
-use Rattle.c2_refusals.specs.declared.error.BuildError.{BuildError}
-use Rattle.c2_refusals.specs.declared.types.Embedded.{Embedded}
+use Rattle.c2_build_refusals.specs.Kinds.{ErrorKind, KindSays, WithoutFault, front_refusal, judge_fault, kind_of, message_refusal, no_memory, older_refusal, other_refusal, read_fault, refusal, write_fault}
+use Rattle.c2_build_refusals.specs.declared.error.BuildError.{BuildError}
+use Rattle.c2_build_refusals.specs.declared.types.Embedded.{Embedded}
 use Rattle.c2_build.specs.Answers.{EmbedsFile, Writes, file_of}
 use Rattle.c2_build.specs.Building.{Built, IsEmbedded}
 use Rattle.c2_build.specs.Meeting.{OneEmbedding}

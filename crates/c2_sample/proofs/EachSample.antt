@@ -7,10 +7,10 @@ use Rattle.c2_spec.specs.Located.{here}
 use Rattle.c2_spec.specs.declared.digest.Alg.{Alg}
 use Rattle.c2_spec.specs.declared.panel.Verdict.{Verdict}
 use Rattle.c2_rules.specs.CheckList.{check_asks, store_answer}
-use Rattle.c2_built.specs.Fresh.{GivesDigests}
+use Rattle.c2_new_store_spec.specs.Fresh.{GivesDigests}
 use Rattle.c2_build.specs.Building.{Built}
 use Rattle.c2_build.specs.Meeting.{BuiltFileMeets, SomeEmbedding}
-use Rattle.c2_refusals.specs.declared.error.BuildError.{BuildError}
+use Rattle.c2_build_refusals.specs.declared.error.BuildError.{BuildError}
 use Rattle.c2_sample.specs.Sample.{EachSample, EachSampleAsks, IsSampleBuilt, IsSampled, SampleAsks, lengths_of, no_judges, sample_definition, sample_media, sample_message}
 use Rattle.c2_sample.specs.declared.types.Sampled.{Sampled}
 use Rattle.c2_sample.specs.declared.types.Sampled.TheVariants.{Checked, Refused}

@@ -12,12 +12,12 @@ use Rattle.c2_opening.specs.Opened.{IsCause}
 use Rattle.c2_opening.specs.declared.error.ValidateError.{ValidateError}
 use Rattle.c2_opening.specs.declared.error.ValidateError.TheVariants as check
 use Rattle.c2_validate.specs.Checked.{IsReadCause}
-use Rattle.c2_built.specs.Fresh.{GivesDigests}
+use Rattle.c2_new_store_spec.specs.Fresh.{GivesDigests}
 use Rattle.c2_copying.specs.Writing.{FitsSpare, write_fault}
 use Rattle.c2_rules.specs.Asking.{IsJudgeCause}
-use Rattle.c2_refusals.specs.Kinds as kind
-use Rattle.c2_refusals.specs.Kinds.{ErrorKind, IsSourceCause, heard_of}
-use Rattle.c2_endings.specs.Endings.{kind_ending}
+use Rattle.c2_build_refusals.specs.Kinds as kind
+use Rattle.c2_build_refusals.specs.Kinds.{ErrorKind, IsSourceCause, heard_of}
+use Rattle.c2_build_endings.specs.Endings.{kind_ending}
 use Rattle.c2_build.specs.Answers.{Writes, embed_effects, file_of}
 use Rattle.c2_build.specs.Meeting.{BuiltFileMeets, SomeEmbedding}
 use Rattle.c2_sample.specs.Sample.{IsSureFault, IsSureKind, no_judges, sample_definition, sample_message}

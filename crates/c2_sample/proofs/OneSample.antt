@@ -11,7 +11,7 @@ use Rattle.c2_rules.specs.Validated.{CheckAsks, IsAnswer}
 use Rattle.c2_rules.specs.declared.answer.Answer.{Answer}
 use Rattle.c2_build.specs.Building.{Built}
 use Rattle.c2_build.specs.Meeting.{OneEmbedding}
-use Rattle.c2_refusals.specs.declared.error.BuildError.{BuildError}
+use Rattle.c2_build_refusals.specs.declared.error.BuildError.{BuildError}
 use Rattle.c2_sample.specs.Sample.{BuildAsks, IsBuildSampled, IsFileSampled, OneSample, OneSampleAsks, lengths_of, no_judges, sample_definition, sample_media, sample_message}
 use Rattle.c2_sample.specs.declared.types.Sampled.{Sampled}
 use Rattle.c2_sample.specs.declared.types.Sampled.TheVariants.{Checked}

@@ -16,18 +16,18 @@ use Rattle.c2_spec.specs.declared.panel.Verdict.{Verdict}
 use Rattle.c2_rules.specs.CheckList.{check_list}
 use Rattle.c2_rules.specs.Tests.{first_failing}
 use Rattle.c2_definition.specs.declared.types.Definition.{Definition}
-use Rattle.c2_built.specs.Fresh.{GivesDigests}
-use Rattle.c2_built.specs.Store.{Content}
-use Rattle.c2_places.specs.Bases.{IsLeftOfBoxes}
-use Rattle.c2_places.specs.Places.{Place, in_boxes, in_segments, range_len, store_len}
-use Rattle.c2_refusals.proofs.Passing.{ground_of}
-use Rattle.c2_refusals.proofs.Stages.{none_fails, none_of_both, passed, unless_passed}
+use Rattle.c2_new_store_spec.specs.Fresh.{GivesDigests}
+use Rattle.c2_new_store_spec.specs.Store.{Content}
+use Rattle.c2_new_file_spec.specs.Bases.{IsLeftOfBoxes}
+use Rattle.c2_new_file_spec.specs.Places.{Place, in_boxes, in_segments, range_len, store_len}
+use Rattle.c2_build_refusals.proofs.Passing.{ground_of}
+use Rattle.c2_build_refusals.proofs.Stages.{none_fails, none_of_both, passed, unless_passed}
 use Rattle.c2_build.specs.Answers.{file_of}
 use Rattle.c2_build.specs.Building.{Built, IsBuilt, IsEmbedded, IsEmbeddedOn, built_of}
-use Rattle.c2_refusals.specs.Stages.{HasTextsIn, IsDefinitionStage, IsGroundOver, IsGroundStage, IsMediaStage, IsMessageStage, IsPlaceStage, MediaKind, fresh, fresh_ground, stored}
+use Rattle.c2_build_refusals.specs.Stages.{HasTextsIn, IsDefinitionStage, IsGroundOver, IsGroundStage, IsMediaStage, IsMessageStage, IsPlaceStage, MediaKind, fresh, fresh_ground, stored}
 use Rattle.c2_build.specs.Meeting.{BuiltFileMeets}
-use Rattle.c2_refusals.specs.Refusals.{Ground, first_refusal, ground_tests, late_tests, new_range_len, new_store_len, older_tests, place_tests, redaction_tests, reserve_tests}
-use Rattle.c2_refusals.specs.declared.error.BuildError.{BuildError}
+use Rattle.c2_build_refusals.specs.Refusals.{Ground, first_refusal, ground_tests, late_tests, new_range_len, new_store_len, older_tests, place_tests, redaction_tests, reserve_tests}
+use Rattle.c2_build_refusals.specs.declared.error.BuildError.{BuildError}
 use Rattle.c2_sample.specs.Sample.{piece, piece_byte, piece_bytes, pieces, sample_media}
 use Rattle.c2_sample.specs.declared.media.TheConstants.{PIECE_BYTES}
 

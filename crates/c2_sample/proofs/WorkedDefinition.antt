@@ -11,8 +11,8 @@ use Rattle.c2_definition.specs.DefinitionFile.{definition_in}
 use Rattle.c2_definition.specs.declared.types.Definition.{Definition}
 use Rattle.c2_definition.specs.declared.types.DefinitionField.{DefinitionField}
 use Rattle.c2_definition.specs.declared.types.Payload.TheVariants as payload
-use Rattle.c2_built.specs.Written.{HasTexts}
-use Rattle.c2_refusals.specs.Stages.{HasTextsIn}
+use Rattle.c2_new_store_spec.specs.Written.{HasTexts}
+use Rattle.c2_build_refusals.specs.Stages.{HasTextsIn}
 use Rattle.c2_sample.specs.Sample.{sample_definition}
 
 -- the item of the one assertion: {"actions": [{"action": "c2pa.created"}]}

@@ -11,9 +11,9 @@ use Rattle.c2_spec.specs.declared.panel.Verdict.{Verdict}
 use Rattle.c2_rules.specs.Asking.{Heard, broken, part}
 use Rattle.c2_rules.specs.Validated.{CheckAsks, IsAnswer}
 use Rattle.c2_rules.specs.declared.answer.Answer.{Answer}
-use Rattle.c2_built.specs.Fresh.{GivesDigests}
-use Rattle.c2_refusals.specs.Kinds.{ErrorKind, judge_fault, no_memory, read_fault, write_fault}
-use Rattle.c2_refusals.specs.declared.error.BuildError.{BuildError}
+use Rattle.c2_new_store_spec.specs.Fresh.{GivesDigests}
+use Rattle.c2_build_refusals.specs.Kinds.{ErrorKind, judge_fault, no_memory, read_fault, write_fault}
+use Rattle.c2_build_refusals.specs.declared.error.BuildError.{BuildError}
 use Rattle.c2_build.specs.Building.{Built, IsEmbedded}
 use Rattle.c2_opening.specs.declared.error.ValidateError.{ValidateError}
 use Rattle.c2_opening.specs.declared.error.ValidateError.TheVariants as check

@@ -1,7 +1,7 @@
 // The build of a media file in memory.
 ghost use Rattle.std.specs.Prelude.{◌≡◌, ◌<◌, ◌^◌, IfOk, OnErr, false, length, true};
 ghost use Rattle.c2_spec.specs.Container.{is_bmff};
-ghost use Rattle.c2_refusals.specs.Kinds.{kind_of, no_memory};
+ghost use Rattle.c2_build_refusals.specs.Kinds.{kind_of, no_memory};
 ghost use Rattle.c2_sample.specs.Sample.{IsNewFile, IsSureKind, is_refusal};
 
 use crate::inputs::{sample_definition, sample_message};

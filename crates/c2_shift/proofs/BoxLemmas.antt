@@ -8,19 +8,19 @@ use Rattle.std.specs.Int.{w32, from_be_bytes}
 use Rattle.std.proofs.lemmas.Bool.{le-leb}
 use Rattle.std.proofs.lemmas.List.{drop-drop}
 use Rattle.std.proofs.lemmas.List.Elements.{recursion_from_All}
-use Rattle.c2_box_rows.specs.Rows.{IsBoxWithin, IsRowWithin, payload_at}
-use Rattle.c2_box_rows.specs.declared.row.RootBox.{RootBox}
-use Rattle.c2_box_rows.proofs.Lists.{piece_of}
-use Rattle.c2_boxes.specs.Children.{rows_between}
-use Rattle.c2_boxes.specs.Roots.{FillSource}
-use Rattle.c2_box_rows.specs.Children.{child_rows}
-use Rattle.c2_chunks.specs.Fields.{number_at}
-use Rattle.c2_chunks.specs.Refusals.{IsFirstRefusal, is_other_table, refusals_below, root_refusals, sibling_refusals}
-use Rattle.c2_chunks.specs.Tables.{StandApart, fields_len, inner, is_table, is_table_kind, stated_count, table_len, table_of, tables_among, tables_below}
-use Rattle.c2_chunks.specs.declared.table.ChunkTable.{ChunkTable}
-use Rattle.c2_chunks.specs.declared.table.ShiftError.{ShiftError}
-use Rattle.c2_chunks.specs.declared.table.ShiftError.TheVariants.{OffsetTable, BadTree, BadTable, Overflow, ReadFault, NoMemory}
-use Rattle.c2_chunks.proofs.ApartLemmas.{payload_size, stand_append}
+use Rattle.c2_bmff_rows.specs.Rows.{IsBoxWithin, IsRowWithin, payload_at}
+use Rattle.c2_bmff_rows.specs.declared.row.RootBox.{RootBox}
+use Rattle.c2_bmff_rows.proofs.Lists.{piece_of}
+use Rattle.c2_bmff_boxes.specs.Children.{rows_between}
+use Rattle.c2_bmff_boxes.specs.Roots.{FillSource}
+use Rattle.c2_bmff_rows.specs.Children.{child_rows}
+use Rattle.c2_bmff_chunks.specs.Fields.{number_at}
+use Rattle.c2_bmff_chunks.specs.Refusals.{IsFirstRefusal, is_other_table, refusals_below, root_refusals, sibling_refusals}
+use Rattle.c2_bmff_chunks.specs.Tables.{StandApart, fields_len, inner, is_table, is_table_kind, stated_count, table_len, table_of, tables_among, tables_below}
+use Rattle.c2_bmff_chunks.specs.declared.table.ChunkTable.{ChunkTable}
+use Rattle.c2_bmff_chunks.specs.declared.table.ShiftError.{ShiftError}
+use Rattle.c2_bmff_chunks.specs.declared.table.ShiftError.TheVariants.{OffsetTable, BadTree, BadTable, Overflow, ReadFault, NoMemory}
+use Rattle.c2_bmff_chunks.proofs.ApartLemmas.{payload_size, stand_append}
 use Rattle.c2_shift.specs.Causes.{IsTablesCause, OrOutside}
 use Rattle.c2_shift.specs.Walking.{FillsBox, IsFirstKind, LieIn, Skips}
 use Rattle.c2_shift.proofs.PartLemmas.{first_of}

@@ -1,7 +1,7 @@
 -- The first place that doesn't fit.
 use Rattle.std.proofs.Common.{◌≡◌, ◌∙◌, ℕ, List, ◌++◌, ap}
-use Rattle.c2_chunks.specs.declared.table.ShiftError.{ShiftError}
-use Rattle.c2_chunks.specs.declared.table.ShiftError.TheVariants.{OffsetTable, BadTree, BadTable, Overflow, ReadFault, NoMemory}
+use Rattle.c2_bmff_chunks.specs.declared.table.ShiftError.{ShiftError}
+use Rattle.c2_bmff_chunks.specs.declared.table.ShiftError.TheVariants.{OffsetTable, BadTree, BadTable, Overflow, ReadFault, NoMemory}
 use Rattle.c2_shift.specs.Causes.{IsFirstOverflow}
 
 -- the first of some places is the first with others behind them

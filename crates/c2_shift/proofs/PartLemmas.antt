@@ -7,15 +7,15 @@ use Rattle.std.proofs.lemmas.Grind.{flat_map-append}
 use Rattle.std.proofs.lemmas.List.{drop-drop, length-drop, take-append-drop}
 use borrow.Rule.Slice.PartMut.{put_mid, post_of}
 use Rattle.c2_base.specs.Source.{FilledAt}
-use Rattle.c2_box_rows.proofs.Lists.{piece_of}
-use Rattle.c2_chunks.specs.Fields.{all_fields, fields_from, fields_of, number_at, overflows, places_of}
-use Rattle.c2_chunks.specs.Shifted.{part_with, put_over_from}
-use Rattle.c2_chunks.specs.Tables.{StandApart, field_len, fields_len, table_len}
-use Rattle.c2_chunks.specs.declared.table.ChunkTable.{ChunkTable}
-use Rattle.c2_chunks.specs.declared.table.Field.{Field}
-use Rattle.c2_chunks.proofs.ApartLemmas.{stand_ordered}
-use Rattle.c2_chunks.proofs.Putting.{part_left, put_drop, put_len, region}
-use Rattle.c2_chunks.proofs.FieldLemmas.{fields_apart, fields_more, fields_split, number_in, number_of, part_append, part_before, part_behind, tables_apart}
+use Rattle.c2_bmff_rows.proofs.Lists.{piece_of}
+use Rattle.c2_bmff_chunks.specs.Fields.{all_fields, fields_from, fields_of, number_at, overflows, places_of}
+use Rattle.c2_bmff_chunks.specs.Shifted.{part_with, put_over_from}
+use Rattle.c2_bmff_chunks.specs.Tables.{StandApart, field_len, fields_len, table_len}
+use Rattle.c2_bmff_chunks.specs.declared.table.ChunkTable.{ChunkTable}
+use Rattle.c2_bmff_chunks.specs.declared.table.Field.{Field}
+use Rattle.c2_bmff_chunks.proofs.ApartLemmas.{stand_ordered}
+use Rattle.c2_bmff_chunks.proofs.Putting.{part_left, put_drop, put_len, region}
+use Rattle.c2_bmff_chunks.proofs.FieldLemmas.{fields_apart, fields_more, fields_split, number_in, number_of, part_append, part_before, part_behind, tables_apart}
 use Rattle.c2_shift.specs.Parts.{IsAsRead}
 
 -- ---- one field

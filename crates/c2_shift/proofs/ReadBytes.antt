@@ -3,10 +3,10 @@ use Rattle.std.proofs.Common.{◌≡◌, ◌∙◌, ℕ, ◌-◌, ◌≤◌, Lis
 use Rattle.std.specs.Option.{ForSome}
 use Rattle.std.proofs.lemmas.List.{drop_at, length-drop, length-take, take_at}
 use Rattle.c2_base.specs.Source.{FilledAt, ReadsAt}
-use Rattle.c2_chunks.specs.Fields.{all_fields}
-use Rattle.c2_chunks.specs.Shifted.{part_with, shifted}
-use Rattle.c2_chunks.specs.declared.table.ChunkTable.{ChunkTable}
-use Rattle.c2_chunks.proofs.FieldLemmas.{part_len, with_part}
+use Rattle.c2_bmff_chunks.specs.Fields.{all_fields}
+use Rattle.c2_bmff_chunks.specs.Shifted.{part_with, shifted}
+use Rattle.c2_bmff_chunks.specs.declared.table.ChunkTable.{ChunkTable}
+use Rattle.c2_bmff_chunks.proofs.FieldLemmas.{part_len, with_part}
 
 -- a part of the shifted file
 part_is : (from by pos n : ℕ) (ts : List ChunkTable) (file : List ℕ) → take n (drop pos (shifted from by ts file)) ≡ part_with from by pos file (all_fields ts) (take n (drop pos file))

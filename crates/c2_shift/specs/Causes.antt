@@ -1,8 +1,8 @@
 -- Errors of a shift: what they come of, and what they say of the file.
 use Rattle.std.specs.Prelude.{◌≡◌, ℕ, ◌<◌, ⊤, List, ◌∷◌}
 use Rattle.c2_base.specs.Causes.{Rose}
-use Rattle.c2_chunks.specs.declared.table.ShiftError.{ShiftError}
-use Rattle.c2_chunks.specs.declared.table.ShiftError.TheVariants.{OffsetTable, BadTree, BadTable, Overflow, ReadFault, NoMemory}
+use Rattle.c2_bmff_chunks.specs.declared.table.ShiftError.{ShiftError}
+use Rattle.c2_bmff_chunks.specs.declared.table.ShiftError.TheVariants.{OffsetTable, BadTree, BadTable, Overflow, ReadFault, NoMemory}
 
 -- Why the tables of a source of `len` bytes aren't answered, by its count of faults before and after: a fault comes where the count rose,
 -- and a refusal names a place in the source and leaves the count. No place is moved, so none is too large.

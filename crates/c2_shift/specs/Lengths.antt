@@ -3,13 +3,13 @@ use Rattle.std.proofs.Common.{◌≡◌, ℕ, ◌+◌, ◌^◌, ◌<◌, List, [
 use Rattle.std.specs.Coded.{×_prop, le_prop}
 use Rattle.std.specs.Prelude.{All}
 use Rattle.std.specs.Option.{ForSome}
-use Rattle.c2_box_rows.proofs.BoxThere.{are_bytes}
-use Rattle.c2_chunks.specs.Fields.{all_fields}
-use Rattle.c2_chunks.specs.Shifted.{shifted}
-use Rattle.c2_chunks.specs.Tables.{StandApart, table_len}
-use Rattle.c2_chunks.specs.declared.table.ChunkTable.{ChunkTable}
-use Rattle.c2_chunks.proofs.FieldLemmas.{with_bytes, with_len}
-use Rattle.c2_chunks.proofs.ShiftLemmas.{all_bytes}
+use Rattle.c2_bmff_rows.proofs.BoxThere.{are_bytes}
+use Rattle.c2_bmff_chunks.specs.Fields.{all_fields}
+use Rattle.c2_bmff_chunks.specs.Shifted.{shifted}
+use Rattle.c2_bmff_chunks.specs.Tables.{StandApart, table_len}
+use Rattle.c2_bmff_chunks.specs.declared.table.ChunkTable.{ChunkTable}
+use Rattle.c2_bmff_chunks.proofs.FieldLemmas.{with_bytes, with_len}
+use Rattle.c2_bmff_chunks.proofs.ShiftLemmas.{all_bytes}
 
 -- a shifted file is as long as the file
 pub shifted_size : (from by : ℕ) (ts : List ChunkTable) (known : Option (List ℕ)) (len : ℕ) → ForSome known (λ bytes. length bytes ≡ len) → ForSome (option_map (shifted from by ts) known) (λ bytes. length bytes ≡ len)

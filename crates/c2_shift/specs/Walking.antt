@@ -2,11 +2,11 @@
 use Rattle.std.specs.Prelude.{◌≡◌, ℕ, ◌+◌, ◌≤◌, ⊤, true, false, List, [], ◌∷◌, ◌++◌, Option, Some, None}
 use Rattle.std.specs.List.{AllByRecursion}
 use Rattle.std.specs.Str.{bytes_eq}
-use Rattle.c2_box_rows.specs.Rows.{payload_at}
-use Rattle.c2_box_rows.specs.declared.row.RootBox.{RootBox}
-use Rattle.c2_boxes.specs.Roots.{FillSource}
-use Rattle.c2_chunks.specs.Tables.{StandApart, is_table, table_len, table_of, wide_kind}
-use Rattle.c2_chunks.specs.declared.table.ChunkTable.{ChunkTable}
+use Rattle.c2_bmff_rows.specs.Rows.{payload_at}
+use Rattle.c2_bmff_rows.specs.declared.row.RootBox.{RootBox}
+use Rattle.c2_bmff_boxes.specs.Roots.{FillSource}
+use Rattle.c2_bmff_chunks.specs.Tables.{StandApart, is_table, table_len, table_of, wide_kind}
+use Rattle.c2_bmff_chunks.specs.declared.table.ChunkTable.{ChunkTable}
 
 -- The rows are of boxes one after the other in a source of so many bytes.
 pub record LieIn (len : ℕ) (rows : List RootBox) : Type 0 where

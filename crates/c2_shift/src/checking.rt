@@ -2,8 +2,8 @@
 ghost use Rattle.std.specs.Prelude.{◌≡◌, ◌+◌, ◌<◌, ◌≤◌, ◌^◌, ℕ, List, [], length, OnOk, IfErr, IfNone, IfSome};
 ghost use Rattle.std.specs.Option.{ForSome};
 ghost use Rattle.c2_base.specs.Source.{ReadsSource};
-ghost use Rattle.c2_chunks.specs.Fields.{fields_from, fields_of, overflow_places, places_of};
-ghost use Rattle.c2_chunks.specs.Tables.{StandApart, fields_len, table_len};
+ghost use Rattle.c2_bmff_chunks.specs.Fields.{fields_from, fields_of, overflow_places, places_of};
+ghost use Rattle.c2_bmff_chunks.specs.Tables.{StandApart, fields_len, table_len};
 ghost use Rattle.c2_shift.specs.Causes.{IsCheckCause, IsFirstOverflow, IsFirstPlace};
 ghost use Rattle.c2_shift.specs.Parts.{IsAsRead};
 
@@ -11,7 +11,7 @@ use crate::fields::{field_len, fields_len, number_among};
 use crate::moving::Shift;
 use crate::types::Tables;
 use c2_base::{Source, fill_at};
-use c2_chunks::{ChunkTable, ShiftError};
+use c2_bmff_chunks::{ChunkTable, ShiftError};
 
 // How many fields are read at once.
 const PIECE_FIELDS: u32 = 8_192;

@@ -4,12 +4,12 @@ ghost use Rattle.std.specs.Int.{w32, w64, from_be_bytes};
 ghost use Rattle.std.specs.Option.{ForSome};
 ghost use Rattle.c2_base.specs.Causes.{HasCause};
 ghost use Rattle.c2_base.specs.Source.{StaysSource};
-ghost use Rattle.c2_chunks.specs.Fields.{field_limit, number_at};
-ghost use Rattle.c2_chunks.specs.Tables.{field_len, fields_len};
+ghost use Rattle.c2_bmff_chunks.specs.Fields.{field_limit, number_at};
+ghost use Rattle.c2_bmff_chunks.specs.Tables.{field_len, fields_len};
 ghost use Rattle.c2_shift.specs.Parts.{IsAsRead};
 
 use c2_base::{Failed, Source, fill_at};
-use c2_chunks::Field;
+use c2_bmff_chunks::Field;
 
 /// How many bytes a field has.
 pub fn field_len(wide: bool) -> u64

@@ -1,6 +1,6 @@
 // How far places are moved.
 ghost use Rattle.std.specs.Prelude.{◌≡◌, ◌+◌};
-ghost use Rattle.c2_chunks.specs.Fields.{field_limit, moved};
+ghost use Rattle.c2_bmff_chunks.specs.Fields.{field_limit, moved};
 ghost use Rattle.c2_shift.specs.Fitting.{is_too_large};
 
 /// From which place on places are moved, and by how many bytes.

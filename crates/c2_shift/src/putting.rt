@@ -3,15 +3,15 @@ ghost use Rattle.std.specs.Prelude.{◌≡◌, ◌+◌, ◌-◌, ◌<◌, ◌≤
 ghost use Rattle.std.specs.Option.{ForSome};
 ghost use Rattle.c2_base.specs.Causes.{HasCause};
 ghost use Rattle.c2_base.specs.Source.{StaysSource};
-ghost use Rattle.c2_chunks.specs.Fields.{field_limit, number_bytes};
-ghost use Rattle.c2_chunks.specs.Shifted.{moved_bytes, put_over_from};
-ghost use Rattle.c2_chunks.specs.Tables.{field_len};
+ghost use Rattle.c2_bmff_chunks.specs.Fields.{field_limit, number_bytes};
+ghost use Rattle.c2_bmff_chunks.specs.Shifted.{moved_bytes, put_over_from};
+ghost use Rattle.c2_bmff_chunks.specs.Tables.{field_len};
 ghost use Rattle.c2_shift.specs.Parts.{IsAsRead};
 
 use crate::fields::number_of;
 use crate::moving::Shift;
 use c2_base::{Failed, Source};
-use c2_chunks::Field;
+use c2_bmff_chunks::Field;
 
 // How far from the first of so many bytes, which stand at `pos`, a place is: 0 for one before them, and at most their number.
 fn within(count: usize, pos: u64, place: u64) -> usize

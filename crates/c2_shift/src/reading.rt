@@ -4,16 +4,16 @@ ghost use Rattle.std.specs.Option.{ForSome};
 ghost use Rattle.std.specs.List.{flat_map};
 ghost use Rattle.c2_base.specs.Causes.{HasCause};
 ghost use Rattle.c2_base.specs.Source.{ReadsSource, StaysSource};
-ghost use Rattle.c2_box_rows.specs.Rows.{IsRowWithin};
-ghost use Rattle.c2_chunks.specs.Refusals.{IsFirstRefusal, sibling_refusals};
-ghost use Rattle.c2_chunks.specs.Tables.{StandApart, is_table_kind, tables_among};
+ghost use Rattle.c2_bmff_rows.specs.Rows.{IsRowWithin};
+ghost use Rattle.c2_bmff_chunks.specs.Refusals.{IsFirstRefusal, sibling_refusals};
+ghost use Rattle.c2_bmff_chunks.specs.Tables.{StandApart, is_table_kind, tables_among};
 ghost use Rattle.c2_shift.specs.Causes.{IsTablesCause, OrOutside};
 ghost use Rattle.c2_shift.specs.Walking.{FillsBox, IsTableOr, LieIn, StaysApart};
 
 use crate::fields::{fields_len, number_in};
 use c2_base::{Failed, Source};
-use c2_boxes::RootBox;
-use c2_chunks::{ChunkTable, Field, ShiftError};
+use c2_bmff_boxes::RootBox;
+use c2_bmff_chunks::{ChunkTable, Field, ShiftError};
 
 // The type of the box of offsets of auxiliary information.
 const SAIO: [u8; 4] = *b"saio";

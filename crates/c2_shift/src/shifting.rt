@@ -4,10 +4,10 @@ ghost use Rattle.std.specs.List.{AllByRecursion};
 ghost use Rattle.std.specs.Option.{ForSome};
 ghost use Rattle.c2_base.specs.Causes.{HasCause};
 ghost use Rattle.c2_base.specs.Source.{FilledAt, StaysSource};
-ghost use Rattle.c2_chunks.specs.Fields.{all_fields, fields_of};
-ghost use Rattle.c2_chunks.specs.Shifted.{part_with, shifted};
-ghost use Rattle.c2_chunks.specs.Tables.{StandApart, fields_len, table_len};
-ghost use Rattle.c2_chunks.specs.declared.table.ChunkTable.{ChunkTable};
+ghost use Rattle.c2_bmff_chunks.specs.Fields.{all_fields, fields_of};
+ghost use Rattle.c2_bmff_chunks.specs.Shifted.{part_with, shifted};
+ghost use Rattle.c2_bmff_chunks.specs.Tables.{StandApart, fields_len, table_len};
+ghost use Rattle.c2_bmff_chunks.specs.declared.table.ChunkTable.{ChunkTable};
 ghost use Rattle.c2_shift.specs.Parts.{IsAsRead};
 
 use crate::fields::{field_len, fields_len};
@@ -15,7 +15,7 @@ use crate::moving::Shift;
 use crate::putting::put_field;
 use crate::types::Tables;
 use c2_base::{Failed, Source, fill_at};
-use c2_chunks::{ChunkTable, Field};
+use c2_bmff_chunks::{ChunkTable, Field};
 
 // Where the fields of a table end.
 fn end_of(table: ChunkTable) -> u64

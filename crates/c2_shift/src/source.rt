@@ -1,10 +1,10 @@
 // A media file with moved places, as a source.
-ghost use Rattle.std.specs.Prelude.{◌≡◌, ◌+◌, ◌≤◌, ℕ, List, None, length, option_map, IfOk};
+ghost use Rattle.std.specs.Prelude.{◌≡◌, ℕ, List, None, length, option_map, IfOk};
 ghost use Rattle.std.specs.declared.option.Option.{Option};
 ghost use Rattle.c2_base.specs.Causes.{HasCause};
 ghost use Rattle.c2_base.specs.Source.{IsReadCount, ReadsAt, StaysSource};
-ghost use Rattle.c2_chunks.specs.Shifted.{shifted};
-ghost use Rattle.c2_chunks.specs.Tables.{StandApart};
+ghost use Rattle.c2_bmff_chunks.specs.Shifted.{shifted};
+ghost use Rattle.c2_bmff_chunks.specs.Tables.{StandApart};
 ghost use Rattle.c2_shift.specs.Lengths.{stand_apart_once};
 
 use crate::moving::Shift;
@@ -120,7 +120,7 @@ impl<'m, S: Source, K: NamedTables> Shifted<'m, S, K> {
 
 impl<'m, S: Source, K: NamedTables> Source for Shifted<'m, S, K> {
     ghost use Rattle.std.specs.Prelude.{option_map};
-    ghost use Rattle.c2_chunks.specs.Shifted.{shifted};
+    ghost use Rattle.c2_bmff_chunks.specs.Shifted.{shifted};
     ghost use Rattle.c2_shift.specs.Lengths.{shifted_bytes, shifted_size};
 
     ghost len = { λ s. S.len s.media.now };

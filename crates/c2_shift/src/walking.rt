@@ -1,21 +1,21 @@
 // The chunk tables of a file.
-ghost use Rattle.std.specs.Prelude.{◌≡◌, ◌+◌, ◌<◌, ◌≤◌, [], ◌++◌, All, IfOk, IfErr, OnOk, Some, None};
+ghost use Rattle.std.specs.Prelude.{◌≡◌, ◌+◌, ◌<◌, [], ◌++◌, All, IfOk, IfErr, OnOk, Some, None};
 ghost use Rattle.std.specs.Option.{ForSome};
 ghost use Rattle.c2_base.specs.Source.{ReadsSource};
-ghost use Rattle.c2_box_rows.specs.Rows.{IsBoxWithin, IsRowWithin};
-ghost use Rattle.c2_boxes.specs.Roots.{FillSource};
-ghost use Rattle.c2_chunks.specs.Refusals.{IsFirstRefusal, is_other_table, refusals_below, root_refusals, shift_refusals};
-ghost use Rattle.c2_chunks.specs.Tables.{StandApart, chunk_tables, inner, tables_below};
-ghost use Rattle.c2_chunks.specs.declared.table.ShiftError.TheVariants.{BadTree};
+ghost use Rattle.c2_bmff_rows.specs.Rows.{IsBoxWithin, IsRowWithin};
+ghost use Rattle.c2_bmff_boxes.specs.Roots.{FillSource};
+ghost use Rattle.c2_bmff_chunks.specs.Refusals.{IsFirstRefusal, is_other_table, refusals_below, root_refusals, shift_refusals};
+ghost use Rattle.c2_bmff_chunks.specs.Tables.{StandApart, chunk_tables, inner, tables_below};
+ghost use Rattle.c2_bmff_chunks.specs.declared.table.ShiftError.TheVariants.{BadTree};
 ghost use Rattle.c2_shift.specs.Causes.{IsTablesCause, OrOutside};
 ghost use Rattle.c2_shift.specs.Walking.{IsFirstKind, LieIn, Skips, StaysApart};
 
 use crate::reading::add_tables;
 use crate::types::Tables;
 use c2_base::{MediaError, Source};
-use c2_boxes::types::Roots;
-use c2_boxes::{RootBox, boxes_between};
-use c2_chunks::{ChunkTable, ShiftError};
+use c2_bmff_boxes::types::Roots;
+use c2_bmff_boxes::{RootBox, boxes_between};
+use c2_bmff_chunks::{ChunkTable, ShiftError};
 use std::alloc::Global;
 
 // The types of the boxes on the path to tables, each inside one before it.

@@ -14,8 +14,8 @@ use Rattle.c2_spec.specs.declared.panel.Verdict.{Verdict}
 use Rattle.c2_spec.specs.declared.reason.Reason.{Reason}
 use Rattle.c2_rules.specs.Asking.{HearsPanel}
 use Rattle.c2_rules.specs.declared.answer.Answer.TheVariants as answer
-use Rattle.c2_calls.specs.Asks.{AsksKnown}
-use Rattle.c2_calls.proofs.PanelLemmas.{hears_early, hears_nobody, hears_same}
+use Rattle.c2_calls_spec.specs.Asks.{AsksKnown}
+use Rattle.c2_calls_spec.proofs.PanelLemmas.{hears_early, hears_nobody, hears_same}
 use Rattle.c2_container.specs.Contained.{IsSaid}
 use Rattle.c2_container.specs.declared.types.Contained.{Contained}
 use Rattle.c2_opening.specs.declared.error.ValidateError.{ValidateError}

@@ -1,11 +1,11 @@
 -- A message with padding is plain, has the length that is wanted, and is read as the message but for the padding.
-use Rattle.std.proofs.Common.{◌≡◌, ◌≢◌, ◌⊎◌, inl, inr, ℕ, ◌+◌, ◌-◌, ◌<◌, ◌≤◌, List, [], ◌∷◌, ◌++◌, length, replicate, codes, Option, Some, None, append-nil, refl, sym, ap, subst, ◌∙◌, arith, lit<, lit≤}
+use Rattle.std.proofs.Common.{◌≡◌, ◌≢◌, inl, inr, ℕ, ◌+◌, ◌-◌, ◌<◌, ◌≤◌, List, [], ◌++◌, length, codes, Option, Some, None, refl, sym, ap, subst, ◌∙◌, arith, lit<, lit≤}
 use Rattle.std.proofs.lemmas.List.{length-append, take_at}
 use Rattle.std.proofs.lemmas.Bool.{lt-ltb}
 use Rattle.c2_spec.specs.Cbor.Item.{Item, bytes, text, list, dict, tag, simple, no_items, item, Pairs, no_pairs, pair, pairs_len}
 use Rattle.c2_spec.specs.Cbor.Deterministic.{shortest_head, preferred, preferred_pairs, sorted, sorted_pairs, deterministic}
 use Rattle.c2_spec.specs.Cbor.Legal.{pairs_depth, IsNew, PairsHaveDistinctKeys, PairsHaveBadSimple, IsLegal}
-use Rattle.c2_spec.specs.Cbor.Plain.{DiffersFrom, PairsHavePlainKeys, IsPlain}
+use Rattle.c2_spec.specs.Cbor.Plain.{DiffersFrom, PairsHavePlainKeys}
 use Rattle.c2_spec.specs.Cbor.Spelling.{Spells}
 use Rattle.c2_spec.specs.Cbor.Answers.{BeginsWith}
 use Rattle.c2_spec.specs.C2pa.Sign1.{SignParts, message_list, SpellsMessage}

@@ -1,5 +1,5 @@
 -- The entries of a fill, put behind those of a map one after the other.
-use Rattle.std.proofs.Common.{◌≡◌, ℕ, List, [], ◌∷◌, ◌++◌, codes, Option, Some, None, Vec, refl, sym, ap, ◌∙◌, rules}
+use Rattle.std.proofs.Common.{◌≡◌, ℕ, List, [], ◌∷◌, ◌++◌, codes, Option, Some, None, Vec, refl, ap, ◌∙◌, rules}
 use Rattle.std.specs.declared.alloc.Global.{Global}
 use Rattle.c2_spec.specs.Cbor.Item.{Item, text, dict, Pairs, no_pairs, pair}
 use Rattle.c2_spec.specs.Cbor.View.{view, pairs_view}

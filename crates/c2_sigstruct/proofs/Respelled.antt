@@ -1,5 +1,5 @@
 -- A message that some bytes spell, with more entries in its header, is spelled by bytes that are hardly longer.
-use Rattle.std.proofs.Common.{◌≡◌, ◌⊎◌, inl, inr, ℕ, ◌+◌, ◌*◌, ◌^◌, ◌<◌, ◌≤◌, Bool, true, ◌&&◌, List, [], ◌∷◌, ◌++◌, length, replicate, codes, Option, Some, None, refl, sym, ap, subst, ◌∙◌, arith, lit<, lit≤}
+use Rattle.std.proofs.Common.{◌≡◌, ◌⊎◌, inl, inr, ℕ, ◌+◌, ◌^◌, ◌<◌, ◌≤◌, Bool, true, ◌&&◌, List, [], ◌∷◌, ◌++◌, length, replicate, codes, Option, Some, None, refl, sym, ap, subst, ◌∙◌, arith, lit<, lit≤}
 use Rattle.std.proofs.lemmas.List.{length-append, append_assoc, length-replicate}
 use Rattle.std.specs.Int.{w64, to_be_bytes}
 use Rattle.std.specs.Prelude.{nat_lt}
@@ -7,10 +7,10 @@ use Rattle.std.specs.Str.{is_utf8, IsAscii}
 use Rattle.std.proofs.lemmas.Bool.{and_parts, ltb-true}
 use Rattle.std.proofs.lemmas.Str.{IsUtf8-from_ascii, is_utf8-from_IsUtf8}
 use Rattle.std.proofs.lemmas.Str.Ascii.{IsAscii-nil, IsAscii-cons}
-use Rattle.c2_spec.specs.Cbor.Item.{Item, bytes, text, list, dict, tag, simple, Items, no_items, item, Pairs, no_pairs, pair, pairs_len}
+use Rattle.c2_spec.specs.Cbor.Item.{Item, bytes, text, list, dict, tag, simple, no_items, item, Pairs, no_pairs, pair, pairs_len}
 use Rattle.c2_spec.specs.Cbor.Deterministic.{shortest_head, preferred, preferred_pairs, deterministic, sorted}
 use Rattle.c2_spec.specs.Cbor.Plain.{IsPlain}
-use Rattle.c2_spec.specs.Cbor.Spelling.{direct, eight, IsHead, any_bytes, SpellsString, InBrackets, Spells, SpellItems, SpellPairs}
+use Rattle.c2_spec.specs.Cbor.Spelling.{direct, eight, IsHead, InBrackets, Spells, SpellItems, SpellPairs}
 use Rattle.c2_spec.specs.Cbor.Answers.{BeginsWith}
 use Rattle.c2_spec.specs.C2pa.Sign1.{SignParts, message_list, SpellsMessage}
 use Rattle.c2_spec.specs.C2pa.Message.{tagged_message, pairs_then, padded, padded_bytes, padded_read, CanBePadded}

@@ -1,9 +1,9 @@
 -- What is written as a short text is that text.
 use Rattle.std.proofs.Common.{◌≡◌, ◌⊎◌, inl, inr, ℕ, ◌+◌, ◌*◌, ◌<◌, ◌≤◌, Bool, true, false, cond, ltb, List, [], ◌∷◌, ◌++◌, length, append-nil, refl, sym, ap, ◌∙◌, arith}
 use Rattle.std.specs.Int.{w16, w32, w64, to_be_bytes}
-use Rattle.std.proofs.lemmas.Bool.{lt-ltb, ltb-true, ltb-false}
+use Rattle.std.proofs.lemmas.Bool.{lt-ltb, ltb-true}
 use Rattle.c2_spec.specs.Cbor.Item.{Item, uint, nint, bytes, text, list, dict, tag, simple, half, single, double}
-use Rattle.c2_spec.specs.Cbor.Deterministic.{shortest_head, simple_bytes, preferred, sorted, deterministic}
+use Rattle.c2_spec.specs.Cbor.Deterministic.{shortest_head, simple_bytes, preferred, deterministic}
 
 -- the first byte of a list, and 0 where there is none
 first : List ℕ → ℕ

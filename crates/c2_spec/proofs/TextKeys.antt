@@ -1,5 +1,5 @@
 -- What the test for a text says.
-use Rattle.std.proofs.Common.{◌≡◌, ℕ, Bool, true, List, ap}
+use Rattle.std.proofs.Common.{◌≡◌, ℕ, true, List, ap}
 use Rattle.std.proofs.lemmas.Slice.Eq.{bytes_eq-Decides}
 use Rattle.c2_spec.specs.Cbor.Item.{Item, uint, nint, bytes, text, list, dict, tag, simple, half, single, double}
 use Rattle.c2_spec.specs.Cbor.Lookup.{is_text}

@@ -11,10 +11,10 @@ use Rattle.c2_spec.specs.Bmff.Store.{HasBmffStore}
 use Rattle.c2_spec.specs.Bmff.Writing.{is_file_end, mfra_kind}
 use Rattle.c2_spec.proofs.BmffOneList.{roots_once}
 use Rattle.c2_spec.proofs.BmffSizes.{bytes_size}
-use Rattle.c2_boxes.specs.Roots.{AreRootsOf}
-use Rattle.c2_box_rows.specs.Rows.{row_of, rows_of}
-use Rattle.c2_box_rows.specs.declared.row.RootBox.{RootBox}
-use Rattle.c2_box_rows.proofs.StandLemmas.{form_boxes}
+use Rattle.c2_bmff_boxes.specs.Roots.{AreRootsOf}
+use Rattle.c2_bmff_rows.specs.Rows.{row_of, rows_of}
+use Rattle.c2_bmff_rows.specs.declared.row.RootBox.{RootBox}
+use Rattle.c2_bmff_rows.proofs.StandLemmas.{form_boxes}
 use Rattle.c2_strip.specs.Endings.{ends_with, is_last}
 
 -- the last of rows

@@ -15,9 +15,9 @@ use Rattle.c2_spec.specs.Reason.{media_refusal}
 use Rattle.c2_spec.specs.declared.reason.Reason.{Reason}
 use Rattle.c2_spec.specs.declared.reason.Reason.TheVariants as why
 use Rattle.c2_spec.specs.declared.reason.Refusal.{Refusal}
-use Rattle.c2_boxes.specs.Roots.{AreRootsOf}
-use Rattle.c2_box_rows.specs.Rows.{rows_of}
-use Rattle.c2_box_rows.specs.declared.row.RootBox.{RootBox}
+use Rattle.c2_bmff_boxes.specs.Roots.{AreRootsOf}
+use Rattle.c2_bmff_rows.specs.Rows.{rows_of}
+use Rattle.c2_bmff_rows.specs.declared.row.RootBox.{RootBox}
 use Rattle.c2_container.specs.Contained.{IsContainerOf, IsSaid}
 use Rattle.c2_container.specs.declared.types.Contained.{Contained}
 use Rattle.c2_container.specs.declared.types.Container.{Container}

@@ -8,7 +8,7 @@ use Rattle.c2_base.specs.declared.media.MediaError.TheVariants as media
 use Rattle.c2_base.specs.declared.values.Range.{Range}
 use Rattle.c2_spec.specs.Bmff.Writing.{mfra_kind}
 use Rattle.c2_spec.specs.Located.{refusal}
-use Rattle.c2_box_rows.specs.declared.row.RootBox.{RootBox}
+use Rattle.c2_bmff_rows.specs.declared.row.RootBox.{RootBox}
 use Rattle.c2_strip.specs.declared.error.StripError.{StripError}
 use Rattle.c2_strip.specs.declared.error.StripError.TheVariants.{ReadFault, WriteFault, NoMemory}
 use Rattle.c2_strip.specs.declared.error.Stripped.{Stripped}

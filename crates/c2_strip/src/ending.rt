@@ -1,5 +1,5 @@
 // What a located store comes to when it is taken out.
-ghost use Rattle.std.specs.Prelude.{◌≡◌, ◌+◌, ◌<◌, ◌≤◌, ◌^◌, ℕ, List, Ok};
+ghost use Rattle.std.specs.Prelude.{◌≡◌, ◌+◌, ◌<◌, ◌^◌, ℕ, List, Ok};
 ghost use Rattle.c2_container.specs.Contained.{IsSaid, IsWithin};
 ghost use Rattle.c2_strip.specs.Answers.{IsAnswerOf};
 ghost use Rattle.c2_strip.specs.Endings.{ends_with, is_last};
@@ -7,7 +7,7 @@ ghost use Rattle.c2_strip.specs.Stripping.{StripsTo};
 
 use crate::Stripped;
 use c2_base::Range;
-use c2_boxes::RootBox;
+use c2_bmff_boxes::RootBox;
 use c2_container::{Contained, Container, each_media_file_is_located};
 
 // The type of the box that tells where fragments are.

@@ -5,7 +5,7 @@ ghost use Rattle.c2_spec.specs.Cover.{data_text};
 ghost use Rattle.c2_strip.specs.Stripping.{StripsTo, stripped};
 ghost use Rattle.c2_strip.specs.declared.error.Stripped.{Stripped as AnyStripped};
 
-use c2_boxes::a_file_has_one_list_of_roots;
+use c2_bmff_boxes::a_file_has_one_list_of_roots;
 use c2_container::each_media_file_is_located;
 
 /// Whatever bytes a file has, it comes to one thing without its store.

@@ -5,7 +5,7 @@ use Rattle.std.proofs.lemmas.List.{map-append}
 use Rattle.std.proofs.lemmas.Str.{encode_ascii}
 use Rattle.std.specs.List.{AllByRecursion}
 use Rattle.std.proofs.Math.Utf8.{encode}
-use Rattle.c2_binding.specs.EvidenceText.{printed_byte, printed}
+use Rattle.c2_compare_spec.specs.EvidenceText.{printed_byte, printed}
 
 -- what is no control byte stays
 high_same : (b : ℕ) → 128 ≤ b → printed_byte b ≡ b

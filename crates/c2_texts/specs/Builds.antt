@@ -7,11 +7,11 @@ use Rattle.c2_spec.specs.Reason.{reason_name}
 use Rattle.c2_rules.specs.Codes.{code_name}
 use Rattle.c2_rules.specs.declared.answer.Answer.{Answer}
 use Rattle.c2_rules.specs.declared.code.Code.{Code}
-use Rattle.c2_binding.specs.EvidenceText.{printed, text_line}
+use Rattle.c2_compare_spec.specs.EvidenceText.{printed, text_line}
 use Rattle.c2_definition.specs.declared.types.DefinitionField.{DefinitionField}
 use Rattle.c2_definition.specs.declared.types.DefinitionField.TheVariants as field
-use Rattle.c2_message.specs.declared.error.SignaturePart.{SignaturePart}
-use Rattle.c2_message.specs.declared.error.SignaturePart.TheVariants as part
+use Rattle.c2_new_signature.specs.declared.error.SignaturePart.{SignaturePart}
+use Rattle.c2_new_signature.specs.declared.error.SignaturePart.TheVariants as part
 use Rattle.c2_texts.specs.Texts.{told_line}
 
 -- ---- what is built

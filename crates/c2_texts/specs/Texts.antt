@@ -9,10 +9,10 @@ use Rattle.c2_spec.specs.Jumbf.Tree.{Tree}
 use Rattle.c2_spec.specs.Judges.Panel.{verdict_name}
 use Rattle.c2_spec.specs.declared.panel.Verdict.{Verdict}
 use Rattle.c2_rules.specs.Codes.{code_name}
-use Rattle.c2_binding.specs.EvidenceText.{printed, text_line}
-use Rattle.c2_binding.specs.declared.compared.Side.{Side}
-use Rattle.c2_binding.specs.declared.compared.Side.TheVariants.{First, Second}
-use Rattle.c2_words.specs.CommandLine.{usage_text}
+use Rattle.c2_compare_spec.specs.EvidenceText.{printed, text_line}
+use Rattle.c2_compare_spec.specs.declared.compared.Side.{Side}
+use Rattle.c2_compare_spec.specs.declared.compared.Side.TheVariants.{First, Second}
+use Rattle.c2_usage.specs.CommandLine.{usage_text}
 use Rattle.c2_rules.specs.declared.answer.Answer.{Answer}
 use Rattle.c2_rules.specs.declared.answer.Answer.TheVariants as answer
 use Rattle.c2_rules.specs.declared.answer.Failing.{Failing}

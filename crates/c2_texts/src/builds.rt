@@ -6,7 +6,7 @@ use crate::control::printable;
 use crate::lines::told_line;
 use crate::names::{code_name, field_name, part_name, reason_name};
 use c2_definition::DefinitionField;
-use c2_message::SignaturePart;
+use c2_new_signature::SignaturePart;
 use c2_rules::{Answer, Code};
 use c2_spec::Reason;
 use std::alloc::{AllocError, Global};

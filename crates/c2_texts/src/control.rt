@@ -1,6 +1,6 @@
 // Texts without control bytes.
 ghost use Rattle.std.specs.Prelude.{◌≡◌, IfOk, OnOk, string_bytes};
-ghost use Rattle.c2_binding.specs.EvidenceText as form;
+ghost use Rattle.c2_compare_spec.specs.EvidenceText as form;
 ghost use Rattle.c2_texts.specs.Items.{Appends};
 
 use std::alloc::{AllocError, Global};

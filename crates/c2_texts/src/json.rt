@@ -1,5 +1,5 @@
 // JSON that is written piece by piece, so that no more than one small value of it stands in memory.
-ghost use Rattle.std.specs.Prelude.{◌≡◌, ◌++◌, false, OnOk, codes, string_bytes};
+ghost use Rattle.std.specs.Prelude.{◌≡◌, ◌++◌, false, OnOk, codes};
 ghost use Rattle.std.specs.List.{list_all};
 ghost use Rattle.serde_json.specs.Data.{string};
 ghost use Rattle.serde_json.specs.View.{view};

@@ -4,10 +4,10 @@ ghost use Rattle.c2_texts.specs.Texts as form;
 
 use crate::control::printable;
 use crate::names::{code_name, reason_name, verdict_name};
-use c2_binding::Side;
+use c2_compare_spec::Side;
 use c2_rules::{Answer, Failing, Summary};
 use c2_spec::{Reason, Verdict};
-use c2_words::usage;
+use c2_usage::usage;
 use std::alloc::{AllocError, Global};
 
 /// The line for words that don't fit.

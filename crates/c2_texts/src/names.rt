@@ -6,7 +6,7 @@ ghost use Rattle.c2_rules.specs.Codes as code_form;
 ghost use Rattle.c2_texts.specs.Builds as build_form;
 
 use c2_definition::DefinitionField;
-use c2_message::SignaturePart;
+use c2_new_signature::SignaturePart;
 use c2_rules::Code;
 use c2_spec::{Reason, Verdict};
 

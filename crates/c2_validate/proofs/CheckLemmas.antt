@@ -30,7 +30,7 @@ use Rattle.c2_hard_binding.specs.Found.{HasSize, IsBoundAs}
 use Rattle.c2_hard_binding.specs.declared.bound.Bound.{Bound}
 use Rattle.c2_hard_binding.specs.declared.bound.Bound.TheVariants.{Fails, Holds}
 use Rattle.c2_hard_binding.specs.declared.bound.BoundText.{BoundText}
-use Rattle.c2_calls.proofs.PanelLemmas.{hears_error, hears_later}
+use Rattle.c2_calls_spec.proofs.PanelLemmas.{hears_error, hears_later}
 use Rattle.c2_validate.specs.Checked.{IsCheckedOver, IsReadCause, StoreAsks, readings_of, validate_heard}
 use Rattle.c2_validate.specs.Checks.{ChainAsks, fault_of}
 use Rattle.c2_validate.specs.Counts.{summary_by}

@@ -15,7 +15,7 @@ use Rattle.c2_rules.specs.Opened.{IsOpened}
 use Rattle.c2_rules.specs.Readings.{AreReadings, Reading}
 use Rattle.c2_rules.specs.Validated.{CheckAsks, IsAnswer, IsOpenedAnswer, IsTreeAnswer, OpenedAsks}
 use Rattle.c2_rules.specs.declared.answer.Answer.{Answer}
-use Rattle.c2_calls.specs.Asks.{AsksKnown}
+use Rattle.c2_calls_spec.specs.Asks.{AsksKnown}
 use Rattle.c2_container.specs.Contained.{IsContainerOf}
 use Rattle.c2_container.specs.declared.types.Container.{Container}
 use Rattle.c2_opening.specs.Media.{IsMediaOf}

@@ -8,7 +8,7 @@ use Rattle.c2_spec.specs.declared.panel.Verdict.{Verdict}
 use Rattle.c2_rules.specs.Asking.{HearsPanel}
 use Rattle.c2_rules.specs.CheckList.{asked_below, judged_tests}
 use Rattle.c2_rules.specs.Readings.{Reading}
-use Rattle.c2_calls.specs.Asks.{AsksThese}
+use Rattle.c2_calls_spec.specs.Asks.{AsksThese}
 use Rattle.c2_chain.specs.Checked.{chain_heard}
 use Rattle.c2_chain.specs.declared.asking.ChainError.{ChainError}
 use Rattle.c2_chain.specs.declared.asking.ChainError.TheVariants as chain

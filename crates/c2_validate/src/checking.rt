@@ -4,7 +4,7 @@ ghost use Rattle.std.specs.Option.{ForSome};
 ghost use Rattle.c2_base.specs.Source.{ReadsSource};
 ghost use Rattle.c2_spec.specs.Judges.Panel.{panel_says};
 ghost use Rattle.c2_rules.specs.Asking.{HearsPanel};
-ghost use Rattle.c2_calls.specs.Asks.{AsksKnown};
+ghost use Rattle.c2_calls_spec.specs.Asks.{AsksKnown};
 ghost use Rattle.c2_container.specs.Contained.{HasRootsInside};
 ghost use Rattle.c2_validate.specs.Checked.{HasTextSize, IsCheckedOver, IsReadCause, StoreAsks, answer_as, validate_heard};
 ghost use Rattle.c2_validate.specs.Checks.{fault_of};

@@ -8,7 +8,7 @@ use c2_base::{NoMemory, Range};
 use c2_chain::{Chain, manifest_count, reached, readings, redacted};
 use c2_cover::{Cover, covered_count, outside_count};
 use c2_hard_binding::{claim_read, created, gathered};
-use c2_reading::{Kept, entry_label, manifests};
+use c2_read_manifests::{Kept, entry_label, manifests};
 use c2_rules::{Parsed, Summary};
 use c2_spec::Ref;
 use std::alloc::Global;

@@ -4,7 +4,7 @@ ghost use Rattle.std.specs.Option.{ForSome};
 ghost use Rattle.c2_base.specs.Source.{ReadsSource};
 ghost use Rattle.c2_spec.specs.Judges.Panel.{panel_says};
 ghost use Rattle.c2_rules.specs.Asking.{HearsPanel};
-ghost use Rattle.c2_calls.specs.Asks.{AsksKnown};
+ghost use Rattle.c2_calls_spec.specs.Asks.{AsksKnown};
 ghost use Rattle.c2_container.specs.Contained.{HasRootsInside};
 ghost use Rattle.c2_validate.specs.External.{ExternalAsks, IsAnsweredExternal, IsListAnswered, ListAsks};
 ghost use Rattle.c2_validate.specs.Checked.{IsReadCause, validate_heard};

@@ -19,8 +19,8 @@ pub record PathStep : Type 0 where
 -- ---- the text of a path
 
 -- the greatest number in brackets
-abbrev pub most_nth : ℕ
-most_nth = 1048576
+abbrev pub max_child_index : ℕ
+max_child_index = 1048576
 
 -- a number in brackets, as it is written
 abbrev pub nth_text : Option ℕ → List ℕ
@@ -45,7 +45,7 @@ is_step_kind kind = (length kind == 4) && list_all (λ b. nat_lt b 0x80 && not (
 abbrev pub nth_number : ℕ → List ℕ → Option (Option ℕ)
 nth_number k digits =
     if list_all is_ascii_digit digits && not (get_or digits 0 0x30 == 0x30) && nat_le 1 k
-    && nat_le k most_nth
+    && nat_le k max_child_index
     then Some (Some k)
     else None
 

@@ -1,6 +1,6 @@
 use Rattle.std.proofs.Common.{◌≡◌, drop}
 use Rattle.std.specs.Prelude.{map}
-use Rattle.c2_paths.specs.Exclusions.{byte_test}
+use Rattle.c2_bmff_paths.specs.Exclusions.{byte_test}
 use Rattle.c2_spec.specs.Bmff.Hash.{test_of}
 use Rattle.c2_spec.specs.Cbor.View.{items_view}
 use Rattle.c2_spec.specs.Cbor.Fields.{each_of}

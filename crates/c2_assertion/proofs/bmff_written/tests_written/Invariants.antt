@@ -1,6 +1,6 @@
 use Rattle.std.proofs.Common.{◌≡◌, map, take}
 use Rattle.c2_spec.specs.Cbor.View.{view}
-use Rattle.c2_paths.specs.Exclusions.{byte_test}
+use Rattle.c2_bmff_paths.specs.Exclusions.{byte_test}
 use Rattle.c2_assertion.specs.Written.{test_item}
 use Rattle.c2_assertion.proofs.bmff_written.tests_written.Given as goal
 

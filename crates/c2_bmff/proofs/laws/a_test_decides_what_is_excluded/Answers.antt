@@ -1,7 +1,7 @@
 use Rattle.std.specs.List.{list_any}
-use Rattle.c2_marks.specs.Marks.{excludes_row}
-use Rattle.c2_box_rows.specs.Rows.{rows_of}
-use Rattle.c2_box_rows.proofs.BoxThere.{are_bytes}
+use Rattle.c2_bmff_excluded.specs.Marks.{excludes_row}
+use Rattle.c2_bmff_rows.specs.Rows.{rows_of}
+use Rattle.c2_bmff_rows.proofs.BoxThere.{are_bytes}
 use Rattle.c2_bmff.proofs.MatchLemmas.{all_rows_excluded, all_excluded_rows}
 use Rattle.c2_bmff.proofs.laws.a_test_decides_what_is_excluded.Goals as goal
 

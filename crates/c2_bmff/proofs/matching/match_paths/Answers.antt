@@ -3,12 +3,12 @@ use Rattle.std.specs.Prelude.{All}
 use Rattle.std.specs.List.{list_any}
 use Rattle.c2_base.specs.declared.values.Range.{Range}
 use Rattle.c2_spec.specs.Cover.{is_excluded}
-use Rattle.c2_marks.specs.Marks.{excludes_row}
-use Rattle.c2_box_rows.specs.Rows.{IsBoxWithin, rows_of}
-use Rattle.c2_box_rows.specs.declared.row.RootBox.{RootBox}
-use Rattle.c2_box_rows.proofs.BoxThere.{are_bytes}
+use Rattle.c2_bmff_excluded.specs.Marks.{excludes_row}
+use Rattle.c2_bmff_rows.specs.Rows.{IsBoxWithin, rows_of}
+use Rattle.c2_bmff_rows.specs.declared.row.RootBox.{RootBox}
+use Rattle.c2_bmff_rows.proofs.BoxThere.{are_bytes}
 use Rattle.c2_bmff.proofs.MatchLemmas.{all_excluded_rows, all_rows_excluded}
-use Rattle.c2_box_rows.proofs.Lists.{rows_within}
+use Rattle.c2_bmff_rows.proofs.Lists.{rows_within}
 use Rattle.c2_bmff.proofs.matching.match_paths.Goals as goal
 
 -- root boxes that end in the source are rows inside it

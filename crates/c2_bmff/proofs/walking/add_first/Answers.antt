@@ -1,7 +1,7 @@
 use Rattle.std.proofs.Common.{◌∙◌, ◌||◌, Bool, sym, ap}
 use Rattle.std.specs.List.{list_any}
 use Rattle.c2_bmff.specs.Trails.{ahead}
-use Rattle.c2_box_rows.proofs.Lists.{any_append, or_false}
+use Rattle.c2_bmff_rows.proofs.Lists.{any_append, or_false}
 use Rattle.c2_bmff.proofs.TrailLemmas.{first_step, no_step}
 use Rattle.c2_bmff.proofs.walking.add_first.Goals as goal
 

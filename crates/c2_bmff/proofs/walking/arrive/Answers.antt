@@ -1,10 +1,10 @@
 use Rattle.std.proofs.Common.{◌≡◌, ◌∙◌, ◌||◌, Bool, true, false, List, sym, ap}
 use Rattle.std.specs.List.{list_any}
 use Rattle.c2_spec.specs.Bmff.Paths.{is_entered}
-use Rattle.c2_box_rows.specs.Children.{kids}
+use Rattle.c2_bmff_rows.specs.Children.{kids}
 use Rattle.c2_bmff.specs.Trails.{ahead, found, from_step, has_step, through}
 use Rattle.c2_bmff.specs.declared.walking.Trail.{Trail}
-use Rattle.c2_box_rows.proofs.Lists.{any_append, or_false, or_join}
+use Rattle.c2_bmff_rows.proofs.Lists.{any_append, or_false, or_join}
 use Rattle.c2_bmff.proofs.TrailLemmas.{arrive_on, arrive_stops}
 use Rattle.c2_bmff.proofs.walking.arrive.Goals as goal
 

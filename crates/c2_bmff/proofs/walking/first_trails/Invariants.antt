@@ -1,8 +1,8 @@
 use Rattle.std.proofs.Common.{◌≡◌, ℕ, List, take}
 use Rattle.std.specs.List.{list_any}
-use Rattle.c2_marks.specs.Marks.{excludes_any}
+use Rattle.c2_bmff_excluded.specs.Marks.{excludes_any}
 use Rattle.c2_bmff.specs.Trails.{ahead}
-use Rattle.c2_box_rows.specs.declared.row.RootBox.{RootBox}
+use Rattle.c2_bmff_rows.specs.declared.row.RootBox.{RootBox}
 use Rattle.c2_bmff.proofs.walking.first_trails.Given as goal
 
 -- the trails are those of the exclusions so far

@@ -2,11 +2,11 @@ use Rattle.std.proofs.Common.{◌∙◌, ◌||◌, ◌∷◌, ◌++◌, [], List
 use Rattle.std.specs.List.{list_any}
 use Rattle.c2_base.specs.declared.values.Range.{Range}
 use Rattle.c2_spec.specs.Cover.{is_excluded}
-use Rattle.c2_marks.specs.Marks.{excludes_any}
+use Rattle.c2_bmff_excluded.specs.Marks.{excludes_any}
 use Rattle.c2_bmff.specs.Trails.{level_ahead}
-use Rattle.c2_box_rows.specs.declared.row.RootBox.{RootBox}
+use Rattle.c2_bmff_rows.specs.declared.row.RootBox.{RootBox}
 use Rattle.c2_bmff.specs.declared.walking.Level.{Level}
-use Rattle.c2_box_rows.proofs.Lists.{or_false}
+use Rattle.c2_bmff_rows.proofs.Lists.{or_false}
 use Rattle.c2_bmff.proofs.walking.mark_all.Goals as goal
 
 -- from no ranges and the first list of siblings on, the walk ends with what the exclusions exclude, whose parts were put in order

@@ -5,8 +5,8 @@ use Rattle.std.proofs.lemmas.List.{take_all}
 use Rattle.c2_spec.specs.Bmff.Hash.{Exclusion}
 use Rattle.c2_spec.specs.Cover.{is_excluded}
 use Rattle.c2_base.specs.declared.values.Range.{Range}
-use Rattle.c2_marks.specs.Marks.{IsRangeWithin, marks}
-use Rattle.c2_box_rows.proofs.Lists.{any_more}
+use Rattle.c2_bmff_excluded.specs.Marks.{IsRangeWithin, marks}
+use Rattle.c2_bmff_rows.proofs.Lists.{any_more}
 use Rattle.c2_bmff.proofs.TrailLemmas.{whole_asks}
 use Rattle.c2_bmff.proofs.walking.mark_asks.Goals as goal
 

@@ -5,7 +5,7 @@ use Rattle.std.specs.Option.{ForSome}
 use Rattle.c2_base.specs.Source.{StaysSource}
 use Rattle.c2_spec.specs.Cover.{is_excluded}
 use Rattle.c2_spec.specs.Bmff.Hash.{Exclusion}
-use Rattle.c2_marks.specs.Marks.{IsFront, IsRangeWithin, marks}
+use Rattle.c2_bmff_excluded.specs.Marks.{IsFront, IsRangeWithin, marks}
 use Rattle.c2_bmff.proofs.walking.mark_asks.Given as goal
 
 -- the ranges hold what they held and what the exclusions so far exclude, and lie inside the source; the bytes that were read are the

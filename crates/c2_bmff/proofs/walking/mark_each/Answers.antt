@@ -3,9 +3,9 @@ use Rattle.std.specs.Prelude.{All}
 use Rattle.std.specs.List.{list_any}
 use Rattle.std.proofs.lemmas.List.{take_all}
 use Rattle.c2_spec.specs.Cover.{is_excluded}
-use Rattle.c2_marks.specs.Marks.{IsRangeWithin}
+use Rattle.c2_bmff_excluded.specs.Marks.{IsRangeWithin}
 use Rattle.c2_bmff.specs.Trails.{through}
-use Rattle.c2_box_rows.proofs.Lists.{any_more}
+use Rattle.c2_bmff_rows.proofs.Lists.{any_more}
 use Rattle.c2_bmff.proofs.walking.mark_each.Goals as goal
 
 -- with one exclusion more, the ranges hold also what it excludes

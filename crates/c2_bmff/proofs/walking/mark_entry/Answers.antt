@@ -3,7 +3,7 @@ use Rattle.std.specs.List.{list_any}
 use Rattle.std.proofs.lemmas.Option.{slice_get-get_or}
 use Rattle.c2_spec.specs.Bmff.Hash.{Exclusion}
 use Rattle.c2_spec.specs.Cover.{is_excluded}
-use Rattle.c2_marks.specs.Marks.{SharedPath, marks, marks_any}
+use Rattle.c2_bmff_excluded.specs.Marks.{SharedPath, marks, marks_any}
 use Rattle.c2_bmff.proofs.TrailLemmas.{of_there}
 use Rattle.c2_bmff.proofs.walking.mark_entry.Goals as goal
 

@@ -3,7 +3,7 @@ use Rattle.std.specs.List.{list_any}
 use Rattle.c2_base.specs.declared.values.Range.{Range}
 use Rattle.c2_spec.specs.Cover.{is_excluded}
 use Rattle.c2_bmff.specs.Trails.{through}
-use Rattle.c2_box_rows.proofs.Lists.{or_false}
+use Rattle.c2_bmff_rows.proofs.Lists.{or_false}
 use Rattle.c2_bmff.proofs.TrailLemmas.{whole_same}
 use Rattle.c2_bmff.proofs.walking.mark_here.Goals as goal
 

@@ -2,7 +2,7 @@ use Rattle.std.proofs.Common.{◌≡◌, ◌∙◌, ◌||◌, ◌∷◌, ◌++�
 use Rattle.std.specs.Str.{bytes_eq}
 use Rattle.c2_bmff.specs.declared.walking.Trail.{Trail}
 use Rattle.c2_bmff.specs.Trails.{ahead, arrives, found, picks}
-use Rattle.c2_box_rows.proofs.Lists.{or_join}
+use Rattle.c2_bmff_rows.proofs.Lists.{or_join}
 use Rattle.c2_bmff.proofs.TrailLemmas.{after, pass_own}
 use Rattle.c2_bmff.proofs.walking.pass.Goals as goal
 

@@ -4,7 +4,7 @@ use Rattle.std.proofs.lemmas.List.{drop-set-lt, length-set, take_all, take_more}
 use Rattle.std.proofs.lemmas.Grind.{take-set_at}
 use Rattle.c2_bmff.specs.Trails.{ahead, found}
 use Rattle.c2_bmff.specs.declared.walking.Trail.{Trail}
-use Rattle.c2_box_rows.proofs.Lists.{any_append}
+use Rattle.c2_bmff_rows.proofs.Lists.{any_append}
 use Rattle.c2_bmff.proofs.TrailLemmas.{pass_joins, rest_same}
 use Rattle.c2_bmff.proofs.walking.pass_all.Goals as goal
 

@@ -1,7 +1,7 @@
 use Rattle.std.proofs.Common.{◌≡◌, ◌||◌, ◌∷◌, ℕ, List, length, take, drop}
 use Rattle.std.specs.List.{list_any}
 use Rattle.c2_bmff.specs.Trails.{ahead, found}
-use Rattle.c2_box_rows.specs.declared.row.RootBox.{RootBox}
+use Rattle.c2_bmff_rows.specs.declared.row.RootBox.{RootBox}
 use Rattle.c2_bmff.proofs.walking.pass_all.Given as goal
 
 -- the trails so far are past the box, and the others are as they were

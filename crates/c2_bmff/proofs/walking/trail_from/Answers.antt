@@ -4,7 +4,7 @@ use Rattle.std.proofs.lemmas.Bool.{lt-ltb}
 use Rattle.std.proofs.lemmas.Option.{slice_get_read}
 use Rattle.std.specs.Prelude.{nat_lt}
 use Rattle.c2_spec.specs.Bmff.Paths.{PathStep, nth_of}
-use Rattle.c2_marks.specs.Marks.{SharedPath}
+use Rattle.c2_bmff_excluded.specs.Marks.{SharedPath}
 use Rattle.c2_bmff.proofs.TrailLemmas.{of_there, trail_is}
 use Rattle.c2_bmff.proofs.walking.trail_from.Goals as goal
 

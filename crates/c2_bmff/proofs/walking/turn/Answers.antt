@@ -4,11 +4,11 @@ use Rattle.std.specs.List.{list_any}
 use Rattle.std.proofs.lemmas.List.{drop_all, drop_more, take-append-le, take_all}
 use Rattle.std.proofs.lemmas.List.Elements.{All-push}
 use Rattle.c2_spec.specs.Cover.{is_excluded}
-use Rattle.c2_box_rows.specs.Children.{kids}
+use Rattle.c2_bmff_rows.specs.Children.{kids}
 use Rattle.c2_bmff.specs.Trails.{IsLevelWithin, ahead, level_ahead}
-use Rattle.c2_box_rows.specs.declared.row.RootBox.{RootBox}
+use Rattle.c2_bmff_rows.specs.declared.row.RootBox.{RootBox}
 use Rattle.c2_bmff.specs.declared.walking.Trail.{Trail}
-use Rattle.c2_box_rows.proofs.Lists.{any_append, or_false}
+use Rattle.c2_bmff_rows.proofs.Lists.{any_append, or_false}
 use Rattle.c2_bmff.proofs.TrailLemmas.{level_none, turn_joins}
 use Rattle.c2_bmff.proofs.walking.turn.Goals as goal
 

@@ -2,9 +2,9 @@ use Rattle.std.proofs.Common.{◌∙◌, ◌||◌, ℕ, Bool, subst, sym, ap, ar
 use Rattle.std.specs.Prelude.{All}
 use Rattle.std.specs.List.{list_any}
 use Rattle.c2_spec.specs.Cover.{is_excluded}
-use Rattle.c2_marks.specs.Marks.{IsRangeWithin}
+use Rattle.c2_bmff_excluded.specs.Marks.{IsRangeWithin}
 use Rattle.c2_bmff.specs.Trails.{IsLevelWithin, level_ahead}
-use Rattle.c2_box_rows.proofs.Lists.{any_append}
+use Rattle.c2_bmff_rows.proofs.Lists.{any_append}
 use Rattle.c2_bmff.proofs.walking.walk.Goals as goal
 
 -- after a turn, and with the ranges joined, they hold and the lists have ahead what they held and had

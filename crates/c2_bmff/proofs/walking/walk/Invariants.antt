@@ -4,7 +4,7 @@ use Rattle.std.specs.List.{list_any}
 use Rattle.std.specs.Option.{ForSome}
 use Rattle.c2_base.specs.Source.{StaysSource}
 use Rattle.c2_spec.specs.Cover.{is_excluded}
-use Rattle.c2_marks.specs.Marks.{IsRangeWithin}
+use Rattle.c2_bmff_excluded.specs.Marks.{IsRangeWithin}
 use Rattle.c2_bmff.specs.Trails.{IsLevelWithin, level_ahead, levels_left}
 use Rattle.c2_bmff.proofs.walking.walk.Given as goal
 

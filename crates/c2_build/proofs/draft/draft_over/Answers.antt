@@ -2,14 +2,14 @@ use Rattle.std.proofs.Common.{inl, map, ◌∙◌, subst, ℕ}
 use Rattle.std.specs.Prelude.{Err}
 use Rattle.std.proofs.lemmas.Result.{IfErr-weaker, IfOk-weaker}
 use Rattle.c2_spec.specs.Judges.Panel.{panel_says}
-use Rattle.c2_built.specs.Store.{new_alg}
-use Rattle.c2_cleared.specs.Clears.{cleared_len}
-use Rattle.c2_refusals.specs.Kinds.{judge_effects}
-use Rattle.c2_refusals.proofs.Judged.{hears_behind, hears_failed, read_result}
-use Rattle.c2_refusals.proofs.Outside.{outside_map}
-use Rattle.c2_bound_parts.specs.Bound.{IsSmall}
-use Rattle.c2_drafts.specs.Drafts.{draft_effects}
-use Rattle.c2_drafts.proofs.Causes.{drafts_behind}
+use Rattle.c2_new_store_spec.specs.Store.{new_alg}
+use Rattle.c2_without_store.specs.Clears.{cleared_len}
+use Rattle.c2_build_refusals.specs.Kinds.{judge_effects}
+use Rattle.c2_build_refusals.proofs.Judged.{hears_behind, hears_failed, read_result}
+use Rattle.c2_build_refusals.proofs.Outside.{outside_map}
+use Rattle.c2_build_parts.specs.Bound.{IsSmall}
+use Rattle.c2_build_drafts.specs.Drafts.{draft_effects}
+use Rattle.c2_build_drafts.proofs.Causes.{drafts_behind}
 use Rattle.c2_build.proofs.Placed.{ground_form, place_passed, place_refused}
 use Rattle.c2_build.proofs.Short.{ground_len}
 use Rattle.c2_build.proofs.SomeBuild.{PlaceLaws, free_place}

@@ -13,4 +13,4 @@ returns c =
       meets = c.a_file_built_in_its_place_meets_the_rules.ensures.fresh;
       size = c.a_new_store_has_one_length_in_its_place.ensures;
       valid = c.approval_of_each_question_is_enough.ensures;
-    } in again_succeeds laws c.a_base_stays.ensures c.a_built_film_has_its_base.ensures
+    } in again_succeeds laws c.a_base_stays.ensures c.a_built_bmff_has_its_base.ensures

@@ -1,15 +1,15 @@
 use Rattle.std.proofs.Common.{map, refl}
 use Rattle.std.specs.Prelude.{Err}
 use Rattle.c2_spec.specs.Judges.Panel.{panel_says}
-use Rattle.c2_calls.proofs.SourceLemmas.{reads_nothing, stays_as_it_was}
-use Rattle.c2_refusals.specs.Stages.{IsDefinitionStage, IsMediaStage}
-use Rattle.c2_refusals.proofs.Stages.{comes_first, comes_next}
-use Rattle.c2_refusals.proofs.Judged.{hears_as, hears_none, quiet_unheard, read_unheard}
-use Rattle.c2_refusals.proofs.Inputs.{not_both_media, told_where_due}
-use Rattle.c2_refusals.proofs.Outside.{alone, plain_cause, quiet_cause, reads_among, reads_earlier}
+use Rattle.c2_calls_spec.proofs.SourceLemmas.{reads_nothing, stays_as_it_was}
+use Rattle.c2_build_refusals.specs.Stages.{IsDefinitionStage, IsMediaStage}
+use Rattle.c2_build_refusals.proofs.Stages.{comes_first, comes_next}
+use Rattle.c2_build_refusals.proofs.Judged.{hears_as, hears_none, quiet_unheard, read_unheard}
+use Rattle.c2_build_refusals.proofs.Inputs.{not_both_media, told_where_due}
+use Rattle.c2_build_refusals.proofs.Outside.{alone, plain_cause, quiet_cause, reads_among, reads_earlier}
 use Rattle.c2_build.proofs.NewFile.{defined_of}
 use Rattle.c2_build.proofs.Unasked.{planned_asks, refused_plan, undefined_plan}
-use Rattle.c2_refusals.specs.Kinds.{judge_effects, no_effects}
+use Rattle.c2_build_refusals.specs.Kinds.{judge_effects, no_effects}
 use Rattle.c2_build.proofs.planning.plan_in.Goals as goal
 
 -- ---- the store is refused

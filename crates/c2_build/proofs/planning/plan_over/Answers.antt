@@ -1,12 +1,12 @@
 use Rattle.std.proofs.Common.{map, subst, ◌∙◌, sym, ℕ}
 use Rattle.std.proofs.lemmas.Result.{IfOk-weaker}
 use Rattle.c2_spec.specs.Judges.Panel.{panel_says}
-use Rattle.c2_built.specs.Store.{new_alg}
-use Rattle.c2_cleared.specs.Clears.{cleared_len}
-use Rattle.c2_refusals.specs.Kinds.{judge_effects, no_effects}
-use Rattle.c2_refusals.proofs.Judged.{hears_behind, hears_failed, read_result}
-use Rattle.c2_refusals.proofs.Outside.{outside_map, reads_behind}
-use Rattle.c2_bound_parts.specs.Bound.{IsSmall}
+use Rattle.c2_new_store_spec.specs.Store.{new_alg}
+use Rattle.c2_without_store.specs.Clears.{cleared_len}
+use Rattle.c2_build_refusals.specs.Kinds.{judge_effects, no_effects}
+use Rattle.c2_build_refusals.proofs.Judged.{hears_behind, hears_failed, read_result}
+use Rattle.c2_build_refusals.proofs.Outside.{outside_map, reads_behind}
+use Rattle.c2_build_parts.specs.Bound.{IsSmall}
 use Rattle.c2_build.specs.Building.{IsPlannedOver, signed_bytes}
 use Rattle.c2_build.proofs.Drawn.{passed_plan, refused_plan}
 use Rattle.c2_build.proofs.NewStores.{planned_by, same_signed}

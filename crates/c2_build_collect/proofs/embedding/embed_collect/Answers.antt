@@ -2,13 +2,13 @@ use Rattle.std.proofs.Common.{inl, map, refl, subst, sym, ℕ, ◌∙◌}
 use Rattle.std.specs.Prelude.{Err, Ok}
 use Rattle.c2_base.specs.Causes.{Rose}
 use Rattle.c2_spec.specs.Judges.Panel.{panel_says}
-use Rattle.c2_calls.proofs.SinkLemmas.{writes_nothing}
-use Rattle.c2_calls.proofs.SourceLemmas.{reads_next, reads_then}
-use Rattle.c2_collected.specs.Outcomes.{IsCollectMade}
-use Rattle.c2_in_place.specs.Writings.{ready_file}
-use Rattle.c2_in_place.proofs.Endings.{all_written, copy_beside, copy_leaves, copy_sink, copy_source, copy_unjudged, unwritten}
-use Rattle.c2_refusals.proofs.Doing.{leaves_kind}
-use Rattle.c2_refusals.proofs.Judged.{hears_behind, hears_failed}
+use Rattle.c2_calls_spec.proofs.SinkLemmas.{writes_nothing}
+use Rattle.c2_calls_spec.proofs.SourceLemmas.{reads_next, reads_then}
+use Rattle.c2_collect_spec.specs.Outcomes.{IsCollectMade}
+use Rattle.c2_build_in_place.specs.Writings.{ready_file}
+use Rattle.c2_build_in_place.proofs.Endings.{all_written, copy_beside, copy_leaves, copy_sink, copy_source, copy_unjudged, unwritten}
+use Rattle.c2_build_refusals.proofs.Doing.{leaves_kind}
+use Rattle.c2_build_refusals.proofs.Judged.{hears_behind, hears_failed}
 use Rattle.c2_build_collect.specs.Answers.{Writes, embed_effects, prepare_effects}
 use Rattle.c2_build_collect.proofs.Causes.{prepare_sink, prepare_writes}
 use Rattle.c2_build_collect.proofs.Ended.{broken_off, range_is, told_of_file}

@@ -1,13 +1,13 @@
 use Rattle.std.proofs.Common.{List, [], ap, arith, length, refl, subst, sym, ℕ, ◌+◌, ◌∙◌, ◌≡◌}
-use Rattle.c2_box_rows.specs.declared.row.RootBox.{RootBox}
-use Rattle.c2_box_rows.proofs.Lists.{length-rows}
-use Rattle.c2_calls.proofs.SourceLemmas.{reads_error, reads_next, reads_nothing}
-use Rattle.c2_chunks.specs.Refusals.{IsFirstRefusal, shift_refusals}
-use Rattle.c2_chunks.specs.Tables.{chunk_tables}
-use Rattle.c2_fronts.specs.Order.{plan_refusals, size_refusals}
-use Rattle.c2_refusals.proofs.Outside.{outside_all, outside_map}
-use Rattle.c2_refusals.specs.Kinds.{WithoutFault}
-use Rattle.c2_refusals.specs.declared.error.BuildError.{BuildError}
+use Rattle.c2_bmff_rows.specs.declared.row.RootBox.{RootBox}
+use Rattle.c2_bmff_rows.proofs.Lists.{length-rows}
+use Rattle.c2_calls_spec.proofs.SourceLemmas.{reads_error, reads_next, reads_nothing}
+use Rattle.c2_bmff_chunks.specs.Refusals.{IsFirstRefusal, shift_refusals}
+use Rattle.c2_bmff_chunks.specs.Tables.{chunk_tables}
+use Rattle.c2_new_front_spec.specs.Order.{plan_refusals, size_refusals}
+use Rattle.c2_build_refusals.proofs.Outside.{outside_all, outside_map}
+use Rattle.c2_build_refusals.specs.Kinds.{WithoutFault}
+use Rattle.c2_build_refusals.specs.declared.error.BuildError.{BuildError}
 use Rattle.c2_shift.specs.Causes.{IsFirstOverflow, OrOutside}
 use Rattle.c2_build_front.proofs.Causes.{quiet_step}
 use Rattle.c2_build_front.proofs.First.{check_step, moving_none, offsets_none, open_none, overflow_first, places_are, plan_moving, plan_offsets, plan_open, plan_passes, plan_redaction, plan_sizes, redaction_none, shift_first, tables_step}

@@ -1,7 +1,7 @@
 use Rattle.std.proofs.Common.{ap, subst, sym, ◌+◌, ◌≤◌, ◌∙◌, ℕ, length}
 use Rattle.c2_base.specs.declared.limits.TheConstants.{MAX_STORE_LEN}
-use Rattle.c2_fronts.specs.Order.{size_refusals}
-use Rattle.c2_refusals.proofs.Outside.{outside_all}
+use Rattle.c2_new_front_spec.specs.Order.{size_refusals}
+use Rattle.c2_build_refusals.proofs.Outside.{outside_all}
 use Rattle.c2_build_front.proofs.First.{file_is}
 use Rattle.c2_build_front.specs.Steps.{IsFirstError, store_size}
 use Rattle.c2_build_front.proofs.drafting.sized.Goals as goal

@@ -1,13 +1,13 @@
 use Rattle.std.proofs.Common.{List, refl, subst, ℕ, ◌∙◌}
 use Rattle.std.specs.Prelude.{Err}
 use Rattle.c2_copying.specs.Writing.{Breaks, Delivers, ending_of}
-use Rattle.c2_front_hash.specs.Putting.{with_store}
-use Rattle.c2_calls.proofs.SinkLemmas.{writes_nothing}
-use Rattle.c2_calls.proofs.SourceLemmas.{reads_next, reads_then}
-use Rattle.c2_fronts.specs.Outcomes.{IsFrontMade}
-use Rattle.c2_refusals.proofs.Doing.{leaves_kind}
+use Rattle.c2_bmff_binding_front.specs.Putting.{with_store}
+use Rattle.c2_calls_spec.proofs.SinkLemmas.{writes_nothing}
+use Rattle.c2_calls_spec.proofs.SourceLemmas.{reads_next, reads_then}
+use Rattle.c2_new_front_spec.specs.Outcomes.{IsFrontMade}
+use Rattle.c2_build_refusals.proofs.Doing.{leaves_kind}
 use Rattle.c2_build_front.proofs.Causes.{prepare_sink, prepare_writes}
-use Rattle.c2_in_place.proofs.Endings.{unwritten}
+use Rattle.c2_build_in_place.proofs.Endings.{unwritten}
 use Rattle.c2_build_front.specs.Answers.{prepare_effects}
 use Rattle.c2_build_front.proofs.Ended.{all_written, broken_off, opened_once, range_is, told_of_file}
 use Rattle.c2_build_front.proofs.embedding.embed_front.Goals as goal

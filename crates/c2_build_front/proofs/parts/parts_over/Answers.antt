@@ -1,7 +1,7 @@
 use Rattle.std.proofs.Common.{arith, subst, sym}
-use Rattle.c2_built.specs.Store.{new_alg}
-use Rattle.c2_refusals.proofs.Media.{media_caused, media_said}
-use Rattle.c2_refusals.specs.Kinds.{SaysNothing}
+use Rattle.c2_new_store_spec.specs.Store.{new_alg}
+use Rattle.c2_build_refusals.proofs.Media.{media_caused, media_said}
+use Rattle.c2_build_refusals.specs.Kinds.{SaysNothing}
 use Rattle.c2_build_front.proofs.Drafts.{digest_is, roots_of_new}
 use Rattle.c2_build_front.specs.Answers.{plan_effects}
 use Rattle.c2_build_front.specs.Steps.{IsPlanStep}

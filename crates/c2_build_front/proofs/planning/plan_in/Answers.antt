@@ -1,10 +1,10 @@
 use Rattle.std.proofs.Common.{refl}
 use Rattle.std.specs.Prelude.{Err}
-use Rattle.c2_calls.proofs.SourceLemmas.{reads_nothing, stays_as_it_was}
-use Rattle.c2_refusals.proofs.Inputs.{not_both_media, told_where_due}
-use Rattle.c2_refusals.proofs.Outside.{alone, outside_map, plain_cause, quiet_cause, reads_earlier}
-use Rattle.c2_fronts.specs.Outcomes.{IsPlannedOver}
-use Rattle.c2_fronts.specs.Outcomes as front
+use Rattle.c2_calls_spec.proofs.SourceLemmas.{reads_nothing, stays_as_it_was}
+use Rattle.c2_build_refusals.proofs.Inputs.{not_both_media, told_where_due}
+use Rattle.c2_build_refusals.proofs.Outside.{alone, outside_map, plain_cause, quiet_cause, reads_earlier}
+use Rattle.c2_new_front_spec.specs.Outcomes.{IsPlannedOver}
+use Rattle.c2_new_front_spec.specs.Outcomes as front
 use Rattle.c2_build_front.proofs.Stages.{answer_next, defined_as, definition_error, media_error, opened_as, refused_first, refused_next}
 use Rattle.c2_build_front.proofs.Sized.{has_size}
 use Rattle.c2_build_front.proofs.Causes.{reads_in, results_in}

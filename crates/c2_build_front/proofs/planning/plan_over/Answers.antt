@@ -1,8 +1,8 @@
 use Rattle.std.proofs.Common.{ap, List, ℕ, ◌∙◌}
 use Rattle.c2_spec.specs.C2pa.Sign1.{sig_structure}
 use Rattle.c2_spec.specs.Cbor.Deterministic.{deterministic}
-use Rattle.c2_fronts.specs.Outcomes.{IsPlannedIn}
-use Rattle.c2_refusals.proofs.Outside.{nothing_said, outside_map}
+use Rattle.c2_new_front_spec.specs.Outcomes.{IsPlannedIn}
+use Rattle.c2_build_refusals.proofs.Outside.{nothing_said, outside_map}
 use Rattle.c2_build_front.proofs.Drafts.{planned_of}
 use Rattle.c2_build_front.proofs.Stages.{planned_refuses, refused_over}
 use Rattle.c2_build_front.proofs.planning.plan_over.Goals as goal

@@ -2,11 +2,11 @@ use Rattle.std.proofs.Common.{inl, refl, subst, sym, ◌⊎◌, ◌∙◌, ℕ}
 use Rattle.std.specs.Prelude.{Err, IfOk}
 use Rattle.c2_base.specs.Causes.{Rose}
 use Rattle.c2_base.specs.Source.{ReadsSource}
-use Rattle.c2_calls.proofs.SourceLemmas.{reads_next, stays_as_it_was}
+use Rattle.c2_calls_spec.proofs.SourceLemmas.{reads_next, stays_as_it_was}
 use Rattle.c2_container.specs.Contained.{HasRootsInside}
-use Rattle.c2_fronts.specs.Outcomes.{IsMadeOver}
-use Rattle.c2_fronts.specs.Outcomes as front
-use Rattle.c2_refusals.proofs.Outside.{alone, outside_map, plain_cause, reads_earlier}
+use Rattle.c2_new_front_spec.specs.Outcomes.{IsMadeOver}
+use Rattle.c2_new_front_spec.specs.Outcomes as front
+use Rattle.c2_build_refusals.proofs.Outside.{alone, outside_map, plain_cause, reads_earlier}
 use Rattle.c2_build_front.proofs.Stages.{media_error, refused_first}
 use Rattle.c2_build_front.specs.Answers.{IsPrepareCause, prepare_effects}
 use Rattle.c2_build_front.specs.Steps.{CanWrite}

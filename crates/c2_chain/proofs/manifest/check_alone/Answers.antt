@@ -1,8 +1,8 @@
 use Rattle.std.proofs.Common.{refl, slice_get}
 use Rattle.c2_rules.specs.CheckList.{questions_of}
-use Rattle.c2_calls.specs.Asks.{AsksThese}
+use Rattle.c2_calls_spec.specs.Asks.{AsksThese}
 use Rattle.c2_chain.specs.declared.asking.ChainError.TheVariants.{NoMemory}
-use Rattle.c2_calls.proofs.PanelLemmas.{hears_early}
+use Rattle.c2_calls_spec.proofs.PanelLemmas.{hears_early}
 use Rattle.c2_chain.proofs.manifest.check_alone.Goals as goal
 
 -- memory ran out before anybody was asked

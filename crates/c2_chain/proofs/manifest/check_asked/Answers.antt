@@ -1,9 +1,9 @@
 use Rattle.std.proofs.Common.{ap, option_to_list, refl, sym, ◌∙◌}
 use Rattle.c2_rules.specs.Readings.{question_in}
-use Rattle.c2_calls.specs.Asks.{AsksThese}
+use Rattle.c2_calls_spec.specs.Asks.{AsksThese}
 use Rattle.c2_chain.specs.Checked.{chain_heard}
 use Rattle.c2_chain.specs.declared.asking.ChainError.TheVariants.{NoMemory}
-use Rattle.c2_calls.proofs.PanelLemmas.{hears_early, hears_error, hears_later}
+use Rattle.c2_calls_spec.proofs.PanelLemmas.{hears_early, hears_error, hears_later}
 use Rattle.c2_chain.proofs.manifest.check_asked.Goals as goal
 
 -- memory ran out before anybody was asked

@@ -1,9 +1,9 @@
 use Rattle.std.proofs.Common.{◌≡◌, refl, inl, inr, ◌⊎◌, Option}
-use Rattle.c2_outcome.specs.Outcome.{Outcome}
-use Rattle.c2_outcome.specs.Status.{WithoutFault}
-use Rattle.c2_outcome.specs.declared.types.Status.{Status}
-use Rattle.c2_outcome.specs.declared.types.Status.TheVariants.{Done, Failing, Refused, NoStore, Usage, InputFault, OutputFault, JudgeFault, NoMemory, DifferentClaims, Evidence, BuildRefused, NotAccepted, StripRefused}
-use Rattle.c2_words.specs.declared.types.Roles.{Roles}
+use Rattle.c2_cmd_outcome.specs.Outcome.{Outcome}
+use Rattle.c2_cmd_outcome.specs.Status.{WithoutFault}
+use Rattle.c2_cmd_outcome.specs.declared.types.Status.{Status}
+use Rattle.c2_cmd_outcome.specs.declared.types.Status.TheVariants.{Done, Failing, Refused, NoStore, Usage, InputFault, OutputFault, JudgeFault, NoMemory, DifferentClaims, Evidence, BuildRefused, NotAccepted, StripRefused}
+use Rattle.c2_usage.specs.declared.types.Roles.{Roles}
 use Rattle.c2_cmd.specs.Run.{Faults, HasAnswered, IsCaused, NoneFailed, RunState}
 use Rattle.c2_cmd.proofs.laws.a_run_that_nothing_fails_answers.Goals as goal
 

@@ -5,26 +5,26 @@ use Rattle.c2_base.specs.declared.values.Question.{Question}
 use Rattle.c2_build.specs.Building.{PlanAsks}
 use Rattle.c2_build_collect.specs.Answers as collect
 use Rattle.c2_build_collect.specs.Answers.{embed_effects}
-use Rattle.c2_collect_commands.specs.Outcomes.{IsEmbedCollectOutcome, IsPlanCollectOutcome}
-use Rattle.c2_collect_ground.specs.Grounds.{ground_effects}
-use Rattle.c2_collected.specs.Outcomes.{CollectAsks, CollectPlanAsks}
-use Rattle.c2_refusals.specs.Stages.{IsDefinitionRefused, IsMediaRefused}
-use Rattle.c2_building_commands.specs.Outcomes.{IsEmbedOutcome, IsPlanOutcome, IsSampleOutcome}
+use Rattle.c2_cmd_collect.specs.Outcomes.{IsEmbedCollectOutcome, IsPlanCollectOutcome}
+use Rattle.c2_build_collect_base.specs.Grounds.{ground_effects}
+use Rattle.c2_collect_spec.specs.Outcomes.{CollectAsks, CollectPlanAsks}
+use Rattle.c2_build_refusals.specs.Stages.{IsDefinitionRefused, IsMediaRefused}
+use Rattle.c2_cmd_building.specs.Outcomes.{IsEmbedOutcome, IsPlanOutcome, IsSampleOutcome}
 use Rattle.c2_compare.specs.Comparing.{IsNotAccepted}
-use Rattle.c2_extract_command.specs.Outcomes.{IsExtractOutcome}
-use Rattle.c2_front_commands.specs.Outcomes.{IsEmbedFrontOutcome, IsPlanFrontOutcome}
-use Rattle.c2_outcome.specs.Reply.{Replies, outcome_of}
-use Rattle.c2_reading_commands.specs.Outcomes.{IsCompareOutcome, IsDigestOutcome, IsExternalOutcome, IsListOutcome, IsMediaOutcome, IsQuestioned, IsShown, IsValidated}
+use Rattle.c2_cmd_extract.specs.Outcomes.{IsExtractOutcome}
+use Rattle.c2_cmd_front.specs.Outcomes.{IsEmbedFrontOutcome, IsPlanFrontOutcome}
+use Rattle.c2_cmd_outcome.specs.Reply.{Replies, outcome_of}
+use Rattle.c2_cmd_reading.specs.Outcomes.{IsCompareOutcome, IsDigestOutcome, IsExternalOutcome, IsListOutcome, IsMediaOutcome, IsQuestioned, IsShown, IsValidated}
 use Rattle.c2_rules.specs.Validated.{AreQuestions, CheckAsks}
 use Rattle.c2_sample.specs.Sample.{SampleAsks}
 use Rattle.c2_sidecar.specs.Checking.{IsRefusedFile}
 use Rattle.c2_spec.specs.Judges.Panel.{panel_says}
-use Rattle.c2_strip_command.specs.Outcomes.{IsStripOutcome}
+use Rattle.c2_cmd_strip.specs.Outcomes.{IsStripOutcome}
 use Rattle.c2_validate.specs.External.{ExternalAsks}
-use Rattle.c2_words.specs.CommandLine.{is_out}
-use Rattle.c2_written.specs.Builds.{IsRefusedBy, embedded_outcome, tbs_outcome}
-use Rattle.c2_written.proofs.Left.{built_words}
-use Rattle.c2_words.specs.declared.types.Command.TheVariants as command
+use Rattle.c2_usage.specs.CommandLine.{is_out}
+use Rattle.c2_cmd_written_spec.specs.Builds.{IsRefusedBy, embedded_outcome, tbs_outcome}
+use Rattle.c2_cmd_written_spec.proofs.Left.{built_words}
+use Rattle.c2_usage.specs.declared.types.Command.TheVariants as command
 use Rattle.c2_cmd.specs.Outcome.{digest_alg, names, pieces_in}
 use Rattle.c2_cmd.specs.Sources.{the_fourth, the_second, the_third}
 use Rattle.c2_cmd.proofs.Causing.{caused_collected, caused_collecting, caused_compare, caused_copying, caused_embed, caused_media, caused_memory, caused_panel, caused_reading, caused_sample, caused_sources, caused_usage, caused_writing}

@@ -1,11 +1,11 @@
 use Rattle.std.proofs.Common.{◌∙◌, ap, sym, inl, inr, refl, subst, take, string_bytes, arith}
 use Rattle.std.specs.Prelude.{Err}
 use Rattle.c2_base.proofs.Growing.{grows_then}
-use Rattle.c2_outcome.specs.Reply.{end_of}
-use Rattle.c2_outcome.specs.Status.{HasNoReply}
-use Rattle.c2_outcome.specs.Left.{state_of}
-use Rattle.c2_outcome.specs.declared.reply.Fault.{Fault}
-use Rattle.c2_outcome.specs.declared.types.Status.TheVariants.{JudgeFault}
+use Rattle.c2_cmd_outcome.specs.Reply.{end_of}
+use Rattle.c2_cmd_outcome.specs.Status.{HasNoReply}
+use Rattle.c2_cmd_outcome.specs.Left.{state_of}
+use Rattle.c2_cmd_outcome.specs.declared.reply.Fault.{Fault}
+use Rattle.c2_cmd_outcome.specs.declared.types.Status.TheVariants.{JudgeFault}
 use Rattle.c2_cmd.proofs.Delivering.{behind_answered, behind_left, no_end, no_fault}
 use Rattle.c2_cmd.proofs.Keeping.{kept_out, without}
 use Rattle.c2_cmd.proofs.Ending.{cause_told, cause_untold, ends_known, file_untold, rose_since, runs_answered, runs_input, runs_judge, runs_memory, runs_output, runs_untold, without_fault}

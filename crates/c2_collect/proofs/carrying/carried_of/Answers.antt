@@ -1,5 +1,5 @@
 use Rattle.std.proofs.Common.{◌≡◌, length, subst, arith}
-use Rattle.c2_collected.specs.Sides.{ClashFirst}
+use Rattle.c2_collect_spec.specs.Sides.{ClashFirst}
 use Rattle.c2_collect.specs.Carried.{AreCarried, IsFound}
 use Rattle.c2_collect.specs.Marked.{is_marked, manifests_in}
 use Rattle.c2_collect.proofs.Flags.{carried_more, clash_first}

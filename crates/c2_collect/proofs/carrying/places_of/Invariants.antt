@@ -1,5 +1,5 @@
 use Rattle.std.proofs.Common.{take}
-use Rattle.c2_lookup.specs.Places.{ArePlaces}
+use Rattle.c2_label_index.specs.Places.{ArePlaces}
 use Rattle.c2_collect.specs.Marked.{box_labels, manifests_in}
 use Rattle.c2_collect.proofs.carrying.places_of.Given as goal
 

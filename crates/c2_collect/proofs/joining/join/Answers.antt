@@ -1,5 +1,5 @@
 use Rattle.std.proofs.Common.{◌≡◌, ℕ, Err, ap}
-use Rattle.c2_collected.specs.Sides.{ClashFirst}
+use Rattle.c2_collect_spec.specs.Sides.{ClashFirst}
 use Rattle.c2_collect.specs.declared.error.JoinError.TheVariants.{LabelClash}
 use Rattle.c2_collect.specs.Carried.{StoresClash}
 use Rattle.c2_collect.specs.Marked.{is_marked, manifests_in, marked}

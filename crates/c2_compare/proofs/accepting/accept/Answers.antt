@@ -1,6 +1,6 @@
 use Rattle.std.proofs.Common.{map, refl, subst}
 use Rattle.c2_spec.specs.Judges.Panel.{panel_says}
-use Rattle.c2_calls.proofs.PanelLemmas.{hears_error, hears_later}
+use Rattle.c2_calls_spec.proofs.PanelLemmas.{hears_error, hears_later}
 use Rattle.c2_validate.specs.Checked.{HasTextSize, IsCheckedOver, validate_heard}
 use Rattle.c2_validate.specs.declared.checking.Checked.TheVariants as checked
 use Rattle.c2_compare.specs.Accepting.{ended_heard}

@@ -1,6 +1,6 @@
 use Rattle.std.proofs.Common.{◌≡◌, ◌∙◌, List, length, subst, sym}
-use Rattle.c2_boxes.specs.Causes.{IsCaused}
-use Rattle.c2_box_rows.specs.declared.row.RootBox.{RootBox}
+use Rattle.c2_bmff_boxes.specs.Causes.{IsCaused}
+use Rattle.c2_bmff_rows.specs.declared.row.RootBox.{RootBox}
 use Rattle.c2_cover.specs.Telling.{IsToldBy}
 use Rattle.c2_cover.proofs.BmffTexts.{bmff_cover_of}
 use Rattle.c2_cover.proofs.bmff.bmff_cover.Goals as goal

@@ -1,6 +1,6 @@
 use Rattle.std.proofs.Common.{get_or}
 use Rattle.std.proofs.lemmas.List.{take_more}
-use Rattle.c2_box_rows.specs.declared.row.RootBox.{RootBox}
+use Rattle.c2_bmff_rows.specs.declared.row.RootBox.{RootBox}
 use Rattle.c2_cover.proofs.TellingLemmas.{next_row, no_row, tells_none, tells_over, tells_word}
 use Rattle.c2_cover.proofs.words.words_under.Goals as goal
 use Rattle.c2_cover.proofs.words.words_under.Goals.{then-row-low+then-skipped-row+in_ok-push, then-row-low+else-skipped-row, else-row-low}

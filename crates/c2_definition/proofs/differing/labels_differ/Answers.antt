@@ -1,6 +1,6 @@
 use Rattle.std.proofs.Common.{◌≡◌, ◌+◌, ◌-◌, true, drop, sym, ap, subst, ◌∙◌, arith}
 use Rattle.std.specs.List.{list_any}
-use Rattle.c2_lookup.specs.Labels.{is_among}
+use Rattle.c2_label_index.specs.Labels.{is_among}
 use Rattle.c2_definition.specs.declared.types.NewAssertion.{NewAssertion}
 use Rattle.c2_definition.specs.DefinitionFile.{has_label, labels_differ}
 use Rattle.c2_definition.proofs.LabelSteps.{same_here}

@@ -1,4 +1,4 @@
-use Rattle.std.proofs.Common.{refl, ◌≡◌}
+use Rattle.std.proofs.Common.{refl}
 use Rattle.c2_jumbf.specs.Labels.{IsFirstFault}
 use Rattle.c2_jumbf.proofs.labels.first_fault.Goals as goal
 

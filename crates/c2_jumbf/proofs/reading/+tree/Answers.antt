@@ -5,7 +5,7 @@ use Rattle.c2_spec.specs.Jumbf.Faults.{TreeFault}
 use Rattle.c2_jumbf.specs.Labels.{marked}
 use Rattle.c2_jumbf.specs.Flat.{IsTreeAt, FaultAt}
 use Rattle.c2_jumbf.proofs.Opening.{unlabelled_fault}
-use Rattle.c2_jumbf.proofs.Trees.{filled_none, filled_more, filled_first, filled_all}
+use Rattle.c2_jumbf.proofs.Trees.{filled_none, filled_more, filled_first}
 use Rattle.c2_jumbf.proofs.Whole.{leaf_pushed, super_written, super_fault}
 use Rattle.c2_jumbf.proofs.reading.+tree.Goals as goal
 

@@ -1,4 +1,4 @@
-use Rattle.std.proofs.Common.{inl, inr, ⊎_elim, sym}
+use Rattle.std.proofs.Common.{inl, inr, ⊎_elim}
 use Rattle.std.proofs.lemmas.Result.{err_from_is_err_and}
 use Rattle.c2_jumbf.proofs.Roots.{root_trailing, root_whole, root_fault}
 use Rattle.c2_jumbf.proofs.reading.rows_of.Goals as goal

@@ -1,4 +1,4 @@
-use Rattle.c2_built.specs.Store.{entry_of}
+use Rattle.c2_new_store_spec.specs.Store.{entry_of}
 use Rattle.c2_layout.proofs.AllBoxed.{boxes_step, made_step, boxes_end, made_end}
 use Rattle.c2_layout.proofs.assertions.push_all.Goals as goal
 

@@ -1,7 +1,7 @@
 use Rattle.std.proofs.Common.{List, ℕ, ap, ◌∙◌}
 use Rattle.c2_spec.specs.C2pa.Uri.{signature, whole}
 use Rattle.c2_layout.specs.Parts.{told}
-use Rattle.c2_built.specs.Store.{target_ref}
+use Rattle.c2_new_store_spec.specs.Store.{target_ref}
 use Rattle.c2_layout.proofs.References.{made_ingredient}
 use Rattle.c2_layout.proofs.ingredients.ingredient.Goals as goal
 

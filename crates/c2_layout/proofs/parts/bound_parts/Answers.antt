@@ -1,6 +1,6 @@
 use Rattle.std.proofs.Common.{sym, subst}
 use Rattle.std.specs.Prelude.{All}
-use Rattle.c2_built.specs.Store.{new_alg}
+use Rattle.c2_new_store_spec.specs.Store.{new_alg}
 use Rattle.c2_layout.specs.Parts.{CanBeBoxed}
 use Rattle.c2_layout.proofs.Contents.{all_boxed, both_ok, content_parts, parts_long}
 use Rattle.c2_layout.proofs.parts.bound_parts.Goals as goal

@@ -2,7 +2,7 @@ use Rattle.std.proofs.Common.{List, ap, ◌∙◌}
 use Rattle.c2_spec.specs.Cbor.Deterministic.{deterministic}
 use Rattle.c2_spec.specs.declared.cbor.Ref.{Ref}
 use Rattle.c2_claim.specs.Written.{claim_item}
-use Rattle.c2_built.specs.Store.{claim_with, entry_of, new_alg}
+use Rattle.c2_new_store_spec.specs.Store.{claim_with, entry_of, new_alg}
 use Rattle.c2_layout.proofs.AllBoxed.{three_boxes, three_made}
 use Rattle.c2_layout.proofs.parts.parts_over.Goals as goal
 

@@ -1,8 +1,8 @@
 use Rattle.std.proofs.Common.{◌+◌, ◌-◌, ◌^◌, min, List, ℕ, [], ◌∷◌, ◌++◌, length, sym, ap, ◌∙◌}
 use Rattle.c2_spec.specs.Jumbf.Tree.{trees_bytes}
 use Rattle.c2_definition.specs.declared.types.NewAssertion.{NewAssertion}
-use Rattle.c2_built.specs.Built.{no_digest}
-use Rattle.c2_built.specs.Store.{assertion_boxes, new_alg}
+use Rattle.c2_new_store_spec.specs.Built.{no_digest}
+use Rattle.c2_new_store_spec.specs.Store.{assertion_boxes, new_alg}
 use Rattle.c2_layout.proofs.Contents.{all_claim, reckoned_size}
 use Rattle.c2_layout.proofs.Sizes.{saturated}
 use Rattle.c2_layout.proofs.size.bound_size.Goals as goal

@@ -1,7 +1,7 @@
 use Rattle.std.proofs.Common.{◌-◌, ◌^◌, min, [], ◌∷◌, List, length, ap, sym, ◌∙◌}
 use Rattle.c2_spec.specs.Jumbf.Tree.{trees_bytes}
 use Rattle.c2_definition.specs.declared.types.NewAssertion.{NewAssertion}
-use Rattle.c2_built.specs.Store.{assertion_boxes}
+use Rattle.c2_new_store_spec.specs.Store.{assertion_boxes}
 use Rattle.c2_layout.proofs.Sizes.{added, both_boxes}
 use Rattle.c2_layout.proofs.size.own_len.Goals as goal
 

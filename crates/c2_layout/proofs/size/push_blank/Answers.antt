@@ -1,7 +1,7 @@
 use Rattle.std.proofs.Common.{ℕ, List, [], ◌∷◌, ◌++◌, ap, ◌∙◌}
 use Rattle.c2_spec.specs.declared.cbor.Ref.{Ref}
-use Rattle.c2_built.specs.Built.{no_digest}
-use Rattle.c2_built.specs.Store.{entry_of, own_ref}
+use Rattle.c2_new_store_spec.specs.Built.{no_digest}
+use Rattle.c2_new_store_spec.specs.Store.{entry_of, own_ref}
 use Rattle.c2_layout.proofs.AllBoxed.{made_step, made_end}
 use Rattle.c2_layout.proofs.size.push_blank.Goals as goal
 

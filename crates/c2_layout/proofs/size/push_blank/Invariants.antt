@@ -1,6 +1,6 @@
 use Rattle.std.proofs.Common.{◌≡◌, ◌++◌, drop, map}
-use Rattle.c2_built.specs.Built.{no_digest}
-use Rattle.c2_built.specs.Store.{entry_of}
+use Rattle.c2_new_store_spec.specs.Built.{no_digest}
+use Rattle.c2_new_store_spec.specs.Store.{entry_of}
 use Rattle.c2_layout.proofs.size.push_blank.Given as goal
 
 -- with the references that are left, there will be all

@@ -3,8 +3,8 @@ use Rattle.std.proofs.lemmas.Result.{IfOk-weaker}
 use Rattle.c2_spec.specs.Jumbf.Tree.{tree_bytes}
 use Rattle.c2_spec.specs.Jumbf.Writing.{IsWrittenLabel}
 use Rattle.c2_definition.specs.declared.types.Definition.{Definition}
-use Rattle.c2_built.specs.Store.{manifest_box, new_assertions, new_manifest}
-use Rattle.c2_built.proofs.Labels.{manifest_label, written_label}
+use Rattle.c2_new_store_spec.specs.Store.{manifest_box, new_assertions, new_manifest}
+use Rattle.c2_new_store_spec.proofs.Labels.{manifest_label, written_label}
 use Rattle.c2_layout.proofs.store.new_store.Goals as goal
 
 pub manifest_of-requires-clause-label : goal.manifest_of-requires-clause-label

@@ -1,6 +1,6 @@
 use Rattle.std.proofs.Common.{◌≡◌, ◌++◌, ◌∙◌, append-nil, sym}
 use Rattle.c2_spec.specs.Jumbf.Tree.{trees_bytes}
-use Rattle.c2_carried.specs.Redacting.{boxes_in, redacted_boxes}
+use Rattle.c2_parent_spec.specs.Redacting.{boxes_in, redacted_boxes}
 use Rattle.c2_parent.proofs.Steps.{carried_step}
 use Rattle.c2_parent.proofs.Walking.{no_more_boxes}
 use Rattle.c2_parent.proofs.carried.append_each.Goals as goal

@@ -1,7 +1,7 @@
 use Rattle.std.proofs.Common.{◌≡◌, ◌-◌, ◌++◌}
 use Rattle.c2_spec.specs.Jumbf.Tree.{trees_bytes}
 use Rattle.c2_parent.specs.Boxes.{ToCome}
-use Rattle.c2_carried.specs.Redacting.{boxes_in, redacted_boxes}
+use Rattle.c2_parent_spec.specs.Redacting.{boxes_in, redacted_boxes}
 use Rattle.c2_parent.proofs.carried.append_each.Given as goal
 
 abbrev pub invariant-loop-at : goal.invariant-loop-at

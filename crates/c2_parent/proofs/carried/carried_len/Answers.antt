@@ -1,6 +1,6 @@
 use Rattle.std.proofs.Common.{◌≡◌, ◌+◌, ℕ, ap, arith, length}
 use Rattle.c2_spec.specs.Jumbf.Tree.{trees_bytes}
-use Rattle.c2_carried.specs.Redacting.{boxes_in, redacted_boxes}
+use Rattle.c2_parent_spec.specs.Redacting.{boxes_in, redacted_boxes}
 use Rattle.c2_parent.proofs.CarriedLemmas.{carried_bound}
 use Rattle.c2_parent.proofs.Steps.{count_some, count_step}
 use Rattle.c2_parent.proofs.Walking.{no_more_boxes}

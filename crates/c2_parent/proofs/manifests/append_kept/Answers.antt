@@ -1,7 +1,7 @@
 use Rattle.std.proofs.Common.{◌≡◌, ◌++◌, ◌∙◌, append-nil, sym}
 use Rattle.c2_spec.specs.Jumbf.Boxes.{box_at}
 use Rattle.c2_spec.specs.Jumbf.Tree.{trees_bytes}
-use Rattle.c2_carried.specs.Redacting.{without}
+use Rattle.c2_parent_spec.specs.Redacting.{without}
 use Rattle.c2_parent.specs.Boxes.{any_boxes}
 use Rattle.c2_parent.specs.Named.{is_among}
 use Rattle.c2_parent.proofs.Steps.{kept_step}

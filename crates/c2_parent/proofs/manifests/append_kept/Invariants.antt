@@ -3,7 +3,7 @@ use Rattle.c2_spec.specs.Jumbf.Tree.{trees_bytes}
 use Rattle.c2_spec.specs.Jumbf.Boxes.{box_at}
 use Rattle.c2_parent.specs.Boxes.{ToCome, any_boxes}
 use Rattle.c2_parent.specs.Named.{is_among}
-use Rattle.c2_carried.specs.Redacting.{without}
+use Rattle.c2_parent_spec.specs.Redacting.{without}
 use Rattle.c2_parent.proofs.manifests.append_kept.Given as goal
 
 abbrev pub invariant-loop-at : goal.invariant-loop-at

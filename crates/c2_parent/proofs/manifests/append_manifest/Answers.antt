@@ -1,5 +1,5 @@
 use Rattle.c2_spec.specs.Jumbf.Boxes.{box_at}
-use Rattle.c2_carried.specs.Redacting.{thin_boxes}
+use Rattle.c2_parent_spec.specs.Redacting.{thin_boxes}
 use Rattle.c2_parent.specs.Boxes.{name_in}
 use Rattle.c2_parent.specs.Named.{is_among}
 use Rattle.c2_parent.proofs.Contents.{changed_whole, if_ok}

@@ -1,6 +1,6 @@
 use Rattle.std.proofs.Common.{◌≡◌, ◌-◌, ap, arith, length, refl}
 use Rattle.c2_spec.specs.Jumbf.Boxes.{box_at, any_contents}
-use Rattle.c2_carried.specs.Redacting.{without}
+use Rattle.c2_parent_spec.specs.Redacting.{without}
 use Rattle.c2_parent.specs.Boxes.{any_boxes, changed, lost}
 use Rattle.c2_parent.specs.Named.{is_among}
 use Rattle.c2_parent.proofs.Contents.{boxes_size, changed_appended, changed_size, length-without, if_ok}

@@ -1,7 +1,7 @@
 use Rattle.std.proofs.Common.{◌≡◌, ◌++◌}
 use Rattle.c2_spec.specs.Jumbf.Boxes.{box_at}
 use Rattle.c2_spec.specs.Jumbf.Tree.{trees_bytes}
-use Rattle.c2_carried.specs.Redacting.{thin_boxes}
+use Rattle.c2_parent_spec.specs.Redacting.{thin_boxes}
 use Rattle.c2_parent.specs.Boxes.{any_boxes, thin_rest}
 use Rattle.c2_parent.specs.Named.{is_among}
 use Rattle.c2_parent.proofs.Steps.{nothing_left, thin_step}

@@ -1,7 +1,7 @@
 use Rattle.std.proofs.Common.{ℕ, List, ap, arith, refl}
 use Rattle.c2_spec.specs.Jumbf.Boxes.{box_at}
 use Rattle.c2_spec.proofs.JumbfBoxes.{any_size}
-use Rattle.c2_carried.specs.Redacting.{thin_boxes}
+use Rattle.c2_parent_spec.specs.Redacting.{thin_boxes}
 use Rattle.c2_parent.specs.Boxes.{any_boxes, lost_in_store, name_in}
 use Rattle.c2_parent.specs.Named.{is_among}
 use Rattle.c2_parent.proofs.Contents.{boxes_size, changed_total, length-thin}

@@ -1,7 +1,7 @@
 use Rattle.std.proofs.Common.{◌&&◌, ◌∙◌, Bool, ap, sym}
 use Rattle.std.specs.Prelude.{find, is_some}
 use Rattle.c2_rules.specs.Rules.{is_labelled}
-use Rattle.c2_carried.specs.Refusing.{kept_boxes}
+use Rattle.c2_parent_spec.specs.Refusing.{kept_boxes}
 use Rattle.c2_parent.proofs.targets.has_target.Goals as goal
 
 pub returns-then-is_listed : goal.returns-then-is_listed

@@ -1,6 +1,6 @@
 use Rattle.std.proofs.Common.{◌∙◌, refl, ap, map, Some}
 use Rattle.c2_spec.specs.Judges.Panel.{panel_says}
-use Rattle.c2_calls.proofs.PanelLemmas.{hears_error, hears_later}
+use Rattle.c2_calls_spec.proofs.PanelLemmas.{hears_error, hears_later}
 use Rattle.c2_validate.specs.Checked.{validate_heard}
 use Rattle.c2_validate.specs.Validation.{FileAsks}
 use Rattle.c2_sample.specs.Sample.{sample_heard}

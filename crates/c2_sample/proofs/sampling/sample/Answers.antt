@@ -1,7 +1,7 @@
 use Rattle.std.proofs.Common.{◌∙◌, ap, arith, length, map, subst}
 use Rattle.c2_spec.specs.Container.{is_bmff}
 use Rattle.c2_spec.specs.Judges.Panel.{panel_says}
-use Rattle.c2_calls.proofs.PanelLemmas.{hears_nobody, hears_same}
+use Rattle.c2_calls_spec.proofs.PanelLemmas.{hears_nobody, hears_same}
 use Rattle.c2_sample.specs.Sample.{IsNewFile, SampleAsks, sample_heard}
 use Rattle.c2_sample.proofs.Builds.{built_asks, refused_asks}
 use Rattle.c2_sample.proofs.Roomy.{media_is_jpeg, media_len}

@@ -1,5 +1,5 @@
 use Rattle.std.proofs.Common.{◌∙◌, get_or, drop, arith}
-use Rattle.c2_chunks.specs.Fields.{all_fields, fields_of, overflow_places, places_of}
+use Rattle.c2_bmff_chunks.specs.Fields.{all_fields, fields_of, overflow_places, places_of}
 use Rattle.c2_shift.specs.Causes.{IsCheckCause}
 use Rattle.c2_shift.proofs.Calls.{reads_failed}
 use Rattle.c2_shift.proofs.PartLemmas.{ends_in, no_table, places_step}

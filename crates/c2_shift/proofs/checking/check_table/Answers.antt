@@ -1,7 +1,7 @@
 use Rattle.std.proofs.Common.{◌≡◌, ◌∙◌, ℕ, ◌+◌, ◌-◌, ◌≤◌, Bool, List, ◌++◌, sym, ap, arith}
-use Rattle.c2_chunks.specs.Fields.{fields_from, places_of}
-use Rattle.c2_chunks.specs.Tables.{fields_len}
-use Rattle.c2_chunks.proofs.FieldLemmas.{fields_split, fields_split_len}
+use Rattle.c2_bmff_chunks.specs.Fields.{fields_from, places_of}
+use Rattle.c2_bmff_chunks.specs.Tables.{fields_len}
+use Rattle.c2_bmff_chunks.proofs.FieldLemmas.{fields_split, fields_split_len}
 use Rattle.c2_shift.proofs.Calls.{source_stays}
 use Rattle.c2_shift.proofs.PartLemmas.{as_read_whole, places_append}
 use Rattle.c2_shift.proofs.checking.check_table.Goals as goal

@@ -1,8 +1,8 @@
 use Rattle.std.proofs.Common.{◌≡◌, ◌+◌, ◌≤◌}
 use Rattle.std.specs.Option.{ForSome}
 use Rattle.c2_base.specs.Source.{StaysSource}
-use Rattle.c2_chunks.specs.Fields.{fields_from, fields_of, places_of}
-use Rattle.c2_chunks.specs.Tables.{fields_len}
+use Rattle.c2_bmff_chunks.specs.Fields.{fields_from, fields_of, places_of}
+use Rattle.c2_bmff_chunks.specs.Tables.{fields_len}
 use Rattle.c2_shift.proofs.checking.check_table.Given as goal
 
 -- the fields that are left lie in the source, and those before them fit

@@ -1,7 +1,7 @@
 use Rattle.std.proofs.Common.{◌≡◌, ◌∙◌, ℕ, ◌+◌, ◌-◌, ◌<◌, Bool, true, false, List, length, ◌≤◌, sym, ap, arith}
-use Rattle.c2_chunks.specs.Fields.{fields_from, number_at, overflows, places_of}
-use Rattle.c2_chunks.specs.Tables.{field_len}
-use Rattle.c2_chunks.specs.declared.table.Field.{Field}
+use Rattle.c2_bmff_chunks.specs.Fields.{fields_from, number_at, overflows, places_of}
+use Rattle.c2_bmff_chunks.specs.Tables.{field_len}
+use Rattle.c2_bmff_chunks.specs.declared.table.Field.{Field}
 use Rattle.c2_shift.specs.Fitting.{is_too_large}
 use Rattle.c2_shift.specs.Parts.{IsAsRead}
 use Rattle.c2_shift.proofs.PartLemmas.{as_read_later, fields_step, len_step, number_as_read, places_pass, places_stop}

@@ -1,6 +1,6 @@
 use Rattle.std.proofs.Common.{◌≡◌, ◌+◌, List, ℕ, length}
-use Rattle.c2_chunks.specs.Fields.{fields_from, places_of}
-use Rattle.c2_chunks.specs.Tables.{fields_len}
+use Rattle.c2_bmff_chunks.specs.Fields.{fields_from, places_of}
+use Rattle.c2_bmff_chunks.specs.Tables.{fields_len}
 use Rattle.c2_shift.specs.Parts.{IsAsRead}
 use Rattle.c2_shift.proofs.checking.first_overflow.Given as goal
 

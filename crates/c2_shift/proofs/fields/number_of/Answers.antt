@@ -1,5 +1,5 @@
 use Rattle.std.proofs.Common.{◌≤◌, ◌+◌, ◌∙◌, length, arith}
-use Rattle.c2_chunks.specs.Tables.{field_len}
+use Rattle.c2_bmff_chunks.specs.Tables.{field_len}
 use Rattle.c2_shift.proofs.PartLemmas.{number_as_read}
 use Rattle.c2_shift.proofs.fields.number_of.Goals as goal
 

@@ -1,5 +1,5 @@
 use Rattle.std.proofs.Common.{◌+◌, sym, subst, arith}
-use Rattle.c2_chunks.specs.Tables.{StandApart}
+use Rattle.c2_bmff_chunks.specs.Tables.{StandApart}
 use Rattle.c2_shift.specs.Walking.{FillsBox}
 use Rattle.c2_shift.proofs.BoxLemmas.{stand_higher, stand_more}
 use Rattle.c2_shift.proofs.reading.add_table.Goals as goal

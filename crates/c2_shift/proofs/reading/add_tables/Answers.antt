@@ -1,13 +1,13 @@
 use Rattle.std.proofs.Common.{◌≡◌, ◌∙◌, ◌+◌, ◌<◌, List, [], ◌∷◌, ◌++◌, length, get_or, drop, sym, ap, ap₂, subst, arith, append_assoc}
 use Rattle.std.specs.List.{flat_map}
 use Rattle.std.proofs.lemmas.List.{take_rest}
-use Rattle.c2_box_rows.specs.Rows.{IsRowWithin}
-use Rattle.c2_box_rows.specs.declared.row.RootBox.{RootBox}
-use Rattle.c2_boxes.specs.Roots.{FillSource}
-use Rattle.c2_chunks.specs.Refusals.{sibling_refusals}
-use Rattle.c2_chunks.specs.Tables.{StandApart, tables_among}
-use Rattle.c2_chunks.specs.declared.table.ChunkTable.{ChunkTable}
-use Rattle.c2_chunks.specs.declared.table.ShiftError.{ShiftError}
+use Rattle.c2_bmff_rows.specs.Rows.{IsRowWithin}
+use Rattle.c2_bmff_rows.specs.declared.row.RootBox.{RootBox}
+use Rattle.c2_bmff_boxes.specs.Roots.{FillSource}
+use Rattle.c2_bmff_chunks.specs.Refusals.{sibling_refusals}
+use Rattle.c2_bmff_chunks.specs.Tables.{StandApart, tables_among}
+use Rattle.c2_bmff_chunks.specs.declared.table.ChunkTable.{ChunkTable}
+use Rattle.c2_bmff_chunks.specs.declared.table.ShiftError.{ShiftError}
 use Rattle.c2_shift.specs.Causes.{IsTablesCause}
 use Rattle.c2_shift.specs.Walking.{LieIn}
 use Rattle.c2_shift.proofs.Calls.{reads_failed, source_stays}

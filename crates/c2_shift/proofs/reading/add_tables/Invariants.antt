@@ -2,9 +2,9 @@ use Rattle.std.proofs.Common.{◌≡◌, ◌++◌, ℕ, length}
 use Rattle.std.specs.List.{flat_map}
 use Rattle.std.specs.Option.{ForSome}
 use Rattle.c2_base.specs.Source.{StaysSource}
-use Rattle.c2_boxes.specs.Roots.{FillSource}
-use Rattle.c2_chunks.specs.Refusals.{sibling_refusals}
-use Rattle.c2_chunks.specs.Tables.{StandApart, tables_among}
+use Rattle.c2_bmff_boxes.specs.Roots.{FillSource}
+use Rattle.c2_bmff_chunks.specs.Refusals.{sibling_refusals}
+use Rattle.c2_bmff_chunks.specs.Tables.{StandApart, tables_among}
 use Rattle.c2_shift.specs.Walking.{LieIn}
 use Rattle.c2_shift.proofs.reading.add_tables.Given as goal
 

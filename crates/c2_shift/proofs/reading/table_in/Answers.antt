@@ -2,9 +2,9 @@ use Rattle.std.proofs.Common.{◌≡◌, ◌∙◌, ℕ, ◌+◌, ◌-◌, Bool,
 use Rattle.std.specs.Str.{bytes_eq}
 use Rattle.std.proofs.lemmas.Bool.{eq-eqb}
 use borrow.Author.Tests.{ne_eqb}
-use Rattle.c2_box_rows.specs.Rows.{payload_at}
-use Rattle.c2_chunks.specs.Tables.{fields_len, stated_count, wide_kind}
-use Rattle.c2_chunks.specs.declared.table.ChunkTable.{ChunkTable}
+use Rattle.c2_bmff_rows.specs.Rows.{payload_at}
+use Rattle.c2_bmff_chunks.specs.Tables.{fields_len, stated_count, wide_kind}
+use Rattle.c2_bmff_chunks.specs.declared.table.ChunkTable.{ChunkTable}
 use Rattle.c2_shift.proofs.BoxLemmas.{count_told, form_by}
 use Rattle.c2_shift.proofs.reading.table_in.Goals as goal
 

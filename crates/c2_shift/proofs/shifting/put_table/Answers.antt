@@ -1,9 +1,9 @@
 use Rattle.std.proofs.Common.{◌≡◌, ◌∙◌, ℕ, ◌+◌, ◌-◌, ◌<◌, List, refl, sym, ap, subst, arith}
-use Rattle.c2_chunks.specs.Fields.{fields_from}
-use Rattle.c2_chunks.specs.Shifted.{moved_bytes, part_with}
-use Rattle.c2_chunks.specs.Tables.{field_len, fields_len}
-use Rattle.c2_chunks.specs.declared.table.Field.{Field}
-use Rattle.c2_chunks.proofs.FieldLemmas.{fields_split_len, moved_len}
+use Rattle.c2_bmff_chunks.specs.Fields.{fields_from}
+use Rattle.c2_bmff_chunks.specs.Shifted.{moved_bytes, part_with}
+use Rattle.c2_bmff_chunks.specs.Tables.{field_len, fields_len}
+use Rattle.c2_bmff_chunks.specs.declared.table.Field.{Field}
+use Rattle.c2_bmff_chunks.proofs.FieldLemmas.{fields_split_len, moved_len}
 use Rattle.c2_shift.specs.Parts.{IsAsRead}
 use Rattle.c2_shift.proofs.Calls.{source_stays}
 use Rattle.c2_shift.proofs.PartLemmas.{as_read_later, as_read_put, fields_behind, fields_passed, fields_step, len_step}

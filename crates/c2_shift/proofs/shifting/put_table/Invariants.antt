@@ -1,9 +1,9 @@
 use Rattle.std.proofs.Common.{◌≡◌, ◌+◌}
 use Rattle.std.specs.Option.{ForSome}
 use Rattle.c2_base.specs.Source.{StaysSource}
-use Rattle.c2_chunks.specs.Fields.{fields_from, fields_of}
-use Rattle.c2_chunks.specs.Shifted.{part_with}
-use Rattle.c2_chunks.specs.Tables.{fields_len, table_len}
+use Rattle.c2_bmff_chunks.specs.Fields.{fields_from, fields_of}
+use Rattle.c2_bmff_chunks.specs.Shifted.{part_with}
+use Rattle.c2_bmff_chunks.specs.Tables.{fields_len, table_len}
 use Rattle.c2_shift.specs.Parts.{IsAsRead}
 use Rattle.c2_shift.proofs.shifting.put_table.Given as goal
 

@@ -1,9 +1,9 @@
 use Rattle.std.proofs.Common.{◌≡◌, ◌∙◌, ℕ, ◌+◌, ◌-◌, ◌<◌, List, length, get_or, take, drop, refl, sym, ap, subst, arith}
 use Rattle.std.proofs.lemmas.List.{take_rest}
-use Rattle.c2_chunks.specs.Fields.{all_fields}
-use Rattle.c2_chunks.specs.Shifted.{part_with}
-use Rattle.c2_chunks.specs.Tables.{StandApart, table_len}
-use Rattle.c2_chunks.specs.declared.table.ChunkTable.{ChunkTable}
+use Rattle.c2_bmff_chunks.specs.Fields.{all_fields}
+use Rattle.c2_bmff_chunks.specs.Shifted.{part_with}
+use Rattle.c2_bmff_chunks.specs.Tables.{StandApart, table_len}
+use Rattle.c2_bmff_chunks.specs.declared.table.ChunkTable.{ChunkTable}
 use Rattle.c2_shift.proofs.Calls.{source_stays}
 use Rattle.c2_shift.proofs.PartLemmas.{as_read_later, as_read_whole, begins_behind, ends_in, no_table, rest_behind, stand_drop, stand_step, tables_passed, tables_step}
 use Rattle.c2_shift.proofs.shifting.put_tables.Goals as goal

@@ -1,9 +1,9 @@
 use Rattle.std.proofs.Common.{◌≡◌, ℕ, length}
 use Rattle.std.specs.Option.{ForSome}
 use Rattle.c2_base.specs.Source.{StaysSource}
-use Rattle.c2_chunks.specs.Fields.{all_fields}
-use Rattle.c2_chunks.specs.Shifted.{part_with}
-use Rattle.c2_chunks.specs.Tables.{StandApart}
+use Rattle.c2_bmff_chunks.specs.Fields.{all_fields}
+use Rattle.c2_bmff_chunks.specs.Shifted.{part_with}
+use Rattle.c2_bmff_chunks.specs.Tables.{StandApart}
 use Rattle.c2_shift.specs.Parts.{IsAsRead}
 use Rattle.c2_shift.proofs.shifting.put_tables.Given as goal
 

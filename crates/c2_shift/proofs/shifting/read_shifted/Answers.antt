@@ -1,7 +1,7 @@
 use Rattle.std.proofs.Common.{◌∙◌, List, sym, ap}
-use Rattle.c2_chunks.specs.Fields.{all_fields}
-use Rattle.c2_chunks.specs.Shifted.{part_with}
-use Rattle.c2_chunks.specs.declared.table.ChunkTable.{ChunkTable}
+use Rattle.c2_bmff_chunks.specs.Fields.{all_fields}
+use Rattle.c2_bmff_chunks.specs.Shifted.{part_with}
+use Rattle.c2_bmff_chunks.specs.declared.table.ChunkTable.{ChunkTable}
 use Rattle.c2_shift.proofs.ReadBytes.{fills_shifted}
 use Rattle.c2_shift.proofs.shifting.read_shifted.Goals as goal
 

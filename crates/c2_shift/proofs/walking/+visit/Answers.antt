@@ -1,10 +1,10 @@
 use Rattle.std.proofs.Common.{◌≡◌, ◌∙◌, ℕ, zero, suc, ◌+◌, ◌-◌, ◌<◌, ◌==◌, false, List, [], ◌∷◌, ◌++◌, length, get_or, take, drop, Some, refl, sym, ap, subst, arith}
 use Rattle.std.proofs.lemmas.List.{length-drop, take_rest}
-use Rattle.c2_box_rows.specs.Rows.{IsRowWithin}
-use Rattle.c2_box_rows.specs.declared.row.RootBox.{RootBox}
-use Rattle.c2_boxes.specs.Roots.{FillSource}
-use Rattle.c2_chunks.specs.Tables.{StandApart, inner}
-use Rattle.c2_chunks.specs.declared.table.ChunkTable.{ChunkTable}
+use Rattle.c2_bmff_rows.specs.Rows.{IsRowWithin}
+use Rattle.c2_bmff_rows.specs.declared.row.RootBox.{RootBox}
+use Rattle.c2_bmff_boxes.specs.Roots.{FillSource}
+use Rattle.c2_bmff_chunks.specs.Tables.{StandApart, inner}
+use Rattle.c2_bmff_chunks.specs.declared.table.ChunkTable.{ChunkTable}
 use Rattle.c2_shift.specs.Causes.{IsTablesCause}
 use Rattle.c2_shift.specs.Walking.{LieIn, Skips}
 use Rattle.c2_shift.proofs.Calls.{reads_failed, source_stays}

@@ -1,12 +1,12 @@
 use Rattle.std.proofs.Common.{◌≡◌, ◌∙◌, ℕ, List, [], ◌++◌, refl, sym, ap, ap₂, subst, arith}
 use Rattle.std.specs.Prelude.{All}
-use Rattle.c2_box_rows.specs.Rows.{IsBoxWithin}
-use Rattle.c2_box_rows.specs.declared.row.RootBox.{RootBox}
-use Rattle.c2_boxes.specs.Roots.{FillSource}
-use Rattle.c2_chunks.specs.Refusals.{IsFirstRefusal, refusals_below, root_refusals, shift_refusals}
-use Rattle.c2_chunks.specs.Tables.{StandApart, chunk_tables, table_path, tables_below}
-use Rattle.c2_chunks.specs.declared.table.ChunkTable.{ChunkTable}
-use Rattle.c2_chunks.specs.declared.table.ShiftError.{ShiftError}
+use Rattle.c2_bmff_rows.specs.Rows.{IsBoxWithin}
+use Rattle.c2_bmff_rows.specs.declared.row.RootBox.{RootBox}
+use Rattle.c2_bmff_boxes.specs.Roots.{FillSource}
+use Rattle.c2_bmff_chunks.specs.Refusals.{IsFirstRefusal, refusals_below, root_refusals, shift_refusals}
+use Rattle.c2_bmff_chunks.specs.Tables.{StandApart, chunk_tables, table_path, tables_below}
+use Rattle.c2_bmff_chunks.specs.declared.table.ChunkTable.{ChunkTable}
+use Rattle.c2_bmff_chunks.specs.declared.table.ShiftError.{ShiftError}
 use Rattle.c2_shift.specs.Walking.{LieIn}
 use Rattle.c2_shift.proofs.BoxLemmas.{first_of_all, lie_of, lie_starts, outside_map, outside_of, root_cause, stand_higher, stand_none}
 use Rattle.c2_shift.proofs.walking.tables.Goals as goal

@@ -1,7 +1,7 @@
 use Rattle.std.proofs.Common.{List, ℕ, map, sym, subst, ◌∙◌}
 use Rattle.c2_spec.specs.Judges.Panel.{panel_says}
-use Rattle.c2_calls.specs.Asks.{AsksKnown}
-use Rattle.c2_calls.proofs.PanelLemmas.{hears_same}
+use Rattle.c2_calls_spec.specs.Asks.{AsksKnown}
+use Rattle.c2_calls_spec.proofs.PanelLemmas.{hears_same}
 use Rattle.c2_validate.specs.Checked.{validate_heard}
 use Rattle.c2_validate.specs.External.{ListAsks}
 use Rattle.c2_sidecar.proofs.checking.check_read.Goals as goal

@@ -1,4 +1,4 @@
-use Rattle.std.proofs.Common.{◌≡◌, sym, ap, ◌∙◌, replicate}
+use Rattle.std.proofs.Common.{sym, ap, ◌∙◌, replicate}
 use Rattle.c2_spec.specs.Cbor.Item.{text, bytes}
 use Rattle.c2_spec.specs.Cbor.View.{view, pairs_view}
 use Rattle.c2_spec.specs.declared.cbor.Cbor.{Text}

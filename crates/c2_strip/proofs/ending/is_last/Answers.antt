@@ -1,5 +1,5 @@
 use Rattle.std.proofs.Common.{◌∙◌, ◌<◌, length, false, [], sym, arith}
-use Rattle.c2_box_rows.specs.declared.row.RootBox.{RootBox}
+use Rattle.c2_bmff_rows.specs.declared.row.RootBox.{RootBox}
 use Rattle.c2_strip.proofs.Endings.{last_row}
 use Rattle.c2_strip.proofs.ending.is_last.Goals as goal
 

@@ -1,5 +1,5 @@
 use Rattle.std.proofs.Common.{◌++◌, rules, string_bytes}
-use Rattle.c2_binding.specs.EvidenceText.{printed}
+use Rattle.c2_compare_spec.specs.EvidenceText.{printed}
 use Rattle.c2_texts.proofs.Characters.{printable_step}
 use Rattle.c2_texts.proofs.control.push_printable.Goals as goal
 

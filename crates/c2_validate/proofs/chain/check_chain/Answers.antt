@@ -1,6 +1,6 @@
 use Rattle.std.proofs.Common.{refl}
 use Rattle.c2_chain.specs.declared.asking.ChainError.TheVariants.{NoMemory}
-use Rattle.c2_calls.proofs.PanelLemmas.{hears_early}
+use Rattle.c2_calls_spec.proofs.PanelLemmas.{hears_early}
 use Rattle.c2_validate.specs.Checks.{ChainAsks}
 use Rattle.c2_validate.proofs.chain.check_chain.Goals as goal
 

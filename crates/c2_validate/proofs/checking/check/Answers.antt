@@ -1,6 +1,6 @@
 use Rattle.std.proofs.Common.{refl, sym, ◌∙◌}
-use Rattle.c2_calls.proofs.PanelLemmas.{hears_early, hears_nobody}
-use Rattle.c2_calls.proofs.SourceLemmas.{reads_error, reads_nothing, reads_then}
+use Rattle.c2_calls_spec.proofs.PanelLemmas.{hears_early, hears_nobody}
+use Rattle.c2_calls_spec.proofs.SourceLemmas.{reads_error, reads_nothing, reads_then}
 use Rattle.c2_opening.specs.Opened.{IsCause}
 use Rattle.c2_opening.specs.declared.error.ValidateError.TheVariants.{NoMemory}
 use Rattle.c2_validate.specs.Checked.{IsReadCause, StoreAsks}

@@ -2,8 +2,8 @@ use Rattle.std.proofs.Common.{map, refl, sym, subst, ◌∙◌}
 use Rattle.c2_spec.specs.Located.{absent, refused}
 use Rattle.c2_spec.specs.Judges.Panel.{panel_says}
 use Rattle.c2_rules.specs.declared.answer.Answer.TheVariants as answer
-use Rattle.c2_calls.specs.Asks.{AsksKnown}
-use Rattle.c2_calls.proofs.PanelLemmas.{hears_early, hears_error, hears_later, hears_nobody}
+use Rattle.c2_calls_spec.specs.Asks.{AsksKnown}
+use Rattle.c2_calls_spec.proofs.PanelLemmas.{hears_early, hears_error, hears_later, hears_nobody}
 use Rattle.c2_opening.specs.Opened.{IsFound, IsRead}
 use Rattle.c2_opening.specs.declared.error.ValidateError.TheVariants.{NoMemory}
 use Rattle.c2_opening.specs.declared.types.StoreRead.TheVariants as read

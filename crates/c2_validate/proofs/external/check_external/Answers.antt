@@ -4,7 +4,7 @@ use Rattle.c2_base.specs.declared.limits.TheConstants.{MAX_STORE_LEN}
 use Rattle.c2_spec.specs.Judges.Panel.{panel_says}
 use Rattle.c2_rules.specs.CheckList.{check_asks}
 use Rattle.c2_rules.specs.Claims.{Chained}
-use Rattle.c2_calls.proofs.PanelLemmas.{hears_early, hears_error, hears_later, hears_nobody}
+use Rattle.c2_calls_spec.proofs.PanelLemmas.{hears_early, hears_error, hears_later, hears_nobody}
 use Rattle.c2_container.specs.Contained.{HasRootsInside}
 use Rattle.c2_opening.specs.Opened.{IsReadFrom}
 use Rattle.c2_opening.specs.declared.error.ValidateError.TheVariants.{NoMemory}

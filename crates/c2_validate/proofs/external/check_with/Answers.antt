@@ -1,8 +1,8 @@
 use Rattle.std.proofs.Common.{◌<◌, ◌^◌, arith, map, subst, ◌∙◌}
 use Rattle.std.proofs.lemmas.List.Elements.{All-from_get_or}
 use Rattle.c2_spec.specs.Judges.Panel.{panel_says}
-use Rattle.c2_calls.specs.Asks.{AsksKnown}
-use Rattle.c2_calls.proofs.PanelLemmas.{hears_early, hears_nobody, hears_same}
+use Rattle.c2_calls_spec.specs.Asks.{AsksKnown}
+use Rattle.c2_calls_spec.proofs.PanelLemmas.{hears_early, hears_nobody, hears_same}
 use Rattle.c2_opening.specs.Opened.{IsFound}
 use Rattle.c2_opening.specs.declared.types.Opened.TheVariants as opened
 use Rattle.c2_validate.specs.External.{ExternalAsks, ListAsks}

@@ -3,17 +3,17 @@ use Rattle.std.specs.Prelude.{Err, IfOk}
 use Rattle.c2_base.specs.Causes.{Rose}
 use Rattle.c2_base.specs.Source.{ReadsSource}
 use Rattle.c2_spec.specs.Judges.Panel.{panel_says}
-use Rattle.c2_calls.proofs.SourceLemmas.{reads_next, stays_as_it_was}
+use Rattle.c2_calls_spec.proofs.SourceLemmas.{reads_next, stays_as_it_was}
 use Rattle.c2_container.specs.Contained.{HasRootsInside}
 use Rattle.c2_build.specs.Answers.{AsksEmbedded, prepare_effects}
-use Rattle.c2_refusals.specs.Stages.{IsMediaStage}
-use Rattle.c2_drafts.specs.Drafts.{FitsMedia}
+use Rattle.c2_build_refusals.specs.Stages.{IsMediaStage}
+use Rattle.c2_build_drafts.specs.Drafts.{FitsMedia}
 use Rattle.c2_build.specs.Steps.{IsPrepareCause}
-use Rattle.c2_refusals.proofs.Stages.{comes_first}
-use Rattle.c2_refusals.proofs.Judged.{hears_none, hears_told, read_unheard}
-use Rattle.c2_refusals.proofs.Outside.{alone, plain_cause, reads_earlier}
+use Rattle.c2_build_refusals.proofs.Stages.{comes_first}
+use Rattle.c2_build_refusals.proofs.Judged.{hears_none, hears_told, read_unheard}
+use Rattle.c2_build_refusals.proofs.Outside.{alone, plain_cause, reads_earlier}
 use Rattle.c2_build.proofs.Unasked.{refused_embed}
-use Rattle.c2_refusals.specs.Kinds.{no_effects}
+use Rattle.c2_build_refusals.specs.Kinds.{no_effects}
 use Rattle.c2_build.proofs.ready.Builder.draft.Goals as goal
 
 -- ---- the container is refused

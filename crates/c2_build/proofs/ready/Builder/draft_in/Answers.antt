@@ -2,15 +2,15 @@ use Rattle.std.proofs.Common.{List, inl, inr, map, refl, subst, sym, ℕ}
 use Rattle.std.specs.Prelude.{Err, Ok}
 use Rattle.c2_spec.specs.C2pa.Sign1.{SignParts, parts_of}
 use Rattle.c2_spec.specs.Judges.Panel.{panel_says}
-use Rattle.c2_calls.proofs.SourceLemmas.{reads_nothing, stays_as_it_was}
-use Rattle.c2_refusals.specs.Kinds.{WithoutFault, message_effects, no_effects}
+use Rattle.c2_calls_spec.proofs.SourceLemmas.{reads_nothing, stays_as_it_was}
+use Rattle.c2_build_refusals.specs.Kinds.{WithoutFault, message_effects, no_effects}
 use Rattle.c2_build.specs.Building.{IsEmbeddedOver}
-use Rattle.c2_refusals.specs.Stages.{IsDefinitionStage, IsMediaStage, IsMessageStage}
+use Rattle.c2_build_refusals.specs.Stages.{IsDefinitionStage, IsMediaStage, IsMessageStage}
 use Rattle.c2_build.specs.Steps.{IsBuildFor}
-use Rattle.c2_refusals.proofs.Outside.{alone, on_any, plain_cause, quiet_cause, read_cause, reads_among, reads_earlier}
-use Rattle.c2_refusals.proofs.Stages.{comes_first, comes_next}
-use Rattle.c2_refusals.proofs.Judged.{hears_as, hears_none, quiet_unheard, read_unheard}
-use Rattle.c2_refusals.proofs.Inputs.{not_both_definitions, not_both_media, told_where_both, told_where_due}
+use Rattle.c2_build_refusals.proofs.Outside.{alone, on_any, plain_cause, quiet_cause, read_cause, reads_among, reads_earlier}
+use Rattle.c2_build_refusals.proofs.Stages.{comes_first, comes_next}
+use Rattle.c2_build_refusals.proofs.Judged.{hears_as, hears_none, quiet_unheard, read_unheard}
+use Rattle.c2_build_refusals.proofs.Inputs.{not_both_definitions, not_both_media, told_where_both, told_where_due}
 use Rattle.c2_build.proofs.Causes.{message_prepares}
 use Rattle.c2_build.proofs.NewFile.{defined_of}
 use Rattle.c2_build.proofs.NewStores.{build_next}

@@ -2,14 +2,14 @@ use Rattle.std.proofs.Common.{map}
 use Rattle.std.specs.Prelude.{Err}
 use Rattle.c2_spec.specs.C2pa.Sign1.{parts_of}
 use Rattle.c2_spec.specs.Judges.Panel.{panel_says}
-use Rattle.c2_calls.proofs.SourceLemmas.{reads_then}
+use Rattle.c2_calls_spec.proofs.SourceLemmas.{reads_then}
 use Rattle.c2_build.proofs.Drawn.{refused_embedding}
-use Rattle.c2_refusals.proofs.Judged.{hears_behind, hears_failed, read_result}
+use Rattle.c2_build_refusals.proofs.Judged.{hears_behind, hears_failed, read_result}
 use Rattle.c2_build.proofs.NewStores.{draft_makes, reserve_outside}
 use Rattle.c2_build.proofs.Causes.{asks_prepare, message_stays}
-use Rattle.c2_refusals.proofs.Outside.{outside_map}
-use Rattle.c2_refusals.specs.Kinds.{message_effects}
-use Rattle.c2_drafts.specs.declared.ready.DraftedBuild.{DraftedBuild}
+use Rattle.c2_build_refusals.proofs.Outside.{outside_map}
+use Rattle.c2_build_refusals.specs.Kinds.{message_effects}
+use Rattle.c2_build_drafts.specs.declared.ready.DraftedBuild.{DraftedBuild}
 use Rattle.c2_build.proofs.ready.Builder.with_message.Goals as goal
 
 -- the place is refused

@@ -2,16 +2,16 @@ use Rattle.std.proofs.Common.{inl, map, ℕ, ◌∙◌, subst}
 use Rattle.std.specs.Prelude.{Err}
 use Rattle.std.proofs.lemmas.Result.{IfErr-weaker, IfOk-weaker}
 use Rattle.c2_spec.specs.Judges.Panel.{panel_says}
-use Rattle.c2_cleared.specs.Clears.{cleared_len}
-use Rattle.c2_built.specs.Store.{new_alg}
-use Rattle.c2_collected.proofs.SomeOutcome.{LeftLaws}
-use Rattle.c2_refusals.specs.Kinds.{WithoutFault}
-use Rattle.c2_refusals.proofs.Judged.{hears_behind, hears_failed, read_result}
-use Rattle.c2_refusals.proofs.Outside.{alone, outside_map, reads_earlier}
-use Rattle.c2_bound_parts.specs.Bound.{IsSmall}
-use Rattle.c2_drafts.specs.Drafts.{IsDraftedOver, IsRefusedAt, draft_effects}
-use Rattle.c2_drafts.proofs.Causes.{drafts_behind}
-use Rattle.c2_collect_ground.specs.Grounds.{ground_effects, opening_of}
+use Rattle.c2_without_store.specs.Clears.{cleared_len}
+use Rattle.c2_new_store_spec.specs.Store.{new_alg}
+use Rattle.c2_collect_spec.proofs.SomeOutcome.{LeftLaws}
+use Rattle.c2_build_refusals.specs.Kinds.{WithoutFault}
+use Rattle.c2_build_refusals.proofs.Judged.{hears_behind, hears_failed, read_result}
+use Rattle.c2_build_refusals.proofs.Outside.{alone, outside_map, reads_earlier}
+use Rattle.c2_build_parts.specs.Bound.{IsSmall}
+use Rattle.c2_build_drafts.specs.Drafts.{IsDraftedOver, IsRefusedAt, draft_effects}
+use Rattle.c2_build_drafts.proofs.Causes.{drafts_behind}
+use Rattle.c2_build_collect_base.specs.Grounds.{ground_effects, opening_of}
 use Rattle.c2_build_collect.proofs.Drafts.{can_draft, draft_of, over, over_form, over_kept}
 use Rattle.c2_build_collect.proofs.Stages.{opened_as, opened_kind}
 use Rattle.c2_build_collect.proofs.drafting.Build.drafted.Goals as goal

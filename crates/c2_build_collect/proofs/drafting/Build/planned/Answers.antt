@@ -2,14 +2,14 @@ use Rattle.std.proofs.Common.{map, subst, sym, ℕ, ◌∙◌}
 use Rattle.std.specs.Prelude.{Err}
 use Rattle.std.proofs.lemmas.Result.{IfOk-weaker}
 use Rattle.c2_spec.specs.Judges.Panel.{panel_says}
-use Rattle.c2_built.specs.Store.{new_alg}
-use Rattle.c2_cleared.specs.Clears.{cleared_len}
-use Rattle.c2_collected.specs.Outcomes.{IsPairStage, IsPlannedOver, Then, ground_signed}
-use Rattle.c2_collect_ground.specs.Grounds.{ground_effects, opening_of}
-use Rattle.c2_refusals.specs.Kinds.{no_effects}
-use Rattle.c2_refusals.proofs.Judged.{hears_behind, hears_failed, read_result}
-use Rattle.c2_refusals.proofs.Outside.{alone, outside_map, reads_behind, reads_earlier}
-use Rattle.c2_bound_parts.specs.Bound.{IsSmall}
+use Rattle.c2_new_store_spec.specs.Store.{new_alg}
+use Rattle.c2_without_store.specs.Clears.{cleared_len}
+use Rattle.c2_collect_spec.specs.Outcomes.{IsPairStage, IsPlannedOver, Then, ground_signed}
+use Rattle.c2_build_collect_base.specs.Grounds.{ground_effects, opening_of}
+use Rattle.c2_build_refusals.specs.Kinds.{no_effects}
+use Rattle.c2_build_refusals.proofs.Judged.{hears_behind, hears_failed, read_result}
+use Rattle.c2_build_refusals.proofs.Outside.{alone, outside_map, reads_behind, reads_earlier}
+use Rattle.c2_build_parts.specs.Bound.{IsSmall}
 use Rattle.c2_build_collect.specs.Steps.{ground_of}
 use Rattle.c2_build_collect.proofs.Planned.{passed_plan, planned_by, planned_refused}
 use Rattle.c2_build_collect.proofs.drafting.Build.planned.Goals as goal

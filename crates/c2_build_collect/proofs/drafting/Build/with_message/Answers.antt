@@ -2,12 +2,12 @@ use Rattle.std.proofs.Common.{map}
 use Rattle.std.specs.Prelude.{Err}
 use Rattle.c2_spec.specs.C2pa.Sign1.{parts_of}
 use Rattle.c2_spec.specs.Judges.Panel.{panel_says}
-use Rattle.c2_calls.proofs.SourceLemmas.{reads_then}
-use Rattle.c2_collect_ground.specs.Grounds.{opening_of}
-use Rattle.c2_refusals.specs.Kinds.{message_effects}
-use Rattle.c2_refusals.proofs.Judged.{hears_behind, hears_failed, read_result}
-use Rattle.c2_refusals.proofs.Outside.{outside_map}
-use Rattle.c2_drafts.specs.declared.ready.DraftedBuild.{DraftedBuild}
+use Rattle.c2_calls_spec.proofs.SourceLemmas.{reads_then}
+use Rattle.c2_build_collect_base.specs.Grounds.{opening_of}
+use Rattle.c2_build_refusals.specs.Kinds.{message_effects}
+use Rattle.c2_build_refusals.proofs.Judged.{hears_behind, hears_failed, read_result}
+use Rattle.c2_build_refusals.proofs.Outside.{outside_map}
+use Rattle.c2_build_drafts.specs.declared.ready.DraftedBuild.{DraftedBuild}
 use Rattle.c2_build_collect.proofs.Causes.{ground_prepares, message_stays}
 use Rattle.c2_build_collect.proofs.Planned.{draft_makes, made_refused, reserve_refused}
 use Rattle.c2_build_collect.proofs.drafting.Build.with_message.Goals as goal

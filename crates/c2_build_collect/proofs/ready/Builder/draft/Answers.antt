@@ -2,16 +2,16 @@ use Rattle.std.proofs.Common.{List, inl, inr, map, refl, subst, sym, ℕ, ◌⊎
 use Rattle.std.specs.Prelude.{Err, Ok}
 use Rattle.c2_spec.specs.C2pa.Sign1.{SignParts, parts_of}
 use Rattle.c2_spec.specs.Judges.Panel.{panel_says}
-use Rattle.c2_calls.proofs.SourceLemmas.{reads_nothing, stays_as_it_was}
-use Rattle.c2_collected.specs.Outcomes.{IsMadeOver, IsPairStage, Then}
-use Rattle.c2_collected.specs.Outcomes as collect
-use Rattle.c2_collected.proofs.SomeOutcome.{defined_of}
-use Rattle.c2_collect_ground.specs.Grounds.{opening_of}
-use Rattle.c2_refusals.specs.Kinds.{WithoutFault, message_effects, no_effects}
-use Rattle.c2_refusals.specs.Stages.{IsDefinitionRefused, IsMessageRefused, IsMessageStage}
-use Rattle.c2_refusals.proofs.Inputs.{not_both_definitions, not_both_media}
-use Rattle.c2_refusals.proofs.Judged.{hears_as, hears_none, quiet_unheard, read_unheard}
-use Rattle.c2_refusals.proofs.Outside.{alone, on_any, outside_map, plain_cause, quiet_cause, read_cause, reads_among, reads_earlier}
+use Rattle.c2_calls_spec.proofs.SourceLemmas.{reads_nothing, stays_as_it_was}
+use Rattle.c2_collect_spec.specs.Outcomes.{IsMadeOver, IsPairStage, Then}
+use Rattle.c2_collect_spec.specs.Outcomes as collect
+use Rattle.c2_collect_spec.proofs.SomeOutcome.{defined_of}
+use Rattle.c2_build_collect_base.specs.Grounds.{opening_of}
+use Rattle.c2_build_refusals.specs.Kinds.{WithoutFault, message_effects, no_effects}
+use Rattle.c2_build_refusals.specs.Stages.{IsDefinitionRefused, IsMessageRefused, IsMessageStage}
+use Rattle.c2_build_refusals.proofs.Inputs.{not_both_definitions, not_both_media}
+use Rattle.c2_build_refusals.proofs.Judged.{hears_as, hears_none, quiet_unheard, read_unheard}
+use Rattle.c2_build_refusals.proofs.Outside.{alone, on_any, outside_map, plain_cause, quiet_cause, read_cause, reads_among, reads_earlier}
 use Rattle.c2_build_collect.specs.Answers.{prepare_effects}
 use Rattle.c2_build_collect.specs.Steps.{IsBuildFor}
 use Rattle.c2_build_collect.proofs.Causes.{first_or_third, message_prepares}

@@ -1,15 +1,15 @@
 use Rattle.std.proofs.Common.{inl, inr, map, refl}
 use Rattle.std.specs.Prelude.{Err}
 use Rattle.c2_spec.specs.Judges.Panel.{panel_says}
-use Rattle.c2_calls.proofs.SourceLemmas.{reads_nothing, stays_as_it_was}
-use Rattle.c2_collected.specs.Outcomes as collect
-use Rattle.c2_collected.proofs.SomeOutcome.{defined_of}
-use Rattle.c2_collect_ground.specs.Grounds.{ground_effects, opening_of}
-use Rattle.c2_refusals.specs.Kinds.{no_effects}
-use Rattle.c2_refusals.specs.Stages.{IsDefinitionRefused}
-use Rattle.c2_refusals.proofs.Inputs.{not_both_media}
-use Rattle.c2_refusals.proofs.Judged.{hears_as, hears_none, quiet_unheard, read_unheard}
-use Rattle.c2_refusals.proofs.Outside.{alone, outside_map, plain_cause, quiet_cause, reads_among, reads_earlier}
+use Rattle.c2_calls_spec.proofs.SourceLemmas.{reads_nothing, stays_as_it_was}
+use Rattle.c2_collect_spec.specs.Outcomes as collect
+use Rattle.c2_collect_spec.proofs.SomeOutcome.{defined_of}
+use Rattle.c2_build_collect_base.specs.Grounds.{ground_effects, opening_of}
+use Rattle.c2_build_refusals.specs.Kinds.{no_effects}
+use Rattle.c2_build_refusals.specs.Stages.{IsDefinitionRefused}
+use Rattle.c2_build_refusals.proofs.Inputs.{not_both_media}
+use Rattle.c2_build_refusals.proofs.Judged.{hears_as, hears_none, quiet_unheard, read_unheard}
+use Rattle.c2_build_refusals.proofs.Outside.{alone, outside_map, plain_cause, quiet_cause, reads_among, reads_earlier}
 use Rattle.c2_build_collect.proofs.Due.{definition_told, not_accepted, other_told, undefined}
 use Rattle.c2_build_collect.proofs.Stages.{answer_next, defined_as, definition_error, media_error, opened_as, refused_first, refused_next}
 use Rattle.c2_build_collect.proofs.Unasked.{planned_asks, refused_plan, undefined_plan}

@@ -4,14 +4,14 @@ use Rattle.std.proofs.lemmas.Result.{IfOk-weaker}
 use Rattle.c2_base.specs.Causes.{Rose}
 use Rattle.c2_base.specs.Source.{ReadsSource}
 use Rattle.c2_spec.specs.Judges.Panel.{panel_says}
-use Rattle.c2_calls.proofs.SourceLemmas.{reads_next, stays_as_it_was}
+use Rattle.c2_calls_spec.proofs.SourceLemmas.{reads_next, stays_as_it_was}
 use Rattle.c2_container.specs.Contained.{HasRootsInside}
-use Rattle.c2_collected.specs.Outcomes as collect
-use Rattle.c2_refusals.specs.Kinds.{no_effects}
-use Rattle.c2_refusals.proofs.Judged.{hears_none, hears_told, read_unheard}
-use Rattle.c2_refusals.proofs.Outside.{alone, outside_map, plain_cause, reads_earlier}
+use Rattle.c2_collect_spec.specs.Outcomes as collect
+use Rattle.c2_build_refusals.specs.Kinds.{no_effects}
+use Rattle.c2_build_refusals.proofs.Judged.{hears_none, hears_told, read_unheard}
+use Rattle.c2_build_refusals.proofs.Outside.{alone, outside_map, plain_cause, reads_earlier}
 use Rattle.c2_build_collect.specs.Answers.{AsksEmbedded, IsPrepareCause, prepare_effects}
-use Rattle.c2_drafts.specs.Drafts.{FitsMedia}
+use Rattle.c2_build_drafts.specs.Drafts.{FitsMedia}
 use Rattle.c2_build_collect.proofs.Stages.{media_error, refused_first}
 use Rattle.c2_build_collect.proofs.Unasked.{refused_embed}
 use Rattle.c2_build_collect.proofs.ready.Maker.draft.Goals as goal

@@ -1,14 +1,14 @@
 use Rattle.std.proofs.Common.{inl, map, subst, sym, ℕ, ◌∙◌}
 use Rattle.std.proofs.lemmas.Result.{IfOk-weaker}
 use Rattle.c2_spec.specs.Judges.Panel.{panel_says}
-use Rattle.c2_built.specs.Store.{new_alg}
-use Rattle.c2_collected.specs.Outcomes.{IsCollectMade}
-use Rattle.c2_in_place.specs.Writings.{CanWrite}
-use Rattle.c2_refusals.specs.Kinds.{no_effects}
-use Rattle.c2_refusals.proofs.Judged.{hears_behind, hears_failed, read_result}
-use Rattle.c2_refusals.proofs.Outside.{alone, on_any, reads_behind, reads_earlier}
+use Rattle.c2_new_store_spec.specs.Store.{new_alg}
+use Rattle.c2_collect_spec.specs.Outcomes.{IsCollectMade}
+use Rattle.c2_build_in_place.specs.Writings.{CanWrite}
+use Rattle.c2_build_refusals.specs.Kinds.{no_effects}
+use Rattle.c2_build_refusals.proofs.Judged.{hears_behind, hears_failed, read_result}
+use Rattle.c2_build_refusals.proofs.Outside.{alone, on_any, reads_behind, reads_earlier}
 use Rattle.c2_build_collect.specs.Answers.{prepare_effects}
-use Rattle.c2_drafts.specs.Drafts.{FitsMedia, IsPutReady}
+use Rattle.c2_build_drafts.specs.Drafts.{FitsMedia, IsPutReady}
 use Rattle.c2_build_collect.specs.Steps.{ground_of}
 use Rattle.c2_build_collect.proofs.Planned.{ready_made}
 use Rattle.c2_build_collect.proofs.ready.Maker.prepare.Goals as goal

@@ -1,13 +1,13 @@
 use Rattle.std.proofs.Common.{List, inl, inr, refl, subst, ℕ}
 use Rattle.std.specs.Prelude.{Err, Ok}
 use Rattle.c2_spec.specs.C2pa.Sign1.{SignParts}
-use Rattle.c2_calls.proofs.SourceLemmas.{reads_nothing, stays_as_it_was}
-use Rattle.c2_fronts.specs.Outcomes.{IsFilmStage, IsMadeIn, IsMadeOver, Then}
-use Rattle.c2_fronts.specs.Outcomes as front
-use Rattle.c2_refusals.specs.Kinds.{WithoutFault}
-use Rattle.c2_refusals.specs.Stages.{IsMessageStage}
-use Rattle.c2_refusals.proofs.Inputs.{not_both_definitions, not_both_media, told_where_both, told_where_due}
-use Rattle.c2_refusals.proofs.Outside.{alone, on_any, outside_map, plain_cause, quiet_cause, read_cause, reads_earlier}
+use Rattle.c2_calls_spec.proofs.SourceLemmas.{reads_nothing, stays_as_it_was}
+use Rattle.c2_new_front_spec.specs.Outcomes.{IsBmffStage, IsMadeIn, IsMadeOver, Then}
+use Rattle.c2_new_front_spec.specs.Outcomes as front
+use Rattle.c2_build_refusals.specs.Kinds.{WithoutFault}
+use Rattle.c2_build_refusals.specs.Stages.{IsMessageStage}
+use Rattle.c2_build_refusals.proofs.Inputs.{not_both_definitions, not_both_media, told_where_both, told_where_due}
+use Rattle.c2_build_refusals.proofs.Outside.{alone, on_any, outside_map, plain_cause, quiet_cause, read_cause, reads_earlier}
 use Rattle.c2_build_front.proofs.Causes.{message_prepares, reads_in, results_in}
 use Rattle.c2_build_front.proofs.Drafts.{ready_next}
 use Rattle.c2_build_front.proofs.Sized.{has_size}
@@ -122,7 +122,7 @@ returns-clause-prepared g c = record {
       let m = c.in-Ok-read_message_file.ensures.stage message spoken in
       let stage = subst (λ (x : List ℕ). IsMessageStage x message (Ok m.0)) c.as_slice.ensures.value m.1 in
       let over = c.ready_over.ensures.ready file known media.0 media.2 (has_size c.the_length_of_a_new_store_fits.ensures bytes d (c.in-Ok-read_definition_file.ensures.stage bytes told)) in
-      let own = subst (λ (p : SignParts). IsReadyFor file (Then (IsFilmStage file media.2.stage.0) (IsMadeIn g.H.Hashing.digest_of file d p)) r) m.2 over in
+      let own = subst (λ (p : SignParts). IsReadyFor file (Then (IsBmffStage file media.2.stage.0) (IsMadeIn g.H.Hashing.digest_of file d p)) r) m.2 over in
       ready_next file (front.IsMediaStage file) (IsMadeOver g.H.Hashing.digest_of file bytes message) media.2.stage.0 r (opened_as file media.0 media.2.stage)
       (ready_next file (front.IsDefinitionStage bytes) _ d r (defined_as bytes d (c.in-Ok-read_definition_file.ensures.stage bytes told))
       (ready_next file (front.IsMessageStage d.protected message) _ m.0 r (message_as d.protected message m.0 stage) own));

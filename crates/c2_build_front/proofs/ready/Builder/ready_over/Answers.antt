@@ -1,11 +1,11 @@
 use Rattle.std.proofs.Common.{ap, length, subst, sym, ◌∙◌, ℕ}
 use Rattle.std.specs.Prelude.{Err}
-use Rattle.c2_front_hash.specs.Putting.{FitsIn}
-use Rattle.c2_calls.proofs.SourceLemmas.{reads_next, reads_then}
-use Rattle.c2_message.specs.Signed.{IsSigned}
+use Rattle.c2_bmff_binding_front.specs.Putting.{FitsIn}
+use Rattle.c2_calls_spec.proofs.SourceLemmas.{reads_next, reads_then}
+use Rattle.c2_new_signature.specs.Signed.{IsSigned}
 use Rattle.c2_spec.specs.C2pa.Sign1.{parts_of}
-use Rattle.c2_fronts.specs.Outcomes.{IsMadeIn, new_file}
-use Rattle.c2_refusals.proofs.Outside.{nothing_said, outside_map}
+use Rattle.c2_new_front_spec.specs.Outcomes.{IsMadeIn, new_file}
+use Rattle.c2_build_refusals.proofs.Outside.{nothing_said, outside_map}
 use Rattle.c2_build_front.proofs.Causes.{message_prepares, plan_prepares, prepares_of}
 use Rattle.c2_build_front.proofs.Drafts.{made_of, reserve_refused}
 use Rattle.c2_build_front.proofs.Stages.{made_refuses, refused_over}

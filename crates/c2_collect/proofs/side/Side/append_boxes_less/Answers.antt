@@ -1,6 +1,6 @@
 use Rattle.std.proofs.Common.{◌≡◌, ◌++◌, ap, subst, OnOk}
 use Rattle.c2_spec.specs.Jumbf.Tree.{Trees, trees_bytes}
-use Rattle.c2_carried.specs.Redacting.{redacted_boxes}
+use Rattle.c2_parent_spec.specs.Redacting.{redacted_boxes}
 use Rattle.c2_collect.specs.Marked.{MarkedStore}
 use Rattle.c2_collect.proofs.side.Side.append_boxes_less.Goals as goal
 

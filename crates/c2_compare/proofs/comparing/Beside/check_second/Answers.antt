@@ -1,8 +1,8 @@
 use Rattle.std.proofs.Common.{List, map, sym, subst, ◌∙◌}
 use Rattle.c2_spec.specs.Judges.Panel.{panel_says}
 use Rattle.c2_rules.specs.Readings.{Reading}
-use Rattle.c2_binding.specs.declared.compared.Side.TheVariants.{Second}
-use Rattle.c2_settling.specs.Sides.{IsCompareSide}
+use Rattle.c2_compare_spec.specs.declared.compared.Side.TheVariants.{Second}
+use Rattle.c2_compare_opened.specs.Sides.{IsCompareSide}
 use Rattle.c2_compare.proofs.Answering.{ended_second}
 use Rattle.c2_compare.proofs.Ending.{leaves_on_second, leaves_second, leaves_unjudged}
 use Rattle.c2_compare.proofs.Hearing.{hears_on, hears_second}

@@ -3,8 +3,8 @@ use Rattle.c2_spec.specs.C2pa.Manifest.{manifests_of}
 use Rattle.c2_spec.specs.Judges.Panel.{panel_says}
 use Rattle.c2_rules.specs.Claims.{Chained}
 use Rattle.c2_rules.specs.Readings.{AreReadings}
-use Rattle.c2_binding.specs.declared.compared.Compared.{Compared}
-use Rattle.c2_binding.specs.declared.compared.Side.TheVariants.{Second}
+use Rattle.c2_compare_spec.specs.declared.compared.Compared.{Compared}
+use Rattle.c2_compare_spec.specs.declared.compared.Side.TheVariants.{Second}
 use Rattle.c2_container.specs.Contained.{HasRootsInside}
 use Rattle.c2_compare.proofs.Answering.{ended_second}
 use Rattle.c2_compare.proofs.Ending.{leaves_memory, leaves_unread}

@@ -3,10 +3,10 @@ use Rattle.c2_base.specs.declared.values.Question.{Question}
 use Rattle.c2_spec.specs.Judges.Panel.{panel_says}
 use Rattle.c2_spec.specs.declared.panel.Verdict.{Verdict}
 use Rattle.c2_rules.specs.Readings.{Reading}
-use Rattle.c2_binding.specs.declared.compared.Side.TheVariants.{First}
+use Rattle.c2_compare_spec.specs.declared.compared.Side.TheVariants.{First}
 use Rattle.c2_validate.specs.Checked.{readings_of}
-use Rattle.c2_settling.specs.Comparing.{IsComparedAs}
-use Rattle.c2_settling.specs.Sides.{IsCompareSide}
+use Rattle.c2_compare_opened.specs.Comparing.{IsComparedAs}
+use Rattle.c2_compare_opened.specs.Sides.{IsCompareSide}
 use Rattle.c2_compare.proofs.Answering.{ended_first}
 use Rattle.c2_compare.proofs.Ending.{leaves_first, leaves_on_first}
 use Rattle.c2_compare.proofs.Files.{not_refused}

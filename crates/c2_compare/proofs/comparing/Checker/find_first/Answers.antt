@@ -1,7 +1,7 @@
 use Rattle.std.proofs.Common.{map, sym, subst, ◌∙◌}
 use Rattle.c2_spec.specs.Judges.Panel.{panel_says}
-use Rattle.c2_binding.specs.declared.compared.Compared.{Compared}
-use Rattle.c2_binding.specs.declared.compared.Side.TheVariants.{First}
+use Rattle.c2_compare_spec.specs.declared.compared.Compared.{Compared}
+use Rattle.c2_compare_spec.specs.declared.compared.Side.TheVariants.{First}
 use Rattle.c2_container.specs.Contained.{HasRootsInside}
 use Rattle.c2_compare.proofs.Answering.{ended_first}
 use Rattle.c2_compare.proofs.Ending.{leaves_first, leaves_on_first}

@@ -1,9 +1,0 @@
-use Rattle.c2_binding.proofs.Decided.{test_decides}
-use Rattle.c2_binding.proofs.Files.{facts}
-use Rattle.c2_binding.proofs.laws.a_test_decides_content.Goals as goal
-
--- by what the laws use of both files
-pub returns : goal.returns
-returns c =
-    λ hash said first second s t h k. test_decides hash said s.readings t.readings
-    (facts hash said first s h).store (facts hash said second t k).store

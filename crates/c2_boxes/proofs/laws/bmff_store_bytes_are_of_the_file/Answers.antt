@@ -1,5 +1,0 @@
-use Rattle.c2_boxes.proofs.StoreBytes.{store-bytes}
-use Rattle.c2_boxes.proofs.laws.bmff_store_bytes_are_of_the_file.Goals as goal
-
-pub returns : goal.returns
-returns c = store-bytes

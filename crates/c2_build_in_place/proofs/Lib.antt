@@ -1,0 +1,4 @@
+mod Numbered
+mod InsertPointed
+pub mod Stored
+pub mod Endings

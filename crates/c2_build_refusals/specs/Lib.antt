@@ -1,0 +1,5 @@
+pub mod Kinds
+pub mod Refusals
+pub mod Stages
+pub mod Sinks
+pub mod InsertPoints

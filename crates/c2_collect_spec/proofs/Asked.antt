@@ -1,0 +1,138 @@
+-- What judges are asked behind stages is one list where each stage comes to one thing, and a list where each comes to something.
+use Rattle.std.proofs.Common.{◌≡◌, ℕ, List, [], ◌++◌, refl, sym, ap, ◌∙◌, subst}
+use Rattle.std.specs.Prelude.{Result, Ok, Err}
+use Rattle.c2_base.specs.declared.values.Question.{Question}
+use Rattle.c2_spec.specs.C2pa.Manifest.{Manifest, manifests_of}
+use Rattle.c2_spec.specs.Jumbf.Tree.{Tree}
+use Rattle.c2_spec.specs.Located.{Opening, absent, here, refused}
+use Rattle.c2_spec.specs.declared.digest.Alg.{Alg}
+use Rattle.c2_spec.specs.declared.panel.Verdict.{Verdict}
+use Rattle.c2_rules.specs.CheckList.{check_asks}
+use Rattle.c2_rules.specs.Opened.{IsOpened}
+use Rattle.c2_rules.specs.Readings.{AreReadings, Reading}
+use Rattle.c2_rules.specs.Validated.{CheckAsks, OpenedAsks}
+use Rattle.c2_collect_spec.specs.Asked.{OneCollectAsks, OneCollectPlanAsks, SomeCollectAsks, SomeCollectPlanAsks}
+use Rattle.c2_collect_spec.specs.Order.{CollectRefusal}
+use Rattle.c2_collect_spec.specs.Outcomes.{After, AskedBehind, AsksThen, HasCheck, IsDefinitionStage, IsMediaStage, IsMessageStage, IsOpenedOnce, IsParentStage}
+use Rattle.c2_collect_spec.specs.Outcomes.{PairAsks, SomeCollectMade, SomeCollectPlan, Then}
+use Rattle.c2_collect_spec.proofs.OneOutcome.{OneLaws, one_definition, one_media, one_message, one_parent}
+use Rattle.c2_collect_spec.proofs.SomeOutcome.{answer_over, opened_as}
+use Rattle.c2_collect_spec.proofs.Stages.{IsOne}
+
+-- ---- one list
+
+-- there is one list of this
+abbrev pub IsOneList : (List Question → Type 0) → Type 0
+IsOneList Asks = (ps qs : List Question) → Asks ps → Asks qs → ps ≡ qs
+
+-- what is asked behind one thing is one list
+one_behind : {A : Type 0} (Asks : A → List Question → Type 0) → ((a : A) → IsOneList (Asks a)) → (first : Result A CollectRefusal) → IsOneList (AskedBehind first Asks)
+one_behind Asks one (Ok a) ps qs h k = one a ps qs h k
+one_behind Asks one (Err e) ps qs h k = h ∙ sym k
+
+-- and behind a stage that comes to one thing
+one_asked : {A : Type 0} (First : Result A CollectRefusal → Type 0) (Asks : A → List Question → Type 0) → IsOne First → ((a : A) → IsOneList (Asks a)) → IsOneList (AsksThen First Asks)
+one_asked {A} First Asks first one ps qs h k =
+    one_behind Asks one k.first ps qs (subst (λ (r : Result A CollectRefusal). AskedBehind r Asks ps) (first h.first k.first h.is_first k.is_first) h.asks) k.asks
+
+-- manifests are read in one way
+abbrev pub OneManifests : Type 0
+OneManifests = (ms : List Manifest) (rs ss : List Reading) → AreReadings ms rs → AreReadings ms ss → rs ≡ ss
+
+-- what is asked over what a file is opened as is one list
+one_opened : OneManifests → (asks : List Reading → List Question) (what : Opening Tree) → IsOneList (OpenedAsks asks what)
+one_opened one asks (refused reason number) ps qs h k = h ∙ sym k
+one_opened one asks absent ps qs h k = h ∙ sym k
+one_opened one asks (here start len t) ps qs h k = h.2 ∙ ap asks (one (manifests_of t) h.0 k.0 h.1 k.1) ∙ sym k.2
+
+-- what the check of a file asks is one list
+one_check : OneManifests → (hash : Alg → List ℕ → List ℕ) (said : Question → Verdict) (file : List ℕ) → IsOpenedOnce file → IsOneList (CheckAsks hash said file)
+one_check one hash said file once ps qs h k =
+    one_opened one (check_asks hash said) k.0 ps qs
+    (subst (λ (w : Opening Tree). OpenedAsks (check_asks hash said) w ps) (once h.0 k.0 h.1 k.1) h.2) k.2
+
+-- what laws of this crate and of others say
+pub record AskLaws : Type 0 where
+  pub one : OneLaws
+  pub manifests : OneManifests
+
+-- what is asked of both files is one list
+one_pair : AskLaws → (hash : Alg → List ℕ → List ℕ) (said : Question → Verdict) (media other : List ℕ) (what : Opening Tree) → IsOpenedOnce other
+    → IsOneList (PairAsks hash said media other what)
+one_pair l hash said media other what once ps qs h k =
+    let own : h.of_media ≡ k.of_media = one_opened l.manifests (check_asks hash said) what h.of_media k.of_media h.media_asks k.media_asks in
+    let theirs : h.of_other ≡ k.of_other =
+    one_asked (IsParentStage hash said media what) (λ m. CheckAsks hash said other) (one_parent l.one hash said media what)
+    (λ m. one_check l.manifests hash said other once) h.of_other k.of_other h.other_asks k.other_asks in
+    h.are ∙ ap (λ (xs : List Question). xs ++ h.of_other) own ∙ ap (λ (xs : List Question). k.of_media ++ xs) theirs ∙ sym k.are
+
+-- what a plan asks is one list
+pub one_plan_asks : AskLaws → OneCollectPlanAsks
+one_plan_asks l hash said media definition other ps qs once again =
+    one_asked (IsMediaStage media) _ (one_media media once) (λ what.
+    one_asked (IsDefinitionStage definition) _ (one_definition l.one.definition definition) (λ d.
+    one_pair l hash said media other what again)) ps qs
+
+-- and so is what a build asks
+pub one_asks : AskLaws → OneCollectAsks
+one_asks l hash said media definition message other ps qs once again =
+    one_asked (IsMediaStage media) _ (one_media media once) (λ what.
+    one_asked (IsDefinitionStage definition) _ (one_definition l.one.definition definition) (λ d.
+    one_asked (IsMessageStage d.protected message) _ (one_message l.one.item l.one.refused d.protected message) (λ m.
+    one_pair l hash said media other what again))) ps qs
+
+-- ---- a list
+
+-- there is a list of this
+abbrev pub SomeList : (List Question → Type 0) → Type 0
+SomeList Asks = (qs : List Question) × Asks qs
+
+-- where two stages come to something, a list is asked behind the first if one is behind each thing that it comes to
+some_asked : {A B : Type 0} (First : Result A CollectRefusal → Type 0) (Next : A → Result B CollectRefusal → Type 0) (Asks : A → List Question → Type 0) (r : Result B CollectRefusal) → Then First Next r
+    → ((a : A) (s : Result B CollectRefusal) → First (Ok a) → Next a s → SomeList (Asks a)) → SomeList (AsksThen First Asks)
+some_asked {A} {B} First Next Asks r h over = by h.first h.is_first h.next
+  where
+    by : (first : Result A CollectRefusal) → First first → After Next first r → SomeList (AsksThen First Asks)
+    by (Ok a) is next = let some = over a r is next in (some.0, record { first = Ok a; is_first = is; asks = some.1 })
+    by (Err e) is next = ([], record { first = Err e; is_first = is; asks = refl })
+
+-- a list is asked over what a file is opened as
+some_opened : (hash : Alg → List ℕ → List ℕ) (said : Question → Verdict) (file : List ℕ) (what : Opening Tree) → HasCheck hash said file → IsOpened file what
+    → SomeList (OpenedAsks (check_asks hash said) what)
+some_opened hash said file (refused reason number) c opened = ([], refl)
+some_opened hash said file absent c opened = ([], refl)
+some_opened hash said file (here start len t) c opened =
+    let reads = answer_over hash said file (here start len t) c opened in
+    (check_asks hash said reads.0.readings, (reads.0.readings, reads.1.reads.each, refl))
+
+-- so by the check of a file
+some_check : (hash : Alg → List ℕ → List ℕ) (said : Question → Verdict) (file : List ℕ) → HasCheck hash said file → SomeList (CheckAsks hash said file)
+some_check hash said file c = let some = some_opened hash said file c.is.0 c c.is.1 in (some.0, (c.is.0, c.is.1, some.1))
+
+-- and of both files
+some_pair : (hash : Alg → List ℕ → List ℕ) (said : Question → Verdict) (media other : List ℕ) (what : Opening Tree) → HasCheck hash said media → HasCheck hash said other
+    → IsMediaStage media (Ok what) → SomeList (AsksThen (IsParentStage hash said media what) (λ m. CheckAsks hash said other)) → SomeList (PairAsks hash said media other what)
+some_pair hash said media other what own theirs is asked =
+    let first = some_opened hash said media what own (opened_as media what is) in (
+      first.0 ++ asked.0,
+      record { of_media = first.0; media_asks = first.1; of_other = asked.0; other_asks = asked.1; are = refl },
+    )
+
+-- a plan asks a list
+pub some_plan_asks : SomeCollectPlan → SomeCollectPlanAsks
+some_plan_asks plan hash said media definition other own theirs =
+    let r = plan hash said media definition other own theirs in
+    some_asked (IsMediaStage media) _ _ r.0 r.1 (λ what x is_media h.
+    some_asked (IsDefinitionStage definition) _ _ x h (λ d y is_d k.
+    some_pair hash said media other what own theirs is_media
+    (some_asked (IsParentStage hash said media what) _ _ k.first k.is_first (λ m z is_m n. some_check hash said other theirs))))
+
+-- and so does a build
+pub some_asks : SomeCollectMade → SomeCollectAsks
+some_asks made hash said media definition message other own theirs are =
+    let r = made hash said media definition message other own theirs are in
+    some_asked (IsMediaStage media) _ _ r.0 r.1 (λ what x is_media h.
+    some_asked (IsDefinitionStage definition) _ _ x h (λ d y is_d k.
+    some_asked (IsMessageStage d.protected message) _ _ y k (λ parts z is_parts n.
+    some_pair hash said media other what own theirs is_media
+    (some_asked (IsParentStage hash said media what) _ _ n.first n.is_first (λ m v is_m o. some_check hash said other theirs)))))

@@ -1,6 +1,0 @@
-use Rattle.c2_collected.proofs.Making.{collected_made}
-use Rattle.c2_collected.proofs.outcomes.a_collected_file_is_made.Goals as goal
-
--- each stage passes
-pub returns : goal.returns
-returns c = collected_made c.a_message_fills_its_reserve_or_needs_more.ensures

@@ -1,0 +1,315 @@
+// The pairs of one manifest and its counterpart.
+ghost use Rattle.std.specs.Prelude.{◌≡◌, ◌∷◌, ◌<◌, [], Some, length, option_map};
+ghost use Rattle.std.specs.Option.{option_map_or};
+ghost use Rattle.c2_rules.specs.Chains.{entry_label as label_of, named_by};
+ghost use Rattle.c2_rules.specs.Ingredients.{is_ingredient_kind};
+ghost use Rattle.c2_rules.specs.Rules as rules;
+ghost use Rattle.c2_compare_spec.specs.Differences as form;
+ghost use Rattle.c2_compare_evidence.specs.Differing.{IsFirstOf};
+ghost use Rattle.c2_compare_content.specs.Targets.{equalities, equality_of};
+
+use c2_assertion::Kind;
+use c2_base::Text;
+use c2_check_claim::{Labelled, entry_at, entry_count, find_box, owner};
+use c2_check_facts::{alg_name, label_kind};
+use c2_compare_content::{
+    Equality, claim_bytes, other, signature_contents, target_equality, whole_contents,
+};
+use c2_compare_evidence::{Binder, Difference, Location, compare_known, compare_lists};
+use c2_read_manifests::{Kept, ReadManifests, entry_label, ingredient, is_redacted, label, named};
+use c2_rules::Parsed;
+use c2_spec::{Ingredient, Ref};
+
+/// The contents of the assertion box with this label; none where there is no box.
+fn contents_with<'a>(own: &Labelled<'a, '_>, name: &str) -> &'a [u8]
+    ensures { result.now ≡ form.contents_with own.now name.now }
+{
+    match find_box(own, name) {
+        Some(found) => found.boxed.contents,
+        None => &[],
+    }
+}
+
+/// The ingredient that the box with this label is read as.
+fn ingredient_with<'a>(own: &Labelled<'a, '_>, name: &str) -> Option<&'a Ingredient>
+    ensures { option_map (λ g. g.now) result ≡ form.ingredient_with own.now name.now }
+{
+    match find_box(own, name) {
+        Some(found) => match ingredient(found) {
+            Parsed::Value(g) => Some(g),
+            _ => None,
+        },
+        None => None,
+    }
+}
+
+/// The boxes with this label, which an entry lists, where they differ.
+pub fn box_difference<'a>(
+    left: &Labelled<'a, '_>,
+    right: &Labelled<'a, '_>,
+    entry: &'a Ref,
+    name: &'a str,
+) -> Option<Difference<'a>>
+    ensures { IsFirstOf (form.box_pair left.now right.now entry.now name.now ∷ []) result }
+{
+    let own = owner(left);
+    compare_lists(
+        Binder::Digest(alg_name(own, &entry.alg)),
+        Location::Assertion(label(own), name),
+        contents_with(left, name),
+        contents_with(right, name),
+    )
+}
+
+/// The signature boxes of manifests that an ingredient refers to, where they differ.
+fn signature_difference<'a>(
+    own: &'a Kept<'_>,
+    reference: &'a Ref,
+    name: &'a str,
+    left: Option<&'a Kept<'_>>,
+    right: Option<&'a Kept<'_>>,
+    known: Equality,
+) -> Option<Difference<'a>>
+    requires { known ≡ equality_of (option_map (λ k. k.now) left) (option_map (λ k. k.now) right) }
+    ensures { let target = option_map (λ k. k.now) left.entry in
+        let other = option_map (λ k. k.now) right.entry in
+        IsFirstOf (form.signature_pair own.now reference.now name.now target other ∷ []) result }
+{
+    compare_known(
+        known.signatures,
+        Binder::Digest(alg_name(own, &reference.alg)),
+        Location::Signature(name),
+        signature_contents(left),
+        signature_contents(right),
+    )
+}
+
+/// The claims under that signature, where they differ.
+fn claim_difference<'a>(
+    name: &'a str,
+    left: Option<&'a Kept<'_>>,
+    right: Option<&'a Kept<'_>>,
+    known: Equality,
+) -> Option<Difference<'a>>
+    requires { known ≡ equality_of (option_map (λ k. k.now) left) (option_map (λ k. k.now) right) }
+    ensures { let target = option_map (λ k. k.now) left.entry in
+        let other = option_map (λ k. k.now) right.entry in
+        IsFirstOf (form.claim_pair name.now target other ∷ []) result }
+{
+    compare_known(
+        known.claims,
+        Binder::Signature(signature_contents(left)),
+        Location::Signature(name),
+        claim_bytes(left),
+        claim_bytes(right),
+    )
+}
+
+/// The contents of manifests that an ingredient refers to as a whole, where they differ.
+fn whole_difference<'a>(
+    own: &'a Kept<'_>,
+    alg: &'a Option<Text>,
+    name: &'a str,
+    left: Option<&'a Kept<'_>>,
+    right: Option<&'a Kept<'_>>,
+    known: Equality,
+) -> Option<Difference<'a>>
+    requires { known ≡ equality_of (option_map (λ k. k.now) left) (option_map (λ k. k.now) right) }
+    ensures { let target = option_map (λ k. k.now) left.entry in
+        let other = option_map (λ k. k.now) right.entry in
+        IsFirstOf (form.whole_pair own.now alg.now name.now target other ∷ []) result }
+{
+    compare_known(
+        known.contents,
+        Binder::Digest(alg_name(own, alg)),
+        Location::Whole(name),
+        whole_contents(left),
+        whole_contents(right),
+    )
+}
+
+/// What binds the manifests that an ingredient names by this reference, where it differs.
+#[tactic(auto, using(crate::proofs::Found::found_first, crate::proofs::Found::found_second))]
+fn target_difference<'a>(
+    own: &'a Kept<'_>,
+    g: &'a Ingredient,
+    manifest: &'a Ref,
+    name: &'a str,
+    left: Option<&'a Kept<'_>>,
+    right: Option<&'a Kept<'_>>,
+    known: Equality,
+) -> Option<Difference<'a>>
+    requires names { g.now.manifest ≡ Some manifest.now }
+    requires known { known
+        ≡ equality_of (option_map (λ k. k.now) left) (option_map (λ k. k.now) right) }
+    ensures { let target = option_map (λ k. k.now) left.entry in
+        let other = option_map (λ k. k.now) right.entry in
+        IsFirstOf (form.target_pairs own.now g.now g.now.signature name.now target other) result }
+{
+    match &g.signature {
+        Some(reference) => {
+            if let Some(found) = signature_difference(own, reference, name, left, right, known) {
+                return Some(found);
+            }
+            claim_difference(name, left, right, known)
+        }
+        None => whole_difference(own, &manifest.alg, name, left, right, known),
+    }
+}
+
+/// What binds the manifests that an ingredient names, where it differs.
+fn named_difference<'a>(
+    first: &'a ReadManifests<'_>,
+    second: &'a ReadManifests<'_>,
+    known: &[Equality],
+    own: &'a Kept<'_>,
+    g: &'a Ingredient,
+) -> Option<Difference<'a>>
+    requires { known.now ≡ equalities first.now second.now }
+    ensures { let label = named_by (Some g.now) in
+        IsFirstOf (form.label_pairs first.now second.now own.now g.now label) result }
+{
+    let Some(manifest) = &g.manifest else {
+        return None;
+    };
+    match named(manifest.url.as_str()) {
+        Some(name) => {
+            let left = other(first, name);
+            let right = other(second, name);
+            let equality = target_equality(first, second, known, name);
+            target_difference(own, g, manifest, name, left, right, equality)
+        }
+        None => None,
+    }
+}
+
+/// Whether this is the label of an ingredient of a version that is read.
+fn is_ingredient(name: &str) -> bool
+    ensures { result ≡ is_ingredient_kind (rules.label_kind name.now) }
+{
+    match label_kind(name) {
+        Kind::Ingredient => true,
+        _ => false,
+    }
+}
+
+/// What leads from an entry with this label to ingredients, where it differs.
+#[tactic(auto, using(crate::proofs::Found::found_first, crate::proofs::Found::found_second))]
+fn ingredient_difference<'a>(
+    first: &'a ReadManifests<'_>,
+    second: &'a ReadManifests<'_>,
+    known: &[Equality],
+    left: &Labelled<'a, '_>,
+    right: &Labelled<'a, '_>,
+    entry: &'a Ref,
+    name: &'a str,
+) -> Option<Difference<'a>>
+    requires { known.now ≡ equalities first.now second.now }
+    ensures { let found = form.ingredient_with left.now name.now in
+        IsFirstOf (form.box_pair left.now right.now entry.now name.now
+        ∷ form.named_pairs first.now second.now left.now found) result }
+{
+    if let Some(found) = box_difference(left, right, entry, name) {
+        return Some(found);
+    }
+    match ingredient_with(left, name) {
+        Some(g) => named_difference(first, second, known, owner(left), g),
+        None => None,
+    }
+}
+
+/// What leads from an entry to ingredients, where it differs.
+fn entry_ingredient<'a>(
+    first: &'a ReadManifests<'_>,
+    second: &'a ReadManifests<'_>,
+    known: &[Equality],
+    left: &Labelled<'a, '_>,
+    right: &Labelled<'a, '_>,
+    entry: &'a Ref,
+) -> Option<Difference<'a>>
+    requires { known.now ≡ equalities first.now second.now }
+    ensures { let pairs = form.ingredient_pairs first.now second.now left.now right.now in
+        let label = label_of left.now.manifest entry.now in
+        IsFirstOf (option_map_or (pairs entry.now) label []) result }
+{
+    match entry_label(owner(left), entry) {
+        Some(name) => {
+            let leads = is_ingredient(name);
+            if leads {
+                return ingredient_difference(first, second, known, left, right, entry, name);
+            }
+            None
+        }
+        None => None,
+    }
+}
+
+/// What leads from a manifest to its ingredients, where it differs.
+#[tactic(auto, using(crate::proofs::Found::each_found, crate::proofs::Found::each_passed))]
+pub fn ingredients_difference<'a>(
+    first: &'a ReadManifests<'_>,
+    second: &'a ReadManifests<'_>,
+    known: &[Equality],
+    left: &Labelled<'a, '_>,
+    right: &Labelled<'a, '_>,
+) -> Option<Difference<'a>>
+    requires { known.now ≡ equalities first.now second.now }
+    ensures { let pairs = form.ingredient_pairs first.now second.now left.now right.now in
+        IsFirstOf (form.entry_pairs pairs left.now) result }
+{
+    for k in 0..entry_count(left) {
+        let entry = entry_at(left, k);
+        let found = entry_ingredient(first, second, known, left, right, entry);
+        if let Some(found) = found {
+            return Some(found);
+        }
+    }
+    None
+}
+
+/// The boxes that an entry lists, where it isn't redacted and they differ.
+fn entry_unredacted<'a>(
+    first: &'a ReadManifests<'_>,
+    n: usize,
+    left: &Labelled<'a, '_>,
+    right: &Labelled<'a, '_>,
+    entry: &'a Ref,
+) -> Option<Difference<'a>>
+    requires { n < length first.now }
+    ensures { let pairs = form.unredacted_pairs first.now n left.now right.now in
+        let label = label_of left.now.manifest entry.now in
+        IsFirstOf (option_map_or (pairs entry.now) label []) result }
+{
+    match entry_label(owner(left), entry) {
+        Some(name) => {
+            let redacted = is_redacted(first, n, name);
+            if redacted {
+                return None;
+            }
+            box_difference(left, right, entry, name)
+        }
+        None => None,
+    }
+}
+
+/// The assertions of a manifest that aren't redacted, where they differ.
+#[tactic(auto, using(crate::proofs::Found::each_found, crate::proofs::Found::each_passed))]
+pub fn unredacted_difference<'a>(
+    first: &'a ReadManifests<'_>,
+    n: usize,
+    left: &Labelled<'a, '_>,
+    right: &Labelled<'a, '_>,
+) -> Option<Difference<'a>>
+    requires { n < length first.now }
+    ensures { let pairs = form.unredacted_pairs first.now n left.now right.now in
+        IsFirstOf (form.entry_pairs pairs left.now) result }
+{
+    for k in 0..entry_count(left) {
+        let entry = entry_at(left, k);
+        let found = entry_unredacted(first, n, left, right, entry);
+        if let Some(found) = found {
+            return Some(found);
+        }
+    }
+    None
+}

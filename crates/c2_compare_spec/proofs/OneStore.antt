@@ -1,0 +1,215 @@
+-- A file that is opened as one thing is read as one store, and has one answer.
+use Rattle.std.proofs.Common.{◌≡◌, ℕ, Bool, true, false, not, ◌&&◌, List, [], ◌∷◌, Option, Some, None, Result, length, refl, sym, ap, ap₂, ◌∙◌, subst}
+use Rattle.std.specs.List.{AllZip}
+use Rattle.c2_base.specs.declared.values.Question.{Question}
+use Rattle.c2_spec.proofs.BmffOneList.{roots_once}
+use Rattle.c2_spec.specs.Bmff.Boxes.{begins_bmff}
+use Rattle.c2_spec.specs.C2pa.Claim.{claim_of}
+use Rattle.c2_spec.specs.C2pa.Manifest.{Manifest, Superbox, claim_bytes, claim_version_of, manifests_of}
+use Rattle.c2_spec.specs.C2pa.Sign1.{SignParts}
+use Rattle.c2_spec.specs.Cbor.Item.{Item}
+use Rattle.c2_spec.specs.Container.{Container, jpeg, bmff, IsContainer, begins_jpeg, is_bmff}
+use Rattle.c2_spec.specs.Jumbf.Tree.{Tree}
+use Rattle.c2_spec.specs.Located.{Opening, refused, absent, here}
+use Rattle.c2_spec.specs.declared.assertion.FieldError.{FieldError}
+use Rattle.c2_spec.specs.declared.claim.Claim.{Claim}
+use Rattle.c2_spec.specs.declared.digest.Alg.{Alg}
+use Rattle.c2_spec.specs.declared.panel.Verdict.{Verdict}
+use Rattle.c2_rules.proofs.BindingLaws.{one_binding}
+use Rattle.c2_rules.specs.Binding.{Binding, Media, IsMedia, IsItemOf, IsLabelledBinding, binding_label, binding_payload}
+use Rattle.c2_rules.specs.CheckList.{StoreReading, IsStoreReading, HasBindingOf, active_in, store_answer, check_asks}
+use Rattle.c2_rules.specs.Readings.{IsMessageOf, ReadBox, IsReadBox, Reading, IsReading, signature_item}
+use Rattle.c2_rules.specs.Rules.{label_kind}
+use Rattle.c2_rules.specs.Validated.{IsFileReading, IsOpenedAnswer, IsAnswer, OpenedAsks, CheckAsks}
+use Rattle.c2_rules.specs.declared.answer.Answer.{Answer}
+use Rattle.c2_rules.specs.declared.parsed.Parsed.{Parsed}
+use Rattle.c2_compare_spec.specs.Accepted.{IsOpenedAs}
+use Rattle.c2_compare_spec.specs.Comparison.{IsOpenedOnce}
+use Rattle.c2_compare_spec.proofs.Alike.{OneItem, one_item, one_parsed, ingredients_alike, one_message}
+
+-- ---- what is read of a store
+
+-- a payload is one item, or none
+one_item_of : OneItem → (o : Option (List ℕ)) (a b : Option Item) → IsItemOf o a → IsItemOf o b → a ≡ b
+one_item_of law None None None p q = refl
+one_item_of law None None (Some w) p q = absurd q
+one_item_of law None (Some v) b p q = absurd p
+one_item_of law (Some s) None None p q = refl
+one_item_of law (Some s) None (Some w) p q = absurd (p w q)
+one_item_of law (Some s) (Some v) None p q = absurd (q v p)
+one_item_of law (Some s) (Some v) (Some w) p q = ap Some (one_item law s v w p q)
+
+-- a payload is one message, or none
+one_message_of : OneItem → (o : Option (List ℕ)) (a b : Option SignParts) → IsMessageOf o a → IsMessageOf o b
+    → a ≡ b
+one_message_of law None None None p q = refl
+one_message_of law None None (Some y) p q = absurd q
+one_message_of law None (Some x) b p q = absurd p
+one_message_of law (Some s) None None p q = refl
+one_message_of law (Some s) None (Some y) p q = absurd (p y q)
+one_message_of law (Some s) (Some x) None p q = absurd (q x p)
+one_message_of law (Some s) (Some x) (Some y) p q = ap Some (one_message law s x y p q)
+
+-- a box is read as one thing
+one_box : OneItem → (b : Superbox) (x y : ReadBox) → IsReadBox b x → IsReadBox b y → x ≡ y
+one_box law b x y p q =
+    let boxed : x.boxed ≡ y.boxed = p.same ∙ sym q.same in
+    ap₂ (λ (z : Superbox) (i : Parsed _). record { boxed = z; ingredient = i }) boxed
+    (ingredients_alike law x y (subst (λ z. IsReadBox z x) (sym p.same) p)
+    (subst (λ z. IsReadBox z y) (sym q.same) q) boxed)
+
+-- where each member comes to one thing, a list comes to one list
+one_list : {A B : Type 0} (R : A → B → Type 0) → ((x : A) (y z : B) → R x y → R x z → y ≡ z)
+    → (xs : List A) (ys zs : List B)
+    → AllZip R xs ys → AllZip R xs zs → ys ≡ zs
+one_list R once [] [] [] p q = refl
+one_list R once [] [] (z ∷ zs) p q = absurd q
+one_list R once [] (y ∷ ys) zs p q = absurd p
+one_list R once (x ∷ xs) [] zs p q = absurd p
+one_list R once (x ∷ xs) (y ∷ ys) [] p q = absurd q
+one_list {A} {B} R once (x ∷ xs) (y ∷ ys) (z ∷ zs) p q =
+    ap₂ (λ (b : B) (bs : List B). b ∷ bs) (once x y z p.0 q.0) (one_list R once xs ys zs p.1 q.1)
+
+-- a reading of these parts, written short
+abbrev reading : Manifest → Parsed Claim → Option SignParts → List ReadBox → Reading
+reading m claim message boxes = record { manifest = m; claim = claim; message = message; boxes = boxes }
+
+-- a manifest is read as one thing
+one_reading : OneItem → (m : Manifest) (r s : Reading) → IsReading m r → IsReading m s → r ≡ s
+one_reading law m r s p q =
+    ap (λ (x : Manifest). reading x r.claim r.message r.boxes) (p.same ∙ sym q.same)
+    ∙ ap (λ (x : Parsed Claim). reading s.manifest x r.message r.boxes)
+    (one_parsed law (claim_of (claim_version_of m.claims)) (claim_bytes m.claims) r.claim s.claim p.claim q.claim)
+    ∙ ap (λ (x : Option SignParts). reading s.manifest s.claim x r.boxes)
+    (one_message_of law (signature_item m) r.message s.message p.message q.message)
+    ∙ ap (λ (x : List ReadBox). reading s.manifest s.claim s.message x)
+    (one_list IsReadBox (one_box law) m.assertions r.boxes s.boxes p.boxes q.boxes)
+
+-- a label and an item come to one binding
+one_labelled : (m : Media) (label : Option (List ℕ)) (item : Option Item)
+    (a b : Option (Result Binding FieldError))
+    → IsLabelledBinding m label item a → IsLabelledBinding m label item b → a ≡ b
+one_labelled m None item a b p q = p ∙ sym q
+one_labelled m (Some l) None a b p q = p ∙ sym q
+one_labelled m (Some l) (Some v) None b p q = absurd p
+one_labelled m (Some l) (Some v) (Some x) None p q = absurd q
+one_labelled m (Some l) (Some v) (Some x) (Some y) p q = ap Some (one_binding m (label_kind l) v x y p q)
+
+-- an active manifest has one binding
+one_bound : OneItem → (m : Media) (o : Option Reading) (a b : Option (Result Binding FieldError))
+    → HasBindingOf m o a → HasBindingOf m o b → a ≡ b
+one_bound law m None a b p q = p ∙ sym q
+one_bound law m (Some r) a b p q =
+    let item : q.item ≡ p.item = one_item_of law (binding_payload r) q.item p.item q.is_item p.is_item in
+    one_labelled m (binding_label r) p.item a b p.is
+    (subst (λ v. IsLabelledBinding m (binding_label r) v b) item q.is)
+
+-- a store is read as one thing
+one_store : OneItem → (m : Media) (ms : List Manifest) (s t : StoreReading) → IsStoreReading m ms s
+    → IsStoreReading m ms t → s ≡ t
+one_store law m ms s t p q =
+    let each : s.readings ≡ t.readings =
+    one_list IsReading (one_reading law) ms s.readings t.readings p.each q.each in
+    let bound : HasBindingOf m (active_in t.readings) s.binding =
+    subst (λ (rs : List Reading). HasBindingOf m (active_in rs) s.binding) each p.binding in
+    ap₂ (λ (rs : List Reading) (v : Option (Result Binding FieldError)).
+    record { readings = rs; binding = v }) each
+    (one_bound law m (active_in t.readings) s.binding t.binding bound q.binding)
+
+-- ---- the media file
+
+-- no file begins as a JPEG and counts as a BMFF file
+not_both : (file : List ℕ) → begins_jpeg file ≡ true → is_bmff file ≡ true → ⊥
+not_both file p q = let bad : false ≡ is_bmff file =
+    sym (ap (λ (b : Bool). not b && begins_bmff file) p) in cc (bad ∙ q)
+
+-- a file has one container
+one_container : (file : List ℕ) (c d : Container) → IsContainer file c → IsContainer file d → c ≡ d
+one_container file jpeg jpeg p q = refl
+one_container file jpeg (bmff roots) p q = absurd (not_both file p q.0)
+one_container file (bmff roots) jpeg p q = absurd (not_both file q p.0)
+one_container file (bmff roots) (bmff others) p q = ap bmff (roots_once file roots others p.1 q.1)
+
+-- and is media in one way
+one_media : (file : List ℕ) (m n : Media) → IsMedia file m → IsMedia file n → m ≡ n
+one_media file m n p q =
+    ap₂ (λ (b : List ℕ) (c : Container). record { bytes = b; container = c }) (p.bytes ∙ sym q.bytes)
+    (one_container file m.container n.container p.container q.container)
+
+-- its store is read in one way
+one_file_reading : OneItem → (file : List ℕ) (t : Tree) (a b : StoreReading) → IsFileReading file t a
+    → IsFileReading file t b → a ≡ b
+one_file_reading law file t a b p q =
+    let media : q.media ≡ p.media = one_media file q.media p.media q.is_media p.is_media in
+    one_store law p.media (manifests_of t) a b p.reads
+    (subst (λ m. IsStoreReading m (manifests_of t) b) media q.reads)
+
+-- ---- one opening
+
+-- what is here from one place is here from no other
+one_start : (a b c d : ℕ) (t u : Tree) → ◌≡◌ {A = Opening Tree} (here a b t) (here c d u) → a ≡ c
+one_start a b c d t u e = cc (e)
+
+-- nor in another length
+one_len : (a b c d : ℕ) (t u : Tree) → ◌≡◌ {A = Opening Tree} (here a b t) (here c d u) → b ≡ d
+one_len a b c d t u e = cc (e)
+
+-- nor as another tree
+one_tree : (a b c d : ℕ) (t u : Tree) → ◌≡◌ {A = Opening Tree} (here a b t) (here c d u) → t ≡ u
+one_tree a b c d t u e = cc (e)
+
+-- A file is opened as a store in one place, and read in one way.
+pub record OneReading (file : List ℕ) (s t : StoreReading) (o : IsOpenedAs file s)
+    (p : IsOpenedAs file t) : Type 0 where
+  pub store : s ≡ t
+  pub start : o.start ≡ p.start
+  pub len : o.len ≡ p.len
+
+-- where it is opened as one thing
+pub one_opened_as : OneItem → (file : List ℕ) → IsOpenedOnce file
+    → (s t : StoreReading) (o : IsOpenedAs file s) (p : IsOpenedAs file t) → OneReading file s t o p
+one_opened_as law file once s t o p =
+    let e = once (here o.start o.len o.tree) (here p.start p.len p.tree) o.is_opened p.is_opened in
+    let tree : p.tree ≡ o.tree = sym (one_tree o.start o.len p.start p.len o.tree p.tree e) in
+    record {
+      store = one_file_reading law file o.tree s t o.reads (subst (λ u. IsFileReading file u t) tree p.reads);
+      start = one_start o.start o.len p.start p.len o.tree p.tree e;
+      len = one_len o.start o.len p.start p.len o.tree p.tree e;
+    }
+
+-- what is answered over one opening is one answer
+one_opened_answer : OneItem
+    → (hash : Alg → List ℕ → List ℕ) (said : Question → Verdict) (file : List ℕ) (o : Opening Tree)
+    (a b : Answer)
+    → IsOpenedAnswer hash said file o a → IsOpenedAnswer hash said file o b → a ≡ b
+one_opened_answer law hash said file (refused reason number) a b p q = p ∙ sym q
+one_opened_answer law hash said file absent a b p q = p ∙ sym q
+one_opened_answer law hash said file (here start len t) a b p q =
+    p.2 ∙ ap (store_answer hash said (length file) start len) (one_file_reading law file t p.0 q.0 p.1 q.1)
+    ∙ sym q.2
+
+-- a file that is opened as one thing has one answer
+pub one_answer : OneItem → (hash : Alg → List ℕ → List ℕ) (said : Question → Verdict) (file : List ℕ)
+    → IsOpenedOnce file → (a b : Answer)
+    → IsAnswer hash said file a → IsAnswer hash said file b → a ≡ b
+one_answer law hash said file once a b p q =
+    one_opened_answer law hash said file p.0 a b p.2
+    (subst (λ o. IsOpenedAnswer hash said file o b) (once q.0 p.0 q.1 p.1) q.2)
+
+-- ---- questions
+
+-- what is asked over one opening is one list
+one_opened_asks : OneItem → (asks : List Reading → List Question) (o : Opening Tree) (ps qs : List Question)
+    → OpenedAsks asks o ps → OpenedAsks asks o qs → ps ≡ qs
+one_opened_asks law asks (refused reason number) ps qs p q = p ∙ sym q
+one_opened_asks law asks absent ps qs p q = p ∙ sym q
+one_opened_asks law asks (here start len t) ps qs p q =
+    p.2 ∙ ap asks (one_list IsReading (one_reading law) (manifests_of t) p.0 q.0 p.1 q.1) ∙ sym q.2
+
+-- the check of a file that is opened as one thing asks one list of questions
+pub one_asks : OneItem → (hash : Alg → List ℕ → List ℕ) (said : Question → Verdict) (file : List ℕ)
+    → IsOpenedOnce file → (ps qs : List Question) → CheckAsks hash said file ps → CheckAsks hash said file qs
+    → ps ≡ qs
+one_asks law hash said file once ps qs p q =
+    one_opened_asks law (check_asks hash said) p.0 ps qs p.2
+    (subst (λ o. OpenedAsks (check_asks hash said) o qs) (once q.0 p.0 q.1 p.1) q.2)

@@ -1,8 +1,0 @@
-use Rattle.std.proofs.Common.{take}
-use Rattle.c2_lookup.specs.Places.{ArePlaces}
-use Rattle.c2_entries.specs.Labelled.{box_labels}
-use Rattle.c2_entries.proofs.labelled.places_of_boxes.Given as goal
-
--- the places are those where the labels of the boxes that were passed stand first
-abbrev pub invariant-loop-k : goal.invariant-loop-k
-invariant-loop-k l = ArePlaces (box_labels (take l.k l.boxes)) l.places

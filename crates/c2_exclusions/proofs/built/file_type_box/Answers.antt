@@ -1,6 +1,0 @@
-use Rattle.std.proofs.Common.{[], ◌∷◌, None, refl, codes}
-use Rattle.c2_exclusions.proofs.built.file_type_box.Goals as goal
-
--- the text is that of one step
-pub whole_boxes-requires : goal.whole_boxes-requires
-whole_boxes-requires c = record { path = (record { kind = codes "ftyp"; nth = None } ∷ [], refl) }

@@ -1,8 +1,0 @@
-//! The assertion that binds a new store to its BMFF file (C2PA Technical Specification 2.x, "BMFF-based hash", version 2).
-//!
-//! What it is stands in `c2_films`, module `Films`; the digest that it holds is made by `c2_film_hash`.
-#![tactic(auto)]
-
-mod binding;
-
-pub use binding::film_binding;

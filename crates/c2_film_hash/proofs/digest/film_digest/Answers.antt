@@ -1,9 +1,0 @@
-use Rattle.std.proofs.Common.{ap, ◌∙◌}
-use Rattle.c2_film_hash.proofs.Texts.{film_text}
-use Rattle.c2_film_hash.proofs.digest.film_digest.Goals as goal
-
--- the covered text is told by the root boxes
-pub returns-clause-digest : goal.returns-clause-digest
-returns-clause-digest g c file known boxes has same =
-    c.in_ok-digest.ensures.digest file (c.in_ok-cover.ensures.stays.same_bytes ∙ known)
-    ∙ ap (g.H.Hashing.digest_of c.args.alg) (film_text c.a_put_store_is_not_covered.ensures.text file c.args.roots.now c.in_ok-cover.cover boxes (c.in_ok-cover.ensures.cover file known) has same)

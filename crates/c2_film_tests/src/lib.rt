@@ -1,5 +1,0 @@
-//! What binds a worked film: tests of the public calls of `c2_film_hash` and `c2_film_binding`, which are proved once without them.
-#![tactic(auto)]
-
-#[cfg(test)]
-mod films;

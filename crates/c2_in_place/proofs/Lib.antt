@@ -1,4 +1,0 @@
-mod Numbered
-mod Seated
-pub mod Stored
-pub mod Endings

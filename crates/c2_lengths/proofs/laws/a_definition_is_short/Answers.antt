@@ -1,5 +1,0 @@
-use Rattle.c2_lengths.proofs.DefinitionLengths.{definition_is_short}
-use Rattle.c2_lengths.proofs.laws.a_definition_is_short.Goals as goal
-
-pub returns : goal.returns
-returns c = definition_is_short c.definitions_are_well_formed.ensures

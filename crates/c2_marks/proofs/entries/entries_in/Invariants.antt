@@ -1,7 +1,0 @@
-use Rattle.std.proofs.Common.{take}
-use Rattle.c2_marks.specs.Parts.{ShareSame}
-use Rattle.c2_marks.proofs.entries.entries_in.Given as goal
-
--- the entries exclude what the groups so far do
-abbrev pub invariant-loop-group : goal.invariant-loop-group
-invariant-loop-group l = ShareSame l.entries.items (take l.group-index l.groups)

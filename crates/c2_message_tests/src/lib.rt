@@ -1,7 +1,0 @@
-//! Worked messages: tests of the public calls of `c2_message`, which is proved once without them.
-#![tactic(auto)]
-
-#[cfg(test)]
-mod digits;
-#[cfg(test)]
-mod messages;

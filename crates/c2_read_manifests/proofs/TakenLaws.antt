@@ -1,0 +1,22 @@
+-- What laws of c2_cbor and c2_sigstruct say, as lemmas here take it: each law function calls those laws and hands on what they say.
+use Rattle.std.proofs.Common.{◌≡◌, ◌⊎◌, ℕ, List}
+use Rattle.c2_spec.specs.Cbor.Item.{Item}
+use Rattle.c2_spec.specs.Cbor.Fields.{HasItem, IsUnread}
+use Rattle.c2_spec.specs.Cbor.Spelling.{Spells}
+use Rattle.c2_spec.specs.C2pa.Sign1.{SignParts, IsMessage}
+use Rattle.c2_spec.specs.declared.cbor.CborError.{CborError}
+use Rattle.c2_read_manifests.specs.Existing.{IsHeld}
+
+-- a list spells at most one item
+abbrev pub OneItem : Type 0
+OneItem = (v w : Item) (s : List ℕ) → Spells v s → Spells w s → v ≡ w
+
+-- a list that a program can hold is one item or is none for a cause, and never both
+pub record ItemLaws : Type 0 where
+  pub one_item : OneItem
+  pub each_list : (s : List ℕ) → IsHeld s → ((v : Item) × HasItem s v) ⊎ ((e : CborError) × IsUnread s e)
+  pub never_both : (s : List ℕ) → IsHeld s → (v : Item) (e : CborError) → HasItem s v → IsUnread s e → ⊥
+
+-- an item is a message or is none
+abbrev pub EachMessage : Type 0
+EachMessage = (v : Item) → ((p : SignParts) × IsMessage v p) ⊎ ((p : SignParts) → IsMessage v p → ⊥)

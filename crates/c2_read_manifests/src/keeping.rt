@@ -1,0 +1,205 @@
+// What is kept of a manifest, read from its boxes.
+ghost use Rattle.std.specs.Prelude.{◌≡◌, ◌<◌, All, IfOk, IfSome, Some, length, map, slice_get, option_map, option_and_then};
+ghost use Rattle.c2_spec.specs.Cbor.View.{view};
+ghost use Rattle.c2_spec.specs.C2pa.Claim.{claim_of};
+ghost use Rattle.c2_spec.specs.Jumbf.Boxes.{tree_count};
+ghost use Rattle.c2_spec.specs.C2pa.Manifest as form;
+ghost use Rattle.c2_spec.specs.C2pa.Manifest.{Superbox, IsStoreOf, superbox_at};
+ghost use Rattle.c2_spec.specs.C2pa.Sign1.{IsHeader, parts_of};
+ghost use Rattle.c2_rules.specs.Readings.{IsParsed, IsMessageOf, IsReading, AreReadings};
+ghost use Rattle.c2_read_manifests.specs.Keeping.{manifest_of};
+
+use crate::kept::{Kept, StoreBox};
+use crate::reading::{read_boxes, read_claim, read_message, store_box};
+use c2_base::NoMemory;
+use c2_claim::claim_version;
+use c2_jumbf::{Tree, contents, label_of};
+use c2_rules::Parsed;
+use c2_spec::{Claim, ClaimVersion, Sign1};
+use c2_store::{Store, assertions, claims, is_update, manifest_count, signature, whole};
+use std::alloc::Global;
+
+/// The boxes with these indices.
+fn store_boxes<'t>(
+    alloc: Global,
+    tree: &'t Tree<'_>,
+    boxes: &[usize],
+) -> Result<Vec<StoreBox<'t>>, NoMemory>
+    requires { All (λ k. k < tree_count tree.now) boxes.now }
+    ensures { IfOk result (λ v. v.items ≡ map (superbox_at tree.now) boxes.now) }
+{
+    let mut found = Vec::new(alloc);
+    for i in 0..boxes.len() {
+        let own = store_box(tree, boxes[i]);
+        found.push(own)?;
+    }
+    Ok(found)
+}
+
+/// The version of a claim box, where it is one that is read.
+fn version_in(own: &StoreBox<'_>) -> Option<ClaimVersion>
+    ensures { result ≡ form.claim_version_in own.now }
+{
+    match own.label {
+        Some(label) => claim_version(label),
+        None => None,
+    }
+}
+
+/// The item of a claim box of a version that is read.
+fn claim_item<'c>(own: &'c StoreBox<'_>) -> Option<&'c [u8]>
+    ensures { option_map (λ b. b.now) result ≡ form.claim_bytes_in own.now }
+{
+    match version_in(own) {
+        Some(_) => own.item,
+        None => None,
+    }
+}
+
+/// The claim bytes in these claim boxes.
+fn claim_payload<'c>(claims: &'c [StoreBox<'_>]) -> Option<&'c [u8]>
+    ensures { option_map (λ b. b.now) result ≡ form.claim_bytes claims.now }
+{
+    match claims {
+        [one] => claim_item(one),
+        _ => None,
+    }
+}
+
+/// The claim bytes of a manifest.
+pub fn claim_bytes<'c>(own: &'c Kept<'_>) -> Option<&'c [u8]>
+    ensures { option_map (λ b. b.now) result ≡ form.claim_bytes own.now.manifest.claims }
+{
+    claim_payload(own.claims.as_slice())
+}
+
+/// The version that these claim bytes are read under.
+fn version_of(claims: &[StoreBox<'_>]) -> ClaimVersion
+    ensures { result ≡ form.claim_version_of claims.now }
+{
+    match claims {
+        [one, ..] => version_in(one).unwrap_or(ClaimVersion::V2),
+        [] => ClaimVersion::V2,
+    }
+}
+
+/// What the claim of these claim boxes is read as.
+fn read_claims(alloc: Global, claims: &[StoreBox<'_>]) -> Result<Parsed<Claim>, NoMemory>
+    ensures { IfOk result (λ p.
+        IsParsed (claim_of (form.claim_version_of claims.now)) (form.claim_bytes claims.now) p) }
+{
+    match claim_payload(claims) {
+        Some(bytes) => read_claim(alloc, version_of(claims), bytes),
+        None => Ok(Parsed::NoItem),
+    }
+}
+
+/// The item of a box that may be missing.
+fn item_of<'c>(found: &'c Option<StoreBox<'_>>) -> Option<&'c [u8]>
+    ensures { option_map (λ b. b.now) result ≡ option_and_then (λ (b : Superbox). b.item)
+        found.now }
+{
+    match found {
+        Some(b) => b.item,
+        None => None,
+    }
+}
+
+/// The signed message of a signature box.
+fn read_signature(alloc: Global, found: &Option<StoreBox<'_>>) -> Result<Option<Sign1>, NoMemory>
+    ensures message { IfOk result
+        (λ m. IsMessageOf (option_and_then (λ (b : Superbox). b.item) found.now)
+        (option_map parts_of m)) }
+    ensures header { IfOk result (λ m. IfSome m (λ s. IsHeader (view s.unprotected))) }
+{
+    match item_of(found) {
+        Some(bytes) => read_message(alloc, bytes),
+        None => Ok(None),
+    }
+}
+
+/// The box with this index, where there is one.
+fn some_box<'t>(tree: &'t Tree<'_>, k: Option<usize>) -> Option<StoreBox<'t>>
+    requires { IfSome k (λ i. i < tree_count tree.now) }
+    ensures { result ≡ option_map (superbox_at tree.now) k }
+{
+    match k {
+        Some(i) => Some(store_box(tree, i)),
+        None => None,
+    }
+}
+
+/// What is kept of the manifest whose own box and whose boxes have these indices.
+pub fn keep<'t>(
+    alloc: Global,
+    tree: &'t Tree<'_>,
+    whole: usize,
+    is_update: bool,
+    claims: &[usize],
+    signature: Option<usize>,
+    assertions: &[usize],
+) -> Result<Kept<'t>, NoMemory>
+    requires whole { whole < tree_count tree.now }
+    requires claims { All (λ k. k < tree_count tree.now) claims.now }
+    requires signature { IfSome signature (λ k. k < tree_count tree.now) }
+    requires assertions { All (λ k. k < tree_count tree.now) assertions.now }
+    ensures { IfOk result (λ r. IsReading
+        (manifest_of tree.now whole is_update claims.now signature assertions.now) r) }
+{
+    let name = label_of(tree, whole);
+    let bytes = contents(tree, whole);
+    let claim_boxes = store_boxes(alloc, tree, claims)?;
+    let signature_box = some_box(tree, signature);
+    let claim = read_claims(alloc, &claim_boxes)?;
+    let message = read_signature(alloc, &signature_box)?;
+    let boxes = read_boxes(alloc, tree, assertions)?;
+    Ok(Kept {
+        label: name,
+        contents: bytes,
+        is_update,
+        claims: claim_boxes,
+        signature: signature_box,
+        claim,
+        message,
+        boxes,
+    })
+}
+
+/// What is kept of a manifest of a store.
+fn keep_at<'t>(
+    alloc: Global,
+    tree: &'t Tree<'_>,
+    store: &Store,
+    i: usize,
+) -> Result<Kept<'t>, NoMemory>
+    requires inside { i < length store.now }
+    requires same { IsStoreOf tree.now store.now }
+    ensures { IfOk result
+        (λ r. IfSome (slice_get store.now i)
+        (λ m. IsReading (form.manifest_at tree.now m) r)) }
+{
+    let index = whole(store, i);
+    let update = is_update(store, i);
+    let claim_boxes = claims(store, i);
+    let sign = signature(store, i);
+    let boxes = assertions(store, i);
+    let own = keep(alloc, tree, index, update, claim_boxes, sign, boxes)?;
+    Ok(own)
+}
+
+/// What is kept of the manifests of a store.
+pub fn keep_store<'t>(
+    alloc: Global,
+    tree: &'t Tree<'_>,
+    store: &Store,
+) -> Result<Vec<Kept<'t>>, NoMemory>
+    requires { IsStoreOf tree.now store.now }
+    ensures { IfOk result (λ v. AreReadings (form.manifests_of tree.now) v.items) }
+{
+    let mut kept = Vec::new(alloc);
+    for i in 0..manifest_count(store) {
+        let own = keep_at(alloc, tree, store, i)?;
+        kept.push(own)?;
+    }
+    Ok(kept)
+}

@@ -1,8 +1,0 @@
-use Rattle.std.proofs.Common.{refl, sym, subst, lit≤}
-use Rattle.c2_spec.specs.C2pa.Sign1.{IsHeader}
-use Rattle.c2_spec.specs.Cbor.Item.{no_pairs}
-use Rattle.c2_refusals.proofs.signing.signed_over.Goals as goal
-
--- a header without entries is legal
-pub question-requires : goal.question-requires
-question-requires c = subst IsHeader (sym c.empty_map.ensures) (record { map = (no_pairs, refl); legal = record { shallow = lit≤ tt; distinct = tt; no_bad_simple = λ h. h } })

@@ -1,5 +1,0 @@
-pub mod Kinds
-pub mod Refusals
-pub mod Stages
-pub mod Sinks
-pub mod Seats

@@ -1,0 +1,132 @@
+-- A file that is cleared of its store is its base.
+use Rattle.std.proofs.Common.{◌≡◌, ℕ, ◌+◌, ◌≤◌, Bool, true, false, cond, ◌==◌, List, [], ◌∷◌, ◌++◌, length, drop, map, refl, sym, ap, ap₂, ◌∙◌, subst, arith, append_assoc, length-append}
+use Rattle.std.specs.List.{flat_map, AllByRecursion}
+use Rattle.std.proofs.lemmas.Bool.{eq-eqb}
+use Rattle.std.proofs.lemmas.Grind.{flat_map-append}
+use Rattle.std.proofs.lemmas.List.{take_at, drop_at}
+use borrow.Author.Tests.{eqb-true}
+use Rattle.c2_base.specs.declared.values.Range.{Range}
+use Rattle.c2_spec.specs.Bmff.Boxes.{SizeForm, short, long, to_end, Box, IsBox, box_bytes, box_len, boxes_len, header_len}
+use Rattle.c2_spec.specs.Bmff.Paths.{placed_from}
+use Rattle.c2_spec.specs.Bmff.Store.{HasBmffStore}
+use Rattle.c2_spec.specs.Bmff.Writing.{base_roots, freed, is_file_end, same, without}
+use Rattle.c2_spec.specs.PutIn.{taken_out}
+use Rattle.c2_spec.proofs.BmffOneList.{roots_once}
+use Rattle.c2_spec.proofs.BmffSizes.{bytes_size}
+use Rattle.c2_bmff_boxes.specs.Roots.{AreRootsOf}
+use Rattle.c2_bmff_rows.specs.Rows.{row_of, rows_of}
+use Rattle.c2_bmff_rows.specs.declared.row.RootBox.{RootBox}
+use Rattle.c2_bmff_rows.proofs.StandLemmas.{form_boxes}
+use Rattle.c2_without_store.specs.Clears.{ClearsTo, cleared, clearing_in, ends_file}
+use Rattle.c2_without_store.specs.declared.clearing.Clearing.{Clearing}
+use Rattle.c2_without_store.specs.declared.clearing.Clearing.TheVariants.{Cut, Freed}
+use Rattle.c2_without_store.proofs.FreedBoxes.{freed_file}
+
+-- ---- lists
+
+-- what holds of two lists together holds of the first
+all_front : {A : Type 0} (P : A → Type 0) (xs ys : List A) → AllByRecursion P (xs ++ ys) → AllByRecursion P xs
+all_front P [] ys h = tt
+all_front P (x ∷ xs) ys h = (h.0, all_front P xs ys h.1)
+
+-- and of the second
+all_back : {A : Type 0} (P : A → Type 0) (xs ys : List A) → AllByRecursion P (xs ++ ys) → AllByRecursion P ys
+all_back P [] ys h = h
+all_back P (x ∷ xs) ys h = all_back P xs ys h.1
+
+-- the bytes of boxes with one more before them
+len_more : (b : Box) (bs : List Box) → IsBox b → boxes_len (b ∷ bs) ≡ box_len b + boxes_len bs
+len_more b bs h = length-append (box_bytes b) (flat_map box_bytes bs) ∙ ap (λ n. n + boxes_len bs) (bytes_size b h)
+
+-- a number that isn't another
+not_equal : (n m : ℕ) → (n ≡ m → ⊥) → (n == m) ≡ false
+not_equal n m h = go (n == m) refl
+  where
+    go : (t : Bool) → (n == m) ≡ t → (n == m) ≡ false
+    go true e = absurd (h (eqb-true n m e))
+    go false e = e
+
+-- ---- the row that is cleared
+
+-- nothing but one `mfra` stands behind a box, by the rows
+ends_is : (p : ℕ) (bs : List Box) → ends_file (map row_of (placed_from p bs)) ≡ is_file_end bs
+ends_is p [] = refl
+ends_is p (b ∷ []) = refl
+ends_is p (b ∷ c ∷ cs) = refl
+
+-- how a box among others is cleared away, by the rows
+clearing_at : (p : ℕ) (before : List Box) (b : Box) (after : List Box) (range : Range) → AllByRecursion IsBox before → range.start ≡ p + boxes_len before
+    → clearing_in range (map row_of (placed_from p (before ++ b ∷ after))) ≡ cond (is_file_end after) (Cut range) (Freed (row_of (record { at = range.start; box = b })))
+clearing_at p [] b after range h e =
+    let here : p ≡ range.start = omega (arith, e) in
+    ap (λ (t : Bool). cond t (cond (ends_file (map row_of (placed_from (p + box_len b) after))) (Cut range) (Freed (row_of (record { at = p; box = b })))) (clearing_in range (map row_of (placed_from (p + box_len b) after)))) (eq-eqb p range.start here)
+    ∙ ap₂ (λ (t : Bool) (n : ℕ). cond t (Cut range) (Freed (row_of (record { at = n; box = b })))) (ends_is (p + box_len b) after) here
+clearing_at p (c ∷ cs) b after range h e =
+    let more : boxes_len (c ∷ cs) ≡ box_len c + boxes_len cs = len_more c cs h.0 in
+    let header : 8 ≤ header_len c.form = some c.form in
+    let other : (p == range.start) ≡ false = not_equal p range.start (λ same. omega (arith, same, e, more, header)) in
+    ap (λ (t : Bool). cond t (cond (ends_file (map row_of (placed_from (p + box_len c) (cs ++ b ∷ after)))) (Cut range) (Freed (row_of (record { at = p; box = c })))) (clearing_in range (map row_of (placed_from (p + box_len c) (cs ++ b ∷ after))))) other
+    ∙ clearing_at (p + box_len c) cs b after range h.1 (omega (arith, e, more))
+  where
+    some : (f : SizeForm) → 8 ≤ header_len f
+    some short = omega arith
+    some long = omega arith
+    some to_end = omega arith
+
+-- ---- what is left
+
+-- the bytes of boxes around one
+around : (before : List Box) (b : Box) (after : List Box) → flat_map box_bytes (before ++ b ∷ after) ≡ flat_map box_bytes before ++ (box_bytes b ++ flat_map box_bytes after)
+around before b after = flat_map-append box_bytes before (b ∷ after)
+
+-- a box is cut out of others
+cut_left : (before : List Box) (b : Box) (after : List Box) (range : Range) → IsBox b → range.start ≡ boxes_len before → range.length ≡ box_len b
+    → taken_out range.start range.length (flat_map box_bytes (before ++ b ∷ after)) ≡ flat_map box_bytes (before ++ after)
+cut_left before b after range is from for =
+    let front : List ℕ = flat_map box_bytes before in
+    let back : List ℕ = flat_map box_bytes after in
+    let place : length (front ++ box_bytes b) ≡ range.start + range.length = omega (arith, length-append front (box_bytes b), bytes_size b is, from, for) in
+    ap (λ (xs : List ℕ). taken_out range.start range.length xs) (around before b after)
+    ∙ ap₂ (λ (xs ys : List ℕ). xs ++ ys) (take_at front (box_bytes b ++ back) range.start (sym from))
+    (ap (drop (range.start + range.length)) (sym (append_assoc front (box_bytes b) back)) ∙ drop_at (front ++ box_bytes b) back (range.start + range.length) place)
+    ∙ sym (flat_map-append box_bytes before after)
+
+-- a box is freed among others
+freed_left : (before : List Box) (b : Box) (after : List Box) (at : ℕ) → IsBox b → at ≡ boxes_len before
+    → cleared (Freed (row_of (record { at = at; box = b }))) (flat_map box_bytes (before ++ b ∷ after)) ≡ flat_map box_bytes (before ++ freed b ∷ after)
+freed_left before b after at is from =
+    ap (cleared (Freed (row_of (record { at = at; box = b })))) (around before b after)
+    ∙ freed_file (flat_map box_bytes before) b (flat_map box_bytes after) (row_of (record { at = at; box = b })) is from refl refl
+    ∙ sym (around before (freed b) after)
+
+-- either way the boxes of the base are left
+left_is : (before : List Box) (b : Box) (after : List Box) (range : Range) → IsBox b → range.start ≡ boxes_len before → range.length ≡ box_len b
+    → cleared (cond (is_file_end after) (Cut range) (Freed (row_of (record { at = range.start; box = b })))) (flat_map box_bytes (before ++ b ∷ after)) ≡ flat_map box_bytes (base_roots before b after)
+left_is before b after range is from for = go (is_file_end after)
+  where
+    go : (t : Bool) → cleared (cond t (Cut range) (Freed (row_of (record { at = range.start; box = b })))) (flat_map box_bytes (before ++ b ∷ after)) ≡ flat_map box_bytes (cond t (before ++ after) (before ++ freed b ∷ after))
+    go true = cut_left before b after range is from for
+    go false = freed_left before b after range.start is from
+
+-- ---- the base
+
+-- a file with a store is cleared to its base
+pub clears_store : (file : List ℕ) (rows : List RootBox) (range : Range) (store : List ℕ) → AreRootsOf file rows → HasBmffStore file range.start range.length store → ClearsTo file (clearing_in range rows)
+clears_store file rows range store r h =
+    let roots : List Box = h.roots in
+    let once : r.boxes ≡ roots = roots_once file r.boxes roots r.has_roots h.has_roots in
+    let s = h.holds in
+    let all : AllByRecursion IsBox (s.before ++ s.holder ∷ s.after) = subst (AllByRecursion IsBox) s.split (form_boxes roots h.has_roots.forms) in
+    let is : IsBox s.holder = (all_back IsBox s.before (s.holder ∷ s.after) all).0 in
+    let split : rows ≡ rows_of (s.before ++ s.holder ∷ s.after) = r.are ∙ ap rows_of (once ∙ s.split) in
+    let how : clearing_in range rows ≡ cond (is_file_end s.after) (Cut range) (Freed (row_of (record { at = range.start; box = s.holder }))) =
+    ap (clearing_in range) split ∙ clearing_at 0 s.before s.holder s.after range (all_front IsBox s.before (s.holder ∷ s.after) all) (omega (arith, s.from)) in
+    let bytes : file ≡ flat_map box_bytes (s.before ++ s.holder ∷ s.after) = h.has_roots.bytes ∙ ap (flat_map box_bytes) s.split in (
+      base_roots s.before s.holder s.after,
+      record {
+        boxes = roots;
+        has_roots = h.has_roots;
+        are = without range.start range.length store s refl;
+        bytes = ap₂ (λ (c : Clearing) (f : List ℕ). cleared c f) how bytes ∙ left_is s.before s.holder s.after range is s.from s.for;
+      },
+    )
