@@ -15,14 +15,20 @@ from collections import Counter
 
 TOP = os.path.join(os.path.dirname(os.path.abspath(__file__)), "..")
 OPEN = {
-    "c2_spec", "c2_rules", "c2_calls_spec", "c2_chain_older_spec", "c2_chain_spec", "c2_bmff_insert_spec", "c2_bmff_rows", "c2_bmff_chunks", "c2_compare_spec", "c2_new_store_spec", "c2_parent_spec", "c2_new_content_spec",
-    "c2_new_over_spec", "c2_new_bmff_spec", "c2_new_file_spec", "c2_new_front_spec", "c2_new_lengths_spec", "c2_collect_spec", "c2_cmd_written_spec",
+    "c2_spec", "c2_cbor_spec", "c2_rules", "c2_calls_spec", "c2_chain_older_spec", "c2_chain_spec", "c2_bmff_insert_spec", "c2_bmff_rows",
+    "c2_bmff_chunks", "c2_compare_spec", "c2_new_store_spec", "c2_parent_spec", "c2_new_content_spec", "c2_new_over_spec", "c2_new_bmff_spec",
+    "c2_new_file_spec", "c2_new_front_spec", "c2_new_lengths_spec", "c2_collect_spec", "c2_cmd_written_spec",
 }
-# the laws of a crate of code: what calls leave of a sink, what the errors of two calls come from, what the errors, stages and inputs of a
-# build say, what was found of a file and of its store's check, the manifests of a store by their places, what is carried of it, how long a new store is, what the numbers of a new file and the errors of its writing say, what the errors of what is drafted come from, and what is replied
+# the laws of a crate of code: what calls leave of a sink, what a walk over the segments of a JPEG knows, what the errors of two calls come from, what
+# the errors, stages and inputs of a build say, what was found of a file and of its store's check, the manifests of a store by their places, what is
+# carried of it, how long a new store is, what the numbers of a new file and the errors of its writing say, what the errors of what is drafted come
+# from, what is replied, what one append after another comes to, and what rows that fill a part of a source say
 LAWS = {
-    "c2_base": {"Growing"}, "c2_compare_evidence": {"Leaving"}, "c2_build_refusals": {"Doing", "FirstRefusal", "Inputs", "Judged", "Media", "Outside", "Passing", "Stages"},
-    "c2_build_parts": {"NewParts"}, "c2_collect": {"Manifests"}, "c2_parent": {"CarriedLemmas", "Walking"}, "c2_build_base": {"Checks", "Grounds", "Opened"}, "c2_build_in_place": {"Endings", "Stored"}, "c2_build_drafts": {"Causes"}, "c2_cmd_outcome": {"Replying"},
+    "c2_base": {"Growing"}, "c2_jpegseg_segments": {"Fronts", "Kept", "NumberMarks", "Outside", "SegmentLists", "Starts", "Steps", "WindowLemmas"},
+    "c2_compare_evidence": {"Leaving"}, "c2_build_refusals": {"Doing", "FirstRefusal", "Inputs", "Judged", "Media", "Outside", "Passing", "Stages"},
+    "c2_build_parts": {"NewParts"}, "c2_collect": {"Manifests"}, "c2_parent": {"CarriedLemmas", "Walking"}, "c2_build_base": {"Checks", "Grounds",
+    "Opened"}, "c2_build_in_place": {"Endings", "Stored"}, "c2_build_drafts": {"Causes"}, "c2_cmd_outcome": {"Replying"}, "c2_copying": {"Appending"},
+    "c2_bmff_boxes": {"Filling"},
 }
 CITES = re.compile(r"\bRattle\.(c2_\w+)\.proofs\.(\w+)")
 

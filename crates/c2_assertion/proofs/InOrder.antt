@@ -63,7 +63,10 @@ exclusion_fields_in_order path (Some n) [] (Some s) = ap (λ v. dict (pairs_of (
 exclusion_fields_in_order path None (t ∷ ts) None = ap (λ d. dict (pairs_of (field (codes "data") (list d) ∷ field (codes "xpath") (text (steps_text path)) ∷ []))) (each_in_order test_item test_in_order (t ∷ ts))
 exclusion_fields_in_order path (Some n) (t ∷ ts) None = ap (λ d. dict (pairs_of (field (codes "data") (list d) ∷ field (codes "xpath") (text (steps_text path)) ∷ field (codes "length") (uint n) ∷ []))) (each_in_order test_item test_in_order (t ∷ ts))
 exclusion_fields_in_order path None (t ∷ ts) (Some s) = ap₂ (λ d v. dict (pairs_of (field (codes "data") (list d) ∷ field (codes "xpath") (text (steps_text path)) ∷ field (codes "subset") (list v) ∷ []))) (each_in_order test_item test_in_order (t ∷ ts)) (each_in_order part_item part_in_order s)
-exclusion_fields_in_order path (Some n) (t ∷ ts) (Some s) = ap₂ (λ d v. dict (pairs_of (field (codes "data") (list d) ∷ field (codes "xpath") (text (steps_text path)) ∷ field (codes "length") (uint n) ∷ field (codes "subset") (list v) ∷ []))) (each_in_order test_item test_in_order (t ∷ ts)) (each_in_order part_item part_in_order s)
+exclusion_fields_in_order path (Some n) (t ∷ ts) (Some s) =
+    ap₂ (λ d v. dict (pairs_of (field (codes "data") (list d) ∷ field (codes "xpath") (text (steps_text path))
+    ∷ field (codes "length") (uint n) ∷ field (codes "subset") (list v) ∷ [])))
+    (each_in_order test_item test_in_order (t ∷ ts)) (each_in_order part_item part_in_order s)
 
 -- an exclusion
 exclusion_in_order : (e : Exclusion) → sorted (exclusion_item e) ≡ exclusion_item e

@@ -18,7 +18,12 @@ by_tests merkle map exclusions alg hash many other enters =
     cond (many exclusions) (Err (TooMany (length exclusions))) (cond other (Err Test) (cond (enters exclusions) (Err Path) (Ok (record { exclusions = exclusions; alg = alg; hash = hash })))))))))
 
 -- all tests before the last pass
-pub path_fault : (v : Item) (exclusions : List Exclusion) (alg : Option (List ℕ)) (hash : List ℕ) → is_some (field_of (codes "merkle") v) ≡ false → is_map v ≡ true → list_of exclusion_of (field_of (codes "exclusions") v) ≡ Some exclusions → optional_text (field_of (codes "alg") v) ≡ Some alg → bytes_of (field_of (codes "hash") v) ≡ Some hash → ltb most_exclusions (length exclusions) ≡ false → any_of has_other_test (field_of (codes "exclusions") v) ≡ false → list_any (λ (e : Exclusion). enters_other e.path) exclusions ≡ true → bmff_hash_of v ≡ Err Path
+pub path_fault : (v : Item) (exclusions : List Exclusion) (alg : Option (List ℕ)) (hash : List ℕ)
+    → is_some (field_of (codes "merkle") v) ≡ false → is_map v ≡ true
+    → list_of exclusion_of (field_of (codes "exclusions") v) ≡ Some exclusions
+    → optional_text (field_of (codes "alg") v) ≡ Some alg → bytes_of (field_of (codes "hash") v) ≡ Some hash
+    → ltb most_exclusions (length exclusions) ≡ false → any_of has_other_test (field_of (codes "exclusions") v) ≡ false
+    → list_any (λ (e : Exclusion). enters_other e.path) exclusions ≡ true → bmff_hash_of v ≡ Err Path
 path_fault v exclusions alg hash merkle map are alg_is hash_is few other enters =
     let many : List Exclusion → Bool = λ es. ltb most_exclusions (length es) in
     let wrong : List Exclusion → Bool = list_any (λ (e : Exclusion). enters_other e.path) in

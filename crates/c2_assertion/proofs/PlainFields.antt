@@ -86,9 +86,15 @@ exclusion_fields_plain path None [] (Some s) = fields_plain ((codes "xpath", tex
 exclusion_fields_plain path (Some n) [] None = fields_plain ((codes "xpath", text (steps_text path)) ∷ (codes "length", uint n) ∷ []) refl (tt, (tt, tt))
 exclusion_fields_plain path (Some n) [] (Some s) = fields_plain ((codes "xpath", text (steps_text path)) ∷ (codes "length", uint n) ∷ (codes "subset", list (items_of (map part_item s))) ∷ []) refl (tt, (tt, (each_plain part_item part_plain s, tt)))
 exclusion_fields_plain path None (t ∷ ts) None = fields_plain ((codes "data", list (items_of (map test_item (t ∷ ts)))) ∷ (codes "xpath", text (steps_text path)) ∷ []) refl (each_plain test_item test_plain (t ∷ ts), (tt, tt))
-exclusion_fields_plain path None (t ∷ ts) (Some s) = fields_plain ((codes "data", list (items_of (map test_item (t ∷ ts)))) ∷ (codes "xpath", text (steps_text path)) ∷ (codes "subset", list (items_of (map part_item s))) ∷ []) refl (each_plain test_item test_plain (t ∷ ts), (tt, (each_plain part_item part_plain s, tt)))
+exclusion_fields_plain path None (t ∷ ts) (Some s) = fields_plain
+    ((codes "data", list (items_of (map test_item (t ∷ ts)))) ∷ (codes "xpath", text (steps_text path))
+    ∷ (codes "subset", list (items_of (map part_item s))) ∷ []) refl
+    (each_plain test_item test_plain (t ∷ ts), (tt, (each_plain part_item part_plain s, tt)))
 exclusion_fields_plain path (Some n) (t ∷ ts) None = fields_plain ((codes "data", list (items_of (map test_item (t ∷ ts)))) ∷ (codes "xpath", text (steps_text path)) ∷ (codes "length", uint n) ∷ []) refl (each_plain test_item test_plain (t ∷ ts), (tt, (tt, tt)))
-exclusion_fields_plain path (Some n) (t ∷ ts) (Some s) = fields_plain ((codes "data", list (items_of (map test_item (t ∷ ts)))) ∷ (codes "xpath", text (steps_text path)) ∷ (codes "length", uint n) ∷ (codes "subset", list (items_of (map part_item s))) ∷ []) refl (each_plain test_item test_plain (t ∷ ts), (tt, (tt, (each_plain part_item part_plain s, tt))))
+exclusion_fields_plain path (Some n) (t ∷ ts) (Some s) =
+    fields_plain ((codes "data", list (items_of (map test_item (t ∷ ts)))) ∷ (codes "xpath", text (steps_text path))
+    ∷ (codes "length", uint n) ∷ (codes "subset", list (items_of (map part_item s))) ∷ []) refl
+    (each_plain test_item test_plain (t ∷ ts), (tt, (tt, (each_plain part_item part_plain s, tt))))
 
 -- an exclusion
 exclusion_plain : (e : Exclusion) → HasPlainKeys (exclusion_item e)

@@ -11,8 +11,8 @@ ghost use Rattle.c2_bmff_paths.specs.Exclusions.{byte_test};
 use c2_base::limits::MAX_EXCLUSIONS;
 use c2_base::{Blob, NoMemory, Range, Ranges, Text};
 use c2_bmff_paths::{ByteTests, Exclusion, Exclusions, Path, read_path};
-use c2_cbor::{Cbor, field};
-use c2_spec::FieldError;
+use c2_cbor_fields::field;
+use c2_spec::{Cbor, FieldError};
 use std::alloc::Global;
 use std::marker::Model;
 

@@ -10,7 +10,7 @@ use crate::bmff_hash::BmffHash;
 use crate::fields_written::{add_alg, add_field, byte_string};
 use c2_base::{Blob, NoMemory, Range, Ranges, Text};
 use c2_bmff_paths::{ByteTests, Exclusion};
-use c2_cbor::Cbor;
+use c2_spec::Cbor;
 use std::alloc::Global;
 
 // The item of a byte test.

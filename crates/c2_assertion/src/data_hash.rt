@@ -7,8 +7,8 @@ ghost use Rattle.c2_spec.specs.C2pa.Assertion.{range_of, data_hash_of};
 
 use c2_base::limits::MAX_EXCLUSIONS;
 use c2_base::{NoMemory, Range, Ranges};
-use c2_cbor::{Cbor, field};
-use c2_spec::{DataHash, FieldError};
+use c2_cbor_fields::field;
+use c2_spec::{Cbor, DataHash, FieldError};
 use std::alloc::Global;
 
 // The range that an item is.

@@ -7,8 +7,7 @@ ghost use Rattle.c2_assertion.specs.Written.{data_hash_item, pad_len, range_item
 
 use crate::fields_written::{add_alg, add_field, byte_string};
 use c2_base::{Blob, NoMemory, Range};
-use c2_cbor::Cbor;
-use c2_spec::DataHash;
+use c2_spec::{Cbor, DataHash};
 use std::alloc::Global;
 
 // What the two numbers of a range are written in at most.

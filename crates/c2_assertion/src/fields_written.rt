@@ -5,7 +5,7 @@ ghost use Rattle.c2_spec.specs.Cbor.View.{view};
 ghost use Rattle.c2_spec.specs.Cbor.Writing.{field, field_if, pair_view};
 
 use c2_base::{Blob, NoMemory, Text};
-use c2_cbor::Cbor;
+use c2_spec::Cbor;
 use std::alloc::Global;
 
 // Adds a field of this name.

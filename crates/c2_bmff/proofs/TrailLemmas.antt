@@ -96,7 +96,10 @@ abbrev pub after : Trail → Coming → Trail
 after t c = record { entry = t.entry; taken = t.taken; step = t.step; coming = c }
 
 -- a sibling of the type that is meant, and one that isn't
-pub pass_own : (file : List ℕ) (es : List SharedPath) (i : ℕ) (r : RootBox) (rows : List RootBox) (t : Trail) (m : Bool) (c : Coming) → bytes_eq r.kind t.step.kind ≡ true → ((x : RootBox) (xs : List RootBox) → picks t.coming (x ∷ xs) ≡ cond m (x ∷ []) [] ++ picks c xs) → ahead file es i (r ∷ rows) t ≡ (cond m (arrives file es i r t) false || ahead file es i rows (after t c))
+pub pass_own : (file : List ℕ) (es : List SharedPath) (i : ℕ) (r : RootBox) (rows : List RootBox) (t : Trail)
+    (m : Bool) (c : Coming) → bytes_eq r.kind t.step.kind ≡ true
+    → ((x : RootBox) (xs : List RootBox) → picks t.coming (x ∷ xs) ≡ cond m (x ∷ []) [] ++ picks c xs)
+    → ahead file es i (r ∷ rows) t ≡ (cond m (arrives file es i r t) false || ahead file es i rows (after t c))
 pass_own file es i r rows t m c own next =
     ap (λ (b : Bool). of_entry es t.entry (λ (e : SharedPath). list_any (marks_any file e i) (go_on file t.step (drop t.taken e.path) (picks t.coming (cond b (r ∷ of_kind t.step.kind rows) (of_kind t.step.kind rows)))))) own
     ∙ of_same es t.entry (λ (e : SharedPath). list_any (marks_any file e i) (go_on file t.step (drop t.taken e.path) (picks t.coming (r ∷ of_kind t.step.kind rows))))
@@ -146,7 +149,11 @@ arrive_stops file es i r t more other =
 -- ---- a step that begins
 
 -- a trail before its first sibling has what the path has from its step on
-pub trail_is : (file : List ℕ) (es : List SharedPath) (i : ℕ) (rows : List RootBox) (k taken : ℕ) (e : SharedPath) (s : PathStep) (c : Coming) → slice_get es k ≡ Some e → slice_get e.path taken ≡ Some s → ((xs : List RootBox) → picks c xs ≡ nth_of s.nth xs) → ahead file es i rows (record { entry = k; taken = taken + 1; step = s; coming = c }) ≡ from_step file es i rows k taken
+pub trail_is : (file : List ℕ) (es : List SharedPath) (i : ℕ) (rows : List RootBox) (k taken : ℕ)
+    (e : SharedPath) (s : PathStep) (c : Coming) → slice_get es k ≡ Some e → slice_get e.path taken ≡ Some s
+    → ((xs : List RootBox) → picks c xs ≡ nth_of s.nth xs)
+    → ahead file es i rows (record { entry = k; taken = taken + 1; step = s; coming = c })
+    ≡ from_step file es i rows k taken
 trail_is file es i rows k taken e s c there at meant =
     of_there es k e (λ (x : SharedPath). list_any (marks_any file x i) (go_on file s (drop (taken + 1) x.path) (picks c (of_kind s.kind rows)))) there
     ∙ ap (λ (xs : List RootBox). list_any (marks_any file e i) (go_on file s (drop (taken + 1) e.path) xs)) (meant (of_kind s.kind rows))

@@ -52,6 +52,13 @@ pub struct Level {
     trails: Vec<Trail>,
 }
 
+// What a walk has in hand: room for the first bytes of a box, and the ranges of the positions that are excluded so far.
+#[derive(Drop)]
+pub struct Marking {
+    bytes: Vec<u8>,
+    ranges: Vec<Range>,
+}
+
 // How many ranges are joined for the first time, of boxes inside one another as well.
 const JOINED_FROM: usize = 65_536;
 
@@ -211,41 +218,17 @@ fn mark_asks<S: Source>(
     Ok(count)
 }
 
-// The same of the exclusions of this index.
-fn mark_entry<S: Source>(
-    source: &mut S,
-    entries: &[Entry<'_>],
-    k: usize,
-    row: RootBox,
-    bytes: &mut [u8],
-    filled: usize,
-    ranges: &mut Vec<Range>,
-) -> Result<usize, MediaError>
-    requires inside { IsRowWithin (S.len source.old) row }
-    requires few { filled ≤ length bytes.old }
-    requires front { ForSome (S.known source.old)
-        (λ file. IsFront file row (take filled bytes.old)) }
-    requires within { All (IsRangeWithin (S.len source.old)) ranges.old.items }
-    ensures few { IfOk result (λ n. n ≤ length bytes.new) }
-    ensures front { IfOk result (λ n. ForSome (S.known source.old)
-        (λ file. IsFront file row (take n bytes.new))) }
-    ensures same { OnOk result (ForSome (S.known source.old) (λ file.
-        (i : ℕ) → is_excluded ranges.new.items i
-        ≡ (is_excluded ranges.old.items i || through file entries.now i row k))) }
-    ensures within { OnOk result (All (IsRangeWithin (S.len source.old)) ranges.new.items) }
-    ensures stays { StaysSource S.len S.known S.faults source.old source.new }
-    ensures count { OnOk result (S.faults source.new ≡ S.faults source.old) }
-    ensures cause { IfErr result (IsCaused (S.faults source.old) (S.faults source.new)) }
-    ensures outside { IfErr result (λ e. OrOutside e ⊥) }
+// The exclusions of the path of this index; none where there is no such path.
+fn asks_at<'a>(entries: &'a [Entry<'_>], k: usize) -> &'a [Ask]
+    ensures { (file : List ℕ) (i : ℕ) (row : RootBox)
+        → list_any (λ (e : AnyExclusion). marks file e i row) result.now
+        ≡ through file entries.now i row k }
 {
     if k >= entries.len() {
-        return Ok(filled);
+        return &[];
     }
     let entry = &entries[k];
-    match mark_asks(source, entry.asks.as_slice(), row, bytes, filled, ranges) {
-        Ok(count) => Ok(count),
-        Err(error) => Err(error),
-    }
+    entry.asks.as_slice()
 }
 
 // Adds the positions that these exclusions exclude through the box of this row. Byte tests read its first bytes once, into `bytes`.
@@ -270,7 +253,8 @@ fn mark_each<S: Source>(
 {
     let mut count = 0;
     for k in here {
-        match mark_entry(source, entries, *k, row, bytes, count, ranges) {
+        let asks = asks_at(entries, *k);
+        match mark_asks(source, asks, row, bytes, count, ranges) {
             Ok(filled) => count = filled,
             Err(error) => return Err(error),
         }
@@ -285,29 +269,29 @@ fn mark_here<S: Source>(
     entries: &[Entry<'_>],
     here: &[usize],
     row: RootBox,
-    bytes: &mut [u8],
-    ranges: &mut Vec<Range>,
+    marking: &mut Marking,
 ) -> Result<(), MediaError>
     requires inside { IsRowWithin (S.len source.old) row }
-    requires within { All (IsRangeWithin (S.len source.old)) ranges.old.items }
+    requires within { All (IsRangeWithin (S.len source.old)) marking.old.ranges.items }
     ensures same { OnOk result (ForSome (S.known source.old) (λ file.
-        (i : ℕ) → is_excluded ranges.new.items i
-        ≡ (is_excluded ranges.old.items i || list_any (through file entries.now i row) here.now))) }
-    ensures within { OnOk result (All (IsRangeWithin (S.len source.old)) ranges.new.items) }
+        (i : ℕ) → is_excluded marking.new.ranges.items i
+        ≡ (is_excluded marking.old.ranges.items i
+        || list_any (through file entries.now i row) here.now))) }
+    ensures within { OnOk result (All (IsRangeWithin (S.len source.old)) marking.new.ranges.items) }
     ensures stays { StaysSource S.len S.known S.faults source.old source.new }
     ensures count { OnOk result (S.faults source.new ≡ S.faults source.old) }
     ensures cause { IfErr result (IsCaused (S.faults source.old) (S.faults source.new)) }
     ensures outside { IfErr result (λ e. OrOutside e ⊥) }
 {
-    if is_whole(ranges, row) {
+    if is_whole(&marking.ranges, row) {
         return Ok(());
     }
     let mut own = Vec::new(alloc);
-    match mark_each(source, entries, here, row, bytes, &mut own) {
+    match mark_each(source, entries, here, row, &mut marking.bytes, &mut own) {
         Ok(()) => {}
         Err(error) => return Err(error),
     }
-    add_sorted(ranges, &mut own)?;
+    add_sorted(&mut marking.ranges, &mut own)?;
     Ok(())
 }
 
@@ -317,20 +301,19 @@ fn visit<S: Source>(
     source: &mut S,
     entries: &[Entry<'_>],
     row: RootBox,
-    bytes: &mut [u8],
     trails: &mut [Trail],
-    ranges: &mut Vec<Range>,
+    marking: &mut Marking,
 ) -> Result<Vec<Trail>, MediaError>
     requires inside { IsRowWithin (S.len source.old) row }
-    requires within { All (IsRangeWithin (S.len source.old)) ranges.old.items }
+    requires within { All (IsRangeWithin (S.len source.old)) marking.old.ranges.items }
     ensures same { IfOk result (λ below. ForSome (S.known source.old) (λ file.
         (i : ℕ) (rows : List RootBox)
-        → ((is_excluded ranges.new.items i
+        → ((is_excluded marking.new.ranges.items i
         || list_any (ahead file entries.now i (kids file row)) below.items)
         || list_any (ahead file entries.now i rows) trails.new)
-        ≡ (is_excluded ranges.old.items i
+        ≡ (is_excluded marking.old.ranges.items i
         || list_any (ahead file entries.now i (row ∷ rows)) trails.old))) }
-    ensures within { OnOk result (All (IsRangeWithin (S.len source.old)) ranges.new.items) }
+    ensures within { OnOk result (All (IsRangeWithin (S.len source.old)) marking.new.ranges.items) }
     ensures stays { StaysSource S.len S.known S.faults source.old source.new }
     ensures count { OnOk result (S.faults source.new ≡ S.faults source.old) }
     ensures cause { IfErr result (IsCaused (S.faults source.old) (S.faults source.new)) }
@@ -339,7 +322,7 @@ fn visit<S: Source>(
     let mut here = Vec::new(alloc);
     let mut below = Vec::new(alloc);
     pass_all(entries, row, trails, &mut here, &mut below)?;
-    match mark_here(alloc, source, entries, &here, row, bytes, ranges) {
+    match mark_here(alloc, source, entries, &here, row, marking) {
         Ok(()) => Ok(below),
         Err(error) => Err(error),
     }
@@ -431,24 +414,23 @@ fn turn<S: Source>(
     alloc: Global,
     source: &mut S,
     entries: &[Entry<'_>],
-    bytes: &mut [u8],
     level: Level,
     levels: &mut Vec<Level>,
-    ranges: &mut Vec<Range>,
+    marking: &mut Marking,
 ) -> Result<(), MediaError>
     requires inside { IsLevelWithin (S.len source.old) level }
     requires levels { All (IsLevelWithin (S.len source.old)) levels.old.items }
-    requires within { All (IsRangeWithin (S.len source.old)) ranges.old.items }
+    requires within { All (IsRangeWithin (S.len source.old)) marking.old.ranges.items }
     ensures same { OnOk result (ForSome (S.known source.old) (λ file. (i : ℕ)
-        → (is_excluded ranges.new.items i
+        → (is_excluded marking.new.ranges.items i
         || list_any (level_ahead file entries.now i) levels.new.items)
-        ≡ (is_excluded ranges.old.items i
+        ≡ (is_excluded marking.old.ranges.items i
         || (list_any (level_ahead file entries.now i) levels.old.items
         || level_ahead file entries.now i level)))) }
     ensures levels { OnOk result (All (IsLevelWithin (S.len source.old)) levels.new.items) }
     ensures left { OnOk result
         (levels_left levels.new.items < levels_left levels.old.items + level_left level) }
-    ensures within { OnOk result (All (IsRangeWithin (S.len source.old)) ranges.new.items) }
+    ensures within { OnOk result (All (IsRangeWithin (S.len source.old)) marking.new.ranges.items) }
     ensures stays { StaysSource S.len S.known S.faults source.old source.new }
     ensures count { OnOk result (S.faults source.new ≡ S.faults source.old) }
     ensures cause { IfErr result (IsCaused (S.faults source.old) (S.faults source.new)) }
@@ -460,7 +442,7 @@ fn turn<S: Source>(
     }
     let row = level.rows[next];
     let mut trails = level.trails;
-    let below = match visit(alloc, source, entries, row, bytes, &mut trails, ranges) {
+    let below = match visit(alloc, source, entries, row, &mut trails, marking) {
         Ok(below) => below,
         Err(error) => return Err(error),
     };
@@ -476,16 +458,15 @@ fn walk<S: Source>(
     alloc: Global,
     source: &mut S,
     entries: &[Entry<'_>],
-    bytes: &mut [u8],
     levels: &mut Vec<Level>,
-    ranges: &mut Vec<Range>,
+    marking: &mut Marking,
 ) -> Result<(), MediaError>
     requires levels { All (IsLevelWithin (S.len source.old)) levels.old.items }
-    requires within { All (IsRangeWithin (S.len source.old)) ranges.old.items }
+    requires within { All (IsRangeWithin (S.len source.old)) marking.old.ranges.items }
     ensures same { OnOk result (ForSome (S.known source.old) (λ file. (i : ℕ)
-        → is_excluded ranges.new.items i ≡ (is_excluded ranges.old.items i
+        → is_excluded marking.new.ranges.items i ≡ (is_excluded marking.old.ranges.items i
         || list_any (level_ahead file entries.now i) levels.old.items))) }
-    ensures within { OnOk result (All (IsRangeWithin (S.len source.old)) ranges.new.items) }
+    ensures within { OnOk result (All (IsRangeWithin (S.len source.old)) marking.new.ranges.items) }
     ensures stays { StaysSource S.len S.known S.faults source.old source.new }
     ensures count { OnOk result (S.faults source.new ≡ S.faults source.old) }
     ensures cause { IfErr result (IsCaused (S.faults source.old) (S.faults source.new)) }
@@ -493,11 +474,11 @@ fn walk<S: Source>(
 {
     let mut full = JOINED_FROM;
     'boxes: while let Some(level) = levels.pop() {
-        match turn(alloc, source, entries, bytes, level, levels, ranges) {
+        match turn(alloc, source, entries, level, levels, marking) {
             Ok(()) => {}
             Err(error) => return Err(error),
         }
-        full = join_full(alloc, ranges, full)?;
+        full = join_full(alloc, &mut marking.ranges, full)?;
     }
     Ok(())
 }
@@ -519,16 +500,17 @@ pub(crate) fn mark_all<S: Source>(
     ensures cause { IfErr result (IsCaused (S.faults source.old) (S.faults source.new)) }
     ensures outside { IfErr result (λ e. OrOutside e ⊥) }
 {
-    let mut ranges = Vec::new(alloc);
+    let ranges = Vec::new(alloc);
     let mut levels = Vec::new(alloc);
     let entries = entries_of(alloc, entries)?;
     let entries = entries.as_slice();
     let trails = first_trails(alloc, entries)?;
     let rows = copied(alloc, siblings)?;
     add_level(&mut levels, rows, 0, trails)?;
-    let mut bytes = room_for(alloc, entries)?;
-    match walk(alloc, source, entries, &mut bytes, &mut levels, &mut ranges) {
-        Ok(()) => Ok(ranges),
+    let bytes = room_for(alloc, entries)?;
+    let mut marking = Marking { bytes, ranges };
+    match walk(alloc, source, entries, &mut levels, &mut marking) {
+        Ok(()) => Ok(marking.ranges),
         Err(error) => Err(error),
     }
 }

@@ -9,9 +9,10 @@ ghost use Rattle.c2_spec.specs.Cbor.View.{view};
 use c2_assertion::{BmffHash, write_bmff_hash};
 use c2_base::{Blob, NoMemory, Text};
 use c2_bmff_binding_exclusions::new_exclusions;
-use c2_cbor::{Cbor, EncodeError, encode};
+use c2_cbor_write::encode;
 use c2_definition::{NewAssertion, Payload};
 use c2_hash::{Alg, alg_name};
+use c2_spec::{Cbor, EncodeError};
 use std::alloc::Global;
 
 // The bytes of a legal item.

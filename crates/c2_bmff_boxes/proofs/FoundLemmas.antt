@@ -31,8 +31,16 @@ c2pa_not : (b : Box) → bytes_eq b.kind uuid_kind ≡ false → is_c2pa_box b �
 unfolding is_c2pa_box
 c2pa_not b e = ap (λ t. t && bytes_eq (take 16 b.payload) c2pa_user_type) e
 
--- the fault of a `uuid` box, by its tests
-fault_by : (before : List Box) (b : Box) → bytes_eq b.kind uuid_kind ≡ true → provenance_fault before b ≡ faults (bytes_eq (take 16 b.payload) c2pa_user_type) (is_version_zero (content_of b)) (is_for_manifest (content_of b)) (list_any is_store_box before) (has_store_box (content_of b)) (ltb most_store_bytes (store_len (content_of b))) (store_len (content_of b)) (boxes_len before)
+-- the fault of a `uuid` box at a place, where a store was found before or not, by its tests
+abbrev tests_of : Box → Bool → ℕ → Option MediaError
+tests_of b found start =
+    let content : List ℕ = content_of b in
+    faults (bytes_eq (take 16 b.payload) c2pa_user_type) (is_version_zero content) (is_for_manifest content) found
+    (has_store_box content) (ltb most_store_bytes (store_len content)) (store_len content) start
+
+-- so it is behind these boxes
+fault_by : (before : List Box) (b : Box) → bytes_eq b.kind uuid_kind ≡ true
+    → provenance_fault before b ≡ tests_of b (list_any is_store_box before) (boxes_len before)
 unfolding c2pa_fault
 fault_by before b e = ap (λ t. cond t (c2pa_fault (list_any is_store_box before) (boxes_len before) (content_of b)) None) (c2pa_by b e)
 
@@ -172,7 +180,10 @@ searched_uuid boxes b r old new h e start len step = go (payload_part (is_some o
     go (part.TooLarge k) t s = absurd s
 
 -- a `uuid` box that fails is the first fault of the file
-pub searched_fails : (file : List ℕ) (roots before after : List Box) (b : Box) (r : RootBox) (found : Option Found) (e : MediaError) → HasRoots file roots → roots ≡ before ++ b ∷ after → Searched before found → bytes_eq b.kind uuid_kind ≡ true → r.start ≡ boxes_len before → FailsBy (payload_part (is_some found) b.payload) r e → ProvenanceFault file e
+pub searched_fails : (file : List ℕ) (roots before after : List Box) (b : Box) (r : RootBox) (found : Option Found)
+    (e : MediaError) → HasRoots file roots → roots ≡ before ++ b ∷ after → Searched before found
+    → bytes_eq b.kind uuid_kind ≡ true → r.start ≡ boxes_len before
+    → FailsBy (payload_part (is_some found) b.payload) r e → ProvenanceFault file e
 searched_fails file roots before after b r found e has split h kind start fails = record {
   roots = roots;
   has_roots = has;
@@ -182,9 +193,12 @@ searched_fails file roots before after b r found e has split h kind start fails 
   split = split;
   passing = h.passing;
   fails =
-      fault_by before b kind
-      ∙ ap₂ (λ (t : Bool) (p : ℕ). faults (bytes_eq (take 16 b.payload) c2pa_user_type) (is_version_zero (content_of b)) (is_for_manifest (content_of b)) t (has_store_box (content_of b)) (ltb most_store_bytes (store_len (content_of b))) (store_len (content_of b)) p) (any_is before found h.finds) (sym start)
-      ∙ fails_by (bytes_eq (take 16 b.payload) c2pa_user_type) (is_version_zero (content_of b)) (is_for_manifest (content_of b)) (is_some found) (has_store_box (content_of b)) (ltb most_store_bytes (store_len (content_of b))) (store_len (content_of b)) r (payload_part (is_some found) b.payload) e (sym (part_by (is_some found) b.payload)) fails;
+      let content : List ℕ = content_of b in
+      let old : Bool = is_some found in
+      fault_by before b kind ∙ ap₂ (tests_of b) (any_is before found h.finds) (sym start)
+      ∙ fails_by (bytes_eq (take 16 b.payload) c2pa_user_type) (is_version_zero content) (is_for_manifest content) old
+      (has_store_box content) (ltb most_store_bytes (store_len content)) (store_len content) r
+      (payload_part old b.payload) e (sym (part_by old b.payload)) fails;
 }
 
 -- nothing is found before the first box

@@ -125,18 +125,37 @@ most_header : (t : Bool) → cond t 16 8 ≤ 16
 most_header true = omega arith
 most_header false = omega arith
 
+-- a size of four bytes can't be
+abbrev few_sized : List ℕ → Bool
+few_sized bytes = leb 2 (stated_size bytes) && ltb (stated_size bytes) 8
+
+-- nor can one of eight
+abbrev few_wide : List ℕ → Bool
+few_wide bytes = (stated_size bytes == 1) && ltb (stated_long_size bytes) 16
+
+-- a `uuid` box has no room for its user type
+abbrev few_uuid : ℕ → List ℕ → Bool
+few_uuid left bytes =
+    bytes_eq (stated_kind bytes) uuid_kind && ltb (header_total left bytes) (stated_header_len bytes + 16)
+
 -- the five tests of the header alone, over the first 16 of the bytes that are left
-head_by : (left : ℕ) (bytes : List ℕ) → length bytes ≡ min 16 left → head_fault left bytes ≡ five (ltb left 8) (ltb left (stated_header_len bytes)) (leb 2 (stated_size bytes) && ltb (stated_size bytes) 8) ((stated_size bytes == 1) && ltb (stated_long_size bytes) 16) (ltb left (header_total left bytes))
+head_by : (left : ℕ) (bytes : List ℕ) → length bytes ≡ min 16 left
+    → head_fault left bytes
+    ≡ five (ltb left 8) (ltb left (stated_header_len bytes)) (few_sized bytes) (few_wide bytes)
+    (ltb left (header_total left bytes))
 unfolding head_fault five
 head_by left bytes first =
-    ap₂ (λ (a b : Bool). five a b (leb 2 (stated_size bytes) && ltb (stated_size bytes) 8) ((stated_size bytes == 1) && ltb (stated_long_size bytes) 16) (ltb left (header_total left bytes)))
-    (few_same (length bytes) left 8 first (omega arith)) (few_same (length bytes) left (stated_header_len bytes) first (most_header (stated_size bytes == 1)))
+    ap₂ (λ (a b : Bool). five a b (few_sized bytes) (few_wide bytes) (ltb left (header_total left bytes)))
+    (few_same (length bytes) left 8 first (omega arith))
+    (few_same (length bytes) left (stated_header_len bytes) first (most_header (stated_size bytes == 1)))
 
 -- a header that fails is a box that fails
-pub box_of_bad : (left : ℕ) (bytes : List ℕ) (e : HeadError) → length bytes ≡ min 16 left → head_fault left bytes ≡ Some e → header_fault left bytes ≡ Some e
+pub box_of_bad : (left : ℕ) (bytes : List ℕ) (e : HeadError) → length bytes ≡ min 16 left
+    → head_fault left bytes ≡ Some e → header_fault left bytes ≡ Some e
 box_of_bad left bytes e first fails =
     header_by left bytes
-    ∙ five_some (ltb left 8) (ltb left (stated_header_len bytes)) (leb 2 (stated_size bytes) && ltb (stated_size bytes) 8) ((stated_size bytes == 1) && ltb (stated_long_size bytes) 16) (ltb left (header_total left bytes)) (bytes_eq (stated_kind bytes) uuid_kind && ltb (header_total left bytes) (stated_header_len bytes + 16)) e (sym (head_by left bytes first) ∙ fails)
+    ∙ five_some (ltb left 8) (ltb left (stated_header_len bytes)) (few_sized bytes) (few_wide bytes)
+    (ltb left (header_total left bytes)) (few_uuid left bytes) e (sym (head_by left bytes first) ∙ fails)
 
 -- fewer than 16 bytes stand after the header
 few_after : (n m : ℕ) → m ≤ n → ltb n (m + 16) ≡ ltb (n - m) 16
@@ -146,8 +165,14 @@ few_after n m least = ⊎_elim
     (cases_lt (n - m) 16)
 
 -- a header that passes is a box that passes but for the user type of a `uuid` box
-pub box_of_good : (left : ℕ) (bytes : List ℕ) (h : BoxHead) (t : Bool) → length bytes ≡ min 16 left → IsBoxHead left bytes h → lacks_user_type h ≡ t → header_fault left bytes ≡ cond t (Some Bad) None
+pub box_of_good : (left : ℕ) (bytes : List ℕ) (h : BoxHead) (t : Bool) → length bytes ≡ min 16 left
+    → IsBoxHead left bytes h → lacks_user_type h ≡ t → header_fault left bytes ≡ cond t (Some Bad) None
 box_of_good left bytes h t first is e =
+    let lacks : few_uuid left bytes ≡ lacks_user_type h =
+    ap₂ (λ (k : List ℕ) (n : ℕ). bytes_eq k uuid_kind && ltb n (stated_header_len bytes + 16)) (sym is.kind) (sym is.length)
+    ∙ ap (λ (n : ℕ). bytes_eq h.kind uuid_kind && ltb h.length (n + 16)) (sym is.header)
+    ∙ ap (λ (b : Bool). bytes_eq h.kind uuid_kind && b) (few_after h.length h.header is.least) in
     header_by left bytes
-    ∙ five_none (ltb left 8) (ltb left (stated_header_len bytes)) (leb 2 (stated_size bytes) && ltb (stated_size bytes) 8) ((stated_size bytes == 1) && ltb (stated_long_size bytes) 16) (ltb left (header_total left bytes)) (bytes_eq (stated_kind bytes) uuid_kind && ltb (header_total left bytes) (stated_header_len bytes + 16)) (sym (head_by left bytes first) ∙ is.good)
-    ∙ ap (λ (b : Bool). cond b (Some Bad) None) (ap₂ (λ (k : List ℕ) (n : ℕ). bytes_eq k uuid_kind && ltb n (stated_header_len bytes + 16)) (sym is.kind) (sym is.length) ∙ ap (λ (n : ℕ). bytes_eq h.kind uuid_kind && ltb h.length (n + 16)) (sym is.header) ∙ ap (λ (b : Bool). bytes_eq h.kind uuid_kind && b) (few_after h.length h.header is.least) ∙ e)
+    ∙ five_none (ltb left 8) (ltb left (stated_header_len bytes)) (few_sized bytes) (few_wide bytes)
+    (ltb left (header_total left bytes)) (few_uuid left bytes) (sym (head_by left bytes first) ∙ is.good)
+    ∙ ap (λ (b : Bool). cond b (Some Bad) None) (lacks ∙ e)

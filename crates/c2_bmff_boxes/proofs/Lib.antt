@@ -2,6 +2,7 @@ pub mod Appending
 pub mod ChildLemmas
 pub mod FoundLemmas
 pub mod HeaderLemmas
+pub mod LastRows
 pub mod PartLemmas
 pub mod PlaceLemmas
 pub mod RowLemmas
@@ -9,3 +10,4 @@ pub mod SearchLemmas
 pub mod SomeOutcome
 pub mod StoreBytes
 pub mod WalkLemmas
+pub mod Filling

@@ -15,7 +15,7 @@ use Rattle.c2_bmff_rows.specs.Rows.{IsBoxWithin, row_of, rows_of}
 use Rattle.c2_spec.specs.Bmff.Writing.{before_mfra, insert_place, is_mfra, less, mfra_kind, open_end, place_or, place_without}
 use Rattle.c2_bmff_rows.specs.declared.row.RootBox.{RootBox}
 use Rattle.c2_spec.proofs.BmffSizes.{bytes_size}
-use Rattle.c2_bmff_boxes.proofs.WalkLemmas.{fill_end, fill_within_by}
+use Rattle.c2_bmff_boxes.proofs.Filling.{fill_end, fill_within_by}
 
 -- ---- the last row
 

@@ -48,17 +48,27 @@ row_not file rows n r others found next s no' boxes has same =
     subst (λ (xs : List Box). Searched xs found) (sym b.more) (searched_not (take n boxes) b.at.box found (s boxes has same) (ap (λ (k : List ℕ). bytes_eq k uuid_kind) (sym b.kind) ∙ no'))
 
 -- past a `uuid` box
-pub row_uuid : (file : List ℕ) (rows : List RootBox) (n : ℕ) (r : RootBox) (others : List RootBox) (old new : Option Found) → drop n rows ≡ r ∷ others → SearchedTo file rows n old → bytes_eq r.kind uuid_kind ≡ true → StepsBy (payload_part (is_some old) (payload_at file r)) r (payload_at file r) old new → SearchedTo file rows (n + 1) new
+pub row_uuid : (file : List ℕ) (rows : List RootBox) (n : ℕ) (r : RootBox) (others : List RootBox)
+    (old new : Option Found) → drop n rows ≡ r ∷ others → SearchedTo file rows n old
+    → bytes_eq r.kind uuid_kind ≡ true
+    → StepsBy (payload_part (is_some old) (payload_at file r)) r (payload_at file r) old new
+    → SearchedTo file rows (n + 1) new
 row_uuid file rows n r others old new next s yes' step boxes has same =
     let b : RowAt file boxes n r = row_at_file file boxes rows n r others has same next in
     subst (λ (xs : List Box). Searched xs new) (sym b.more)
-    (searched_uuid (take n boxes) b.at.box r old new (s boxes has same) (ap (λ (k : List ℕ). bytes_eq k uuid_kind) (sym b.kind) ∙ yes') b.start b.len (subst (λ (p : List ℕ). StepsBy (payload_part (is_some old) p) r p old new) b.payload step))
+    (searched_uuid (take n boxes) b.at.box r old new (s boxes has same)
+    (ap (λ (k : List ℕ). bytes_eq k uuid_kind) (sym b.kind) ∙ yes') b.start b.len
+    (subst (λ (p : List ℕ). StepsBy (payload_part (is_some old) p) r p old new) b.payload step))
 
 -- at a `uuid` box that fails
-pub row_fails : (file : List ℕ) (rows : List RootBox) (n : ℕ) (r : RootBox) (others : List RootBox) (found : Option Found) (e : MediaError) → drop n rows ≡ r ∷ others → AreRootsOf file rows → SearchedTo file rows n found → bytes_eq r.kind uuid_kind ≡ true → FailsBy (payload_part (is_some found) (payload_at file r)) r e → ProvenanceFault file e
+pub row_fails : (file : List ℕ) (rows : List RootBox) (n : ℕ) (r : RootBox) (others : List RootBox)
+    (found : Option Found) (e : MediaError) → drop n rows ≡ r ∷ others → AreRootsOf file rows
+    → SearchedTo file rows n found → bytes_eq r.kind uuid_kind ≡ true
+    → FailsBy (payload_part (is_some found) (payload_at file r)) r e → ProvenanceFault file e
 row_fails file rows n r others found e next roots s yes' fails =
     let b : RowAt file roots.boxes n r = row_at_file file roots.boxes rows n r others roots.has_roots roots.are next in
-    searched_fails file roots.boxes (take n roots.boxes) (drop (suc n) roots.boxes) b.at.box r found e roots.has_roots b.at.split (s roots.boxes roots.has_roots roots.are) (ap (λ (k : List ℕ). bytes_eq k uuid_kind) (sym b.kind) ∙ yes') b.start
+    searched_fails file roots.boxes (take n roots.boxes) (drop (suc n) roots.boxes) b.at.box r found e roots.has_roots
+    b.at.split (s roots.boxes roots.has_roots roots.are) (ap (λ (k : List ℕ). bytes_eq k uuid_kind) (sym b.kind) ∙ yes') b.start
     (subst (λ (p : List ℕ). FailsBy (payload_part (is_some found) p) r e) b.payload fails)
 
 -- before the first row

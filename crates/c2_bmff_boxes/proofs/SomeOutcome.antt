@@ -41,7 +41,18 @@ six_one false false false false false false x y z h = absurd (cc (h))
 
 -- the tests of a box refuse the file
 box_refuses : (p : ℕ) (rest : List ℕ) (e : MediaError) → box_fault p rest ≡ Some e → Refuses e
-box_refuses p rest e h = ⊎_elim (λ t. subst Refuses (sym t) (why.Truncated, p + length rest, refl)) (λ b. subst Refuses (sym b) (why.BadBox, p, refl)) (six_one (ltb (length rest) 8) (ltb (length rest) (cond (stated_size rest == 1) 16 8)) (leb 2 (stated_size rest) && ltb (stated_size rest) 8) ((stated_size rest == 1) && ltb (stated_long_size rest) 16) (ltb (length rest) (len_by (length rest) (stated_size rest) (stated_long_size rest))) (bytes_eq (stated_kind rest) uuid_kind && ltb (len_by (length rest) (stated_size rest) (stated_long_size rest)) (cond (stated_size rest == 1) 16 8 + 16)) (Truncated (p + length rest)) (BadBox p) e (sym (file_by p rest) ∙ h))
+box_refuses p rest e h =
+    let left : ℕ = length rest in
+    let size : ℕ = stated_size rest in
+    let wide : ℕ = stated_long_size rest in
+    let header : ℕ = cond (size == 1) 16 8 in
+    let len : ℕ = len_by left size wide in
+    ⊎_elim
+    (λ t. subst Refuses (sym t) (why.Truncated, p + left, refl))
+    (λ b. subst Refuses (sym b) (why.BadBox, p, refl))
+    (six_one (ltb left 8) (ltb left header) (leb 2 size && ltb size 8) ((size == 1) && ltb wide 16) (ltb left len)
+    (bytes_eq (stated_kind rest) uuid_kind && ltb len (header + 16)) (Truncated (p + left)) (BadBox p) e
+    (sym (file_by p rest) ∙ h))
 
 -- so does the test of their number
 root_refuses : (count p : ℕ) (rest : List ℕ) (e : MediaError) → root_fault count p rest ≡ Some e → Refuses e
@@ -69,6 +80,17 @@ sized_forms (b ∷ c ∷ cs) s = (s.0, sized_forms (c ∷ cs) s.1)
 abbrev RootsOr : List ℕ → Type 0
 RootsOr file = ((roots : List Box) × HasRoots file roots) ⊎ ((e : MediaError) × RootFault file e × Refuses e)
 
+-- the box that these bytes begin with, as its header states it
+abbrev FirstOf : List ℕ → Type 0
+FirstOf rest =
+    BeginsWith rest (stated_header_len rest) (stated_len rest) (stated_kind rest) (stated_size rest == 0)
+
+-- past a box that says its size, which these bytes begin with, the file has root boxes, or a first test of them fails
+abbrev GoesOn : List ℕ → List Box → List ℕ → Type 0
+GoesOn file before rest =
+    (c : Box) (tail : List ℕ) → AreBytes tail → length tail + 1 ≤ length rest
+    → length (before ++ c ∷ []) ≤ most_roots → (rest ≡ box_bytes c ++ tail) × IsSizedBox c → RootsOr file
+
 -- one box more
 bytes_more : (file : List ℕ) (before : List Box) (c : Box) (rest tail : List ℕ) → file ≡ flat_map box_bytes before ++ rest → rest ≡ box_bytes c ++ tail → file ≡ flat_map box_bytes (before ++ c ∷ []) ++ tail
 bytes_more file before c rest tail e f =
@@ -86,22 +108,27 @@ least b h = omega (arith, bytes_size b h, least_len b.form)
     least_len to_end = omega arith
 
 -- a BMFF file with boxes that say their sizes at its front has root boxes, or a first test of them fails
-roots_walk : (file : List ℕ) → length file < 2 ^ 62 → begins_bmff file ≡ true → (n : ℕ) (before : List Box) (rest : List ℕ) → AreBytes rest → length rest ≤ n → length rest < 2 ^ 62 → AllByRecursion IsSizedBox before → length before ≤ most_roots → file ≡ flat_map box_bytes before ++ rest → RootsOr file
+roots_walk : (file : List ℕ) → length file < 2 ^ 62 → begins_bmff file ≡ true
+    → (n : ℕ) (before : List Box) (rest : List ℕ) → AreBytes rest → length rest ≤ n → length rest < 2 ^ 62
+    → AllByRecursion IsSizedBox before → length before ≤ most_roots → file ≡ flat_map box_bytes before ++ rest
+    → RootsOr file
 roots_walk file fits begins n before [] bytes enough small sized few e = inl (before, record { fits = fits; begins = begins; bytes = e ∙ append-nil (flat_map box_bytes before); forms = sized_forms before sized; few = few })
 roots_walk file fits begins zero before (x ∷ xs) bytes enough small sized few e = absurd (omega arith)
 roots_walk file fits begins (suc n) before (x ∷ xs) bytes enough small sized few e =
     by (root_fault (length before) (boxes_len before) (x ∷ xs)) refl
     (λ c tail is more count split. roots_walk file fits begins n (before ++ c ∷ []) tail is (omega (arith, more)) (omega (arith, more, small)) (all_more before c sized split.1) count (bytes_more file before c (x ∷ xs) tail e split.0))
   where
-    by : (fault : Option MediaError) → root_fault (length before) (boxes_len before) (x ∷ xs) ≡ fault → ((c : Box) (tail : List ℕ) → AreBytes tail → length tail + 1 ≤ length (x ∷ xs) → length (before ++ c ∷ []) ≤ most_roots → (x ∷ xs ≡ box_bytes c ++ tail) × IsSizedBox c → RootsOr file) → RootsOr file
+    by : (fault : Option MediaError) → root_fault (length before) (boxes_len before) (x ∷ xs) ≡ fault
+        → GoesOn file before (x ∷ xs) → RootsOr file
     by (Some f) h go = inr (f, record { before = before; rest = x ∷ xs; bytes = e; sized = sized; few = few; more = omega arith; fails = h }, root_refuses (length before) (boxes_len before) (x ∷ xs) f h)
     by None h go =
         let passes = root_passes (length before) (boxes_len before) (x ∷ xs) h in
-        let c : BeginsWith (x ∷ xs) (stated_header_len (x ∷ xs)) (stated_len (x ∷ xs)) (stated_kind (x ∷ xs)) (stated_size (x ∷ xs) == 0) = box_there (boxes_len before) (x ∷ xs) bytes (omega (arith, small)) passes.1 in
+        let c : FirstOf (x ∷ xs) = box_there (boxes_len before) (x ∷ xs) bytes (omega (arith, small)) passes.1 in
         let count : length (before ++ c.box ∷ []) ≤ most_roots = omega (arith, length-append before (c.box ∷ []), passes.0) in
         last_or (stated_size (x ∷ xs) == 0) refl c count go
       where
-        last_or : (t : Bool) → (stated_size (x ∷ xs) == 0) ≡ t → (c : BeginsWith (x ∷ xs) (stated_header_len (x ∷ xs)) (stated_len (x ∷ xs)) (stated_kind (x ∷ xs)) (stated_size (x ∷ xs) == 0)) → length (before ++ c.box ∷ []) ≤ most_roots → ((c : Box) (tail : List ℕ) → AreBytes tail → length tail + 1 ≤ length (x ∷ xs) → length (before ++ c ∷ []) ≤ most_roots → (x ∷ xs ≡ box_bytes c ++ tail) × IsSizedBox c → RootsOr file) → RootsOr file
+        last_or : (t : Bool) → (stated_size (x ∷ xs) == 0) ≡ t → (c : FirstOf (x ∷ xs))
+            → length (before ++ c.box ∷ []) ≤ most_roots → GoesOn file before (x ∷ xs) → RootsOr file
         last_or true t c count go =
             let end : length (x ∷ xs) ≤ stated_len (x ∷ xs) = omega (arith, c.ends t) in
             let none : drop (stated_len (x ∷ xs)) (x ∷ xs) ≡ [] = drop_all (stated_len (x ∷ xs)) (x ∷ xs) end in

@@ -1,14 +1,11 @@
 -- A walk over root boxes: one box more, its end, and a fault.
-use Rattle.std.proofs.Common.{◌≡◌, ℕ, ◌+◌, ◌-◌, ◌*◌, ◌^◌, ◌<◌, ◌≤◌, Bool, ◌==◌, true, false, cond, List, [], ◌∷◌, ◌++◌, length, take, drop, map, Some, refl, sym, ap, ap₂, ◌∙◌, subst, arith, length-append}
+use Rattle.std.proofs.Common.{◌≡◌, ℕ, ◌+◌, ◌-◌, ◌^◌, ◌<◌, ◌≤◌, Bool, ◌==◌, true, false, cond, List, [], ◌∷◌, ◌++◌, length, take, drop, map, Some, refl, sym, ap, ap₂, ◌∙◌, subst, arith, length-append}
 use Rattle.std.proofs.lemmas.Bool.{le-ltb}
 use Rattle.std.proofs.lemmas.Bool.Decides.{Decides-ltb}
 use Rattle.std.proofs.lemmas.Grind.{flat_map-append}
 use Rattle.std.proofs.lemmas.List.{append-nil, append_assoc, map-append, drop_all, drop-drop, length-drop, length-take}
-use Rattle.std.proofs.lemmas.List.Sums.{sum_by-cons}
 use Rattle.std.proofs.lemmas.Slice.Eq.{bytes_eq-Decides}
-use Rattle.std.specs.Prelude.{All}
 use Rattle.std.specs.List.{flat_map, AllByRecursion}
-use Rattle.std.proofs.lemmas.List.Elements.{All-from_recursion}
 use Rattle.c2_base.specs.declared.media.MediaError.{MediaError}
 use Rattle.c2_base.specs.declared.media.MediaError.TheVariants.{NotMedia, FileTooLarge, Truncated, BadMarker, BadSegment, BadPacket, TwoStores, BadBox, BadProvenanceBox, StoreTooLarge, TooManyBoxes, ReadFault, NoMemory}
 use Rattle.c2_spec.specs.Bmff.Boxes.{Box, IsBox, IsSizedBox, AreBoxForms, RootFault, box_bytes, box_len, boxes_len, box_fault, root_fault, header_len, is_to_end, begins_bmff, ftyp_kind, most_roots, stated_size, stated_len, stated_kind, stated_header_len}
@@ -17,9 +14,8 @@ use Rattle.c2_spec.proofs.BmffSizes.{bytes_size}
 use Rattle.c2_base.specs.Causes.{Rose}
 use Rattle.c2_bmff_boxes.specs.Causes.{IsCaused, IsStoreCause, OrOutside}
 use Rattle.c2_bmff_boxes.specs.Heads.{IsHead}
-use Rattle.c2_bmff_boxes.specs.Roots.{AreRootsOf, FillSource, Walks, row_at}
-use Rattle.c2_bmff_rows.specs.Rows.{BeginsWith, HasHeader, IsBoxWithin, IsRowWithin, row_of, rows_of}
-use Rattle.c2_bmff_boxes.specs.Children.{rows_len}
+use Rattle.c2_bmff_boxes.specs.Roots.{AreRootsOf, Walks, row_at}
+use Rattle.c2_bmff_rows.specs.Rows.{BeginsWith, row_of, rows_of}
 use Rattle.c2_bmff_boxes.specs.declared.header.BoxHead.{BoxHead}
 use Rattle.c2_bmff_rows.specs.declared.row.RootBox.{RootBox}
 use Rattle.c2_bmff_rows.proofs.BoxThere.{AreBytes, bytes-drop, box_there}
@@ -133,53 +129,6 @@ many_fault count p rest many = ap (λ b. cond b (box_fault p rest) (Some TooMany
 -- the start of a walk
 pub walks_start : (file : List ℕ) → Walks file 0 []
 walks_start file = record { boxes = []; bytes = refl; place = refl; sized = λ more. tt; forms = tt; are = refl }
-
--- one row more
-pub fill_more : (at low : ℕ) (rows : List RootBox) (r : RootBox) → FillSource at low rows → r.start ≡ at → r.header ≤ r.length → 8 ≤ r.header → FillSource (at + r.length) low (rows ++ r ∷ [])
-fill_more at low [] r f e h l = (e ∙ sym f, h, l, ap (λ n. n + r.length) f)
-fill_more at low (x ∷ xs) r f e h l = (f.0, f.1, f.2, fill_more at (low + x.length) xs r f.3 e h l)
-
--- rows that fill a source end at its end
-pub fill_end : (size low : ℕ) (rows : List RootBox) → FillSource size low rows → low ≤ size
-fill_end size low [] f = omega (arith, f)
-fill_end size low (r ∷ rs) f = omega (arith, fill_end size (low + r.length) rs f.3)
-
--- each of them ends in the source
-pub fill_within_by : (size low : ℕ) (rows : List RootBox) → FillSource size low rows → AllByRecursion (IsBoxWithin size) rows
-fill_within_by size low [] f = tt
-fill_within_by size low (r ∷ rs) f = (omega (arith, f.0, fill_end size (low + r.length) rs f.3), fill_within_by size (low + r.length) rs f.3)
-
--- rows that fill a source end in it
-pub fill_within : (size low : ℕ) (rows : List RootBox) → FillSource size low rows → All (IsBoxWithin size) rows
-fill_within size low rows f = All-from_recursion (IsBoxWithin size) rows (fill_within_by size low rows f)
-
--- each of them has a header
-fill_headed_by : (size low : ℕ) (rows : List RootBox) → FillSource size low rows → AllByRecursion HasHeader rows
-fill_headed_by size low [] f = tt
-fill_headed_by size low (r ∷ rs) f = ((f.1, f.2), fill_headed_by size (low + r.length) rs f.3)
-
--- rows that fill a source have headers
-pub fill_headed : (size low : ℕ) (rows : List RootBox) → FillSource size low rows → All HasHeader rows
-fill_headed size low rows f = All-from_recursion HasHeader rows (fill_headed_by size low rows f)
-
--- rows that end in a part of a source, and have headers
-fill_rows_by : (size low len : ℕ) (rows : List RootBox) → FillSource size low rows → size ≤ len → AllByRecursion (IsRowWithin len) rows
-fill_rows_by size low len [] f h = tt
-fill_rows_by size low len (r ∷ rs) f h = ((omega (arith, f.0, fill_end size (low + r.length) rs f.3, h), f.1, f.2), fill_rows_by size (low + r.length) len rs f.3 h)
-
--- rows that fill a part of a source end in it, and have headers
-pub fill_rows : (size low len : ℕ) (rows : List RootBox) → FillSource size low rows → size ≤ len → All (IsRowWithin len) rows
-fill_rows size low len rows f h = All-from_recursion (IsRowWithin len) rows (fill_rows_by size low len rows f h)
-
--- how many bytes rows have together that fill a part of a source
-pub fill_total : (size low : ℕ) (rows : List RootBox) → FillSource size low rows → low + rows_len rows ≡ size
-fill_total size low [] f = let z : low + rows_len [] ≡ low = omega arith in z ∙ f
-fill_total size low (r ∷ rs) f = let z : low + rows_len (r ∷ rs) ≡ low + r.length + rows_len rs = omega (arith, sum_by-cons (λ (x : RootBox). x.length) r rs) in z ∙ fill_total size (low + r.length) rs f.3
-
--- each of these rows has 8 bytes or more
-pub fill_count : (size low : ℕ) (rows : List RootBox) → FillSource size low rows → low + 8 * length rows ≤ size
-fill_count size low [] f = omega (arith, f)
-fill_count size low (r ∷ rs) f = omega (arith, f.1, f.2, fill_count size (low + r.length) rs f.3)
 
 -- bytes that can't be read refuse nothing
 pub unread_cause : (len before mid now : ℕ) (e : MediaError) → mid ≡ before → OrOutside e ⊥ → IsCaused mid now e → IsStoreCause len before now e

@@ -2,7 +2,7 @@
 ghost use Rattle.std.specs.Prelude.{◌≡◌, ◌+◌, ◌≤◌, take, drop, All, OnOk, IfOk, IfErr, IfSome, option_map};
 ghost use Rattle.std.specs.Option.{ForSome};
 ghost use Rattle.c2_base.specs.Causes.{HasCause};
-ghost use Rattle.c2_base.specs.Source.{StaysSource};
+ghost use Rattle.c2_base.specs.Source.{ReadsSource, StaysSource};
 ghost use Rattle.c2_bmff_boxes.specs.Causes.{IsCaused, OrOutside};
 ghost use Rattle.c2_bmff_boxes.specs.Children.{IsChildHead, IsHeadWithin, IsListOf, part_between, rows_between, rows_len};
 ghost use Rattle.c2_bmff_boxes.specs.Roots.{FillSource};
@@ -85,9 +85,7 @@ pub fn boxes_between<S: Source>(
     ensures rows { IfOk result (λ l. ForSome (S.known source.old) (λ file.
         l ≡ rows_between file start end)) }
     ensures fill { IfOk result (λ l. IfSome l (FillSource end start)) }
-    ensures stays { StaysSource S.len S.known S.faults source.old source.new }
-    ensures count { OnOk result (S.faults source.new ≡ S.faults source.old) }
-    ensures cause { IfErr result (IsCaused (S.faults source.old) (S.faults source.new)) }
+    ensures reads { ReadsSource S.len S.known S.faults IsCaused source.old source.new result }
     ensures outside { IfErr result (λ e. OrOutside e ⊥) }
 {
     // Matched and not handed up by `?`: each way out has clauses of its own.

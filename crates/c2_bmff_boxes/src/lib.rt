@@ -12,6 +12,7 @@ mod placing;
 mod provenance;
 mod reading;
 mod root_boxes;
+mod row_lists;
 pub mod types;
 mod writing;
 
@@ -26,4 +27,5 @@ pub use placing::insert_place;
 pub use provenance::locate;
 pub use reading::roots;
 pub use root_boxes::fill_first;
+pub use row_lists::{roots_len, roots_of};
 pub use writing::write_box;

@@ -2,7 +2,7 @@
 ghost use Rattle.std.specs.Prelude.{◌≡◌, ◌++◌, [], ◌∷◌, ◌+◌, ◌-◌, ◌^◌, ◌<◌, ◌≤◌, true, length, take, drop, List, All, OnOk, IfOk, IfErr};
 ghost use Rattle.std.specs.Option.{ForSome};
 ghost use Rattle.c2_base.specs.Causes.{HasCause};
-ghost use Rattle.c2_base.specs.Source.{StaysSource};
+ghost use Rattle.c2_base.specs.Source.{ReadsSource, StaysSource};
 ghost use Rattle.c2_bmff_boxes.specs.Causes.{IsRootsCause, OrOutside};
 ghost use Rattle.c2_bmff_boxes.specs.Heads.{IsHeadOr};
 ghost use Rattle.c2_bmff_boxes.specs.Roots.{AreRootsOf, FillFile, FillSource, row_at};
@@ -137,10 +137,8 @@ pub(crate) fn walk<S: Source>(
     ensures fault { IfErr result
         (λ e. ForSome (S.known source.old) (λ file. OrOutside e (RootFault file e))) }
     ensures fill { IfOk result (λ rows. FillSource size 0 rows.items) }
-    ensures stays { StaysSource S.len S.known S.faults source.old source.new }
-    ensures count { OnOk result (S.faults source.new ≡ S.faults source.old) }
-    ensures cause { IfErr result
-        (IsRootsCause (S.len source.old) (S.faults source.old) (S.faults source.new)) }
+    ensures reads { ReadsSource S.len S.known S.faults (IsRootsCause (S.len source.old))
+        source.old source.new result }
 {
     let mut rows = Vec::new(alloc);
     let mut at = 0;

@@ -5,7 +5,7 @@ ghost use Rattle.c2_base.specs.Sink.{Appends, Spends, TakesPrefix, OkWithinSpare
 ghost use Rattle.c2_base.specs.declared.limits.TheConstants.{MAX_STORE_LEN};
 ghost use Rattle.c2_spec.specs.Bmff.Boxes.{box_bytes, header_bytes, short, uuid_kind};
 ghost use Rattle.c2_spec.specs.Bmff.Writing.{c2pa_box, c2pa_frame_len};
-ghost use Rattle.c2_bmff_boxes.specs.Appends.{IsWriting};
+ghost use Rattle.c2_copying.specs.Appending.{IsWriting};
 
 use crate::provenance::C2PA_USER_TYPE;
 use c2_base::{Failed, Sink, write_all};

@@ -125,7 +125,10 @@ among_apart file low high (r ∷ rs) h inside e =
     go : (t : Bool) → is_table_kind r.kind ≡ t → r.start + r.length ≤ high → sibling_refusals file r ≡ [] → StandApart (r.start + r.length) high (tables_among file rs)
         → StandApart low high (map (table_of file) (cond t (r ∷ filter (λ (x : RootBox). is_table_kind x.kind) rs) (filter (λ (x : RootBox). is_table_kind x.kind) rs)))
     go true k up none more =
-        let is : is_table (bytes_eq r.kind wide_kind) (payload_at file r) ≡ true = good (bytes_eq r.kind (codes "saio")) (is_table (bytes_eq r.kind wide_kind) (payload_at file r)) (sym (ap (λ (t : Bool). cond (bytes_eq r.kind (codes "saio")) (OffsetTable r.start ∷ []) (cond t (cond (is_table (bytes_eq r.kind wide_kind) (payload_at file r)) [] (BadTable r.start ∷ [])) [])) k) ∙ none) in
+        let saio : Bool = bytes_eq r.kind (codes "saio") in
+        let table : Bool = is_table (bytes_eq r.kind wide_kind) (payload_at file r) in
+        let refused = λ (t : Bool). cond saio (OffsetTable r.start ∷ []) (cond t (cond table [] (BadTable r.start ∷ [])) []) in
+        let is : table ≡ true = good saio table (sym (ap refused k) ∙ none) in
         stand_append low (r.start + r.length) high (table_of file r ∷ []) (tables_among file rs)
         (stand_lower (r.start + r.header) low (r.start + r.length) (table_of file r ∷ []) (omega (arith, h.0)) (table_inside file r (omega (arith, up, inside)) h.1 is)) more
     go false k up none more = stand_lower (r.start + r.length) low high (tables_among file rs) (omega (arith, h.0)) more

@@ -43,7 +43,12 @@ later_hold i r x ends (y ∷ ys) all h = go (in_row_part i r y) refl h (λ n. la
     go false e n others = others n
 
 -- of parts that rise, those after one that ends a box add nothing to it
-pub rest_adds_nothing : (i : ℕ) (r : RootBox) (parts : List Range) (k : ℕ) (d : Range) (old : Bool) → AreRising parts → k < length parts → ((later : Range) → (get_or parts k d).start ≤ later.start → in_row_part i r later ≡ true → in_row_part i r (get_or parts k d) ≡ true) → ((old || list_any (in_row_part i r) (take k parts)) || in_row_part i r (get_or parts k d)) ≡ (old || list_any (in_row_part i r) parts)
+pub rest_adds_nothing : (i : ℕ) (r : RootBox) (parts : List Range) (k : ℕ) (d : Range) (old : Bool)
+    → AreRising parts → k < length parts
+    → ((later : Range) → (get_or parts k d).start ≤ later.start → in_row_part i r later ≡ true
+    → in_row_part i r (get_or parts k d) ≡ true)
+    → ((old || list_any (in_row_part i r) (take k parts)) || in_row_part i r (get_or parts k d))
+    ≡ (old || list_any (in_row_part i r) parts)
 rest_adds_nothing i r parts k d old rising inside ends =
     or_join old (list_any p (take k parts)) (p x)
     ∙ ap (λ (b : Bool). old || b) (ap (λ (b : Bool). list_any p (take k parts) || b) (sym (by (list_any p (drop (k + 1) parts)) refl))
@@ -99,7 +104,11 @@ any_or p q (x ∷ xs) = ap (λ (b : Bool). (p x || q x) || b) (any_or p q xs) �
     turn false false c d = refl
 
 -- exclusions that ask the same, as one with the positions of both
-pub united_same : (e d : Exclusion) (subset : Option (List Range)) → AskSame e d → ((i : ℕ) → in_subset i subset ≡ (in_subset i e.subset || in_subset i d.subset)) → (file : List ℕ) (rows : List RootBox) (i : ℕ) → excludes_row file rows i (record { path = e.path; length = e.length; tests = e.tests; subset = subset }) ≡ (excludes_row file rows i e || excludes_row file rows i d)
+pub united_same : (e d : Exclusion) (subset : Option (List Range)) → AskSame e d
+    → ((i : ℕ) → in_subset i subset ≡ (in_subset i e.subset || in_subset i d.subset))
+    → (file : List ℕ) (rows : List RootBox) (i : ℕ)
+    → excludes_row file rows i (record { path = e.path; length = e.length; tests = e.tests; subset = subset })
+    ≡ (excludes_row file rows i e || excludes_row file rows i d)
 united_same e d subset ask h file rows i =
     let both : Exclusion = record { path = e.path; length = e.length; tests = e.tests; subset = subset } in
     any_same (marks file both i) (λ r. marks file e i r || marks file d i r) (on_rows file rows e.path)
@@ -109,7 +118,10 @@ united_same e d subset ask h file rows i =
     ∙ ap (λ (p : List PathStep). list_any (marks file e i) (on_rows file rows e.path) || list_any (marks file d i) (on_rows file rows p)) ask.0
 
 -- exclusions of one path with another of that path
-pub joins_path : (path : List PathStep) (xs : List Exclusion) (x e : Exclusion) → path ≡ e.path → MarkSame x e → (file : List ℕ) (rows : List RootBox) (i : ℕ) → excludes_any file rows i (record { path = path; exclusions = xs ++ x ∷ [] }) ≡ (excludes_any file rows i (record { path = path; exclusions = xs }) || excludes_row file rows i e)
+pub joins_path : (path : List PathStep) (xs : List Exclusion) (x e : Exclusion) → path ≡ e.path → MarkSame x e
+    → (file : List ℕ) (rows : List RootBox) (i : ℕ)
+    → excludes_any file rows i (record { path = path; exclusions = xs ++ x ∷ [] })
+    ≡ (excludes_any file rows i (record { path = path; exclusions = xs }) || excludes_row file rows i e)
 joins_path path xs x e is same file rows i =
     any_same (λ r. list_any (λ (y : Exclusion). marks file y i r) (xs ++ x ∷ [])) (λ r. list_any (λ (y : Exclusion). marks file y i r) xs || marks file e i r) (on_rows file rows path)
     (λ r. any_append (λ (y : Exclusion). marks file y i r) xs x ∙ ap (λ (b : Bool). list_any (λ (y : Exclusion). marks file y i r) xs || b) (same file i r))

@@ -112,7 +112,11 @@ never_both file r offset xs ys size differ = go (nat_le (offset + length xs) r.l
         cc (wrong))
 
 -- a value in three pieces
-holds_three : (file : List ℕ) (r : RootBox) (offset : ℕ) (xs : List ℕ) (from count : ℕ) → from ≤ length xs → holds_at file r offset xs ≡ (holds_at file r offset (take from xs) && (holds_at file r (offset + from) (take count (drop from xs)) && holds_at file r (offset + from + length (take count (drop from xs))) (drop count (drop from xs))))
+holds_three : (file : List ℕ) (r : RootBox) (offset : ℕ) (xs : List ℕ) (from count : ℕ) → from ≤ length xs
+    → holds_at file r offset xs
+    ≡ (holds_at file r offset (take from xs)
+    && (holds_at file r (offset + from) (take count (drop from xs))
+    && holds_at file r (offset + from + length (take count (drop from xs))) (drop count (drop from xs))))
 holds_three file r offset xs from count inside =
     let size : length (take from xs) ≡ from = length-take-le from xs inside in
     ap (holds_at file r offset) (sym (take-append-drop from xs)) ∙ holds_append file r offset (take from xs) (drop from xs)
@@ -124,7 +128,11 @@ holds_two : (file : List ℕ) (r : RootBox) (offset : ℕ) (xs : List ℕ) (from
 holds_two file r offset xs from inside = ap (holds_at file r offset) (sym (take-append-drop from xs)) ∙ holds_append file r offset (take from xs) (drop from xs) ∙ ap (λ n. holds_at file r offset (take from xs) && holds_at file r (offset + n) (drop from xs)) (length-take-le from xs inside)
 
 -- a value that stands in a run, or reaches past it, where both ask for the same bytes
-pub join_same : (file : List ℕ) (r : RootBox) (offset : ℕ) (run value : List ℕ) (from count : ℕ) → from ≤ length run → count ≤ length value → count ≤ length run - from → (count ≡ length value) ⊎ (count ≡ length run - from) → take count (drop from run) ≡ take count value → holds_at file r offset (run ++ drop count value) ≡ (holds_at file r offset run && holds_at file r (offset + from) value)
+pub join_same : (file : List ℕ) (r : RootBox) (offset : ℕ) (run value : List ℕ) (from count : ℕ)
+    → from ≤ length run → count ≤ length value → count ≤ length run - from
+    → (count ≡ length value) ⊎ (count ≡ length run - from) → take count (drop from run) ≡ take count value
+    → holds_at file r offset (run ++ drop count value)
+    ≡ (holds_at file r offset run && holds_at file r (offset + from) value)
 join_same file r offset run value from count inside few fits ends same = ⊎_elim within past ends
   where
     h : ℕ → List ℕ → Bool
@@ -153,16 +161,27 @@ join_same file r offset run value from count inside few fits ends same = ⊎_eli
         ∙ ap₂ (λ (a b : Bool). a && b) (sym two) (sym split)
 
 -- no box meets both where they ask for different bytes
-pub join_differ : (file : List ℕ) (r : RootBox) (offset : ℕ) (run value : List ℕ) (from count : ℕ) → from ≤ length run → count ≤ length value → count ≤ length run - from → bytes_eq (take count (drop from run)) (take count value) ≡ false → (holds_at file r offset run && holds_at file r (offset + from) value) ≡ false
+pub join_differ : (file : List ℕ) (r : RootBox) (offset : ℕ) (run value : List ℕ) (from count : ℕ)
+    → from ≤ length run → count ≤ length value → count ≤ length run - from
+    → bytes_eq (take count (drop from run)) (take count value) ≡ false
+    → (holds_at file r offset run && holds_at file r (offset + from) value) ≡ false
 join_differ file r offset run value from count inside few fits differ =
-    let first : length (take count (drop from run)) ≡ count = length-take-le count (drop from run) (omega (arith, length-drop from run, fits)) in
-    let second : length (take count value) ≡ count = length-take-le count value few in
-    ap₂ (λ (a b : Bool). a && b) (holds_three file r offset run from count inside) (holds_two file r (offset + from) value count few)
-    ∙ and_never (holds_at file r offset (take from run)) (holds_at file r (offset + from) (take count (drop from run))) (holds_at file r (offset + from + length (take count (drop from run))) (drop count (drop from run))) (holds_at file r (offset + from) (take count value)) (holds_at file r (offset + from + count) (drop count value))
-    (never_both file r (offset + from) (take count (drop from run)) (take count value) (first ∙ sym second) differ)
+    let h : ℕ → List ℕ → Bool = holds_at file r in
+    let at : ℕ = offset + from in
+    let rest : List ℕ = drop from run in
+    let asked : List ℕ = take count value in
+    let first : length (take count rest) ≡ count = length-take-le count rest (omega (arith, length-drop from run, fits)) in
+    let second : length asked ≡ count = length-take-le count value few in
+    ap₂ (λ (a b : Bool). a && b) (holds_three file r offset run from count inside) (holds_two file r at value count few)
+    ∙ and_never (h offset (take from run)) (h at (take count rest)) (h (at + length (take count rest)) (drop count rest))
+    (h at asked) (h (at + count) (drop count value))
+    (never_both file r at (take count rest) asked (first ∙ sym second) differ)
 
 -- the bytes that are added to those of all runs, where the run from `start` on and the value ask for the same bytes
-pub joins : (old front value : List ℕ) (start from n : ℕ) (b : Bool) → front ≡ old → start + from ≤ length old → n ≡ min (length value) (length old - (start + from)) → b ≡ bytes_eq (take n (take (length front - (start + from)) (drop (start + from) front))) (take n value) → (b ≡ true → Join start from value old (old ++ drop n value)) × (b ≡ false → Differ start from value old)
+pub joins : (old front value : List ℕ) (start from n : ℕ) (b : Bool) → front ≡ old → start + from ≤ length old
+    → n ≡ min (length value) (length old - (start + from))
+    → b ≡ bytes_eq (take n (take (length front - (start + from)) (drop (start + from) front))) (take n value)
+    → (b ≡ true → Join start from value old (old ++ drop n value)) × (b ≡ false → Differ start from value old)
 joins old front value start from n b is inside count test = (
   λ yes file r offset. ap (holds_at file r offset) (drop-append-le start old (drop n value) (omega (arith, inside))) ∙ join_same file r offset (drop start old) value from n reach few fits ends ((bytes_eq-Decides (take n (drop from (drop start old))) (take n value)).0 (sym by ∙ yes)),
   λ no file r offset. join_differ file r offset (drop start old) value from n reach few fits (sym by ∙ no),
@@ -218,7 +237,10 @@ all_taken p k xs h = ap (list_all p) (sym (take-append-drop k xs)) ∙ list_all-
 -- ---- keys
 
 -- the key of one more byte test
-pub keys_more : (tests : List (ℕ × List ℕ)) (keys more : List Key) (k offset : ℕ) → more ≡ keys ++ (record { offset = offset; index = k }) ∷ [] → k < length tests → offset ≡ (get_or tests k (0, [])).0 → map (key_test tests) keys ≡ map byte_test (take k tests) → map (key_test tests) more ≡ map byte_test (take (k + 1) tests)
+pub keys_more : (tests : List (ℕ × List ℕ)) (keys more : List Key) (k offset : ℕ)
+    → more ≡ keys ++ (record { offset = offset; index = k }) ∷ [] → k < length tests
+    → offset ≡ (get_or tests k (0, [])).0 → map (key_test tests) keys ≡ map byte_test (take k tests)
+    → map (key_test tests) more ≡ map byte_test (take (k + 1) tests)
 keys_more tests keys more k offset is inside same before =
     ap (map (key_test tests)) is ∙ map-append (key_test tests) keys ((record { offset = offset; index = k }) ∷ [])
     ∙ ap₂ (λ (ts us : List ByteTest). ts ++ us) before (ap (λ (n : ℕ). test_at n (get_or tests k (0, [])).1 ∷ []) same)
@@ -281,7 +303,11 @@ and_swap true true false = refl
 and_swap true true true = refl
 
 -- a value that begins another run
-pub begin_run : (file : List ℕ) (r : RootBox) (bytes : List ℕ) (runs : List Run) (last : Last) (offset : ℕ) (value : List ℕ) → IsLastWithin (length bytes) last → All (IsRunWithin (length bytes)) runs → holds_last file r (bytes ++ value) (runs ++ ended bytes last ∷ []) (record { offset = offset; start = length bytes }) ≡ (holds_last file r bytes runs last && holds_at file r offset value)
+pub begin_run : (file : List ℕ) (r : RootBox) (bytes : List ℕ) (runs : List Run) (last : Last) (offset : ℕ)
+    (value : List ℕ) → IsLastWithin (length bytes) last → All (IsRunWithin (length bytes)) runs
+    → holds_last file r (bytes ++ value) (runs ++ ended bytes last ∷ [])
+    (record { offset = offset; start = length bytes })
+    ≡ (holds_last file r bytes runs last && holds_at file r offset value)
 begin_run file r bytes runs last offset value inside within =
     let front : take (length bytes) (bytes ++ value) ≡ bytes = take-append-le (length bytes) bytes value (omega arith) ∙ take_all (length bytes) bytes (omega arith) in
     ap₂ (λ (a b : Bool). a && b) (ap (holds_at file r offset) (drop_at bytes value (length bytes) refl))
@@ -289,14 +315,22 @@ begin_run file r bytes runs last offset value inside within =
     ∙ and_turn (holds_at file r offset value) (list_all (holds_test file r) (map (run_test bytes) runs)) (holds_test file r (last_test bytes last))
 
 -- the same, by what is made
-pub begin_run_by : (file : List ℕ) (r : RootBox) (bytes new : List ℕ) (runs more : List Run) (last : Last) (offset : ℕ) (value : List ℕ) (end : ℕ) → new ≡ bytes ++ value → more ≡ runs ++ (record { offset = last.offset; start = last.start; end = end }) ∷ [] → end ≡ length bytes → IsLastWithin (length bytes) last → All (IsRunWithin (length bytes)) runs → holds_last file r new more (record { offset = offset; start = end }) ≡ (holds_last file r bytes runs last && holds_at file r offset value)
+pub begin_run_by : (file : List ℕ) (r : RootBox) (bytes new : List ℕ) (runs more : List Run) (last : Last)
+    (offset : ℕ) (value : List ℕ) (end : ℕ) → new ≡ bytes ++ value
+    → more ≡ runs ++ (record { offset = last.offset; start = last.start; end = end }) ∷ [] → end ≡ length bytes
+    → IsLastWithin (length bytes) last → All (IsRunWithin (length bytes)) runs
+    → holds_last file r new more (record { offset = offset; start = end })
+    ≡ (holds_last file r bytes runs last && holds_at file r offset value)
 begin_run_by file r bytes new runs more last offset value end bytes_are runs_are end_is inside within =
     ap₂ (λ (bs : List ℕ) (rs : List Run). holds_last file r bs rs (record { offset = offset; start = end })) bytes_are runs_are
     ∙ ap (λ (n : ℕ). holds_last file r (bytes ++ value) (runs ++ (record { offset = last.offset; start = last.start; end = n }) ∷ []) (record { offset = offset; start = n })) end_is
     ∙ begin_run file r bytes runs last offset value inside within
 
 -- a value that joins the last run
-pub join_run : (file : List ℕ) (r : RootBox) (old new : List ℕ) (runs : List Run) (last : Last) (from offset : ℕ) (value : List ℕ) → All (IsRunWithin (length old)) runs → take (length old) new ≡ old → last.offset + from ≡ offset → Join last.start from value old new → holds_last file r new runs last ≡ (holds_last file r old runs last && holds_at file r offset value)
+pub join_run : (file : List ℕ) (r : RootBox) (old new : List ℕ) (runs : List Run) (last : Last)
+    (from offset : ℕ) (value : List ℕ) → All (IsRunWithin (length old)) runs → take (length old) new ≡ old
+    → last.offset + from ≡ offset → Join last.start from value old new
+    → holds_last file r new runs last ≡ (holds_last file r old runs last && holds_at file r offset value)
 join_run file r old new runs last from offset value within front place join =
     ap₂ (λ (a b : Bool). a && b) (join file r last.offset) (kept file r old new runs front within)
     ∙ and_swap (holds_test file r (last_test old last)) (holds_at file r (last.offset + from) value) (list_all (holds_test file r) (map (run_test old) runs))
@@ -339,7 +373,11 @@ pub holds_short : (file : List ℕ) (r : RootBox) (offset : ℕ) (value : List �
 holds_short file r offset value short = ap (λ b. b && stands_at file (r.start + offset) value) short
 
 -- the tests of one key more
-pub all_more : (file : List ℕ) (r : RootBox) (tests : List (ℕ × List ℕ)) (keys : List Key) (k : ℕ) → k < length keys → list_all (holds_test file r) (map (key_test tests) (take (k + 1) keys)) ≡ (list_all (holds_test file r) (map (key_test tests) (take k keys)) && holds_test file r (key_test tests (get_or keys k no_key)))
+pub all_more : (file : List ℕ) (r : RootBox) (tests : List (ℕ × List ℕ)) (keys : List Key) (k : ℕ)
+    → k < length keys
+    → list_all (holds_test file r) (map (key_test tests) (take (k + 1) keys))
+    ≡ (list_all (holds_test file r) (map (key_test tests) (take k keys))
+    && holds_test file r (key_test tests (get_or keys k no_key)))
 all_more file r tests keys k inside =
     let p : Key → Bool = λ key. holds_test file r (key_test tests key) in
     list_all-map (holds_test file r) (key_test tests) (take (k + 1) keys) ∙ list_all_more p keys k no_key inside
@@ -352,7 +390,10 @@ all_first file r tests keys k h =
     list_all-map (holds_test file r) (key_test tests) keys ∙ all_taken p k keys (sym (list_all-map (holds_test file r) (key_test tests) (take k keys)) ∙ h)
 
 -- what is asked, by the last run
-pub asked_is : (file : List ℕ) (r : RootBox) (bytes : List ℕ) (runs : List Run) (last : Last) (least : ℕ) → IsLastWithin (length bytes) last → list_all (holds_test file r) (least_test least ∷ map (run_test bytes) (runs ++ ended bytes last ∷ [])) ≡ (nat_le least r.length && holds_last file r bytes runs last)
+pub asked_is : (file : List ℕ) (r : RootBox) (bytes : List ℕ) (runs : List Run) (last : Last) (least : ℕ)
+    → IsLastWithin (length bytes) last
+    → list_all (holds_test file r) (least_test least ∷ map (run_test bytes) (runs ++ ended bytes last ∷ []))
+    ≡ (nat_le least r.length && holds_last file r bytes runs last)
 asked_is file r bytes runs last least inside =
     let zero_more : least + 0 ≡ least = omega arith in
     let same : run_test bytes (ended bytes last) ≡ last_test bytes last = ap (test_at last.offset) (take_all (length bytes - last.start) (drop last.start bytes) (omega (arith, length-drop last.start bytes))) in

@@ -4,7 +4,7 @@ ghost use Rattle.std.specs.List.{list_all, list_any, slice_get};
 ghost use Rattle.std.specs.List.Sorted.{IsPermutation};
 ghost use Rattle.std.specs.Option.{ForSome};
 ghost use Rattle.c2_base.specs.Causes.{HasCause};
-ghost use Rattle.c2_base.specs.Source.{StaysSource};
+ghost use Rattle.c2_base.specs.Source.{ReadsSource, StaysSource};
 ghost use Rattle.c2_spec.specs.Cover.{holds, is_excluded};
 ghost use Rattle.c2_bmff_boxes.specs.Causes.{IsCaused, OrOutside};
 ghost use Rattle.c2_bmff_rows.specs.Rows.{IsRowWithin};
@@ -417,9 +417,7 @@ pub fn mark_row<S: Source>(
     ensures some { OnErr result
         (GrowsWithin (λ i. in_row i row) ranges.old.items ranges.new.items) }
     ensures within { All (IsRangeWithin (S.len source.old)) ranges.new.items }
-    ensures stays { StaysSource S.len S.known S.faults source.old source.new }
-    ensures count { OnOk result (S.faults source.new ≡ S.faults source.old) }
-    ensures cause { IfErr result (IsCaused (S.faults source.old) (S.faults source.new)) }
+    ensures reads { ReadsSource S.len S.known S.faults IsCaused source.old source.new result }
     ensures outside { IfErr result (λ e. OrOutside e ⊥) }
 {
     if !takes_row(source, ask, row, front)? {

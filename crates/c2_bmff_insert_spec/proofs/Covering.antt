@@ -1,6 +1,6 @@
 -- What the exclusions of a new BMFF hash leave of root boxes.
-use Rattle.std.proofs.Common.{◌≡◌, ◌⊎◌, inl, inr, ℕ, zero, suc, ◌+◌, ◌<◌, ◌≤◌, Bool, true, false, cond, ◌&&◌, ◌||◌, List, [], ◌∷◌, ◌++◌, length, get_or, take, drop, None, refl, sym, ap, ap₂, subst, ◌∙◌, arith}
-use Rattle.std.proofs.lemmas.Bool.{and_from, and_parts, le-leb, leb-true, lt-ltb, ltb-true, or_left, or_right}
+use Rattle.std.proofs.Common.{◌≡◌, inl, inr, ℕ, ◌+◌, Bool, true, false, cond, ◌&&◌, ◌||◌, List, [], ◌∷◌, ◌++◌, length, take, drop, None, refl, sym, ap, ap₂, subst, ◌∙◌, arith}
+use Rattle.std.proofs.lemmas.Bool.{and_from, and_parts, le-leb, leb-true, lt-ltb, ltb-true}
 use Rattle.std.proofs.lemmas.List.{length-take, length-drop}
 use Rattle.std.proofs.lemmas.Slice.Eq.{bytes_eq-Decides}
 use Rattle.std.specs.Prelude.{Contains, filter, nat_le, nat_lt, ◌↔◌}
@@ -17,30 +17,12 @@ use Rattle.c2_bmff_insert_spec.specs.Laws.{HasBuiltCover}
 use Rattle.c2_spec.proofs.BmffOneList.{first_box, other_boxes}
 use Rattle.c2_spec.proofs.BmffSizes.{bytes_size}
 use Rattle.c2_spec.proofs.Kept.{kept_none, kept_whole}
+use Rattle.c2_bmff_rows.proofs.HeldLemmas.{Holds, held_once}
+use Rattle.c2_bmff_rows.proofs.PathRows.{Member, any_member, from_member, member_any, to_member}
 use Rattle.c2_bmff_insert_spec.proofs.Frames.{frame_out}
 use Rattle.c2_bmff_insert_spec.proofs.Placing.{parts_are}
 
 -- ---- members
-
--- a member of a list
-abbrev Member : {A : Type 0} → A → List A → Type 0
-Member x [] = ⊥
-Member x (y ∷ ys) = (x ≡ y) ⊎ Member x ys
-
--- what a list contains at some index is a member of it
-to_member : {A : Type 0} (xs : List A) (x : A) → Contains xs x → Member x xs
-to_member {A} xs x c = go xs c.0 c.1 c.2
-  where
-    go : (xs : List A) (k : ℕ) → k < length xs → get_or xs k x ≡ x → Member x xs
-    go [] k inside e = absurd (omega arith)
-    go (y ∷ ys) zero inside e = inl (sym e)
-    go (y ∷ ys) (suc k) inside e = inr (go ys k (omega arith) e)
-
--- a member of a list stands at some index of it
-from_member : {A : Type 0} (xs : List A) (x : A) → Member x xs → Contains xs x
-from_member [] x m = absurd m
-from_member (y ∷ ys) x (inl e) = (0, omega arith, sym e)
-from_member (y ∷ ys) x (inr m) = let c : Contains ys x = from_member ys x m in (suc c.0, omega (arith, c.1), c.2)
 
 -- a member that passes a filter
 filter_member : {A : Type 0} (p : A → Bool) (xs : List A) (x : A) → Member x xs → p x ≡ true → Member x (filter p xs)
@@ -65,32 +47,6 @@ member_filter p (y ∷ ys) x m = go (p y) refl m (member_filter p ys x)
     go true s (inl f) more = (inl f, ap p f ∙ s)
     go true s (inr n) more = let r = more n in (inr r.0, r.1)
     go false s n more = let r = more n in (inr r.0, r.1)
-
--- ---- boxes in their places
-
--- a box that holds a position
-abbrev Holds : PlacedBox → ℕ → Type 0
-Holds b i = (b.at ≤ i) × (i < b.at + box_len b.box)
-
--- boxes begin no earlier than the first
-begins_from : (p : ℕ) (bs : List Box) (b : PlacedBox) → Member b (placed_from p bs) → p ≤ b.at
-begins_from p [] b m = absurd m
-begins_from p (c ∷ cs) b (inl e) = omega (arith, ap (λ (x : PlacedBox). x.at) e)
-begins_from p (c ∷ cs) b (inr m) = omega (arith, begins_from (p + box_len c) cs b m)
-
--- a position is held by one box
-held_once : (p : ℕ) (bs : List Box) (b c : PlacedBox) (i : ℕ) → Member b (placed_from p bs) → Member c (placed_from p bs) → Holds b i → Holds c i → b ≡ c
-held_once p [] b c i m n h k = absurd m
-held_once p (x ∷ xs) b c i (inl e) (inl f) h k = e ∙ sym f
-held_once p (x ∷ xs) b c i (inl e) (inr n) h k =
-    let at : b.at ≡ p = ap (λ (y : PlacedBox). y.at) e in
-    let size : box_len b.box ≡ box_len x = ap (λ (y : PlacedBox). box_len y.box) e in
-    absurd (omega (arith, begins_from (p + box_len x) xs c n, h.1, k.0, at, size))
-held_once p (x ∷ xs) b c i (inr m) (inl f) h k =
-    let at : c.at ≡ p = ap (λ (y : PlacedBox). y.at) f in
-    let size : box_len c.box ≡ box_len x = ap (λ (y : PlacedBox). box_len y.box) f in
-    absurd (omega (arith, begins_from (p + box_len x) xs b m, k.1, h.0, at, size))
-held_once p (x ∷ xs) b c i (inr m) (inr n) h k = held_once (p + box_len x) xs b c i m n h k
 
 -- ---- what is excluded
 
@@ -265,21 +221,6 @@ text_told file roots size excluded text r c = c.bytes ∙ parts_told c.excludes 
         part_told c.excludes b is (λ i h. tested b m is i h (is_left_out b.box) (c.excludes i) refl refl)
 
 -- ---- the test
-
--- some member of a list passes
-any_member : {A : Type 0} (p : A → Bool) (xs : List A) → list_any p xs ≡ true → (x : A) × Member x xs × (p x ≡ true)
-any_member p [] e = absurd (cc (e))
-any_member {A} p (y ∷ ys) e = go (p y) refl e (any_member p ys)
-  where
-    go : (t : Bool) → p y ≡ t → (t || list_any p ys) ≡ true → (list_any p ys ≡ true → (x : A) × Member x ys × (p x ≡ true)) → (x : A) × Member x (y ∷ ys) × (p x ≡ true)
-    go true s h more = (y, inl refl, s)
-    go false s h more = let r = more h in (r.0, inr r.1, r.2)
-
--- and then some does
-member_any : {A : Type 0} (p : A → Bool) (xs : List A) (x : A) → Member x xs → p x ≡ true → list_any p xs ≡ true
-member_any p [] x m e = absurd m
-member_any p (y ∷ ys) x (inl f) e = or_left (p y) (list_any p ys) (ap p (sym f) ∙ e)
-member_any p (y ∷ ys) x (inr m) e = or_right (p y) (list_any p ys) (member_any p ys x m e)
 
 -- a root box that is left out holds the position
 abbrev holds_out : ℕ → PlacedBox → Bool

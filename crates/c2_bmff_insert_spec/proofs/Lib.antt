@@ -1,4 +1,4 @@
 mod Bases
 mod Covering
-mod Frames
-mod Placing
+pub mod Frames
+pub mod Placing

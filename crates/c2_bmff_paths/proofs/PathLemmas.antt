@@ -131,7 +131,9 @@ step_here : (parts : List (List ℕ)) (i : ℕ) (part : List ℕ) → (i < lengt
 step_here parts i part h = ap each_step (drop_more parts i part h.0) ∙ ap (λ p. joined (step_of p) (each_step (drop (i + 1) parts))) (sym h.1)
 
 -- a turn of the loop that reads a step
-pub step_next : (parts : List (List ℕ)) (i : ℕ) (part : List ℕ) (x : PathStep) (found : List PathStep) → (i < length parts) × (part ≡ get_or parts i part) → each_step parts ≡ after found (each_step (drop i parts)) → Some x ≡ step_of part → each_step parts ≡ after (found ++ x ∷ []) (each_step (drop (i + 1) parts))
+pub step_next : (parts : List (List ℕ)) (i : ℕ) (part : List ℕ) (x : PathStep) (found : List PathStep)
+    → (i < length parts) × (part ≡ get_or parts i part) → each_step parts ≡ after found (each_step (drop i parts))
+    → Some x ≡ step_of part → each_step parts ≡ after (found ++ x ∷ []) (each_step (drop (i + 1) parts))
 step_next parts i part x found h so_far here = so_far ∙ ap (after found) (step_here parts i part h ∙ ap (λ s. joined s (each_step (drop (i + 1) parts))) (sym here)) ∙ onto found x (each_step (drop (i + 1) parts))
 
 -- a turn that reads none

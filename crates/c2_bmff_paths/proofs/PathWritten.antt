@@ -41,7 +41,12 @@ nth_digits k ds nth e h = go (list_all is_ascii_digit ds && not (get_or ds 0 0x3
     by : list_all is_ascii_digit ds ≡ true → not (get_or ds 0 0x30 == 0x30) ≡ true → leb k max_child_index ≡ true → nth_text (Some k) ≡ 0x5B ∷ ds ++ 0x5D ∷ []
     by all first small =
         ap (λ (xs : List ℕ). 0x5B ∷ xs ++ 0x5D ∷ [])
-        (ap decimal e ∙ decimal-digits_value (numerals_by_value (λ (xs : List ℕ). all_ascii_digits xs ≡ true) tells_all_ascii_digits) ds (sym (digits_same ds) ∙ all) (some_of ds first) (not_zero ds first) (let s : k ≤ max_child_index = leb-true k max_child_index small in let t : k < 2 ^ 64 = omega (arith, s) in subst (λ (n : ℕ). n < 2 ^ 64) e t))
+        (ap decimal e
+        ∙ decimal-digits_value (numerals_by_value (λ (xs : List ℕ). all_ascii_digits xs ≡ true) tells_all_ascii_digits) ds
+        (sym (digits_same ds) ∙ all) (some_of ds first) (not_zero ds first)
+        (let s : k ≤ max_child_index = leb-true k max_child_index small in
+        let t : k < 2 ^ 64 = omega (arith, s) in
+        subst (λ (n : ℕ). n < 2 ^ 64) e t))
 
     go : (t : Bool) → (list_all is_ascii_digit ds && not (get_or ds 0 0x30 == 0x30) && leb 1 k && leb k max_child_index) ≡ t → cond t (Some (Some k)) None ≡ Some nth → nth_text nth ≡ 0x5B ∷ ds ++ 0x5D ∷ []
     go false t n = absurd (cc (n))

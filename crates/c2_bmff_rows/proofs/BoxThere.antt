@@ -66,7 +66,10 @@ small_4 : (xs : List ℕ) → AreBytes xs → from_be_bytes w32 xs < 2 ^ 32
 small_4 xs h = omega (arith, h 0, h 1, h 2, h 3)
 
 -- a box whose header stands at the front of the rest
-begins : (f : SizeForm) (rest k : List ℕ) (len : ℕ) (e : Bool) → header_len f ≤ len → len ≤ length rest → header_bytes f len k ≡ take (header_len f) rest → length k ≡ 4 → size_fits f len ≡ true → (bytes_eq k uuid_kind ≡ true → header_len f + 16 ≤ len) → is_to_end f ≡ e → (e ≡ true → len ≡ length rest) → BeginsWith rest (header_len f) len k e
+begins : (f : SizeForm) (rest k : List ℕ) (len : ℕ) (e : Bool) → header_len f ≤ len → len ≤ length rest
+    → header_bytes f len k ≡ take (header_len f) rest → length k ≡ 4 → size_fits f len ≡ true
+    → (bytes_eq k uuid_kind ≡ true → header_len f + 16 ≤ len) → is_to_end f ≡ e → (e ≡ true → len ≡ length rest)
+    → BeginsWith rest (header_len f) len k e
 begins f rest k len e least inside header four fits user end ends =
     let size : length (take (len - header_len f) (drop (header_len f) rest)) ≡ len - header_len f = length-take-le (len - header_len f) (drop (header_len f) rest) (omega (arith, length-drop (header_len f) rest, least, inside)) in
     let total : header_len f + length (take (len - header_len f) (drop (header_len f) rest)) ≡ len = omega (arith, size, least) in
@@ -107,7 +110,11 @@ box_there p rest bytes fits none = go (stated_size rest == 0) (stated_size rest 
     n : ℕ
     n = stated_size rest
 
-    tests : (ltb (length rest) 8 ≡ false) × (ltb (length rest) (cond (n == 1) 16 8) ≡ false) × ((leb 2 n && ltb n 8) ≡ false) × (((n == 1) && ltb (stated_long_size rest) 16) ≡ false) × (ltb (length rest) (len_by (length rest) n (stated_long_size rest)) ≡ false) × ((bytes_eq (stated_kind rest) uuid_kind && ltb (len_by (length rest) n (stated_long_size rest)) (cond (n == 1) 16 8 + 16)) ≡ false)
+    tests : (ltb (length rest) 8 ≡ false) × (ltb (length rest) (cond (n == 1) 16 8) ≡ false)
+        × ((leb 2 n && ltb n 8) ≡ false) × (((n == 1) && ltb (stated_long_size rest) 16) ≡ false)
+        × (ltb (length rest) (len_by (length rest) n (stated_long_size rest)) ≡ false)
+        × ((bytes_eq (stated_kind rest) uuid_kind
+        && ltb (len_by (length rest) n (stated_long_size rest)) (cond (n == 1) 16 8 + 16)) ≡ false)
     tests = six_pass _ _ _ _ _ _ (Truncated (p + length rest)) (BadBox p) (sym (file_by p rest) ∙ none)
 
     eight : 8 ≤ length rest
@@ -137,7 +144,10 @@ box_there p rest bytes fits none = go (stated_size rest == 0) (stated_size rest 
         let wide : 16 ≤ stated_long_size rest = ltb-false (stated_long_size rest) 16 (and_second (n == 1) _ tests.3 b) in
         let within : stated_long_size rest ≤ length rest = inside (stated_long_size rest) len in
         subst (λ (t : Bool). BeginsWith rest (cond (n == 1) 16 8) (cond t (length rest) (cond (n == 1) (stated_long_size rest) n)) (stated_kind rest) t) (sym a) (subst (λ (t : Bool). BeginsWith rest (cond t 16 8) (cond t (stated_long_size rest) n) (stated_kind rest) false) (sym b)
-        (begins long rest (stated_kind rest) (stated_long_size rest) false wide within (header_long rest (stated_long_size rest) bytes (omega (arith, wide, within)) one refl) four ((Decides-ltb (stated_long_size rest) (2 ^ 64)).1 (omega (arith, within, fits))) (room 16 (stated_long_size rest) header len) refl (λ e. absurd (cc (e)))))
+        (begins long rest (stated_kind rest) (stated_long_size rest) false wide within
+        (header_long rest (stated_long_size rest) bytes (omega (arith, wide, within)) one refl) four
+        ((Decides-ltb (stated_long_size rest) (2 ^ 64)).1 (omega (arith, within, fits)))
+        (room 16 (stated_long_size rest) header len) refl (λ e. absurd (cc (e)))))
     go false false a b =
         let header : cond (n == 1) 16 8 ≡ 8 = ap (λ t. cond t 16 8) b in
         let len : len_by (length rest) n (stated_long_size rest) ≡ n = ap (λ t. cond t (length rest) (cond (n == 1) (stated_long_size rest) n)) a ∙ ap (λ t. cond t (stated_long_size rest) n) b in

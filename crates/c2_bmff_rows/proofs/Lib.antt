@@ -3,3 +3,4 @@ pub mod Faults
 pub mod BoxThere
 pub mod StandLemmas
 pub mod PathRows
+pub mod HeldLemmas

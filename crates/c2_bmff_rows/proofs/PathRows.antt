@@ -193,10 +193,14 @@ path_rows file bytes fits ps steps b (below _ step next more _ parent children e
     let s : Stands file parent = all_member (Stands file) (matched step ps) parent (step_stands (Stands file) step ps h) m in
     let k : KidsAre file parent children = kids_are file parent children bytes fits s has in
     let rest : OnRows file (on_rows file (map row_of children) (next ∷ more)) b = path_rows file bytes fits children (next ∷ more) b on k.stand in
+    let each : RootBox → List RootBox = λ (p : RootBox). on_rows file (kids file p) (next ∷ more) in
+    let rows : List RootBox = row_matched step (map row_of ps) in
     record {
       row =
-          subst (Member (row_of b)) (sym (ap (λ t. cond t (flat_map (λ (p : RootBox). on_rows file (kids file p) (next ∷ more)) (row_matched step (map row_of ps))) []) enters))
-          (member_flat (λ (p : RootBox). on_rows file (kids file p) (next ∷ more)) (row_matched step (map row_of ps)) (row_of parent) (row_of b) (subst (Member (row_of parent)) (sym (step_rows step ps)) (member_map row_of (matched step ps) parent m)) (subst (λ (rs : List RootBox). Member (row_of b) (on_rows file rs (next ∷ more))) (sym k.rows) rest.row));
+          subst (Member (row_of b)) (sym (ap (λ t. cond t (flat_map each rows) []) enters))
+          (member_flat each rows (row_of parent) (row_of b)
+          (subst (Member (row_of parent)) (sym (step_rows step ps)) (member_map row_of (matched step ps) parent m))
+          (subst (λ (rs : List RootBox). Member (row_of b) (on_rows file rs (next ∷ more))) (sym k.rows) rest.row));
       stands = rest.stands;
     }
 
@@ -211,7 +215,11 @@ rows_path file bytes fits (step ∷ next ∷ more) ps r h m = by (is_entered ste
     each : RootBox → List RootBox
     each p = on_rows file (kids file p) (next ∷ more)
 
-    by : (t : Bool) → is_entered step.kind ≡ t → Member r (cond t (flat_map (λ (p : RootBox). on_rows file (kids file p) (next ∷ more)) (row_matched step (map row_of ps))) []) → ((children : List PlacedBox) → AllByRecursion (Stands file) children → Member r (on_rows file (map row_of children) (next ∷ more)) → HasBox file children (next ∷ more) r) → HasBox file ps (step ∷ next ∷ more) r
+    by : (t : Bool) → is_entered step.kind ≡ t
+        → Member r (cond t (flat_map each (row_matched step (map row_of ps))) [])
+        → ((children : List PlacedBox) → AllByRecursion (Stands file) children
+        → Member r (on_rows file (map row_of children) (next ∷ more)) → HasBox file children (next ∷ more) r)
+        → HasBox file ps (step ∷ next ∷ more) r
     by false e n rec = absurd n
     by true e n rec =
         let f = flat_member (λ (p : RootBox). on_rows file (kids file p) (next ∷ more)) (row_matched step (map row_of ps)) r n in

@@ -114,18 +114,31 @@ joined_some r (Some more) rows e = (more, refl)
 pub told_filled : (n at : ℕ) (rest : List ℕ) (rows : List RootBox) → AreBytes rest → length rest < 2 ^ 64 → child_rows n at rest ≡ Some rows → Fills rest
 told_filled n at [] rows bytes fits e = record { boxes = []; sized = tt; bytes = refl }
 told_filled zero at (x ∷ xs) rows bytes fits e = absurd (cc (e))
-told_filled (suc n) at (x ∷ xs) rows bytes fits e = by (box_fault 0 (x ∷ xs)) (stated_size (x ∷ xs) == 0) refl refl (λ more h. told_filled n (at + stated_len (x ∷ xs)) (drop (stated_len (x ∷ xs)) (x ∷ xs)) more (bytes-drop (stated_len (x ∷ xs)) (x ∷ xs) bytes) (omega (arith, length-drop (stated_len (x ∷ xs)) (x ∷ xs), fits)) h)
+told_filled (suc n) at (x ∷ xs) rows bytes fits e =
+    by (box_fault 0 (x ∷ xs)) (stated_size (x ∷ xs) == 0) refl refl
+    (λ more h. told_filled n (at + len) left more (bytes-drop len (x ∷ xs) bytes)
+    (omega (arith, length-drop len (x ∷ xs), fits)) h)
   where
-    tests : Option MediaError → Bool → Option (List RootBox)
-    tests fault zero' = cond (not (is_some fault) && not zero') (joined (Some (child_row at (x ∷ xs))) (child_rows n (at + stated_len (x ∷ xs)) (drop (stated_len (x ∷ xs)) (x ∷ xs)))) None
+    len : ℕ
+    len = stated_len (x ∷ xs)
 
-    by : (fault : Option MediaError) (zero' : Bool) → box_fault 0 (x ∷ xs) ≡ fault → (stated_size (x ∷ xs) == 0) ≡ zero' → ((more : List RootBox) → child_rows n (at + stated_len (x ∷ xs)) (drop (stated_len (x ∷ xs)) (x ∷ xs)) ≡ Some more → Fills (drop (stated_len (x ∷ xs)) (x ∷ xs))) → Fills (x ∷ xs)
+    left : List ℕ
+    left = drop len (x ∷ xs)
+
+    tests : Option MediaError → Bool → Option (List RootBox)
+    tests fault zero' =
+        cond (not (is_some fault) && not zero')
+        (joined (Some (child_row at (x ∷ xs))) (child_rows n (at + len) left)) None
+
+    by : (fault : Option MediaError) (zero' : Bool) → box_fault 0 (x ∷ xs) ≡ fault → (stated_size (x ∷ xs) == 0) ≡ zero'
+        → ((more : List RootBox) → child_rows n (at + len) left ≡ Some more → Fills left) → Fills (x ∷ xs)
     by (Some f) z fa za go = absurd (let wrong = sym (ap₂ tests fa za) ∙ e in cc (wrong))
     by None true fa za go = absurd (let wrong = sym (ap₂ tests fa za) ∙ e in cc (wrong))
     by None false fa za go =
-        let c : BeginsWith (x ∷ xs) (stated_header_len (x ∷ xs)) (stated_len (x ∷ xs)) (stated_kind (x ∷ xs)) (stated_size (x ∷ xs) == 0) = box_there 0 (x ∷ xs) bytes fits fa in
-        let more = joined_some (child_row at (x ∷ xs)) (child_rows n (at + stated_len (x ∷ xs)) (drop (stated_len (x ∷ xs)) (x ∷ xs))) rows (sym (ap₂ tests fa za) ∙ e) in
-        let others : Fills (drop (stated_len (x ∷ xs)) (x ∷ xs)) = go more.0 more.1 in
+        let c : BeginsWith (x ∷ xs) (stated_header_len (x ∷ xs)) len (stated_kind (x ∷ xs)) (stated_size (x ∷ xs) == 0) =
+        box_there 0 (x ∷ xs) bytes fits fa in
+        let more = joined_some (child_row at (x ∷ xs)) (child_rows n (at + len) left) rows (sym (ap₂ tests fa za) ∙ e) in
+        let others : Fills left = go more.0 more.1 in
         record {
           boxes = c.box ∷ others.boxes;
           sized = (record { is_box = c.is_box; sized = c.end_is ∙ za }, others.sized);
@@ -166,26 +179,50 @@ pub record KidsAre (file : List ℕ) (p : PlacedBox) (children : List PlacedBox)
   pub rows : kids file (row_of p) ≡ map row_of children
   pub stand : AllByRecursion (Stands file) children
 
+-- what a file has in the payload of a box has bytes
+payload_bytes : (file : List ℕ) (p : PlacedBox) → AreBytes file → AreBytes (payload_at file (row_of p))
+payload_bytes file p bytes =
+    let start : ℕ = p.at + header_len p.box.form in
+    bytes-take (box_len p.box - header_len p.box.form) (drop start file) (bytes-drop start file bytes)
+
+-- and isn't too long
+payload_small : (file : List ℕ) (p : PlacedBox) → length file < 2 ^ 62 → length (payload_at file (row_of p)) < 2 ^ 64
+payload_small file p fits =
+    let start : ℕ = p.at + header_len p.box.form in
+    omega (arith, length-take (box_len p.box - header_len p.box.form) (drop start file), length-drop start file, fits)
+
 -- the rows of the children of a box are those of its row's children, and they stand in the file
-pub kids_are : (file : List ℕ) (p : PlacedBox) (children : List PlacedBox) → AreBytes file → length file < 2 ^ 62 → Stands file p → HasChildren p children → KidsAre file p children
+pub kids_are : (file : List ℕ) (p : PlacedBox) (children : List PlacedBox) → AreBytes file → length file < 2 ^ 62
+    → Stands file p → HasChildren p children → KidsAre file p children
 kids_are file p children bytes fits s (filled boxes f) =
     let i : Inner file p = inner file p s in
-    let small : length (payload_at file (row_of p)) < 2 ^ 64 = omega (arith, length-take (box_len p.box - header_len p.box.form) (drop (p.at + header_len p.box.form) file), length-drop (p.at + header_len p.box.form) file, fits) in
+    let payload : List ℕ = payload_at file (row_of p) in
+    let start : ℕ = p.at + header_len p.box.form in
     record {
-      rows = ap or_none (rows_told boxes (length (payload_at file (row_of p))) (p.at + header_len p.box.form) (payload_at file (row_of p)) f.forms (bytes-take (box_len p.box - header_len p.box.form) (drop (p.at + header_len p.box.form) file) (bytes-drop (p.at + header_len p.box.form) file bytes)) small (i.payload ∙ f.bytes) (omega arith));
-      stand = all_stand file (p.at + header_len p.box.form) boxes i.tail (sized_boxes boxes f.forms) i.inside (i.bytes ∙ ap (λ (ys : List ℕ). ys ++ i.tail) f.bytes);
+      rows =
+          ap or_none
+          (rows_told boxes (length payload) start payload f.forms (payload_bytes file p bytes) (payload_small file p fits)
+          (i.payload ∙ f.bytes) (omega arith));
+      stand = all_stand file start boxes i.tail (sized_boxes boxes f.forms) i.inside (i.bytes ∙ ap (λ (ys : List ℕ). ys ++ i.tail) f.bytes);
     }
 kids_are file p children bytes fits s (unfilled never) = record {
-  rows = go (child_rows (length (payload_at file (row_of p))) (p.at + header_len p.box.form) (payload_at file (row_of p))) refl;
+  rows = go (child_rows (length payload) start payload) refl;
   stand = tt;
 }
   where
-    go : (m : Option (List RootBox)) → child_rows (length (payload_at file (row_of p))) (p.at + header_len p.box.form) (payload_at file (row_of p)) ≡ m → or_none (child_rows (length (payload_at file (row_of p))) (p.at + header_len p.box.form) (payload_at file (row_of p))) ≡ []
+    payload : List ℕ
+    payload = payload_at file (row_of p)
+
+    start : ℕ
+    start = p.at + header_len p.box.form
+
+    go : (m : Option (List RootBox)) → child_rows (length payload) start payload ≡ m
+        → or_none (child_rows (length payload) start payload) ≡ []
     go None e = ap or_none e
     go (Some rows) e =
         let i : Inner file p = inner file p s in
-        let small : length (payload_at file (row_of p)) < 2 ^ 64 = omega (arith, length-take (box_len p.box - header_len p.box.form) (drop (p.at + header_len p.box.form) file), length-drop (p.at + header_len p.box.form) file, fits) in
-        let fills : Fills (payload_at file (row_of p)) = told_filled (length (payload_at file (row_of p))) (p.at + header_len p.box.form) (payload_at file (row_of p)) rows (bytes-take (box_len p.box - header_len p.box.form) (drop (p.at + header_len p.box.form) file) (bytes-drop (p.at + header_len p.box.form) file bytes)) small e in
+        let fills : Fills payload =
+        told_filled (length payload) start payload rows (payload_bytes file p bytes) (payload_small file p fits) e in
         absurd (never fills.boxes (record { bytes = sym i.payload ∙ fills.bytes; forms = fills.sized }))
 
 -- each box has children, maybe none

@@ -2,7 +2,7 @@
 ghost use Rattle.c2_build.specs.Asked.{OneEmbedAsks, OnePlanAsks, SomeEmbedAsks, SomePlanAsks};
 
 use crate::laws::each_build_comes_to_something;
-use c2_cbor::one_item;
+use c2_cbor_spec::one_item;
 use c2_definition::each_definition_is_read_one_way;
 use c2_new_signature::each_message_is_accepted_or_refused_for_one_test;
 use c2_validate::{each_file_has_a_check, one_check, one_opening};

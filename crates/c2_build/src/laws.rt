@@ -6,7 +6,7 @@ ghost use Rattle.c2_build.specs.Meeting.{UnrefusedIsEmbedded, UnrefusedIsPlanned
 
 use c2_bmff_boxes::a_file_has_one_list_of_roots;
 use c2_bmff_insert_spec::a_base_has_no_store;
-use c2_cbor::one_item;
+use c2_cbor_spec::one_item;
 use c2_chain::one_reading;
 use c2_definition::{definitions_are_well_formed, each_definition_is_read_one_way};
 use c2_new_bmff_spec::a_built_bmff_has_its_base;

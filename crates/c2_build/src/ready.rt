@@ -25,7 +25,7 @@ use c2_build_base::{MediaFile, MediaRead, open_media, read_media};
 use c2_build_drafts::{DraftedBuild, make_ready};
 use c2_build_in_place::Ready;
 use c2_build_refusals::{BuildError, padded, read_definition_file, read_message_file};
-use c2_cbor::one_item;
+use c2_cbor_spec::one_item;
 use c2_definition::{Definition, each_definition_is_read_one_way};
 use c2_hash::Hashing;
 use c2_judge::Judge;

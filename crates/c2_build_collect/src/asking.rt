@@ -1,7 +1,7 @@
 // What a build asks of its judges whose new store collects; nothing is computed.
 ghost use Rattle.c2_build_collect.specs.Asked.{OneCollectAsks, OneCollectPlanAsks, SomeCollectAsks, SomeCollectPlanAsks};
 
-use c2_cbor::one_item;
+use c2_cbor_spec::one_item;
 use c2_collect_spec::{each_collected_build_comes_to_something, what_is_collected_is_one};
 use c2_definition::each_definition_is_read_one_way;
 use c2_new_file_spec::{a_place_is_one, what_is_left_is_one};

@@ -20,7 +20,7 @@ use c2_base::Source;
 use c2_build_base::{MediaFile, read_media};
 use c2_build_drafts::DraftedBuild;
 use c2_build_refusals::{BuildError, padded, read_definition_file, read_message_file};
-use c2_cbor::one_item;
+use c2_cbor_spec::one_item;
 use c2_definition::each_definition_is_read_one_way;
 use c2_hash::Hashing;
 use c2_judge::Judge;

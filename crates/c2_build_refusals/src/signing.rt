@@ -12,10 +12,10 @@ ghost use Rattle.c2_build_refusals.specs.Refusals.{IsReserveRefusal};
 
 use crate::BuildError;
 use c2_base::{Blob, NoMemory};
-use c2_cbor::Cbor;
 use c2_definition::Definition;
 use c2_new_signature::{MessageError, padded_message};
 use c2_sigstruct::{Sign1, question};
+use c2_spec::Cbor;
 use std::alloc::Global;
 
 // A map without entries.

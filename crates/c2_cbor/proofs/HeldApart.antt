@@ -8,14 +8,14 @@ use Rattle.c2_spec.specs.Cbor.Deterministic.{preferred}
 use Rattle.c2_spec.specs.declared.cbor.Cbor.{Cbor}
 use Rattle.c2_spec.proofs.TextKeys.{text_is}
 use Rattle.c2_cbor.specs.Apart.{texts_list, with_value, with_texts, whole_value, put_in, pairs_with, wants, OnlyIf, GivesSome}
-use Rattle.c2_cbor.specs.declared.fault.Fault.{Fault}
-use Rattle.c2_cbor.specs.declared.fault.ReadError.{ReadError}
-use Rattle.c2_cbor.specs.declared.fault.ReadError.TheVariants as errors
-use Rattle.c2_cbor.specs.declared.head.Count.{Count}
-use Rattle.c2_cbor.specs.declared.head.Head.TheVariants as heads
-use Rattle.c2_cbor.specs.Reading.{Read, ◌>>=◌, Fails, is_known, with_key, pairs_seen, head_at, items, pairs, item_at}
-use Rattle.c2_cbor.specs.Tracking.{spelled, known_after, keys_of}
-use Rattle.c2_cbor.proofs.Keys.{known_new, known_stays}
+use Rattle.c2_cbor_spec.specs.declared.fault.Fault.{Fault}
+use Rattle.c2_cbor_spec.specs.declared.fault.ReadError.{ReadError}
+use Rattle.c2_cbor_spec.specs.declared.fault.ReadError.TheVariants as errors
+use Rattle.c2_cbor_spec.specs.declared.head.Count.{Count}
+use Rattle.c2_cbor_spec.specs.declared.head.Head.TheVariants as heads
+use Rattle.c2_cbor_spec.specs.Reading.{Read, ◌>>=◌, Fails, is_known, with_key, pairs_seen, head_at, items, pairs, item_at}
+use Rattle.c2_cbor_spec.specs.Tracking.{spelled, known_after, keys_of}
+use Rattle.c2_cbor_spec.proofs.Keys.{known_new, known_stays}
 use Rattle.c2_cbor.proofs.Loops.{item_at-step}
 
 -- one of the keys is this text

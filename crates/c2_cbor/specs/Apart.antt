@@ -3,9 +3,9 @@ use Rattle.std.specs.Prelude.{◌≡◌, ℕ, List, [], ◌∷◌, map, Bool, tr
 use Rattle.c2_spec.specs.Cbor.Item.{Item, text, list, dict, Pairs, no_pairs, pair}
 use Rattle.c2_spec.specs.Cbor.View.{items_of}
 use Rattle.c2_spec.specs.Cbor.Lookup.{is_text}
-use Rattle.c2_cbor.specs.declared.fault.Fault.{Fault}
-use Rattle.c2_cbor.specs.declared.fault.ReadError.{ReadError}
-use Rattle.c2_cbor.specs.Reading.{Fails}
+use Rattle.c2_cbor_spec.specs.declared.fault.Fault.{Fault}
+use Rattle.c2_cbor_spec.specs.declared.fault.ReadError.{ReadError}
+use Rattle.c2_cbor_spec.specs.Reading.{Fails}
 
 -- the list of these texts
 abbrev pub texts_list : List (List ℕ) → Item

@@ -11,15 +11,15 @@ ghost use Rattle.c2_spec.specs.Cbor.View.{view};
 ghost use Rattle.c2_spec.specs.declared.cbor.CborError.{CborError as AnyError};
 ghost use Rattle.c2_spec.specs.declared.cbor.CborError.TheVariants.{NoMemory, Trailing};
 ghost use Rattle.c2_cbor.specs.Apart.{GivesSome, OnlyIf, whole_value, pairs_with, texts_list, wants, with_texts};
-ghost use Rattle.c2_cbor.specs.Reading.{Gives, is_known, item_at, items, pairs, pairs_seen};
+ghost use Rattle.c2_cbor_spec.specs.Reading.{Gives, is_known, item_at, items, pairs, pairs_seen};
 
-use crate::decoding::placed;
-use crate::fault::ReadError;
-use crate::head::{Count, Head, read_head};
-use crate::lookup::is_key;
+use crate::decoding::{end_before, read_error};
 use crate::read::{after_end, check_keys, one_fewer, push_member, read_item};
 use c2_base::Texts;
 use c2_base::limits::MAX_CBOR_DEPTH;
+use c2_cbor_fields::is_key;
+use c2_cbor_heads::read_head;
+use c2_cbor_spec::{Count, Head, ReadError};
 use c2_spec::{Cbor, CborError};
 use std::alloc::Global;
 
@@ -212,11 +212,9 @@ fn decode_apart(alloc: Global, bytes: &[u8], key: &str) -> Result<(Held, usize),
     ensures refused { (e : AnyError) → HasFault bytes.now e → Refuses NoMemory result e }
     ensures prefix { (at : ℕ) → result ≡ Err (Trailing at) → ⊥ }
 {
-    let len = bytes.len();
     match read_apart(alloc, bytes, key) {
-        Ok((held, rest)) => Ok((held, len - rest.len())),
-        Err(ReadError::Memory) => Err(CborError::NoMemory),
-        Err(ReadError::Fault(fault)) => Err(placed(len, fault)),
+        Ok((held, rest)) => Ok((held, end_before(bytes, rest))),
+        Err(e) => Err(read_error(bytes, e)),
     }
 }
 

@@ -5,7 +5,9 @@
 #![tactic(auto)]
 
 mod lists;
+mod lookup;
 mod single;
 
 pub use lists::{optional_references, optional_texts, references};
+pub use lookup::{field, is_key, read_ref};
 pub use single::{byte_string, is_map, number, optional_reference, optional_text, text};

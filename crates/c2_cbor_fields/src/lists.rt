@@ -4,9 +4,10 @@ ghost use Rattle.c2_spec.specs.Cbor.View.{view, items_view};
 ghost use Rattle.c2_spec.specs.Cbor.Lookup.{field_of, ref_of};
 ghost use Rattle.c2_spec.specs.Cbor.Fields as form;
 
+use crate::lookup::{field, read_ref};
 use crate::single::text_in;
 use c2_base::{NoMemory, Texts};
-use c2_cbor::{Cbor, Refs, field, read_ref};
+use c2_spec::{Cbor, Refs};
 use std::alloc::Global;
 
 #[tactic(auto, using(c2_spec::proofs::CborEach::each_next, c2_spec::proofs::CborEach::each_none, c2_spec::proofs::CborEach::each_all))]

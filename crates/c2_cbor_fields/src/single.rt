@@ -4,8 +4,9 @@ ghost use Rattle.c2_spec.specs.Cbor.View.{view};
 ghost use Rattle.c2_spec.specs.Cbor.Lookup.{field_of};
 ghost use Rattle.c2_spec.specs.Cbor.Fields as form;
 
+use crate::lookup::{field, read_ref};
 use c2_base::{Blob, NoMemory, Text};
-use c2_cbor::{Cbor, Ref, field, read_ref};
+use c2_spec::{Cbor, Ref};
 use std::alloc::Global;
 
 /// Whether the item is a map. Takes no memory.

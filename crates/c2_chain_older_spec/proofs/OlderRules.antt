@@ -1,10 +1,9 @@
 -- The rules of a manifest that a later one leaves behind: where they held, they hold.
-use Rattle.std.proofs.Common.{◌≡◌, inl, inr, ℕ, zero, suc, ◌+◌, Bool, true, false, not, ◌&&◌, ◌||◌, cond, List, [], ◌∷◌, ◌++◌, length, take, Option, Some, None, refl, sym, ap, ◌∙◌, subst}
+use Rattle.std.proofs.Common.{◌≡◌, inl, inr, ℕ, ◌+◌, Bool, true, false, not, ◌&&◌, ◌||◌, cond, List, [], ◌∷◌, ◌++◌, length, take, Option, Some, None, refl, sym, ap, ◌∙◌, subst}
 use Rattle.std.specs.Prelude.{◌==◌, nat_lt, filter, find, is_some, is_none, option_and_then}
 use Rattle.std.specs.List.{AllByRecursion}
 use Rattle.std.specs.Option.{option_map_or}
 use Rattle.std.proofs.lemmas.Bool.{and_left, and_right, not_from_true, both_ways, or_left, or_right}
-use Rattle.std.proofs.lemmas.Slice.Eq.{bytes_eq-Decides}
 use Rattle.c2_spec.specs.C2pa.Assertion.{manifest_named}
 use Rattle.c2_spec.specs.C2pa.Manifest.{Superbox, is_given}
 use Rattle.c2_spec.specs.declared.assertion.Ingredient.{Ingredient}
@@ -12,20 +11,24 @@ use Rattle.c2_spec.specs.declared.assertion.Kind.{Kind}
 use Rattle.c2_spec.specs.declared.assertion.Kind.TheVariants as kinds
 use Rattle.c2_spec.specs.declared.cbor.Ref.{Ref}
 use Rattle.c2_spec.specs.declared.digest.Alg.{Alg}
+use Rattle.c2_spec.proofs.GivenLabels.{given_is, is_given_back}
 use Rattle.c2_rules.specs.Chains.{label_in, named_by, named_in, entry_label, passes_some}
 use Rattle.c2_rules.specs.Ingredients.{is_ingredient, assertion_uri}
 use Rattle.c2_rules.specs.Readings.{ReadBox, Reading, entries_in, redactions_in, value_in}
-use Rattle.c2_rules.specs.Rules.{claim_tests, rest_tests, unjudged_tests, ingredient_tests, child_tests, reference_tests, standing_tests, entry_tests, labelled_tests, box_test, redaction_tests, binding_tests, update_tests, standard_tests, hash_kind_test, form_tests, kind_tests, parsed_tests, order_tests, is_labelled, box_with, box_has_digest, labels_in, bindings_in, has_other_hash, parents_in, reads_parent, is_parent, is_one_parent, ingredients_in, is_wrong_signature, assertion_box_uri, claim_uri, label_kind, is_other_hash, lists_label}
+use Rattle.c2_rules.specs.Rules.{claim_tests, rest_tests, unjudged_tests, ingredient_tests, child_tests}
+use Rattle.c2_rules.specs.Rules.{reference_tests, standing_tests, entry_tests, labelled_tests, box_test}
+use Rattle.c2_rules.specs.Rules.{redaction_tests, binding_tests, update_tests, standard_tests, hash_kind_test}
+use Rattle.c2_rules.specs.Rules.{form_tests, kind_tests, parsed_tests, order_tests, is_labelled, box_with}
+use Rattle.c2_rules.specs.Rules.{box_has_digest, labels_in, bindings_in, has_other_hash, parents_in, reads_parent}
+use Rattle.c2_rules.specs.Rules.{is_parent, is_one_parent, ingredients_in, is_wrong_signature, assertion_box_uri}
+use Rattle.c2_rules.specs.Rules.{claim_uri, label_kind, is_other_hash, lists_label}
 use Rattle.c2_rules.specs.Seen.{Seen, Standing, missing, later, touched, whole}
 use Rattle.c2_rules.specs.Tests.{Test, test, each, over_all, AllHold}
 use Rattle.c2_rules.specs.declared.code.Code.TheVariants.{ProfileAssertionUri}
 use Rattle.c2_rules.specs.declared.parsed.Parsed.{Parsed}
 use Rattle.c2_rules.specs.declared.parsed.Parsed.TheVariants.{NoItem, NoForm, Value}
+use Rattle.c2_rules.proofs.Conditions.{Holds, all_each, all_hold}
 use Rattle.c2_chain_older_spec.specs.Older.{is_kept, thinned, has_signature, Alike, StaysAlike, Loses, inactive}
-
--- a condition holds
-abbrev pub Holds : Test → Type 0
-Holds t = t.fails ≡ false
 
 -- what holds of all in one list and of all in another holds of all in the two in a row
 each-append : {X : Type 0} (P : X → Type 0) (xs ys : List X) → AllByRecursion P xs → AllByRecursion P ys → AllByRecursion P (xs ++ ys)
@@ -96,7 +99,11 @@ child_alike : (hash : Alg → List ℕ → List ℕ) (s t : Seen) (uri : List �
 child_alike hash s t uri None same a h = tt
 child_alike hash s t uri (Some g) same a h = by_manifest g.manifest refl
   where
-    by_label : (m : Ref) (o : Option (List ℕ)) → g.manifest ≡ Some m → manifest_named m.url ≡ o → AllByRecursion Holds (option_map_or (λ (label : List ℕ). standing_tests hash s.own uri m g.signature (s.standing label)) o []) → AllByRecursion Holds (option_map_or (λ (label : List ℕ). standing_tests hash t.own uri m g.signature (t.standing label)) o [])
+    by_label : (m : Ref) (o : Option (List ℕ)) → g.manifest ≡ Some m → manifest_named m.url ≡ o
+        → AllByRecursion Holds (option_map_or
+        (λ (label : List ℕ). standing_tests hash s.own uri m g.signature (s.standing label)) o [])
+        → AllByRecursion Holds (option_map_or
+        (λ (label : List ℕ). standing_tests hash t.own uri m g.signature (t.standing label)) o [])
     by_label m None e f k = tt
     by_label m (Some label) e f k =
         let named : named_by (Some g) ≡ Some label = ap (option_and_then (λ (ref : Ref). manifest_named ref.url)) e ∙ f in
@@ -117,7 +124,9 @@ order_alike uri signed (whole c own) t (inl e) h = subst (λ x. AllByRecursion H
 order_alike uri signed (whole c own) t (inr e) h = subst (λ x. AllByRecursion Holds (order_tests uri x)) (sym e.0) tt
 
 -- the rules on the form of an ingredient hold as they did, where the manifest that it names stands alike
-parsed_alike : (uri : List ℕ) (before after : List ℕ → Standing) (signed : Bool) (p : Parsed Ingredient) → ((label : List ℕ) → named_by (value_in p) ≡ Some label → Alike signed (before label) (after label)) → AllByRecursion Holds (parsed_tests before uri p) → AllByRecursion Holds (parsed_tests after uri p)
+parsed_alike : (uri : List ℕ) (before after : List ℕ → Standing) (signed : Bool) (p : Parsed Ingredient)
+    → ((label : List ℕ) → named_by (value_in p) ≡ Some label → Alike signed (before label) (after label))
+    → AllByRecursion Holds (parsed_tests before uri p) → AllByRecursion Holds (parsed_tests after uri p)
 parsed_alike uri before after signed NoItem a h = h
 parsed_alike uri before after signed NoForm a h = h
 parsed_alike uri before after signed (Value g) a h = go (named_by (Some g)) refl h
@@ -127,7 +136,9 @@ parsed_alike uri before after signed (Value g) a h = go (named_by (Some g)) refl
     go (Some label) e k = order_alike uri signed (before label) (after label) (a label e) k
 
 -- the rules on the form of a box by its kind hold as they did, where the manifest it names stands alike
-kind_alike : (uri : List ℕ) (before after : List ℕ → Standing) (signed : Bool) (p : Parsed Ingredient) (k : Kind) → ((label : List ℕ) → named_by (value_in p) ≡ Some label → Alike signed (before label) (after label)) → AllByRecursion Holds (kind_tests before uri p k) → AllByRecursion Holds (kind_tests after uri p k)
+kind_alike : (uri : List ℕ) (before after : List ℕ → Standing) (signed : Bool) (p : Parsed Ingredient) (k : Kind)
+    → ((label : List ℕ) → named_by (value_in p) ≡ Some label → Alike signed (before label) (after label))
+    → AllByRecursion Holds (kind_tests before uri p k) → AllByRecursion Holds (kind_tests after uri p k)
 kind_alike uri before after signed p kinds.DataHash a h = tt
 kind_alike uri before after signed p kinds.BmffHash a h = tt
 kind_alike uri before after signed p kinds.OtherHash a h = tt
@@ -144,11 +155,6 @@ form_alike own before after b None a h = tt
 form_alike own before after b (Some label) a h = kind_alike (assertion_uri own label) before after (has_signature b) b.ingredient (label_kind label) a h
 
 -- ---- entries
-
--- a label that is found to be this one is this one
-given_is : (o : Option (List ℕ)) (label : List ℕ) → is_given o label ≡ true → o ≡ Some label
-given_is None label e = absurd (cc (e))
-given_is (Some t) label e = ap Some ((bytes_eq-Decides t label).0 e)
 
 -- a box with a label that is taken out isn't kept
 labelled_lost : (out : List ℕ → Bool) (label : List ℕ) (b : ReadBox) → out label ≡ true → is_labelled label b ≡ true → is_kept out b ≡ false
@@ -212,14 +218,20 @@ abbrev pub old_seen : Reading → Bool → (List ℕ → Bool) → (List ℕ →
 old_seen r act red standing = record { own = r; is_active = act; is_redacted = red; standing = standing }
 
 -- the rules on an entry of the claim hold once redacted boxes are taken out, if they held before
-entry_holds : (hash : Alg → List ℕ → List ℕ) (out : List ℕ → Bool) (r : Reading) (contents : List ℕ) (assertions : List Superbox) (act : Bool) (red red' : List ℕ → Bool) (before after : List ℕ → Standing) (k : ℕ) (e : Ref) → ((l : List ℕ) → entry_label r.manifest e ≡ Some l → red' l ≡ (out l || red l))
+entry_holds : (hash : Alg → List ℕ → List ℕ) (out : List ℕ → Bool) (r : Reading) (contents : List ℕ)
+    (assertions : List Superbox) (act : Bool) (red red' : List ℕ → Bool) (before after : List ℕ → Standing) (k : ℕ)
+    (e : Ref) → ((l : List ℕ) → entry_label r.manifest e ≡ Some l → red' l ≡ (out l || red l))
     → AllByRecursion Holds (entry_tests hash (old_seen r act red before) k e) → AllByRecursion Holds (entry_tests hash (old_seen (thinned out contents assertions r) false red' after) k e)
 entry_holds hash out r contents assertions act red red' before after k e more_red h = go (entry_label r.manifest e) refl h
   where
     y : Reading
     y = thinned out contents assertions r
 
-    by_label : (label : List ℕ) → red' label ≡ (out label || red label) → AllByRecursion Holds (labelled_tests hash (old_seen r act red before) (take k (entries_in r)) e label (assertion_uri (label_in r) label)) → (x : Bool) → out label ≡ x → AllByRecursion Holds (labelled_tests hash (old_seen y false red' after) (take k (entries_in r)) e label (assertion_uri (label_in r) label))
+    by_label : (label : List ℕ) → red' label ≡ (out label || red label)
+        → AllByRecursion Holds (labelled_tests hash (old_seen r act red before) (take k (entries_in r)) e label
+        (assertion_uri (label_in r) label)) → (x : Bool) → out label ≡ x
+        → AllByRecursion Holds (labelled_tests hash (old_seen y false red' after) (take k (entries_in r)) e label
+        (assertion_uri (label_in r) label))
     by_label label more g true taken =
         let now : red' label ≡ true = more ∙ ap (λ b. b || red label) taken in
         let gone : box_with y label ≡ None = find_lost out label r.boxes taken in (
@@ -260,14 +272,19 @@ entry_holds hash out r contents assertions act red red' before after k e more_re
     go (Some label) f g = by_label label (more_red label f) g (out label) refl
 
 -- the rules on all entries of the claim hold once redacted boxes are taken out, if they held before
-entries_thin : (hash : Alg → List ℕ → List ℕ) (out : List ℕ → Bool) (r : Reading) (contents : List ℕ) (assertions : List Superbox) (act : Bool) (red red' : List ℕ → Bool) (before after : List ℕ → Standing) (k : ℕ) (es : List Ref) → ((l : List ℕ) → lists_label r.manifest es l ≡ true → red' l ≡ (out l || red l))
+entries_thin : (hash : Alg → List ℕ → List ℕ) (out : List ℕ → Bool) (r : Reading) (contents : List ℕ)
+    (assertions : List Superbox) (act : Bool) (red red' : List ℕ → Bool) (before after : List ℕ → Standing) (k : ℕ)
+    (es : List Ref) → ((l : List ℕ) → lists_label r.manifest es l ≡ true → red' l ≡ (out l || red l))
     → AllByRecursion Holds (each (entry_tests hash (old_seen r act red before)) k es) → AllByRecursion Holds (each (entry_tests hash (old_seen (thinned out contents assertions r) false red' after)) k es)
 entries_thin hash out r contents assertions act red red' before after k [] more_red h = tt
 entries_thin hash out r contents assertions act red red' before after k (e ∷ es) more_red h =
     let s : Seen = old_seen r act red before in
     let t : Seen = old_seen (thinned out contents assertions r) false red' after in
     each-append Holds (entry_tests hash t k e) (each (entry_tests hash t) (k + 1) es)
-    (entry_holds hash out r contents assertions act red red' before after k e (λ l is. more_red l (or_left (is_given (entry_label r.manifest e) l) (lists_label r.manifest es l) (ap (λ o. is_given o l) is ∙ (bytes_eq-Decides l l).1 refl))) (each-front Holds (entry_tests hash s k e) (each (entry_tests hash s) (k + 1) es) h))
+    (entry_holds hash out r contents assertions act red red' before after k e
+    (λ l is. more_red l (or_left (is_given (entry_label r.manifest e) l) (lists_label r.manifest es l)
+    (is_given_back (entry_label r.manifest e) l is)))
+    (each-front Holds (entry_tests hash s k e) (each (entry_tests hash s) (k + 1) es) h))
     (entries_thin hash out r contents assertions act red red' before after (k + 1) es (λ l more. more_red l (or_right (is_given (entry_label r.manifest e) l) (lists_label r.manifest es l) more)) (each-back Holds (entry_tests hash s k e) (each (entry_tests hash s) (k + 1) es) h))
 
 -- the rules on bindings and parents hold once redacted boxes are taken out, if they held before
@@ -331,17 +348,6 @@ thin_rules hash out r contents assertions act red red' before after more_red los
 
 -- ---- the laws
 
--- where every rule of a list holds, place by place, each one after the other holds
-rec_from : (ts : List Test) → AllHold ts → AllByRecursion Holds ts
-rec_from [] h = tt
-rec_from (t ∷ ts) h = (h 0 t refl, rec_from ts (λ i u e. h (suc i) u e))
-
--- where the rules of a list hold one after the other, every one holds, place by place
-all_from : (ts : List Test) → AllByRecursion Holds ts → AllHold ts
-all_from [] h i t e = absurd (cc e)
-all_from (u ∷ ts) h zero t e = let same : u ≡ t = cc e in ap (λ (x : Test). x.fails) (sym same) ∙ h.0
-all_from (u ∷ ts) h (suc i) t e = all_from ts h.1 i t e
-
 -- what is seen now, written out
 seen_now : (out : List ℕ → Bool) (was now : Seen) (h : Loses out was now) → now ≡ old_seen (thinned out h.contents h.assertions was.own) false now.is_redacted now.standing
 seen_now out was now h = ap (λ (r : Reading). record { own = r; is_active = now.is_active; is_redacted = now.is_redacted; standing = now.standing }) h.own
@@ -351,8 +357,8 @@ seen_now out was now h = ap (λ (r : Reading). record { own = r; is_active = now
 pub without_boxes : (hash : Alg → List ℕ → List ℕ) (out : List ℕ → Bool) (was now : Seen) → Loses out was now → AllHold (unjudged_tests hash was) → AllHold (unjudged_tests hash now)
 without_boxes hash out was now h k =
     subst (λ (s : Seen). AllHold (unjudged_tests hash s)) (sym (seen_now out was now h))
-    (all_from (unjudged_tests hash (old_seen (thinned out h.contents h.assertions was.own) false now.is_redacted now.standing))
-    (thin_rules hash out was.own h.contents h.assertions was.is_active was.is_redacted now.is_redacted was.standing now.standing h.redacted h.boxes (rec_from (unjudged_tests hash was) k)))
+    (all_hold (unjudged_tests hash (old_seen (thinned out h.contents h.assertions was.own) false now.is_redacted now.standing))
+    (thin_rules hash out was.own h.contents h.assertions was.is_active was.is_redacted now.is_redacted was.standing now.standing h.redacted h.boxes (all_each (unjudged_tests hash was) k)))
 
 -- ---- no longer the active one
 
@@ -393,4 +399,4 @@ inactive_rules hash s h =
 
 -- where all rules of a manifest but the verdict's hold, they hold once it is no longer the active one
 pub when_inactive : (hash : Alg → List ℕ → List ℕ) (s : Seen) → AllHold (unjudged_tests hash s) → AllHold (unjudged_tests hash (inactive s))
-when_inactive hash s h = all_from (unjudged_tests hash (inactive s)) (inactive_rules hash s (rec_from (unjudged_tests hash s) h))
+when_inactive hash s h = all_hold (unjudged_tests hash (inactive s)) (inactive_rules hash s (all_each (unjudged_tests hash s) h))

@@ -13,9 +13,10 @@ use Rattle.c2_rules.specs.Readings.{Reading}
 use Rattle.c2_rules.specs.Rules.{unjudged_tests}
 use Rattle.c2_rules.specs.Seen.{Seen, Standing, earlier_standing, later, place_standing, seen_at, standing_of}
 use Rattle.c2_rules.specs.Tests.{AllHold, Test, downward}
+use Rattle.c2_rules.proofs.Conditions.{Holds, all_each, all_hold}
 use Rattle.c2_chain_older_spec.specs.Older.{inactive}
 use Rattle.c2_chain_spec.specs.Rooted.{HoldBy, StoreIsRooted, is_reached_from, last_roots, lists_passing, place_standing_by, standing_by}
-use Rattle.c2_chain_spec.proofs.Seeing.{Holds, back, each_holds, front}
+use Rattle.c2_chain_spec.proofs.Seeing.{back, front}
 
 -- the rules of a manifest hold once it is no longer the active one
 abbrev pub HoldInactive : Type 0
@@ -70,19 +71,13 @@ downward_each f (suc n) i h lt =
     ⊎_elim (λ e. subst (λ k. AllByRecursion Holds (f k)) (sym e) (front (f n) (downward f n) h))
     (λ other. downward_each f n i (back (f n) (downward f n) h) (omega (arith, other))) (cases_eq i n)
 
--- conditions that hold one by one hold at each place of the list
-all_hold : (ts : List Test) → AllByRecursion Holds ts → AllHold ts
-all_hold [] h i t e = absurd (cc (e))
-all_hold (u ∷ ts) h zero t e = let same : u ≡ t = cc (e) in ap (λ (x : Test). x.fails) (sym same) ∙ h.0
-all_hold (u ∷ ts) h (suc i) t e = all_hold ts h.1 i t e
-
 -- the rules of each reached manifest hold of it as no longer the active one
 pub place_hold : HoldInactive → (hash : Alg → List ℕ → List ℕ) (rs : List Reading)
     → AllHold (chain_tests (unjudged_tests hash) rs) → HoldBy hash (is_reached rs) rs
 place_hold law hash rs h i r reached is =
     let place : AllByRecursion Holds (place_tests (unjudged_tests hash) rs i) =
     downward_each (place_tests (unjudged_tests hash) rs) (length rs) i
-    (each_holds (chain_tests (unjudged_tests hash) rs) h) (slice_get_within rs i r is) in
+    (all_each (chain_tests (unjudged_tests hash) rs) h) (slice_get_within rs i r is) in
     let at : AllByRecursion Holds (unjudged_tests hash (seen_at rs i r)) =
     subst (λ o. AllByRecursion Holds (tests_of (unjudged_tests hash) rs i o)) is
     (subst (λ b. AllByRecursion Holds (cond b (tests_of (unjudged_tests hash) rs i (slice_get rs i)) [])) reached place) in

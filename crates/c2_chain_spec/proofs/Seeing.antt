@@ -1,11 +1,10 @@
 -- What follows where the rules of a manifest hold: what is redacted in it is what it lacks, and what its ingredients name stands
 -- earlier. And what makes them hold again elsewhere.
-use Rattle.std.proofs.Common.{◌≡◌, ◌⊎◌, inl, inr, ⊎_elim, ℕ, suc, ◌+◌, ◌<◌, Bool, true, false, not, ◌&&◌, ◌||◌, cond, List, [], ◌∷◌, ◌++◌, filter, Option, Some, None, slice_get, Contains, refl, sym, ap, ◌∙◌, subst}
+use Rattle.std.proofs.Common.{◌≡◌, ◌⊎◌, inl, inr, ⊎_elim, ℕ, ◌+◌, ◌<◌, Bool, true, false, not, ◌&&◌, ◌||◌, cond, List, [], ◌∷◌, ◌++◌, filter, Option, Some, None, slice_get, Contains, refl, sym, ap, ◌∙◌, subst}
 use Rattle.std.specs.Prelude.{is_none, is_some}
 use Rattle.std.specs.List.{AllByRecursion, list_any}
 use Rattle.std.specs.Option.{option_map_or}
 use Rattle.std.proofs.lemmas.Bool.{cases_lt, le-ltb, true≢false, false≢true, both_ways}
-use Rattle.std.proofs.lemmas.Slice.Eq.{bytes_eq-Decides}
 use Rattle.c2_spec.specs.C2pa.Assertion.{kind_of}
 use Rattle.c2_spec.specs.C2pa.Manifest.{Manifest, is_given}
 use Rattle.c2_spec.specs.declared.assertion.Ingredient.{Ingredient}
@@ -13,6 +12,7 @@ use Rattle.c2_spec.specs.declared.assertion.Kind.{Kind}
 use Rattle.c2_spec.specs.declared.assertion.Kind.TheVariants as kinds
 use Rattle.c2_spec.specs.declared.cbor.Ref.{Ref}
 use Rattle.c2_spec.specs.declared.digest.Alg.{Alg}
+use Rattle.c2_spec.proofs.GivenLabels.{given_is, is_given_back}
 use Rattle.c2_rules.specs.Chains.{entry_label, label_in, named_by, named_in, passes_some, place_of}
 use Rattle.c2_rules.specs.Ingredients.{assertion_uri, is_ingredient, is_ingredient_kind, is_ingredient_label}
 use Rattle.c2_rules.specs.Readings.{ReadBox, Reading, entries_in, redactions_in, value_in}
@@ -24,15 +24,12 @@ use Rattle.c2_rules.specs.declared.code.Code.TheVariants.{ProfileAssertionUri}
 use Rattle.c2_rules.specs.declared.parsed.Parsed.{Parsed}
 use Rattle.c2_rules.specs.declared.parsed.Parsed.TheVariants.{NoItem, NoForm, Value}
 use Rattle.c2_rules.proofs.ListLemmas.{contains_cons, contains_none, or_cases}
+use Rattle.c2_rules.proofs.Conditions.{Holds}
 use Rattle.c2_chain_older_spec.specs.Older.{Alike, Loses, StaysAlike, has_signature, is_kept}
 use Rattle.c2_chain_spec.specs.Rooted.{ReadsKinds, lists_passing, place_standing_by, seen_by, standing_by, touched_by}
 use Rattle.c2_chain_spec.proofs.Places.{all_members, member_of}
 
 -- ---- lists of tests
-
--- a condition holds
-abbrev pub Holds : Test → Type 0
-Holds t = t.fails ≡ false
 
 -- what holds of two lists in a row holds of the first
 pub front : (xs ys : List Test) → AllByRecursion Holds (xs ++ ys) → AllByRecursion Holds xs
@@ -43,11 +40,6 @@ front (x ∷ xs) ys h = (h.0, front xs ys h.1)
 pub back : (xs ys : List Test) → AllByRecursion Holds (xs ++ ys) → AllByRecursion Holds ys
 back [] ys h = h
 back (x ∷ xs) ys h = back xs ys h.1
-
--- where every condition holds, place by place, each does
-pub each_holds : (ts : List Test) → AllHold ts → AllByRecursion Holds ts
-each_holds [] h = tt
-each_holds (t ∷ ts) h = (h 0 t refl, each_holds ts (λ i u e. h (suc i) u e))
 
 -- what holds of each box holds of a box
 of_box : (f : ReadBox → List Test) (k : ℕ) (bs : List ReadBox) (b : ReadBox) → Contains bs b
@@ -69,18 +61,13 @@ by_box true (Some x) e f = absurd (true≢false e)
 by_box false None e f = absurd (true≢false f)
 by_box false (Some x) e f = refl
 
--- a label that is found to be this one
-given_some : (o : Option (List ℕ)) (label : List ℕ) → is_given o label ≡ true → o ≡ Some label
-given_some None label e = absurd (cc (e))
-given_some (Some t) label e = ap Some ((bytes_eq-Decides t label).0 e)
-
 -- of one of these entries
 entry_lacks : (hash : Alg → List ℕ → List ℕ) (s : Seen) (label : List ℕ) (k : ℕ) (es : List Ref)
     → AllByRecursion Holds (each (entry_tests hash s) k es) → lists_label s.own.manifest es label ≡ true
     → s.is_redacted label ≡ is_none (box_with s.own label)
 entry_lacks hash s label k [] h e = absurd (false≢true e)
 entry_lacks hash s label k (x ∷ xs) h e =
-    ⊎_elim (λ own. here (given_some (entry_label s.own.manifest x) label own) (front (entry_tests hash s k x) (each (entry_tests hash s) (k + 1) xs) h))
+    ⊎_elim (λ own. here (given_is (entry_label s.own.manifest x) label own) (front (entry_tests hash s k x) (each (entry_tests hash s) (k + 1) xs) h))
     (λ more. entry_lacks hash s label (k + 1) xs (back (entry_tests hash s k x) (each (entry_tests hash s) (k + 1) xs) h) more)
     (or_cases (is_given (entry_label s.own.manifest x) label) (lists_label s.own.manifest xs label) e)
   where
@@ -205,7 +192,7 @@ lists_same m f g (e ∷ es) same =
     here None is = refl
     here (Some label) is =
         same label
-        (Rattle.c2_rules.proofs.ListLemmas.or_left (is_given (entry_label m e) label) (lists_label m es label) (ap (λ o. is_given o label) is ∙ (bytes_eq-Decides label label).1 refl))
+        (Rattle.c2_rules.proofs.ListLemmas.or_left (is_given (entry_label m e) label) (lists_label m es label) (is_given_back (entry_label m e) label is))
 
 -- so a manifest is touched in both or in neither
 pub passing_same : (r : Reading) (f g : List ℕ → Bool)

@@ -11,8 +11,9 @@ use Rattle.c2_rules.specs.Rules.{unjudged_tests}
 use Rattle.c2_rules.specs.Seen.{child_standing, earlier_standing, later}
 use Rattle.c2_rules.proofs.ListLemmas.{and_true, both_true, from_below, in_below}
 use Rattle.c2_rules.proofs.ReachLemmas.{placed, reaches_decides}
+use Rattle.c2_rules.proofs.Conditions.{Holds, all_each}
 use Rattle.c2_chain_spec.specs.Rooted.{AllReadKinds, HoldBy, IsRedactedBy, lists_passing, place_standing_by, redacted_by, seen_by, standing_by, touched_by}
-use Rattle.c2_chain_spec.proofs.Seeing.{Holds, IsBefore, each_holds, named_before}
+use Rattle.c2_chain_spec.proofs.Seeing.{IsBefore, named_before}
 
 -- ---- one chain
 
@@ -168,13 +169,13 @@ shared_reached hash as_ bs js ra rb i p r j e is at below =
 pub holds_b : (hash : Alg → List ℕ → List ℕ) (as_ bs js : List Reading) (ra rb : ℕ → Bool) (i : ℕ) (r : Reading)
     → Joins hash as_ bs js ra rb → rb i ≡ true → slice_get bs i ≡ Some r
     → AllByRecursion Holds (unjudged_tests hash (seen_by rb bs i r))
-holds_b hash as_ bs js ra rb i r j e is = each_holds (unjudged_tests hash (seen_by rb bs i r)) (j.hold_b i r e is)
+holds_b hash as_ bs js ra rb i r j e is = all_each (unjudged_tests hash (seen_by rb bs i r)) (j.hold_b i r e is)
 
 -- those of one in front
 pub holds_a : (hash : Alg → List ℕ → List ℕ) (as_ bs js : List Reading) (ra rb : ℕ → Bool) (p : ℕ) (r : Reading)
     → Joins hash as_ bs js ra rb → ra p ≡ true → slice_get as_ p ≡ Some r
     → AllByRecursion Holds (unjudged_tests hash (seen_by ra as_ p r))
-holds_a hash as_ bs js ra rb p r j e is = each_holds (unjudged_tests hash (seen_by ra as_ p r)) (j.hold_a p r e is)
+holds_a hash as_ bs js ra rb p r j e is = all_each (unjudged_tests hash (seen_by ra as_ p r)) (j.hold_a p r e is)
 
 -- a child in the joined chain, and where it stood
 pub record ChildTo (bs js : List Reading) (p k : ℕ) : Type 0 where

@@ -31,7 +31,7 @@ fn is_signature(target: &Target<'_>) -> bool
 {
     match target {
         Target::Signature => true,
-        _ => false,
+        Target::Whole | Target::Assertion(_) | Target::Other(_) => false,
     }
 }
 
@@ -51,7 +51,7 @@ pub fn names_signature(own: &Kept<'_>) -> bool
     match &own.claim {
         Parsed::Value(claim) => own.signature.is_some()
             && is_signature_uri(own, claim.signature.as_str()),
-        _ => false,
+        Parsed::NoItem | Parsed::NoForm => false,
     }
 }
 

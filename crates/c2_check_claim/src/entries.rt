@@ -1,11 +1,11 @@
 // The rules on entries: each names a box of the manifest, which is there with the digest that the entry has, or is redacted.
-ghost use Rattle.std.specs.Prelude.{◌≡◌, ◌<◌, IfOk, find, length, option_map, option_copied, take};
+ghost use Rattle.std.specs.Prelude.{◌≡◌, IfOk, find, option_map, option_copied, take};
 ghost use Rattle.c2_rules.specs.Chains as form;
 ghost use Rattle.c2_rules.specs.Ingredients as ingredients;
 ghost use Rattle.c2_rules.specs.Readings as readings;
 ghost use Rattle.c2_rules.specs.Rules as rules;
-ghost use Rattle.c2_rules.specs.Seen.{seen_at};
 ghost use Rattle.c2_rules.specs.Tests.{each, first_failing};
+ghost use Rattle.c2_read_manifests.specs.Placed.{seen_in};
 
 use crate::labelled::{
     Labelled, entry_at, entry_count, find_box, is_listed_before, listed_label, owner,
@@ -14,7 +14,7 @@ use c2_assertion::{Kind, kind};
 use c2_base::NoMemory;
 use c2_check_facts::{at_assertion, at_claim, has_digest, is_known};
 use c2_hash::Hashing;
-use c2_read_manifests::{AssertionBox, Kept, ReadManifests, is_redacted, label};
+use c2_read_manifests::{AssertionBox, Kept, Placed, is_redacted, label};
 use c2_rules::{Code, Failing};
 use c2_spec::Ref;
 use std::alloc::Global;
@@ -68,36 +68,42 @@ fn box_has_digest<H: Hashing>(
     }
 }
 
-/// What fails of the entry at place `k`, which lists this label.
+/// An entry of a manifest: its place among the entries, and the label that it lists.
+#[derive(Clone, Copy)]
+struct Listed<'e> {
+    place: usize,
+    entry: &'e Ref,
+    label: &'e str,
+}
+
+/// What fails of an entry that lists a label.
 fn check_labelled<H: Hashing>(
     alloc: Global,
     hashing: &H,
-    chain: &ReadManifests<'_>,
-    i: usize,
+    at: &Placed<'_, '_>,
     own: &Labelled<'_, '_>,
-    k: usize,
-    entry: &Ref,
-    name: &str,
+    listed: &Listed<'_>,
 ) -> Result<Option<Failing>, NoMemory>
-    requires { i < length chain.now }
     ensures { let tests =
-        rules.labelled_tests H.digest_of (seen_at chain.now i own.now)
-        (take k (readings.entries_in own.now)) entry.now name.now
-        (ingredients.assertion_uri (form.label_in own.now) name.now) in
+        rules.labelled_tests H.digest_of (seen_in at.now own.now)
+        (take listed.now.place (readings.entries_in own.now)) listed.now.entry.now
+        listed.now.label.now
+        (ingredients.assertion_uri (form.label_in own.now) listed.now.label.now) in
         IfOk result (λ found. found ≡ first_failing tests) }
 {
     let kept = owner(own);
-    if is_listed_before(own, k, name) {
+    let name = listed.label;
+    if is_listed_before(own, listed.place, name) {
         return at_claim(alloc, kept, Code::ProfileAssertionUri);
     }
     if is_cloud(name) {
         return at_assertion(alloc, label(kept), name, Code::UnsupportedCloudData);
     }
-    if !is_known(kept, &entry.alg) {
+    if !is_known(kept, &listed.entry.alg) {
         return at_assertion(alloc, label(kept), name, Code::AlgorithmUnsupported);
     }
     let found = find_box(own, name);
-    if is_redacted(chain, i, name) {
+    if is_redacted(at.all, at.place, name) {
         if found.is_some() {
             return at_assertion(alloc, label(kept), name, Code::AssertionNotRedacted);
         }
@@ -106,7 +112,7 @@ fn check_labelled<H: Hashing>(
     if found.is_none() {
         return at_assertion(alloc, label(kept), name, Code::AssertionMissing);
     }
-    if !box_has_digest(hashing, kept, entry, found) {
+    if !box_has_digest(hashing, kept, listed.entry, found) {
         return at_assertion(alloc, label(kept), name, Code::AssertionHashedUriMismatch);
     }
     Ok(None)
@@ -116,19 +122,24 @@ fn check_labelled<H: Hashing>(
 fn check_entry<H: Hashing>(
     alloc: Global,
     hashing: &H,
-    chain: &ReadManifests<'_>,
-    i: usize,
+    at: &Placed<'_, '_>,
     own: &Labelled<'_, '_>,
     k: usize,
     entry: &Ref,
 ) -> Result<Option<Failing>, NoMemory>
-    requires { i < length chain.now }
     ensures { let tests =
-        rules.entry_tests H.digest_of (seen_at chain.now i own.now) k entry.now in
+        rules.entry_tests H.digest_of (seen_in at.now own.now) k entry.now in
         IfOk result (λ found. found ≡ first_failing tests) }
 {
     match listed_label(own, entry) {
-        Some(name) => check_labelled(alloc, hashing, chain, i, own, k, entry, name),
+        Some(label) => {
+            let listed = Listed {
+                place: k,
+                entry,
+                label,
+            };
+            check_labelled(alloc, hashing, at, own, &listed)
+        }
         None => at_claim(alloc, owner(own), Code::ProfileAssertionUri),
     }
 }
@@ -138,19 +149,17 @@ fn check_entry<H: Hashing>(
 pub fn check_entries<H: Hashing>(
     alloc: Global,
     hashing: &H,
-    chain: &ReadManifests<'_>,
-    i: usize,
+    at: &Placed<'_, '_>,
     own: &Labelled<'_, '_>,
 ) -> Result<Option<Failing>, NoMemory>
-    requires { i < length chain.now }
     ensures { let tests =
-        each (rules.entry_tests H.digest_of (seen_at chain.now i own.now)) 0
+        each (rules.entry_tests H.digest_of (seen_in at.now own.now)) 0
         (readings.entries_in own.now) in
         IfOk result (λ found. found ≡ first_failing tests) }
 {
     for k in 0..entry_count(own) {
         let entry = entry_at(own, k);
-        let found = check_entry(alloc, hashing, chain, i, own, k, entry)?;
+        let found = check_entry(alloc, hashing, at, own, k, entry)?;
         if let Some(failing) = found {
             return Ok(Some(failing));
         }

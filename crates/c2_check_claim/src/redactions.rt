@@ -95,7 +95,9 @@ fn check_named(
 {
     match target {
         Target::Assertion(name) => check_target(alloc, own, manifest, *name),
-        _ => at_claim(alloc, own, Code::ProfileRedactionUri),
+        Target::Whole | Target::Signature | Target::Other(_) => {
+            at_claim(alloc, own, Code::ProfileRedactionUri)
+        }
     }
 }
 
@@ -141,6 +143,6 @@ pub fn check_own_redactions(alloc: Global, own: &Kept<'_>) -> Result<Option<Fail
 {
     match &own.claim {
         Parsed::Value(claim) => check_redactions(alloc, own, claim.redacted.as_slice()),
-        _ => Ok(None),
+        Parsed::NoItem | Parsed::NoForm => Ok(None),
     }
 }

@@ -18,7 +18,7 @@ fn claim_alg<'c>(own: &'c Kept<'_>) -> Option<&'c str>
             Some(alg) => Some(alg.as_str()),
             None => None,
         },
-        _ => None,
+        Parsed::NoItem | Parsed::NoForm => None,
     }
 }
 

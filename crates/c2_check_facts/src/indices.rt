@@ -54,7 +54,7 @@ fn read_in<'c>(b: &'c AssertionBox<'_>) -> Option<&'c Ingredient>
 {
     match ingredient(b) {
         Parsed::Value(g) => Some(g),
-        _ => None,
+        Parsed::NoItem | Parsed::NoForm => None,
     }
 }
 

@@ -9,6 +9,7 @@ mod facts;
 mod indices;
 mod kept_digests;
 mod kinds;
+mod known;
 mod uris;
 
 pub use digests::{alg_name, has_digest, has_known_digest, is_known};
@@ -16,4 +17,5 @@ pub use facts::{ChildFact, Facts, fact_at, facts_below, facts_of_children};
 pub use indices::{child_in, ingredient_in};
 pub use kept_digests::Digests;
 pub use kinds::{is_hash, label_kind};
+pub use known::KnownStore;
 pub use uris::{at_assertion, at_box, at_claim, at_manifest, at_signature, claim_label};

@@ -27,14 +27,22 @@ update_is r labels bs hash one o h same p rest =
     (ap₂ (parent_tests r) (h ∙ any_now (λ l. is_hash (label_kind l)) labels) (p ∙ ap (λ (xs : List ReadBox). is_one_parent (filter (λ (b : ReadBox). is_ingredient b.boxed) xs)) same)) rest
 
 -- a manifest fails by what was counted as it does by its labels, its bindings and its boxes themselves
-pub numbers_are : {E : Type 0} (s : Seen) (labels bindings : List (Bor (List ℕ))) (bs : List ReadBox) (active other : Bool) (second : Option (List ℕ)) (parents : ℕ) (o : Result (Option Failing) E)
-    → active ≡ s.is_active → other ≡ list_any (λ l. is_other_hash (label_kind l.now)) labels → second ≡ slice_get (map (λ x. x.now) bindings) 1 → bs ≡ s.own.boxes → parents ≡ length (filter reads_parent bs)
-    → IfOk o (λ found. found ≡ first_failing (count_tests s.own active (length bindings) other second parents)) → IfOk o (λ found. found ≡ first_failing (number_tests s (map (λ x. x.now) labels) (map (λ x. x.now) bindings)))
-numbers_are s labels bindings bs active other second parents o a b c same d rest =
-    same_tests (count_tests s.own active (length bindings) other second parents) (number_tests s (map (λ x. x.now) labels) (map (λ x. x.now) bindings)) o
-    (ap₂ (λ (x y : Bool). count_tests s.own x (length bindings) y second parents) a (b ∙ any_now (λ l. is_other_hash (label_kind l)) labels)
-    ∙ ap₂ (λ (n : ℕ) (x : Option (List ℕ)). count_tests s.own s.is_active n (list_any (λ (l : List ℕ). is_other_hash (label_kind l)) (map (λ x. x.now) labels)) x parents) (sym (length-map bindings (λ (x : Bor (List ℕ)). x.now))) c
-    ∙ ap (λ (n : ℕ). count_tests s.own s.is_active (length (map (λ x. x.now) bindings)) (list_any (λ (l : List ℕ). is_other_hash (label_kind l)) (map (λ x. x.now) labels)) (slice_get (map (λ x. x.now) bindings) 1) n)
+pub numbers_are : {E : Type 0} (s : Seen) (labels bindings : List (Bor (List ℕ))) (bs : List ReadBox)
+    (active other : Bool) (parents : ℕ) (o : Result (Option Failing) E) → active ≡ s.is_active
+    → other ≡ list_any (λ l. is_other_hash (label_kind l.now)) labels → bs ≡ s.own.boxes
+    → parents ≡ length (filter reads_parent bs)
+    → IfOk o (λ found. found ≡ first_failing (count_tests s.own active (length bindings) other
+    (slice_get (map (λ x. x.now) bindings) 1) parents))
+    → IfOk o (λ found. found ≡ first_failing (number_tests s (map (λ x. x.now) labels) (map (λ x. x.now) bindings)))
+numbers_are s labels bindings bs active other parents o a b same d rest =
+    let names : List (List ℕ) = map (λ x. x.now) labels in
+    let known : List (List ℕ) = map (λ x. x.now) bindings in
+    let second : Option (List ℕ) = slice_get known 1 in
+    let is_other : List ℕ → Bool = λ l. is_other_hash (label_kind l) in
+    same_tests (count_tests s.own active (length bindings) other second parents) (number_tests s names known) o
+    (ap₂ (λ (x y : Bool). count_tests s.own x (length bindings) y second parents) a (b ∙ any_now is_other labels)
+    ∙ ap₂ (λ (n k : ℕ). count_tests s.own s.is_active n (list_any is_other names) second k)
+    (sym (length-map bindings (λ (x : Bor (List ℕ)). x.now)))
     (d ∙ ap (λ (xs : List ReadBox). length (filter reads_parent xs)) same)) rest
 
 -- a part passes, and the rest decides

@@ -5,7 +5,7 @@ ghost use Rattle.c2_rules.specs.Chains as chains;
 ghost use Rattle.c2_rules.specs.Readings.{ReadBox};
 ghost use Rattle.c2_rules.specs.Ingredients as ingredients;
 ghost use Rattle.c2_rules.specs.Rules as rules;
-ghost use Rattle.c2_rules.specs.Seen.{seen_at};
+ghost use Rattle.c2_read_manifests.specs.Placed.{seen_in};
 ghost use Rattle.c2_rules.specs.Tests.{over_all, first_failing};
 ghost use Rattle.c2_check_ingredients.specs.Counts.{count_tests, parent_tests, number_tests, bound_tests, update_tests};
 
@@ -13,8 +13,8 @@ use c2_assertion::{Kind, Relationship, kind};
 use c2_base::NoMemory;
 use c2_check_facts::{at_assertion, at_box, at_claim, at_manifest, is_hash, label_kind};
 use c2_read_manifests::{
-    AssertionBox, Kept, ReadManifests, box_label, boxes, entry_label, ingredient, is_active,
-    is_update, label,
+    AssertionBox, Kept, Placed, box_label, boxes, entry_label, ingredient, is_active, is_update,
+    label,
 };
 use c2_rules::{Code, Failing, Parsed};
 use c2_spec::{Ingredient, Ref};
@@ -144,7 +144,7 @@ fn is_parent(g: &Ingredient) -> bool
 {
     match g.relationship {
         Relationship::ParentOf => true,
-        _ => false,
+        Relationship::ComponentOf | Relationship::InputTo => false,
     }
 }
 
@@ -154,7 +154,7 @@ fn reads_parent(b: &AssertionBox<'_>) -> bool
 {
     match ingredient(b) {
         Parsed::Value(g) => is_parent(g),
-        _ => false,
+        Parsed::NoItem | Parsed::NoForm => false,
     }
 }
 
@@ -221,56 +221,58 @@ fn is_one_parent(boxes: &[AssertionBox<'_>]) -> bool
 }
 
 /// Whether an active manifest has a hash of another kind.
-fn is_refused(chain: &ReadManifests<'_>, i: usize, own: &Kept<'_>, name: &str) -> bool
-    requires { i < length chain.now }
-    ensures { result ≡ (rules.hash_kind_test (seen_at chain.now i own.now) 0 name.now).fails }
+fn is_refused(at: &Placed<'_, '_>, own: &Kept<'_>, name: &str) -> bool
+    ensures { result ≡ (rules.hash_kind_test (seen_in at.now own.now) 0 name.now).fails }
 {
-    is_active(chain, i) && is_other_hash(label_kind(name))
+    is_active(at.all, at.place) && is_other_hash(label_kind(name))
 }
 
 /// What fails of an active manifest by hashes of another kind.
 fn check_hash_kinds(
     alloc: Global,
-    chain: &ReadManifests<'_>,
-    i: usize,
+    at: &Placed<'_, '_>,
     own: &Kept<'_>,
     labels: &[&str],
 ) -> Result<Option<Failing>, NoMemory>
-    requires { i < length chain.now }
     ensures { let tests =
-        over_all (rules.hash_kind_test (seen_at chain.now i own.now)) 0
+        over_all (rules.hash_kind_test (seen_in at.now own.now)) 0
         (map (λ x. x.now) labels.now) in
         IfOk result (λ found. found ≡ first_failing tests) }
 {
     for k in 0..labels.len() {
         let name = label_at(labels, k);
-        if is_refused(chain, i, own, name) {
+        if is_refused(at, own, name) {
             return at_assertion(alloc, label(own), name, Code::UnsupportedHashKind);
         }
     }
     Ok(None)
 }
 
-/// What fails by the number of bindings and of parents.
+/// What fails by the number of these bindings and of parents.
 fn check_counts(
     alloc: Global,
     own: &Kept<'_>,
     active: bool,
-    bindings: usize,
+    bindings: &[&str],
     other: bool,
-    second: Option<&str>,
     parents: usize,
 ) -> Result<Option<Failing>, NoMemory>
     ensures { let tests =
-        count_tests own.now active bindings other
-        (option_map (λ x. x.now) second.entry) parents in
+        count_tests own.now active (length bindings.now) other
+        (slice_get (map (λ x. x.now) bindings.now) 1) parents in
         IfOk result (λ found. found ≡ first_failing tests) }
 {
-    if bindings == 0 && (active || !other) {
+    let count = bindings.len();
+    if count == 0 && (active || !other) {
         return at_claim(alloc, own, Code::ClaimHardBindingsMissing);
     }
-    if bindings > 1 {
-        return at_box(alloc, own, second, Code::AssertionMultipleHardBindings);
+    if count > 1 {
+        return at_box(
+            alloc,
+            own,
+            second(bindings),
+            Code::AssertionMultipleHardBindings,
+        );
     }
     if parents > 1 {
         return at_manifest(alloc, own, Code::ManifestMultipleParents);
@@ -300,52 +302,40 @@ fn check_parents(
 #[tactic(auto, using(c2_rules::proofs::TestLemmas::first_failing_append))]
 fn check_standard(
     alloc: Global,
-    chain: &ReadManifests<'_>,
-    i: usize,
+    at: &Placed<'_, '_>,
     own: &Kept<'_>,
     labels: &[&str],
     bindings: &[&str],
 ) -> Result<Option<Failing>, NoMemory>
-    requires { i < length chain.now }
     ensures { let tests =
-        bound_tests (seen_at chain.now i own.now) (map (λ x. x.now) labels.now)
+        bound_tests (seen_in at.now own.now) (map (λ x. x.now) labels.now)
         (map (λ x. x.now) bindings.now) in
         IfOk result (λ found. found ≡ first_failing tests) }
 {
-    let found = check_hash_kinds(alloc, chain, i, own, labels)?;
+    let found = check_hash_kinds(alloc, at, own, labels)?;
     match found {
         Some(failing) => Ok(Some(failing)),
-        None => check_numbers(alloc, chain, i, own, labels, bindings),
+        None => check_numbers(alloc, at, own, labels, bindings),
     }
 }
 
 /// What fails of it by their number and by its parents.
 fn check_numbers(
     alloc: Global,
-    chain: &ReadManifests<'_>,
-    i: usize,
+    at: &Placed<'_, '_>,
     own: &Kept<'_>,
     labels: &[&str],
     bindings: &[&str],
 ) -> Result<Option<Failing>, NoMemory>
-    requires { i < length chain.now }
     ensures { let tests =
-        number_tests (seen_at chain.now i own.now) (map (λ x. x.now) labels.now)
+        number_tests (seen_in at.now own.now) (map (λ x. x.now) labels.now)
         (map (λ x. x.now) bindings.now) in
         IfOk result (λ found. found ≡ first_failing tests) }
 {
-    let active = is_active(chain, i);
+    let active = is_active(at.all, at.place);
     let other = has_other_hash(labels);
     let parents = count_parents(boxes(own));
-    check_counts(
-        alloc,
-        own,
-        active,
-        bindings.len(),
-        other,
-        second(bindings),
-        parents,
-    )
+    check_counts(alloc, own, active, bindings, other, parents)
 }
 
 /// What fails of an update, whose entries list these labels.
@@ -361,12 +351,10 @@ fn check_update(alloc: Global, own: &Kept<'_>, labels: &[&str]) -> Result<Option
 /// What fails first of a manifest's bindings and parents.
 pub fn check_bindings(
     alloc: Global,
-    chain: &ReadManifests<'_>,
-    i: usize,
+    at: &Placed<'_, '_>,
     own: &Kept<'_>,
 ) -> Result<Option<Failing>, NoMemory>
-    requires { i < length chain.now }
-    ensures { let tests = rules.binding_tests (seen_at chain.now i own.now) in
+    ensures { let tests = rules.binding_tests (seen_in at.now own.now) in
         IfOk result (λ found. found ≡ first_failing tests) }
 {
     let listed = labels(alloc, own)?;
@@ -376,5 +364,5 @@ pub fn check_bindings(
     }
     let kept = bindings(alloc, names)?;
     let known = kept.as_slice();
-    check_standard(alloc, chain, i, own, names, known)
+    check_standard(alloc, at, own, names, known)
 }

@@ -58,7 +58,10 @@ one_plain key v ps h new rest = record { are = (tt, h, apart (text key) ps new, 
 ref_plain_of : (u h : List ℕ) (a : Option (List ℕ)) → HasPlainKeys (ref_item (record { url = u; hash = h; alg = a }))
 unfolding shortest_head
 ref_plain_of u h None = (one_plain (codes "url") (text u) (pair (text (codes "hash")) (bytes h) no_pairs) tt refl (one_plain (codes "hash") (bytes h) no_pairs tt refl none_plain)).are
-ref_plain_of u h (Some a) = (one_plain (codes "alg") (text a) (pair (text (codes "url")) (text u) (pair (text (codes "hash")) (bytes h) no_pairs)) tt refl (one_plain (codes "url") (text u) (pair (text (codes "hash")) (bytes h) no_pairs) tt refl (one_plain (codes "hash") (bytes h) no_pairs tt refl none_plain))).are
+ref_plain_of u h (Some a) = (one_plain (codes "alg") (text a)
+    (pair (text (codes "url")) (text u) (pair (text (codes "hash")) (bytes h) no_pairs)) tt refl
+    (one_plain (codes "url") (text u) (pair (text (codes "hash")) (bytes h) no_pairs) tt refl
+    (one_plain (codes "hash") (bytes h) no_pairs tt refl none_plain))).are
 
 -- references
 refs_plain : (rs : List Ref) → ItemsHavePlainKeys (items_of (map ref_item rs))

@@ -12,8 +12,8 @@ ghost use Rattle.c2_claim.specs.Unread.{claim_error};
 use crate::version_1::read_version_1;
 use crate::version_2::read_version_2;
 use c2_base::Texts;
-use c2_cbor::{Cbor, CborError, decode_texts_apart};
-use c2_spec::{Claim, ClaimError, ClaimVersion};
+use c2_cbor::decode_texts_apart;
+use c2_spec::{Cbor, CborError, Claim, ClaimError, ClaimVersion};
 use std::alloc::Global;
 
 /// The claim of this version that an item is with these redactions, which are held apart, or the first field that is refused.

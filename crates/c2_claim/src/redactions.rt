@@ -4,7 +4,7 @@ ghost use Rattle.c2_claim.specs.Apart.{redactions_of};
 ghost use Rattle.c2_spec.specs.Cbor.View.{view};
 
 use c2_base::{NoMemory, Texts};
-use c2_cbor::Cbor;
+use c2_spec::Cbor;
 use std::alloc::Global;
 
 /// The redactions of a claim: the texts that are held apart from its item, and else those under `redacted_assertions`, none where

@@ -5,8 +5,8 @@ ghost use Rattle.c2_spec.specs.C2pa.Claim.{Agrees};
 
 use crate::redactions::redactions;
 use c2_base::Texts;
-use c2_cbor::{Cbor, Refs, field};
-use c2_spec::{Claim, ClaimError, ClaimField, ClaimVersion};
+use c2_cbor_fields::field;
+use c2_spec::{Cbor, Claim, ClaimError, ClaimField, ClaimVersion, Refs};
 use std::alloc::Global;
 
 /// The claim of version 1 that an item is with these redactions, which may be held apart, or the first field that is refused (C2PA

@@ -11,7 +11,8 @@ ghost use Rattle.c2_spec.specs.declared.claim.ClaimVersion.TheVariants.{V2};
 ghost use Rattle.c2_claim.specs.declared.writing.ClaimParts.{ClaimParts as AnyParts};
 
 use c2_base::{Blob, NoMemory, Text, Texts};
-use c2_cbor::{Cbor, Ref, Refs, encode};
+use c2_cbor_write::encode;
+use c2_spec::{Cbor, EncodeError, Ref, Refs};
 use std::alloc::Global;
 
 /// What a claim is written of.
@@ -190,7 +191,12 @@ pub fn write(alloc: Global, parts: &ClaimParts) -> Result<Blob, NoMemory>
     // The item is legal: nothing but memory fails.
     match encode(alloc, &item) {
         Ok(bytes) => Ok(bytes),
-        Err(_) => Err(NoMemory),
+        Err(
+            EncodeError::BadSimple
+            | EncodeError::DuplicateKey
+            | EncodeError::TooDeep
+            | EncodeError::NoMemory,
+        ) => Err(NoMemory),
     }
 }
 

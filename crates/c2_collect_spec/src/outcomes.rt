@@ -8,7 +8,7 @@ ghost use Rattle.c2_collect_spec.specs.Outcomes.{OneCollectMade, OneCollectPlan,
 use crate::laws::{
     each_collected_file_meets_the_rules, what_is_collected_is_one, what_is_joined_is_reached,
 };
-use c2_cbor::one_item;
+use c2_cbor_spec::one_item;
 use c2_chain_spec::a_store_is_rooted_at_its_last_manifest;
 use c2_definition::{definitions_are_well_formed, each_definition_is_read_one_way};
 use c2_new_file_spec::{

@@ -75,7 +75,10 @@ module _ {A B W : Type 0} {len : A → ℕ} {known : A → Option (List ℕ)} {f
   -- ---- it goes on
 
   -- after a call that read the first source
-  pub leaves_on_first : (a a' a'' : A) (b b' : B) (w w' : W) (r : Result Compared CompareError) → StaysSource len known faults a a' → faults a' ≡ faults a → LeavesFiles len known faults other_len other_known other_faults written finished write_faults a' a'' b b' w w' r → LeavesFiles len known faults other_len other_known other_faults written finished write_faults a a'' b b' w w' r
+  pub leaves_on_first : (a a' a'' : A) (b b' : B) (w w' : W) (r : Result Compared CompareError)
+      → StaysSource len known faults a a' → faults a' ≡ faults a
+      → LeavesFiles len known faults other_len other_known other_faults written finished write_faults a' a'' b b' w w' r
+      → LeavesFiles len known faults other_len other_known other_faults written finished write_faults a a'' b b' w w' r
   leaves_on_first a a' a'' b b' w w' r stays quiet h = record {
     first = reads_after len known faults a a' a'' r stays quiet h.first;
     second = reads_beside IsReadCause (faults a) (faults a') (faults a'') b b' r quiet h.second;

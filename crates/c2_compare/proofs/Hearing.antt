@@ -205,7 +205,9 @@ module _ {J : Type 0} {says : J → Question → Verdict} {times faults : J → 
       len = j.len ∙ h.len;
       cause = cause_next compare_heard (map faults old.items) (map faults between.items) (map faults new.items) r h.stays.ok j.cause;
       asked = λ qs k. subst (λ (all : List Question). HasHeard compare_heard all (judges_of says times faults old.items) (judges_of says times faults new.items) r) (sym k.asks.are)
-          (heard_next compare_heard k.asks.of_first k.asks.of_second (judges_of says times faults old.items) (judges_of says times faults between.items) (judges_of says times faults new.items) r h.stays.same h.stays.ok (h.asked k.asks.of_first (first_asked hash first second (panel_says (map says old.items)) qs k))
+          (heard_next compare_heard k.asks.of_first k.asks.of_second (judges_of says times faults old.items)
+          (judges_of says times faults between.items) (judges_of says times faults new.items) r h.stays.same h.stays.ok
+          (h.asked k.asks.of_first (first_asked hash first second (panel_says (map says old.items)) qs k))
           (j.asked k.asks.of_second (second_asked qs k)));
       unasked = λ k. j.unasked (subst (AsksChecked hash second (panel_says (map says between.items))) (sym (append_none k.asks.of_first k.asks.of_second k.asks.are).1) (second_asked [] k)) ∙ h.unasked (first_unasked hash first second (panel_says (map says old.items)) k);
     }

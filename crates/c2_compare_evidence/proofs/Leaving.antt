@@ -1,16 +1,11 @@
 -- What the errors of two calls come from, one beside the other.
-use Rattle.std.proofs.Common.{◌⊎◌, inl, inr, ℕ, List, Option, Result, Ok, Err, IfErr, OnErr}
+use Rattle.std.proofs.Common.{inl, inr, ℕ, List, Option, Result, Ok, Err, IfErr, OnErr}
 use Rattle.c2_base.specs.Causes.{Rose}
 use Rattle.c2_base.specs.Source.{ReadsSource}
 use Rattle.c2_base.specs.declared.outside.Failed.{Failed}
 use Rattle.c2_compare_evidence.specs.Causes.{IsFailure, IsFault, IsLoneCause, IsReadCause, IsUnjudged}
 use Rattle.c2_compare_evidence.specs.declared.error.CompareError.{CompareError}
 use Rattle.c2_compare_evidence.specs.declared.error.CompareError.TheVariants.{ReadFault, WriteFault, JudgeFault, NoMemory}
-
--- one of two, in the other order
-pub other_way : {P Q : Type 0} → P ⊎ Q → Q ⊎ P
-other_way (inl p) = inr p
-other_way (inr q) = inl q
 
 -- a failure has its cause
 pub failed_cause : {T : Type 0} (before now : ℕ) (r : Result T Failed) → OnErr r (Rose before now) → IfErr r (IsFailure before now)

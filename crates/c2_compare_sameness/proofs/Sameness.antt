@@ -60,7 +60,7 @@ none_of true false z w e = refl
 none_of false y z w e = refl
 
 -- the test of the labels of all entries
-abbrev entries_given : List Reading → ℕ → Reading → List Reading → ℕ → Reading → Bool
+abbrev pub entries_given : List Reading → ℕ → Reading → List Reading → ℕ → Reading → Bool
 entries_given rs n r ss m s = list_all (λ (e : Ref). option_map_or (gives_label rs n r ss m s) (entry_label r.manifest e) true) (entries_in r)
 
 -- what was found out of two manifests holds at their places

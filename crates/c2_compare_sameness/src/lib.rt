@@ -4,5 +4,6 @@
 #![tactic(auto)]
 
 mod same;
+mod sides;
 
 pub use same::has_same_content;

@@ -4,18 +4,19 @@ ghost use Rattle.std.specs.List.{list_all};
 ghost use Rattle.std.specs.Option.{option_map_or};
 ghost use Rattle.c2_compare_spec.specs.ChainContent as content;
 ghost use Rattle.c2_compare_spec.specs.Deciding as form;
-ghost use Rattle.c2_rules.specs.Chains.{any_below, entry_label as label_of, passes_some};
+ghost use Rattle.c2_rules.specs.Chains.{any_below, passes_some};
 ghost use Rattle.c2_rules.specs.Readings.{ReadBox, entries_in};
 ghost use Rattle.c2_rules.specs.Rules.{box_with};
-ghost use Rattle.c2_spec.specs.declared.cbor.Ref.{Ref as AnyRef};
 ghost use Rattle.c2_compare_sameness.specs.Alike.{alike};
+ghost use Rattle.c2_compare_sameness.specs.Sides.{gives_listed, gives_named};
 
+use crate::sides::Side;
 use c2_base::NoMemory;
 use c2_check_claim::{Labelled, entry_at, entry_count, find_box, is_listed, owner, with_labels};
 use c2_compare_content::manifest_at;
 use c2_read_manifests::{
-    AssertionBox, ReadManifests, claim_bytes, entry_label, is_active, is_reached, is_redacted,
-    label, manifests,
+    AssertionBox, Placed, ReadManifests, claim_bytes, entry_label, is_active, is_reached,
+    is_redacted, label, manifests,
 };
 use c2_spec::Ref;
 use std::alloc::Global;
@@ -58,34 +59,19 @@ fn has_contents(own: &Labelled<'_, '_>, name: &str, contents: &[u8]) -> bool
 }
 
 /// Whether a manifest has these contents under this label.
-fn gives_box(
-    all: &ReadManifests<'_>,
-    m: usize,
-    own: &Labelled<'_, '_>,
-    name: &str,
-    contents: &[u8],
-) -> bool
-    requires { m < length all.now }
-    ensures { result ≡ form.gives_box all.now m own.now name.now contents.now }
+fn gives_box(right: &Side<'_, '_, '_>, name: &str, contents: &[u8]) -> bool
+    ensures { let at = right.now.at.now in
+        result ≡ form.gives_box at.all.now at.place right.now.own.now name.now contents.now }
 {
-    !is_redacted(all, m, name) && (is_listed(own, name) && has_contents(own, name, contents))
+    !is_redacted(right.at.all, right.at.place, name)
+        && (is_listed(right.own, name) && has_contents(right.own, name, contents))
 }
 
 /// Whether the second manifest has what the first has under this label.
-fn gives_label(
-    first: &ReadManifests<'_>,
-    n: usize,
-    left: &Labelled<'_, '_>,
-    second: &ReadManifests<'_>,
-    m: usize,
-    right: &Labelled<'_, '_>,
-    name: &str,
-) -> bool
-    requires left { n < length first.now }
-    requires right { m < length second.now }
-    ensures { result ≡ form.gives_label first.now n left.now second.now m right.now name.now }
+fn gives_label(left: &Side<'_, '_, '_>, right: &Side<'_, '_, '_>, name: &str) -> bool
+    ensures { result ≡ gives_named left.now right.now name.now }
 {
-    is_redacted(first, n, name) || gives_found(left, second, m, right, name)
+    is_redacted(left.at.all, left.at.place, name) || gives_found(left.own, right, name)
 }
 
 /// The contents of an assertion box.
@@ -96,65 +82,37 @@ fn contents<'a>(found: &AssertionBox<'a>) -> &'a [u8]
 }
 
 /// Whether the second manifest has the box with this label, where the first has it.
-fn gives_found(
-    left: &Labelled<'_, '_>,
-    second: &ReadManifests<'_>,
-    m: usize,
-    right: &Labelled<'_, '_>,
-    name: &str,
-) -> bool
-    requires { m < length second.now }
-    ensures { result ≡ option_map_or
-        (λ (b : ReadBox). form.gives_box second.now m right.now name.now b.boxed.contents)
+fn gives_found(left: &Labelled<'_, '_>, right: &Side<'_, '_, '_>, name: &str) -> bool
+    ensures { let at = right.now.at.now in
+        let gives = form.gives_box at.all.now at.place right.now.own.now name.now in
+        result ≡ option_map_or (λ (b : ReadBox). gives b.boxed.contents)
         (box_with left.now name.now) true }
 {
     match find_box(left, name) {
-        Some(found) => gives_box(second, m, right, name, contents(found)),
+        Some(found) => gives_box(right, name, contents(found)),
         None => true,
     }
 }
 
 /// Whether the second manifest has what the first has under the label that an entry lists.
-fn gives_entry(
-    first: &ReadManifests<'_>,
-    n: usize,
-    left: &Labelled<'_, '_>,
-    second: &ReadManifests<'_>,
-    m: usize,
-    right: &Labelled<'_, '_>,
-    entry: &Ref,
-) -> bool
-    requires left { n < length first.now }
-    requires right { m < length second.now }
-    ensures { let gives = form.gives_label first.now n left.now second.now m right.now in
-        result ≡ option_map_or gives (label_of left.now.manifest entry.now) true }
+fn gives_entry(left: &Side<'_, '_, '_>, right: &Side<'_, '_, '_>, entry: &Ref) -> bool
+    ensures { result ≡ gives_listed left.now right.now entry.now }
 {
-    match entry_label(owner(left), entry) {
-        Some(name) => gives_label(first, n, left, second, m, right, name),
+    match entry_label(owner(left.own), entry) {
+        Some(name) => gives_label(left, right, name),
         None => true,
     }
 }
 
 /// Whether the second manifest has what the first has under the labels of all its entries.
 #[tactic(auto, using(crate::proofs::Sameness::all_failed, crate::proofs::Sameness::all_passed))]
-fn gives_entries(
-    first: &ReadManifests<'_>,
-    n: usize,
-    left: &Labelled<'_, '_>,
-    second: &ReadManifests<'_>,
-    m: usize,
-    right: &Labelled<'_, '_>,
-) -> bool
-    requires left { n < length first.now }
-    requires right { m < length second.now }
-    ensures { let gives = form.gives_label first.now n left.now second.now m right.now in
-        result ≡ list_all
-        (λ (e : AnyRef). option_map_or gives (label_of left.now.manifest e) true)
-        (entries_in left.now) }
+fn gives_entries(left: &Side<'_, '_, '_>, right: &Side<'_, '_, '_>) -> bool
+    ensures { result
+        ≡ list_all (gives_listed left.now right.now) (entries_in left.now.own.now) }
 {
-    for k in 0..entry_count(left) {
-        let entry = entry_at(left, k);
-        let gives = gives_entry(first, n, left, second, m, right, entry);
+    for k in 0..entry_count(left.own) {
+        let entry = entry_at(left.own, k);
+        let gives = gives_entry(left, right, entry);
         if !gives {
             return false;
         }
@@ -163,54 +121,56 @@ fn gives_entries(
 }
 
 /// Whether the second manifest is reached with the key of the first and its claim bytes.
-fn is_alike(first: &ReadManifests<'_>, n: usize, second: &ReadManifests<'_>, m: usize) -> bool
-    requires left { n < length first.now }
-    requires right { m < length second.now }
-    ensures { IfSome (slice_get first.now n) (λ r. IfSome (slice_get second.now m) (λ s.
-        result ≡ alike first.now n r second.now m s)) }
+fn is_alike(left: &Placed<'_, '_>, right: &Placed<'_, '_>) -> bool
+    ensures { IfSome (slice_get left.now.all.now left.now.place) (λ r.
+        IfSome (slice_get right.now.all.now right.now.place) (λ s.
+        result ≡ alike left.now.all.now left.now.place r right.now.all.now right.now.place s)) }
 {
-    let left = &manifests(first)[n];
-    let right = &manifests(second)[m];
-    is_reached(second, m)
-        && (key_at(second, m) == key_at(first, n)
-            && are_equal(claim_bytes(left), claim_bytes(right)))
+    let own = &manifests(left.all)[left.place];
+    let other = &manifests(right.all)[right.place];
+    is_reached(right.all, right.place)
+        && (key_at(right.all, right.place) == key_at(left.all, left.place)
+            && are_equal(claim_bytes(own), claim_bytes(other)))
 }
 
 /// Whether the manifest at a place of the second store has all that the one at a place of the first has.
-fn gives_at(
-    alloc: Global,
-    first: &ReadManifests<'_>,
-    n: usize,
-    second: &ReadManifests<'_>,
-    m: usize,
-) -> Result<bool, NoMemory>
-    requires left { n < length first.now }
-    requires right { m < length second.now }
-    ensures { IfSome (slice_get first.now n) (λ r.
-        IfOk result (λ b. b ≡ form.gives_at first.now n r second.now m)) }
+fn gives_at(alloc: Global, left: &Placed<'_, '_>, right: &Placed<'_, '_>) -> Result<bool, NoMemory>
+    ensures { IfSome (slice_get left.now.all.now left.now.place) (λ r. IfOk result (λ b.
+        b ≡ form.gives_at left.now.all.now left.now.place r right.now.all.now right.now.place)) }
 {
-    let alike = is_alike(first, n, second, m);
+    let alike = is_alike(left, right);
     if !alike {
         return Ok(false);
     }
-    let left = with_labels(alloc, manifest_at(first, n))?;
-    let right = with_labels(alloc, manifest_at(second, m))?;
-    Ok(gives_entries(first, n, &left, second, m, &right))
+    let own = with_labels(alloc, manifest_at(left.all, left.place))?;
+    let other = with_labels(alloc, manifest_at(right.all, right.place))?;
+    let first = Side {
+        at: left,
+        own: &own,
+    };
+    let second = Side {
+        at: right,
+        own: &other,
+    };
+    Ok(gives_entries(&first, &second))
 }
 
 /// Whether a manifest of the second store has all that the one at a place of the first has.
 fn is_given(
     alloc: Global,
-    first: &ReadManifests<'_>,
-    n: usize,
+    left: &Placed<'_, '_>,
     second: &ReadManifests<'_>,
 ) -> Result<bool, NoMemory>
-    requires { n < length first.now }
-    ensures { IfSome (slice_get first.now n) (λ r. IfOk result
-        (λ b. b ≡ any_below (form.gives_at first.now n r second.now) (length second.now))) }
+    ensures { IfSome (slice_get left.now.all.now left.now.place) (λ r. IfOk result (λ b.
+        b ≡ any_below (form.gives_at left.now.all.now left.now.place r second.now)
+        (length second.now))) }
 {
     for m in (0..manifests(second).len()).rev() {
-        let gives = gives_at(alloc, first, n, second, m)?;
+        let right = Placed {
+            all: second,
+            place: m,
+        };
+        let gives = gives_at(alloc, left, &right)?;
         if gives {
             return Ok(true);
         }
@@ -232,7 +192,11 @@ fn is_missing(
     if !reached {
         return Ok(false);
     }
-    let given = is_given(alloc, first, n, second)?;
+    let left = Placed {
+        all: first,
+        place: n,
+    };
+    let given = is_given(alloc, &left, second)?;
     Ok(!given)
 }
 

@@ -1,16 +1,14 @@
 -- Equal bytes are read alike: as claims, as ingredients, as messages, and as the items of bindings.
-use Rattle.std.proofs.Common.{◌≡◌, ◌⊎◌, inl, inr, ℕ, Bool, true, false, List, [], ◌∷◌, Option, Some, None, Result, Ok, IsErr, is_err, MatchBool, Contains, refl, sym, ap, ◌∙◌, subst}
+use Rattle.std.proofs.Common.{◌≡◌, inl, inr, ℕ, Bool, true, false, List, [], ◌∷◌, Option, Some, None, Result, Ok, IsErr, is_err, MatchBool, Contains, refl, sym, ap, ◌∙◌, subst}
 use Rattle.std.specs.List.{AllZip}
-use Rattle.std.proofs.lemmas.Slice.Eq.{bytes_eq-Decides}
 use Rattle.c2_spec.specs.C2pa.Assertion.{ingredient_of}
 use Rattle.c2_spec.specs.C2pa.Claim.{claim_of}
+use Rattle.c2_spec.proofs.OneMessage.{OneItem}
 use Rattle.c2_spec.proofs.ClaimVersions.{says_version, one_claim_of}
-use Rattle.c2_spec.specs.C2pa.Manifest.{Manifest, claim_version_of, is_given}
-use Rattle.c2_spec.specs.C2pa.Sign1.{SignParts, message_list, SpellsMessage}
+use Rattle.c2_spec.specs.C2pa.Manifest.{Manifest, claim_version_of}
 use Rattle.c2_spec.specs.C2pa.Uri.{PlainUri, uri_of}
 use Rattle.c2_spec.specs.Cbor.Fields.{HasItem}
-use Rattle.c2_spec.specs.Cbor.Item.{Item, tag}
-use Rattle.c2_spec.specs.Cbor.Spelling.{Spells}
+use Rattle.c2_spec.specs.Cbor.Item.{Item}
 use Rattle.c2_spec.specs.declared.cbor.Ref.{Ref}
 use Rattle.c2_spec.specs.declared.claim.Claim.{Claim}
 use Rattle.c2_spec.specs.declared.claim.ClaimVersion.{ClaimVersion}
@@ -26,10 +24,6 @@ use Rattle.c2_compare_spec.specs.Correspondence.{HaveSameClaim}
 use Rattle.c2_compare_spec.proofs.Lists.{one_of}
 
 -- ---- items
-
--- what the law on spellings says: a list spells at most one item
-abbrev pub OneItem : Type 0
-OneItem = (v w : Item) (s : List ℕ) → Spells v s → Spells w s → v ≡ w
 
 -- bytes are one item
 pub one_item : OneItem → (s : List ℕ) (v w : Item) → HasItem s v → HasItem s w → v ≡ w
@@ -165,50 +159,7 @@ pub ingredients_alike : OneItem → (b c : ReadBox) → IsReadBox b.boxed b → 
 ingredients_alike law b c p q e =
     same_ingredient law b c (is_ingredient c.boxed) (subst (λ x. IsReadBox x b) e p).reads q.reads
 
--- ---- messages
-
--- the parts of a message, written short
-abbrev parts : List ℕ → Item → List ℕ → SignParts
-parts protected unprotected signature =
-    record { protected = protected; unprotected = unprotected; signature = signature }
-
--- equal lists of members have equal parts
-same_parts : (p q : SignParts) → message_list p ≡ message_list q → p ≡ q
-same_parts p q e =
-    let protected : p.protected ≡ q.protected = cc (e) in
-    let unprotected : p.unprotected ≡ q.unprotected = cc (e) in
-    let signature : p.signature ≡ q.signature = cc (e) in
-    ap (λ (x : List ℕ). parts x p.unprotected p.signature) protected
-    ∙ ap (λ (x : Item). parts q.protected x p.signature) unprotected
-    ∙ ap (λ (x : List ℕ). parts q.protected q.unprotected x) signature
-
--- an item is a message of these parts, with its tag or without
-abbrev HasForm : Item → SignParts → Type 0
-HasForm v p = (v ≡ message_list p) ⊎ (v ≡ tag 18 (message_list p))
-
--- an item is a message of one list of parts
-one_form : (v : Item) (p q : SignParts) → HasForm v p → HasForm v q → p ≡ q
-one_form v p q (inl a) (inl b) = same_parts p q (sym a ∙ b)
-one_form v p q (inl a) (inr b) = absurd (let bad = sym a ∙ b in cc (bad))
-one_form v p q (inr a) (inl b) = absurd (let bad = sym a ∙ b in cc (bad))
-one_form v p q (inr a) (inr b) = same_parts p q (let both = sym a ∙ b in cc (both))
-
--- bytes are one message
-pub one_message : OneItem → (s : List ℕ) (p q : SignParts) → SpellsMessage s p → SpellsMessage s q → p ≡ q
-one_message law s p q a b =
-    let one : b.message ≡ a.message = law b.message a.message s b.spelled a.spelled in
-    one_form a.message p q a.is.form (subst (λ v. HasForm v q) one b.is.form)
-
 -- ---- labels of entries
-
--- a label that is given is there
-pub given_says : (o : Option (List ℕ)) (label : List ℕ) → is_given o label ≡ true → o ≡ Some label
-given_says None label e = absurd cc
-given_says (Some x) label e = ap Some ((bytes_eq-Decides x label).0 e)
-
--- and the other way round
-pub says_given : (o : Option (List ℕ)) (label : List ℕ) → o ≡ Some label → is_given o label ≡ true
-says_given o label e = ap (λ x. is_given x label) e ∙ (bytes_eq-Decides label label).1 refl
 
 -- a label that an entry lists is that of its URI's target
 target_of : (own : Option (List ℕ)) (o : Option PlainUri) (label : List ℕ) → own_assertion own o ≡ Some label

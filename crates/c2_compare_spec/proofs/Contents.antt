@@ -15,7 +15,7 @@ use Rattle.c2_compare_spec.specs.ChainContent.{claim_bytes_of, active_claim, key
 use Rattle.c2_compare_spec.specs.Correspondence.{Correspond}
 use Rattle.c2_compare_spec.specs.Differences.{box_pair, unredacted_pairs, entry_pairs, unredacted_at, all_ingredients, all_unredacted}
 use Rattle.c2_compare_spec.specs.Evidence.{ListPair, do_differ}
-use Rattle.c2_compare_spec.proofs.Alike.{OneItem}
+use Rattle.c2_spec.proofs.OneMessage.{OneItem}
 use Rattle.c2_compare_spec.proofs.Facts.{SeenAlike, StoreFacts, IsShown}
 use Rattle.c2_compare_spec.proofs.Links.{BothBoxes, contents_are, one_claim, one_entry, label_first, label_second, counterpart_is, both_boxes, box_shown}
 use Rattle.c2_compare_spec.proofs.Lists.{bool_cases, one_of, FoundBelow, found_downward, none_downward}

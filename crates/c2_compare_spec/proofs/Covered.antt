@@ -21,7 +21,8 @@ use Rattle.c2_compare_spec.specs.Differences.{all_ingredients, all_unredacted, b
 use Rattle.c2_compare_spec.specs.Evidence.{do_differ}
 use Rattle.c2_compare_spec.specs.Lists.{IsListOf}
 use Rattle.c2_compare_spec.specs.Lists.IsListOf.{covered}
-use Rattle.c2_compare_spec.proofs.Alike.{OneItem, one_item}
+use Rattle.c2_spec.proofs.OneMessage.{OneItem}
+use Rattle.c2_compare_spec.proofs.Alike.{one_item}
 use Rattle.c2_compare_spec.proofs.Facts.{SeenAlike, BindingFacts, FileFacts}
 use Rattle.c2_compare_spec.proofs.Links.{binding_stays, stays, one_alg, one_claim, label_second, one_entry, BothBoxes, both_boxes, box_same}
 use Rattle.c2_compare_spec.proofs.Lists.{one_of}

@@ -10,13 +10,13 @@ use Rattle.c2_spec.specs.C2pa.Manifest.{is_given}
 use Rattle.c2_spec.specs.declared.cbor.Ref.{Ref}
 use Rattle.c2_spec.specs.declared.digest.Alg.{Alg}
 use Rattle.c2_spec.specs.declared.panel.Verdict.{Verdict}
+use Rattle.c2_spec.proofs.GivenLabels.{given_is, is_given_back}
 use Rattle.c2_rules.proofs.ListLemmas.{contains_none, contains_head, contains_tail, contains_cons, from_any, in_any, from_passes, both_true, and_true, from_below, in_below}
 use Rattle.c2_rules.specs.Chains.{label_in, entry_label, any_below, passes_some, is_active, is_reached, is_redacted}
 use Rattle.c2_rules.specs.Readings.{ReadBox, Reading, entries_in}
 use Rattle.c2_rules.specs.Rules.{box_with, lists_label}
 use Rattle.c2_compare_spec.specs.ChainContent.{claim_bytes_of, key_at, HasKey, GivesClaim, GivesBox, SameContent}
 use Rattle.c2_compare_spec.specs.Deciding.{are_equal, gives_box, gives_label, gives_all, gives_at, is_missing, is_within, has_same_content}
-use Rattle.c2_compare_spec.proofs.Alike.{given_says, says_given}
 use Rattle.c2_compare_spec.proofs.Facts.{TreeFacts, IsApproved, StoreFacts}
 use Rattle.c2_compare_spec.proofs.Links.{entry_box}
 use Rattle.c2_compare_spec.proofs.Lists.{bool_cases, never, one_of}
@@ -208,7 +208,7 @@ box_within rs ss t key label contents h =
       has_key = record { at_place = x.at_place; reached = x.reached; is = x.key ∙ h.has_key.is };
       entry = e.0;
       lists = e.1;
-      is_label = given_says (entry_label x.other.manifest e.0) label e.2;
+      is_label = given_is (entry_label x.other.manifest e.0) label e.2;
       unredacted = refused_is (is_redacted ss x.place label) a.0;
       box = c.0;
       has_box = c.1;
@@ -258,7 +258,7 @@ module _ (hash : Alg → List ℕ → List ℕ) (said : Question → Verdict) (r
           let listed' : lists_label s.manifest (entries_in s) label ≡ true =
           in_any (λ (z : Ref). is_given (entry_label s.manifest z) label) (entries_in s) h.entry
           (subst (λ (k : Reading). Contains (entries_in k) h.entry) same h.lists)
-          (says_given (entry_label s.manifest h.entry) label
+          (is_given_back (entry_label s.manifest h.entry) label
           (ap (λ (k : Reading). entry_label k.manifest h.entry) (sym same) ∙ h.is_label)) in
           let box : passes_some (λ (z : ReadBox). bytes_eq z.boxed.contents x.2.box.boxed.contents)
           (box_with s label) ≡ true =

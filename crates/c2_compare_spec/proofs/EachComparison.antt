@@ -18,7 +18,7 @@ use Rattle.c2_compare_spec.specs.EvidenceText.{evidence_text}
 use Rattle.c2_compare_spec.specs.declared.compared.Compared.{Compared}
 use Rattle.c2_compare_spec.specs.declared.compared.Compared.TheVariants.{NotAccepted, DifferentClaims, Evidence, Same}
 use Rattle.c2_compare_spec.specs.declared.compared.Side.TheVariants.{First, Second}
-use Rattle.c2_compare_spec.proofs.Alike.{OneItem}
+use Rattle.c2_spec.proofs.OneMessage.{OneItem}
 use Rattle.c2_compare_spec.proofs.Answers.{valid_accepted}
 use Rattle.c2_compare_spec.proofs.Decided.{test_decides}
 use Rattle.c2_compare_spec.proofs.Files.{facts, difference_is_found}

@@ -1,16 +1,14 @@
 -- The laws of two accepted files with one active claim.
-use Rattle.std.proofs.Common.{◌≡◌, ◌⊎◌, inl, inr, ℕ, ◌-◌, length, List, [], ◌∷◌, ◌++◌, Some, None, sym, ap, ◌∙◌, subst}
+use Rattle.std.proofs.Common.{◌≡◌, ◌⊎◌, inl, inr, ℕ, ◌-◌, length, List, [], ◌∷◌, ◌++◌, Some, None, subst}
 use Rattle.std.specs.List.{find}
 use Rattle.c2_base.specs.declared.values.Question.{Question}
-use Rattle.c2_spec.specs.C2pa.Manifest.{store_refusal, manifests_of}
-use Rattle.c2_spec.specs.Jumbf.Tree.{Tree, IsLegalTree}
-use Rattle.c2_spec.specs.Located.{Opening, Located, refused, absent, here}
+use Rattle.c2_spec.specs.C2pa.Manifest.{manifests_of}
 use Rattle.c2_spec.specs.declared.digest.Alg.{Alg}
 use Rattle.c2_spec.specs.declared.panel.Verdict.{Verdict}
 use Rattle.c2_rules.specs.Chains.{IsChild, Reached, is_redacted}
 use Rattle.c2_rules.specs.CheckList.{StoreReading}
 use Rattle.c2_rules.specs.Readings.{Reading}
-use Rattle.c2_rules.specs.Opened.{Opens, IsBoxTree, IsManifestTree, IsManifestStore, IsOpened}
+use Rattle.c2_rules.proofs.OpenedStore.{opened_store}
 use Rattle.c2_compare_spec.specs.Accepted.{IsOpenedAs, IsAccepted, HaveOneClaim, AreSame}
 use Rattle.c2_compare_spec.specs.ChainContent.{claim_bytes_of}
 use Rattle.c2_compare_spec.specs.Correspondence.{Correspond, HaveSameClaim}
@@ -18,7 +16,8 @@ use Rattle.c2_compare_spec.specs.Differences.{ingredients_at, all_ingredients, a
 use Rattle.c2_compare_spec.specs.Evidence.{ListPair, do_differ, IsReal}
 use Rattle.c2_compare_spec.specs.Lists.{IsReachedAt, IsListOf}
 use Rattle.c2_compare_spec.specs.Lists.IsListOf.{in_store}
-use Rattle.c2_compare_spec.proofs.Alike.{OneItem, same_claim}
+use Rattle.c2_spec.proofs.OneMessage.{OneItem}
+use Rattle.c2_compare_spec.proofs.Alike.{same_claim}
 use Rattle.c2_compare_spec.proofs.Contents.{all_unredacted_real, same_content}
 use Rattle.c2_compare_spec.proofs.Covered.{covered_alike}
 use Rattle.c2_compare_spec.proofs.Facts.{SeenAlike, FileFacts, IsShown}
@@ -31,44 +30,10 @@ use Rattle.c2_compare_spec.proofs.Walk.{root, all_ingredients_real, forth, back,
 
 -- ---- the box tree of a file
 
--- A legal tree that is a store.
-pub record IsStoreTree (t : Tree) : Type 0 where
-  pub legal : IsLegalTree 1 t
-  pub accepted : store_refusal t ≡ None
-
--- what is here as one tree is here as that tree
-one_tree : (a b c d : ℕ) (t u : Tree) → ◌≡◌ {A = Opening Tree} (here a b t) (here c d u) → t ≡ u
-one_tree a b c d t u e = cc (e)
-
--- by what the store's bytes are as a box tree
-of_store : (s n : ℕ) (store : List ℕ) (what : Opening Tree) (start len : ℕ) (t : Tree)
-    → IsBoxTree s n store what
-    → Opens IsManifestTree what (here start len t) → IsStoreTree t
-of_store s n store (refused reason number) start len t boxes opens = absurd (cc (opens))
-of_store s n store absent start len t boxes opens = absurd (cc (opens))
-of_store s n store (here a b u) start len t boxes opens =
-    let same : t ≡ u = one_tree start len a b t u opens.1 in
-    record {
-      legal = subst (IsLegalTree 1) (sym same) boxes.0.legal;
-      accepted =
-          ap store_refusal same ∙ opens.0;
-    }
-
--- by what the file is as a container
-of_located : (l : Located) (start len : ℕ) (t : Tree) → Opens IsManifestStore l (here start len t)
-    → IsStoreTree t
-of_located (refused reason number) start len t opens = absurd (cc (opens))
-of_located absent start len t opens = absurd (cc (opens))
-of_located (here s n store) start len t opens = of_store s n store opens.0 start len t opens.1 opens.2
-
--- the tree that a file is opened as is a store
-pub store_tree : (file : List ℕ) (start len : ℕ) (t : Tree) → IsOpened file (here start len t) → IsStoreTree t
-store_tree file start len t opened = of_located opened.0 start len t opened.2
-
 -- what is read of it
 stored : (file : List ℕ) (s : StoreReading) (o : IsOpenedAs file s) → IsStored o.tree s.readings
 stored file s o =
-    let t = store_tree file o.start o.len o.tree o.is_opened in
+    let t = opened_store file o.start o.len o.tree o.is_opened in
     record { legal = t.legal; accepted = t.accepted; readings = o.reads.reads.each }
 
 -- all that the laws use of an accepted file

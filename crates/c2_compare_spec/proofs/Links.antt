@@ -15,6 +15,7 @@ use Rattle.c2_spec.specs.declared.assertion.Kind.TheVariants as kinds
 use Rattle.c2_spec.specs.declared.cbor.Ref.{Ref}
 use Rattle.c2_spec.specs.declared.digest.Alg.{Alg}
 use Rattle.c2_spec.specs.declared.panel.Verdict.{Verdict}
+use Rattle.c2_spec.proofs.GivenLabels.{given_is}
 use Rattle.c2_rules.proofs.ReachLemmas.{reached_decides, redacted_decides}
 use Rattle.c2_rules.specs.Chains.{label_in, named_by, entry_label, IsChild, is_active, is_reached, is_redacted}
 use Rattle.c2_rules.specs.Chains.Reached.{below}
@@ -28,7 +29,8 @@ use Rattle.c2_compare_spec.specs.Differences.{other_named, counterpart, no_super
 use Rattle.c2_compare_spec.specs.Evidence.{ListPair, do_differ, IsReal}
 use Rattle.c2_compare_spec.specs.Lists.{IsReachedAt, IsListIn}
 use Rattle.c2_compare_spec.specs.Lists.IsListIn.{of_box, of_signature, of_claim, of_manifest}
-use Rattle.c2_compare_spec.proofs.Alike.{OneItem, claims_alike, box_reads, ingredients_alike, one_message, given_says, one_label}
+use Rattle.c2_compare_spec.proofs.Alike.{claims_alike, box_reads, ingredients_alike, one_label}
+use Rattle.c2_spec.proofs.OneMessage.{OneItem, same_message}
 use Rattle.c2_compare_spec.proofs.Facts.{SeenAlike, IsApproved, HasBox, is_unredactable, BySignature, ByContents, Binds, NamedFact, StoreFacts, IsShown}
 use Rattle.c2_compare_spec.proofs.Lists.{bool_cases, one_of, never, find_says, find_only, in_front, front_at}
 use Rattle.c2_compare_spec.proofs.Pairs.{found_pair, found_only, none_pair}
@@ -63,7 +65,7 @@ binding_stays kinds.Ordinary e = absurd cc
 pub box_says : (r : Reading) (label : List ℕ) (b : ReadBox) → box_with r label ≡ Some b
     → Contains r.boxes b × (b.boxed.label ≡ Some label)
 box_says r label b e = let f =
-    find_says (is_labelled label) r.boxes b e in (f.0, given_says b.boxed.label label f.1)
+    find_says (is_labelled label) r.boxes b e in (f.0, given_is b.boxed.label label f.1)
 
 -- its contents are those with the label
 pub contents_are : (r : Reading) (label : List ℕ) (b : ReadBox) → box_with r label ≡ Some b
@@ -421,7 +423,7 @@ module _ (law : OneItem) (hash : Alg → List ℕ → List ℕ) (said : Question
       let item : p.item ≡ q.item =
       one_of p.box.item p.item q.item p.has_item (ap (λ (z : Superbox). z.item) box ∙ q.has_item) in
       let parts : p.parts ≡ q.parts =
-      one_message law p.item p.parts q.parts p.is_message
+      same_message law p.item p.parts q.parts p.is_message
       (subst (λ z. SpellsMessage z q.parts) (sym item) q.is_message) in
       record {
         item = p.item;

@@ -8,9 +8,10 @@ use Rattle.c2_rules.specs.Validated.{IsAnswer}
 use Rattle.c2_rules.specs.declared.answer.Answer.{Answer}
 use Rattle.c2_rules.specs.declared.answer.Answer.TheVariants as answer
 use Rattle.c2_rules.specs.declared.answer.Summary.{Summary}
+use Rattle.c2_rules.specs.Opened.{IsOpenedOnce}
 use Rattle.c2_compare_spec.specs.Accepted.{IsOpenedAs, IsAccepted, AreSame, summary_in}
 use Rattle.c2_compare_spec.specs.ChainContent.{active_claim}
-use Rattle.c2_compare_spec.specs.Comparison.{IsOpenedOnce, is_valid, evidence_kind, HaveDifferentClaims, HaveEvidence, IsSame, IsComparison, SecondAsks, CompareAsks}
+use Rattle.c2_compare_spec.specs.Comparison.{is_valid, evidence_kind, HaveDifferentClaims, HaveEvidence, IsSame, IsComparison, SecondAsks, CompareAsks}
 use Rattle.c2_compare_spec.specs.Differences.{first_difference}
 use Rattle.c2_compare_spec.specs.Evidence.{ListPair}
 use Rattle.c2_compare_spec.specs.EvidenceText.{evidence_text}
@@ -18,7 +19,7 @@ use Rattle.c2_compare_spec.specs.declared.compared.Compared.{Compared}
 use Rattle.c2_compare_spec.specs.declared.compared.Compared.TheVariants.{NotAccepted, DifferentClaims, Evidence, Same}
 use Rattle.c2_compare_spec.specs.declared.compared.EvidenceKind.{EvidenceKind}
 use Rattle.c2_compare_spec.specs.declared.compared.Side.TheVariants.{First, Second}
-use Rattle.c2_compare_spec.proofs.Alike.{OneItem}
+use Rattle.c2_spec.proofs.OneMessage.{OneItem}
 use Rattle.c2_compare_spec.proofs.Answers.{accepted_valid}
 use Rattle.c2_compare_spec.proofs.Lists.{one_of}
 use Rattle.c2_compare_spec.proofs.OneStore.{one_opened_as, one_answer, one_asks}

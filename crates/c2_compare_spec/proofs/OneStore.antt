@@ -1,14 +1,11 @@
 -- A file that is opened as one thing is read as one store, and has one answer.
-use Rattle.std.proofs.Common.{◌≡◌, ℕ, Bool, true, false, not, ◌&&◌, List, [], ◌∷◌, Option, Some, None, Result, length, refl, sym, ap, ap₂, ◌∙◌, subst}
+use Rattle.std.proofs.Common.{◌≡◌, ℕ, List, [], ◌∷◌, Option, Some, None, Result, length, refl, sym, ap, ap₂, ◌∙◌, subst}
 use Rattle.std.specs.List.{AllZip}
 use Rattle.c2_base.specs.declared.values.Question.{Question}
-use Rattle.c2_spec.proofs.BmffOneList.{roots_once}
-use Rattle.c2_spec.specs.Bmff.Boxes.{begins_bmff}
 use Rattle.c2_spec.specs.C2pa.Claim.{claim_of}
 use Rattle.c2_spec.specs.C2pa.Manifest.{Manifest, Superbox, claim_bytes, claim_version_of, manifests_of}
 use Rattle.c2_spec.specs.C2pa.Sign1.{SignParts}
 use Rattle.c2_spec.specs.Cbor.Item.{Item}
-use Rattle.c2_spec.specs.Container.{Container, jpeg, bmff, IsContainer, begins_jpeg, is_bmff}
 use Rattle.c2_spec.specs.Jumbf.Tree.{Tree}
 use Rattle.c2_spec.specs.Located.{Opening, refused, absent, here}
 use Rattle.c2_spec.specs.declared.assertion.FieldError.{FieldError}
@@ -16,16 +13,19 @@ use Rattle.c2_spec.specs.declared.claim.Claim.{Claim}
 use Rattle.c2_spec.specs.declared.digest.Alg.{Alg}
 use Rattle.c2_spec.specs.declared.panel.Verdict.{Verdict}
 use Rattle.c2_rules.proofs.BindingLaws.{one_binding}
-use Rattle.c2_rules.specs.Binding.{Binding, Media, IsMedia, IsItemOf, IsLabelledBinding, binding_label, binding_payload}
+use Rattle.c2_rules.specs.Binding.{Binding, Media, IsItemOf, IsLabelledBinding, binding_label, binding_payload}
 use Rattle.c2_rules.specs.CheckList.{StoreReading, IsStoreReading, HasBindingOf, active_in, store_answer, check_asks}
 use Rattle.c2_rules.specs.Readings.{IsMessageOf, ReadBox, IsReadBox, Reading, IsReading, signature_item}
 use Rattle.c2_rules.specs.Rules.{label_kind}
 use Rattle.c2_rules.specs.Validated.{IsFileReading, IsOpenedAnswer, IsAnswer, OpenedAsks, CheckAsks}
 use Rattle.c2_rules.specs.declared.answer.Answer.{Answer}
 use Rattle.c2_rules.specs.declared.parsed.Parsed.{Parsed}
+use Rattle.c2_rules.proofs.OneMedia.{media_once}
+use Rattle.c2_rules.proofs.OpenedStore.{same_here}
+use Rattle.c2_rules.specs.Opened.{IsOpenedOnce}
 use Rattle.c2_compare_spec.specs.Accepted.{IsOpenedAs}
-use Rattle.c2_compare_spec.specs.Comparison.{IsOpenedOnce}
-use Rattle.c2_compare_spec.proofs.Alike.{OneItem, one_item, one_parsed, ingredients_alike, one_message}
+use Rattle.c2_compare_spec.proofs.Alike.{one_item, one_parsed, ingredients_alike}
+use Rattle.c2_spec.proofs.OneMessage.{OneItem, same_message}
 
 -- ---- what is read of a store
 
@@ -48,7 +48,7 @@ one_message_of law None (Some x) b p q = absurd p
 one_message_of law (Some s) None None p q = refl
 one_message_of law (Some s) None (Some y) p q = absurd (p y q)
 one_message_of law (Some s) (Some x) None p q = absurd (q x p)
-one_message_of law (Some s) (Some x) (Some y) p q = ap Some (one_message law s x y p q)
+one_message_of law (Some s) (Some x) (Some y) p q = ap Some (same_message law s x y p q)
 
 -- a box is read as one thing
 one_box : OneItem → (b : Superbox) (x y : ReadBox) → IsReadBox b x → IsReadBox b y → x ≡ y
@@ -118,29 +118,11 @@ one_store law m ms s t p q =
 
 -- ---- the media file
 
--- no file begins as a JPEG and counts as a BMFF file
-not_both : (file : List ℕ) → begins_jpeg file ≡ true → is_bmff file ≡ true → ⊥
-not_both file p q = let bad : false ≡ is_bmff file =
-    sym (ap (λ (b : Bool). not b && begins_bmff file) p) in cc (bad ∙ q)
-
--- a file has one container
-one_container : (file : List ℕ) (c d : Container) → IsContainer file c → IsContainer file d → c ≡ d
-one_container file jpeg jpeg p q = refl
-one_container file jpeg (bmff roots) p q = absurd (not_both file p q.0)
-one_container file (bmff roots) jpeg p q = absurd (not_both file q p.0)
-one_container file (bmff roots) (bmff others) p q = ap bmff (roots_once file roots others p.1 q.1)
-
--- and is media in one way
-one_media : (file : List ℕ) (m n : Media) → IsMedia file m → IsMedia file n → m ≡ n
-one_media file m n p q =
-    ap₂ (λ (b : List ℕ) (c : Container). record { bytes = b; container = c }) (p.bytes ∙ sym q.bytes)
-    (one_container file m.container n.container p.container q.container)
-
 -- its store is read in one way
 one_file_reading : OneItem → (file : List ℕ) (t : Tree) (a b : StoreReading) → IsFileReading file t a
     → IsFileReading file t b → a ≡ b
 one_file_reading law file t a b p q =
-    let media : q.media ≡ p.media = one_media file q.media p.media q.is_media p.is_media in
+    let media : q.media ≡ p.media = media_once file q.media p.media q.is_media p.is_media in
     one_store law p.media (manifests_of t) a b p.reads
     (subst (λ m. IsStoreReading m (manifests_of t) b) media q.reads)
 
@@ -154,10 +136,6 @@ one_start a b c d t u e = cc (e)
 one_len : (a b c d : ℕ) (t u : Tree) → ◌≡◌ {A = Opening Tree} (here a b t) (here c d u) → b ≡ d
 one_len a b c d t u e = cc (e)
 
--- nor as another tree
-one_tree : (a b c d : ℕ) (t u : Tree) → ◌≡◌ {A = Opening Tree} (here a b t) (here c d u) → t ≡ u
-one_tree a b c d t u e = cc (e)
-
 -- A file is opened as a store in one place, and read in one way.
 pub record OneReading (file : List ℕ) (s t : StoreReading) (o : IsOpenedAs file s)
     (p : IsOpenedAs file t) : Type 0 where
@@ -170,7 +148,7 @@ pub one_opened_as : OneItem → (file : List ℕ) → IsOpenedOnce file
     → (s t : StoreReading) (o : IsOpenedAs file s) (p : IsOpenedAs file t) → OneReading file s t o p
 one_opened_as law file once s t o p =
     let e = once (here o.start o.len o.tree) (here p.start p.len p.tree) o.is_opened p.is_opened in
-    let tree : p.tree ≡ o.tree = sym (one_tree o.start o.len p.start p.len o.tree p.tree e) in
+    let tree : p.tree ≡ o.tree = sym (same_here o.start o.len p.start p.len o.tree p.tree e) in
     record {
       store = one_file_reading law file o.tree s t o.reads (subst (λ u. IsFileReading file u t) tree p.reads);
       start = one_start o.start o.len p.start p.len o.tree p.tree e;

@@ -16,7 +16,8 @@ use Rattle.c2_rules.specs.declared.parsed.Parsed.TheVariants.{NoItem}
 use Rattle.c2_compare_spec.specs.Correspondence.{Correspond}
 use Rattle.c2_compare_spec.specs.Differences.{other_named, box_pair, target_pairs, label_pairs, named_pairs, ingredient_with, ingredient_pairs, entry_pairs, ingredients_at}
 use Rattle.c2_compare_spec.specs.Evidence.{ListPair, do_differ}
-use Rattle.c2_compare_spec.proofs.Alike.{OneItem, box_reads}
+use Rattle.c2_spec.proofs.OneMessage.{OneItem}
+use Rattle.c2_compare_spec.proofs.Alike.{box_reads}
 use Rattle.c2_compare_spec.proofs.Facts.{SeenAlike, StoreFacts, IsShown}
 use Rattle.c2_compare_spec.proofs.Links.{ingredient_stays, box_says, ingredient_is, stays, BothBoxes, one_claim, one_entry, label_first, counterpart_is, both_boxes, box_shown, box_same, Targets, targets, targets_correspond, target_shown, target_same}
 use Rattle.c2_compare_spec.proofs.Lists.{one_of}

@@ -10,11 +10,11 @@ use Rattle.c2_spec.specs.Jumbf.Boxes.{tree_count, child_indices}
 use Rattle.c2_spec.specs.Jumbf.Tree.{Tree, IsLegalTree}
 use Rattle.c2_spec.proofs.JumbfBoxes.{some_box}
 use Rattle.c2_spec.proofs.JumbfChildren.{label_at, children_inside}
+use Rattle.c2_spec.proofs.GivenLabels.{given_is, is_given_back}
 use Rattle.c2_rules.proofs.ListLemmas.{contains_none, contains_cons}
 use Rattle.c2_rules.specs.Chains.{label_in}
 use Rattle.c2_rules.specs.Readings.{ReadBox, IsReadBox, Reading, IsReading, AreReadings}
 use Rattle.c2_rules.specs.Rules.{is_labelled, box_with}
-use Rattle.c2_compare_spec.proofs.Alike.{given_says, says_given}
 use Rattle.c2_compare_spec.proofs.Facts.{TreeFacts, SeenAlike}
 use Rattle.c2_compare_spec.proofs.Holding.{holds}
 use Rattle.c2_compare_spec.proofs.Labels.{superboxes_apart, inside_apart}
@@ -219,12 +219,12 @@ module _ (t : Tree) (rs : List Reading) (h : IsStored t rs) where
       let a = placed n r e in
       let p = place_of_member r.boxes b c in
       let x = box_placed n r a p.0 b p.1 in
-      find_only (is_labelled label) r.boxes p.0 b p.1 (says_given b.boxed.label label labelled)
+      find_only (is_labelled label) r.boxes p.0 b p.1 (is_given_back b.boxed.label label labelled)
       (λ q y at given.
       let z = box_placed n r a q y at in
       inside_apart t (assertion_store_in t (superboxes t a.index)) h.legal (store_inside n r a) q p.0 z.index
       x.index label z.at x.at
-      (sym (ap (λ (b : Superbox). b.label) z.is) ∙ given_says y.boxed.label label given)
+      (sym (ap (λ (b : Superbox). b.label) z.is) ∙ given_is y.boxed.label label given)
       (sym (ap (λ (b : Superbox). b.label) x.is) ∙ labelled))
 
   -- what the laws use of the box tree

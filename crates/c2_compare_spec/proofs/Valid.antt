@@ -18,13 +18,49 @@ use Rattle.c2_spec.specs.declared.cbor.Ref.{Ref}
 use Rattle.c2_spec.specs.declared.digest.Alg.{Alg}
 use Rattle.c2_spec.specs.declared.panel.Verdict.{Verdict}
 use Rattle.c2_spec.specs.declared.panel.Verdict.TheVariants as verdict
+use Rattle.c2_spec.proofs.GivenLabels.{given_is}
 use Rattle.c2_rules.proofs.ListLemmas.{from_any, from_and_then, from_passes}
 use Rattle.c2_rules.proofs.ReachLemmas.{placed}
 use Rattle.c2_rules.specs.Chains.{label_in, entry_label, place_of, is_reached, is_redacted, is_touched, passes_some}
 use Rattle.c2_rules.specs.CheckList.{place_tests, tests_of, chain_tests, judged_tests}
 use Rattle.c2_rules.specs.Ingredients.{is_ingredient_kind, assertion_uri}
 use Rattle.c2_rules.specs.Readings.{IsParsed, IsMessageOf, ReadBox, Reading, IsReading, value_in, claim_in, entries_in, redactions_in, names_signature, asked_of, question_in, signature_item}
-use Rattle.c2_rules.specs.Rules.{claim_uri, assertion_box_uri, alg_in, is_known, has_digest_by, has_digest, has_contents, label_kind, is_hash, claim_tests, verdict_tests, standing_tests, reference_tests, child_tests, ingredient_tests, box_with, lists_label, box_has_digest, labelled_tests, entry_tests, is_undeclared, box_test, is_actions, is_any_ingredient, target_tests, uri_tests, redaction_tests, binding_tests, order_tests, parsed_tests, kind_tests, form_tests, rest_tests, manifest_tests}
+use Rattle.c2_rules.specs.Rules.{
+  claim_uri,
+  assertion_box_uri,
+  alg_in,
+  is_known,
+  has_digest_by,
+  has_digest,
+  has_contents,
+  label_kind,
+  is_hash,
+  claim_tests,
+  verdict_tests,
+  standing_tests,
+  reference_tests,
+  child_tests,
+  ingredient_tests,
+  box_with,
+  lists_label,
+  box_has_digest,
+  labelled_tests,
+  entry_tests,
+  is_undeclared,
+  box_test,
+  is_actions,
+  is_any_ingredient,
+  target_tests,
+  uri_tests,
+  redaction_tests,
+  binding_tests,
+  order_tests,
+  parsed_tests,
+  kind_tests,
+  form_tests,
+  rest_tests,
+  manifest_tests,
+}
 use Rattle.c2_rules.specs.Seen.{Seen, signature_contents, child_standing, earlier_standing, place_standing, standing_of, seen_at}
 use Rattle.c2_rules.specs.Seen as seen
 use Rattle.c2_rules.specs.Tests.{Test, test, each, over_all, AllHold}
@@ -32,7 +68,6 @@ use Rattle.c2_rules.specs.declared.code.Code.TheVariants as code
 use Rattle.c2_rules.specs.declared.parsed.Parsed.{Parsed}
 use Rattle.c2_rules.specs.declared.parsed.Parsed.TheVariants.{NoItem, NoForm, Value}
 use Rattle.c2_compare_spec.specs.ChainContent.{claim_bytes_of}
-use Rattle.c2_compare_spec.proofs.Alike.{given_says}
 use Rattle.c2_compare_spec.proofs.Facts.{IsApproved, HasBox, EntryFact, BoxFact, is_unredactable, RedactionFact, BySignature, Binds, NamedFact, IngredientFact, ManifestFacts}
 use Rattle.c2_compare_spec.proofs.Holding.{hold_front, hold_back, hold_each, hold_over, hold_place, holds, there, there_too, second_fails, neither_first, neither_second}
 use Rattle.c2_compare_spec.proofs.Lists.{one_of}
@@ -171,7 +206,7 @@ box_fact r b h =
       entry = e.0;
       lists = e.1;
       is_label =
-          given_says (entry_label r.manifest e.0) p.0 e.2;
+          given_is (entry_label r.manifest e.0) p.0 e.2;
     }
 
 -- ---- redactions

@@ -18,7 +18,7 @@ use Rattle.c2_compare_spec.specs.ChainContent.{claim_bytes_of, active_claim}
 use Rattle.c2_compare_spec.specs.Correspondence.{Correspond}
 use Rattle.c2_compare_spec.specs.Differences.{ingredient_pairs, entry_pairs, ingredients_at, all_ingredients}
 use Rattle.c2_compare_spec.specs.Evidence.{ListPair, do_differ}
-use Rattle.c2_compare_spec.proofs.Alike.{OneItem}
+use Rattle.c2_spec.proofs.OneMessage.{OneItem}
 use Rattle.c2_compare_spec.proofs.Facts.{SeenAlike, StoreFacts, IsShown}
 use Rattle.c2_compare_spec.proofs.Links.{one_claim}
 use Rattle.c2_compare_spec.proofs.Lists.{bool_cases, one_of, never, FoundBelow, found_downward, none_downward}

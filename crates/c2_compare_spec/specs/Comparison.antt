@@ -2,12 +2,9 @@
 -- own choice).
 use Rattle.std.specs.Prelude.{◌≡◌, ◌≢◌, ℕ, Bool, true, false, List, [], ◌++◌, Some}
 use Rattle.c2_base.specs.declared.values.Question.{Question}
-use Rattle.c2_spec.specs.Jumbf.Tree.{Tree}
-use Rattle.c2_spec.specs.Located.{Opening}
 use Rattle.c2_spec.specs.declared.digest.Alg.{Alg}
 use Rattle.c2_spec.specs.declared.panel.Verdict.{Verdict}
 use Rattle.c2_rules.specs.CheckList.{StoreReading}
-use Rattle.c2_rules.specs.Opened.{IsOpened}
 use Rattle.c2_rules.specs.Validated.{IsAnswer, CheckAsks}
 use Rattle.c2_rules.specs.declared.answer.Answer.{Answer}
 use Rattle.c2_rules.specs.declared.answer.Answer.TheVariants as answer
@@ -22,10 +19,6 @@ use Rattle.c2_compare_spec.specs.declared.compared.Compared.TheVariants.{NotAcce
 use Rattle.c2_compare_spec.specs.declared.compared.EvidenceKind.{EvidenceKind}
 use Rattle.c2_compare_spec.specs.declared.compared.EvidenceKind.TheVariants.{Digest, Signature}
 use Rattle.c2_compare_spec.specs.declared.compared.Side.TheVariants.{First, Second}
-
--- a file is opened as one thing at most ("Embedding manifests into assets")
-abbrev pub IsOpenedOnce : List ℕ → Type 0
-IsOpenedOnce file = (a b : Opening Tree) → IsOpened file a → IsOpened file b → a ≡ b
 
 -- the check of a file answers that every rule holds
 abbrev pub is_valid : Answer → Bool

@@ -15,9 +15,10 @@ ghost use Rattle.c2_rules.specs.Validated.{IsAnswer, CheckAsks};
 ghost use Rattle.c2_rules.specs.declared.answer.Answer.{Answer as AnyAnswer};
 ghost use Rattle.c2_rules.specs.declared.answer.Answer.TheVariants as answer;
 ghost use Rattle.c2_rules.specs.declared.answer.Summary.{Summary as Counted};
+ghost use Rattle.c2_rules.specs.Opened.{IsOpenedOnce};
 ghost use Rattle.c2_compare_spec.specs.Accepted.{IsAccepted, HaveOneClaim, AreSame, summary_in};
 ghost use Rattle.c2_compare_spec.specs.ChainContent.{SameContent, claim_bytes_of};
-ghost use Rattle.c2_compare_spec.specs.Comparison.{IsOpenedOnce, IsComparison, CompareAsks};
+ghost use Rattle.c2_compare_spec.specs.Comparison.{IsComparison, CompareAsks};
 ghost use Rattle.c2_compare_spec.specs.Correspondence.{Correspond, HaveSameClaim};
 ghost use Rattle.c2_compare_spec.specs.Deciding.{has_same_content};
 ghost use Rattle.c2_compare_spec.specs.Differences.{ingredients_at, all_ingredients, first_difference};
@@ -25,7 +26,7 @@ ghost use Rattle.c2_compare_spec.specs.Evidence.{ListPair, do_differ, IsReal};
 ghost use Rattle.c2_compare_spec.specs.Lists.{IsListOf, IsReachedAt};
 ghost use Rattle.c2_compare_spec.specs.declared.compared.Compared.{Compared as AnyCompared};
 
-use c2_cbor::one_item;
+use c2_cbor_spec::one_item;
 
 /// Equal claim bytes of reached manifests of accepted files are one claim, under one version. No signature covers the label that
 /// says the version, so it has to follow from the bytes.

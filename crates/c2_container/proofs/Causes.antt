@@ -5,12 +5,12 @@ use Rattle.c2_base.specs.declared.limits.TheConstants.{FILE_LEN_LIMIT}
 use Rattle.c2_base.specs.declared.media.MediaError.{MediaError}
 use Rattle.c2_base.specs.declared.media.MediaError.TheVariants as media
 use Rattle.c2_bmff_boxes.specs.Causes.{IsRootsCause, IsStoreCause}
+use Rattle.c2_jpegseg_survey.specs.Surveys.{IsSurveyCause}
 use Rattle.c2_spec.specs.Jpeg.Store.{IsJpegRefusal}
-use Rattle.c2_spec.specs.Located.{HasReason}
 use Rattle.c2_container.specs.Contained.{IsLocateCause}
 
 -- of a JPEG
-pub jpeg_cause : (len before now : ℕ) (e : MediaError) → IsJpegRefusal len e → HasReason len before now e → IsLocateCause len before now e
+pub jpeg_cause : (len before now : ℕ) (e : MediaError) → IsJpegRefusal len e → IsSurveyCause len before now e → IsLocateCause len before now e
 jpeg_cause len before now media.NotMedia r h = h
 jpeg_cause len before now (media.FileTooLarge n) r h = ((h.0, h.1), h.2)
 jpeg_cause len before now (media.Truncated n) r h = ((r, h.0), h.1)

@@ -16,10 +16,13 @@ use Rattle.c2_spec.specs.Bmff.Boxes.{begins_bmff, ftyp_kind}
 use Rattle.c2_spec.specs.Bmff.Store.{FirstBmffFault, IsBmffLocated, provenance}
 use Rattle.c2_spec.specs.Container.{IsLocated, begins_jpeg, is_bmff}
 use Rattle.c2_spec.specs.Jpeg.Segments.{start_of_image}
-use Rattle.c2_spec.specs.Located.{Located, absent, here, refusal}
+use Rattle.c2_spec.specs.Jpeg.Store as jpeg
+use Rattle.c2_spec.specs.Located.{Located, absent, here, refusal, said}
+use Rattle.c2_jpegseg_survey.specs.Surveys.{HasPacketPoint, less_found}
+use Rattle.c2_jpegseg_survey.specs.declared.surveying.Surveyed.{Surveyed}
 use Rattle.c2_container.specs.Contained.{IsSaid}
-use Rattle.c2_container.specs.declared.types.Container.TheVariants.{Bmff}
-use Rattle.c2_container.proofs.Containers.{OneBmff, as_bmff, of_bmff}
+use Rattle.c2_container.specs.declared.types.Container.TheVariants.{Bmff, Jpeg}
+use Rattle.c2_container.proofs.Containers.{OneBmff, as_bmff, as_jpeg, of_bmff, of_jpeg}
 
 -- ---- the front of a file
 
@@ -46,6 +49,33 @@ short_front file few = by (begins_bmff file) refl
         omega (arith, four, few, length-take 4 (drop 4 file), length-drop 4 file))
     by false e = ap (λ (t : Bool). not (begins_jpeg file) && t) e ∙ neither (not (begins_jpeg file))
 
+-- ---- a JPEG file
+
+-- what is said of a file as a JPEG is what it is as a container
+as_located : (file : List ℕ) (o : Option Located) → is_bmff file ≡ false → IfSome o (jpeg.IsLocated file) → IfSome o (IsLocated file)
+as_located file None is h = tt
+as_located file (Some l) is h = as_jpeg file l is h
+
+-- a file that isn't refused as a JPEG begins as one
+begins : (file : List ℕ) (o : Option Found) → IfSome (said (Ok o)) (jpeg.IsLocated file) → begins_jpeg file ≡ true
+begins file None h = ap begins_jpeg h.begins.bytes
+begins file (Some f) h = ap begins_jpeg h.begins.bytes
+
+-- a JPEG that was surveyed
+pub packets_said : (file : List ℕ) (s : Surveyed) → is_bmff file ≡ false → IfSome (said (Ok s.found)) (jpeg.IsLocated file)
+    → ((what : Located) → jpeg.IsLocated file what → IfSome (said (Ok s.found)) (λ l. l ≡ what)) → HasPacketPoint (less_found s.found file) s.point
+    → IsSaid file (Ok (record { container = Jpeg; found = s.found; packets = Some s.point }))
+packets_said file s is found only point = record {
+  located = as_located file (said (Ok s.found)) is found;
+  only = λ what k. only what (of_jpeg file what is k);
+  container = begins file s.found found;
+  packets = point;
+}
+
+-- one that is refused
+pub packets_refused : (file : List ℕ) (e : MediaError) → is_bmff file ≡ false → IfSome (refusal e) (jpeg.IsLocated file) → ((what : Located) → jpeg.IsLocated file what → IfSome (refusal e) (λ l. l ≡ what)) → IsSaid file (Err e)
+packets_refused file e is found only = record { located = as_located file (refusal e) is found; only = λ what k. only what (of_jpeg file what is k); container = tt; packets = tt }
+
 -- ---- a BMFF file
 
 -- what is said of a file is what it is as a container, where it is no fault
@@ -54,6 +84,7 @@ says one file e l is e_says h = record {
   located = subst (λ (o : Option Located). IfSome o (IsLocated file)) (sym e_says) (as_bmff file l is h);
   only = λ what k. subst (λ (o : Option Located). IfSome o (λ s. s ≡ what)) (sym e_says) (one file l what h (of_bmff file what is k));
   container = tt;
+  packets = tt;
 }
 
 -- an error that says nothing of the file
@@ -62,6 +93,7 @@ silent file e e_says = record {
   located = subst (λ (o : Option Located). IfSome o (IsLocated file)) (sym e_says) tt;
   only = λ what k. subst (λ (o : Option Located). IfSome o (λ s. s ≡ what)) (sym e_says) tt;
   container = tt;
+  packets = tt;
 }
 
 -- the first test that fails is what is said of a file, unless the error says nothing of it
@@ -106,14 +138,16 @@ store_refused one file rows e is roots found = fault_said one file e is (unless 
 
 -- it has a store, or none
 pub store_said : OneBmff → (file : List ℕ) (rows : List RootBox) (found : Option Found) → is_bmff file ≡ true → AreRootsOf file rows → (AreRootsOf file rows → IsStoreOr file (Ok found))
-    → IsSaid file (Ok (record { container = Bmff rows; found = found }))
+    → IsSaid file (Ok (record { container = Bmff rows; found = found; packets = None }))
 store_said one file rows None is roots found = let h : IsBmffLocated file absent = found roots in record {
   located = as_bmff file absent is h;
   only = λ what k. one file absent what h (of_bmff file what is k);
   container = (is, roots);
+  packets = tt;
 }
 store_said one file rows (Some f) is roots found = let h : IsBmffLocated file (here f.start f.length f.store) = found roots in record {
   located = as_bmff file (here f.start f.length f.store) is h;
   only = λ what k. one file (here f.start f.length f.store) what h (of_bmff file what is k);
   container = (is, roots);
+  packets = tt;
 }

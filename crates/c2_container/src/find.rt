@@ -9,6 +9,7 @@ ghost use Rattle.c2_container.specs.Contained.{IsLocateCause, IsSaid, IsWithin};
 use crate::types::{Contained, Container};
 use c2_base::{Failed, MediaError, Source, fill_at};
 use c2_bmff_boxes::{a_bmff_file_comes_to_one_thing, roots};
+use c2_jpegseg_survey::survey;
 use c2_spec::markers::{FILL, SOI};
 use std::alloc::Global;
 
@@ -22,7 +23,7 @@ const START_OF_IMAGE: [u8; 2] = [FILL, SOI];
 const FTYP: [u8; 4] = *b"ftyp";
 
 /// The container of a media file and its store, by the tests of the container alone (C2PA Technical Specification 2.x, "Embedding
-/// manifests into assets").
+/// manifests into assets"); and what tells where another store goes in what is left of the file, so that each header is read once.
 ///
 /// A file with `ftyp` in its bytes 4 to 7 that doesn't begin with SOI is read by its root boxes, every other as a JPEG. The error is the
 /// first of the container's tests that fails, with its place or the file's length; or `ReadFault`, only where the source failed in this
@@ -79,10 +80,11 @@ fn locate_packets<S: Source>(alloc: Global, source: &mut S) -> Result<Contained,
     ensures stays { StaysSource S.len S.known S.faults source.old source.new }
 {
     // Matched and not handed up by `?`, here and below: each way out has clauses of its own.
-    match c2_jpegseg::locate(alloc, source) {
-        Ok(found) => Ok(Contained {
+    match survey(alloc, source) {
+        Ok(surveyed) => Ok(Contained {
             container: Container::Jpeg,
-            found,
+            found: surveyed.found,
+            packets: Some(surveyed.point),
         }),
         Err(error) => Err(error),
     }
@@ -108,6 +110,7 @@ fn locate_boxes<S: Source>(alloc: Global, source: &mut S) -> Result<Contained, M
         Ok(found) => Ok(Contained {
             container: Container::Bmff(roots),
             found,
+            packets: None,
         }),
         Err(error) => Err(error),
     }

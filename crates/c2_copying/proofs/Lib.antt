@@ -1,2 +1,3 @@
+pub mod Appending
 mod Kept
 mod Written

@@ -84,7 +84,10 @@ box_none ex ws p n file text rise i none more =
     ∙ ap₂ (λ (xs ys : List ℕ). xs ++ ys) nothing more ∙ sym (ap (λ (xs : List ℕ). after_offset p xs ++ text) nothing)
 
 -- past a box of which some byte is left
-box_some : (ex : ℕ → Bool) (ws : List Word) (p n k : ℕ) (file : List ℕ) (text : List ℕ) → Rise (p + n) ws → p + n ≤ length file → FirstLeft ex p n k → told_from ex ws (p + n) file ≡ text → told_from ex (record { at = k; start = p } ∷ ws) p file ≡ after_offset p (kept_from ex p (take n (drop p file))) ++ text
+box_some : (ex : ℕ → Bool) (ws : List Word) (p n k : ℕ) (file : List ℕ) (text : List ℕ) → Rise (p + n) ws
+    → p + n ≤ length file → FirstLeft ex p n k → told_from ex ws (p + n) file ≡ text
+    → told_from ex (record { at = k; start = p } ∷ ws) p file
+    ≡ after_offset p (kept_from ex p (take n (drop p file))) ++ text
 box_some ex ws p n k file text rise i f more =
     let xs : List ℕ = take n (drop p file) in
     let len : length xs ≡ n = length-take-le n (drop p file) (omega (arith, length-drop p file)) in

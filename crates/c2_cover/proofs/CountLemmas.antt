@@ -93,7 +93,11 @@ next_inside size low r rs ranges n e m = subst (λ (xs : List Range). AreMerged 
 pub counts_more : (size : ℕ) (ranges : List Range) (n at count : ℕ) (r : Range) → drop n ranges ≡ r ∷ drop (n + 1) ranges → CountsTo size ranges n at count → CountsTo size ranges (n + 1) (r.start + r.length) (count + (r.start - at))
 counts_more size ranges n at count r e c =
     let m : AreMerged size at (r ∷ drop (n + 1) ranges) = next_inside size at r (drop (n + 1) ranges) ranges n e c.others in
-    let k : kept_count (is_excluded (drop n ranges)) at (size - at) ≡ (r.start - at) + kept_count (is_excluded (drop (n + 1) ranges)) (r.start + r.length) (size - (r.start + r.length)) = ap (λ (xs : List Range). kept_count (is_excluded xs) at (size - at)) e ∙ kept_next size at r (drop (n + 1) ranges) m in
+    let end : ℕ = r.start + r.length in
+    let k : kept_count (is_excluded (drop n ranges)) at (size - at)
+    ≡ (r.start - at) + kept_count (is_excluded (drop (n + 1) ranges)) end (size - end) =
+    ap (λ (xs : List Range). kept_count (is_excluded xs) at (size - at)) e
+    ∙ kept_next size at r (drop (n + 1) ranges) m in
     record {
       inside = m.2;
       small = omega (arith, c.small, m.0);
@@ -109,7 +113,11 @@ counts_all size ranges n at count l c = ap (λ k. count + k) (sym (ap (λ (xs : 
 pub outside_more : (size : ℕ) (ranges : List Range) (start end n count own : ℕ) (r : Range) → drop n ranges ≡ r ∷ drop (n + 1) ranges → own ≡ passing (is_out start end) r.start r.length → CountsOutside size ranges start end n count → CountsOutside size ranges start end (n + 1) (count + own)
 outside_more size ranges start end n count own r e o c =
     let m : AreMerged size 0 (r ∷ drop (n + 1) ranges) = next_inside size 0 r (drop (n + 1) ranges) ranges n e c.others in
-    let k : passing (is_excluded_out (drop n ranges) start end) 0 size ≡ passing (is_out start end) r.start r.length + passing (is_excluded_out (drop (n + 1) ranges) start end) 0 size = ap (λ (xs : List Range). passing (is_excluded_out xs start end) 0 size) e ∙ outside_next size start end r (drop (n + 1) ranges) m in
+    let k : passing (is_excluded_out (drop n ranges) start end) 0 size
+    ≡ passing (is_out start end) r.start r.length
+    + passing (is_excluded_out (drop (n + 1) ranges) start end) 0 size =
+    ap (λ (xs : List Range). passing (is_excluded_out xs start end) 0 size) e
+    ∙ outside_next size start end r (drop (n + 1) ranges) m in
     record {
       others = merged_lower size (r.start + r.length + 1) 0 (drop (n + 1) ranges) (omega arith) m.3;
       counted = omega (arith, k, o, c.counted);

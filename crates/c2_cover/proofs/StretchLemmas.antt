@@ -62,7 +62,10 @@ pub due_none : (start done : ℕ) → 8 ≤ done → due_of start done ≡ []
 due_none start done l = drop_all done (to_be_bytes w64 start) l
 
 -- the next bytes of a word come next
-pub given_next : (known : Option (List ℕ)) (old : Reading) (at start done n : ℕ) (ahead : List Range) (words : List Word) (before buf : List ℕ) → ForSome known (λ file. length file ≡ old.size) → IsReady old (reading old.size at ahead words start done) → IsGiven (due_of start done) before buf n → 0 < length before → ReadsNext known old (reading old.size at ahead words start (done + n)) buf n
+pub given_next : (known : Option (List ℕ)) (old : Reading) (at start done n : ℕ) (ahead : List Range)
+    (words : List Word) (before buf : List ℕ) → ForSome known (λ file. length file ≡ old.size)
+    → IsReady old (reading old.size at ahead words start done) → IsGiven (due_of start done) before buf n
+    → 0 < length before → ReadsNext known old (reading old.size at ahead words start (done + n)) buf n
 given_next known old at start done n ahead words before buf fits ready given room =
     let due : List ℕ = due_of start done in
     let rest : drop n due ≡ due_of start (done + n) = drop-drop n done (to_be_bytes w64 start) in

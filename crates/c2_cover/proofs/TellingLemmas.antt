@@ -209,7 +209,10 @@ passed size ranges rows n ahead low words row ds k t l found =
     }
 
 -- the words of one box more, where the boxes follow each other
-all_more : (ex : ℕ → Bool) (rows : List RootBox) (n low low' : ℕ) (words more : List Word) (row : RootBox) → TellsAll ex rows n low words → drop n rows ≡ row ∷ drop (n + 1) rows → take (n + 1) rows ≡ take n rows ++ row ∷ [] → word_of ex row ≡ more → low' ≤ row.start + row.length → TellsAll ex rows (n + 1) low' (words ++ more)
+all_more : (ex : ℕ → Bool) (rows : List RootBox) (n low low' : ℕ) (words more : List Word) (row : RootBox)
+    → TellsAll ex rows n low words → drop n rows ≡ row ∷ drop (n + 1) rows
+    → take (n + 1) rows ≡ take n rows ++ row ∷ [] → word_of ex row ≡ more → low' ≤ row.start + row.length
+    → TellsAll ex rows (n + 1) low' (words ++ more)
 all_more ex rows n low low' words more row t d l w later =
     let follow : Follow t.from (row ∷ drop (n + 1) rows) = subst (λ (xs : List RootBox). Follow t.from xs) d t.follow in
     record {
@@ -220,7 +223,9 @@ all_more ex rows n low low' words more row t d l w later =
     }
 
 -- a box with its word
-pub tells_word : (size : ℕ) (ranges : List Range) (rows : List RootBox) (n : ℕ) (ahead : List Range) (low : ℕ) (words : List Word) (row : RootBox) (ds : List Range) (k : ℕ) → TellsTo size ranges rows n ahead low words → drop n rows ≡ row ∷ drop (n + 1) rows → take (n + 1) rows ≡ take n rows ++ row ∷ []
+pub tells_word : (size : ℕ) (ranges : List Range) (rows : List RootBox) (n : ℕ) (ahead : List Range) (low : ℕ)
+    (words : List Word) (row : RootBox) (ds : List Range) (k : ℕ) → TellsTo size ranges rows n ahead low words
+    → drop n rows ≡ row ∷ drop (n + 1) rows → take (n + 1) rows ≡ take n rows ++ row ∷ []
     → low ≤ row.start → Finds ahead row ds k → k < row.length → row.start + row.length ≤ size → TellsTo size ranges rows (n + 1) ds (row.start + k) (words ++ record { at = row.start + k; start = row.start } ∷ [])
 tells_word size ranges rows n ahead low words row ds k t d l from found less inside =
     let p : Passed size ranges ahead row ds k = passed size ranges rows n ahead low words row ds k t from found in
@@ -235,7 +240,9 @@ tells_word size ranges rows n ahead low words row ds k t d l from found less ins
     }
 
 -- a box that has none
-pub tells_none : (size : ℕ) (ranges : List Range) (rows : List RootBox) (n : ℕ) (ahead : List Range) (low : ℕ) (words : List Word) (row : RootBox) (ds : List Range) (k : ℕ) → TellsTo size ranges rows n ahead low words → drop n rows ≡ row ∷ drop (n + 1) rows → take (n + 1) rows ≡ take n rows ++ row ∷ []
+pub tells_none : (size : ℕ) (ranges : List Range) (rows : List RootBox) (n : ℕ) (ahead : List Range) (low : ℕ)
+    (words : List Word) (row : RootBox) (ds : List Range) (k : ℕ) → TellsTo size ranges rows n ahead low words
+    → drop n rows ≡ row ∷ drop (n + 1) rows → take (n + 1) rows ≡ take n rows ++ row ∷ []
     → low ≤ row.start → Finds ahead row ds k → row.length ≤ k → TellsTo size ranges rows (n + 1) ds row.start words
 tells_none size ranges rows n ahead low words row ds k t d l from found most =
     let p : Passed size ranges ahead row ds k = passed size ranges rows n ahead low words row ds k t from found in

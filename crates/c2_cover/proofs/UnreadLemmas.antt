@@ -62,14 +62,20 @@ abbrev pub pending : ℕ → ℕ → Pending
 pending from to = record { from = from; to = to }
 
 -- where the shorter pending piece is empty and such a text has ended, the lengths agree just when what is unread does
-pub ended_at : (p q : Pending) (buf buf' : List ℕ) (r r' : Reading) (file file' : List ℕ) → Lies p (length buf) → Lies q (length buf') → min (p.to - p.from) (q.to - q.from) ≡ 0 → (p.from ≡ p.to → rest_of r file ≡ []) → (q.from ≡ q.to → rest_of r' file' ≡ []) → eqb (p.to - p.from) (q.to - q.from) ≡ bytes_eq (unread p buf r file) (unread q buf' r' file')
+pub ended_at : (p q : Pending) (buf buf' : List ℕ) (r r' : Reading) (file file' : List ℕ) → Lies p (length buf)
+    → Lies q (length buf') → min (p.to - p.from) (q.to - q.from) ≡ 0 → (p.from ≡ p.to → rest_of r file ≡ [])
+    → (q.from ≡ q.to → rest_of r' file' ≡ [])
+    → eqb (p.to - p.from) (q.to - q.from) ≡ bytes_eq (unread p buf r file) (unread q buf' r' file')
 ended_at p q buf buf' r r' file file' l m e f g =
-    let a : length (take (p.to - p.from) (drop p.from buf)) ≡ p.to - p.from = prefix_len p.from p.to (p.to - p.from) buf l.inside l.ordered (omega arith) in
-    let b : length (take (q.to - q.from) (drop q.from buf')) ≡ q.to - q.from = prefix_len q.from q.to (q.to - q.from) buf' m.inside m.ordered (omega arith) in
+    let xs : List ℕ = take (p.to - p.from) (drop p.from buf) in
+    let ys : List ℕ = take (q.to - q.from) (drop q.from buf') in
+    let a : length xs ≡ p.to - p.from = prefix_len p.from p.to (p.to - p.from) buf l.inside l.ordered (omega arith) in
+    let b : length ys ≡ q.to - q.from = prefix_len q.from q.to (q.to - q.from) buf' m.inside m.ordered (omega arith) in
     let o : p.from ≤ p.to = l.ordered in
     let k : q.from ≤ q.to = m.ordered in
-    ap (λ n. eqb n (q.to - q.from)) (sym a) ∙ ap (eqb (length (take (p.to - p.from) (drop p.from buf)))) (sym b)
-    ∙ ended (take (p.to - p.from) (drop p.from buf)) (take (q.to - q.from) (drop q.from buf')) (rest_of r file) (rest_of r' file') (ap (λ n. min n (length (take (q.to - q.from) (drop q.from buf')))) a ∙ ap (min (p.to - p.from)) b ∙ e) (λ z. f (omega (arith, a, z, o))) (λ z. g (omega (arith, b, z, k)))
+    ap (λ n. eqb n (q.to - q.from)) (sym a) ∙ ap (eqb (length xs)) (sym b)
+    ∙ ended xs ys (rest_of r file) (rest_of r' file') (ap (λ n. min n (length ys)) a ∙ ap (min (p.to - p.from)) b ∙ e)
+    (λ z. f (omega (arith, a, z, o))) (λ z. g (omega (arith, b, z, k)))
 
 -- where the less of two numbers is none and they are equal, each is none
 pub both_none : (n m : ℕ) → min n m ≡ 0 → eqb n m ≡ true → (n ≡ 0) × (m ≡ 0)

@@ -3,6 +3,7 @@ pub mod Covers
 pub mod Digests
 pub mod Refused
 pub mod BmffCovers
+pub mod Causes
 pub mod Counted
 pub mod Merging
 pub mod Stretches

@@ -22,7 +22,18 @@ fn matching_error(error: MediaError) -> CoverError
 {
     match error {
         MediaError::ReadFault => CoverError::ReadFault,
-        _ => CoverError::NoMemory,
+        MediaError::NoMemory => CoverError::NoMemory,
+        MediaError::NotMedia
+        | MediaError::FileTooLarge(_)
+        | MediaError::Truncated(_)
+        | MediaError::BadMarker(_)
+        | MediaError::BadSegment(_)
+        | MediaError::BadPacket(_)
+        | MediaError::TwoStores(_)
+        | MediaError::BadBox(_)
+        | MediaError::BadProvenanceBox(_)
+        | MediaError::StoreTooLarge(_)
+        | MediaError::TooManyBoxes => unreachable!(),
     }
 }
 

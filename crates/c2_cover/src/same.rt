@@ -1,7 +1,8 @@
 // Two covered texts side by side.
-ghost use Rattle.std.specs.Prelude.{◌≡◌, ◌+◌, take, drop, ◌<◌, ◌≤◌, ◌⊎◌, length, bytes_eq, OnOk, OnErr, IfOk};
-ghost use Rattle.c2_base.specs.Causes.{HasCause, Rose};
-ghost use Rattle.c2_base.specs.Source.{StaysSource};
+ghost use Rattle.std.specs.Prelude.{◌≡◌, ◌+◌, take, drop, ◌<◌, ◌≤◌, length, bytes_eq, IfOk};
+ghost use Rattle.c2_base.specs.Causes.{HasCause};
+ghost use Rattle.c2_base.specs.Source.{ReadsSource, StaysSource};
+ghost use Rattle.c2_cover.specs.Causes.{IsOneOfTwo};
 ghost use Rattle.c2_cover.specs.Covers.{HaveOneLength, IsSameText};
 ghost use Rattle.c2_cover.specs.Unread.{Lies, Refills};
 
@@ -67,12 +68,10 @@ pub fn same_text<A: Source, B: Source>(
     ensures same { IfOk result
         (IsSameText cover.now (A.known first.old) other.now (B.known second.old)) }
     ensures lengths { IfOk result (HaveOneLength cover.now other.now) }
-    ensures first_stays { StaysSource A.len A.known A.faults first.old first.new }
-    ensures second_stays { StaysSource B.len B.known B.faults second.old second.new }
-    ensures first_count { OnOk result (A.faults first.new ≡ A.faults first.old) }
-    ensures second_count { OnOk result (B.faults second.new ≡ B.faults second.old) }
-    ensures cause { OnErr result (Rose (A.faults first.old) (A.faults first.new)
-        ⊎ Rose (B.faults second.old) (B.faults second.new)) }
+    ensures first { ReadsSource A.len A.known A.faults
+        (IsOneOfTwo (B.faults second.old) (B.faults second.new)) first.old first.new result }
+    ensures second { ReadsSource B.len B.known B.faults
+        (IsOneOfTwo (A.faults first.old) (A.faults first.new)) second.old second.new result }
 {
     let mut one = CoveredReader::new(cover);
     let mut two = CoveredReader::new(other);

@@ -7,7 +7,9 @@ ghost use Rattle.c2_definition.specs.DefinitionFile as file;
 use crate::assertions::assertions_in;
 use crate::types::{NewAssertion, NewAssertions, Payload};
 use c2_base::NoMemory;
-use c2_cbor::{CborError, decode_whole, each_list_is_an_item_or_not};
+use c2_cbor::decode_whole;
+use c2_cbor_spec::each_list_is_an_item_or_not;
+use c2_spec::CborError;
 use serde_json::Value;
 use std::alloc::Global;
 

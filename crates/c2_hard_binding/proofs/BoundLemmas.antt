@@ -17,7 +17,8 @@ use Rattle.c2_rules.specs.declared.answer.Failing.{Failing}
 use Rattle.c2_rules.specs.declared.code.Code.{Code}
 use Rattle.c2_rules.specs.declared.code.Code.TheVariants as code
 use Rattle.c2_hard_binding.specs.Bindings.{item_with}
-use Rattle.c2_hard_binding.proofs.Items.{OneItem, same_item}
+use Rattle.c2_spec.proofs.OneMessage.{OneItem}
+use Rattle.c2_hard_binding.proofs.Items.{same_item}
 use Rattle.c2_hard_binding.specs.Fields.{ComesTo, CoversAs, ReadsTo, code_of, named_alg, named_hash}
 use Rattle.c2_hard_binding.specs.Found.{IsFoundBy, IsItemBound, IsBoundAs, IsTextOf}
 use Rattle.c2_hard_binding.specs.declared.fields.HardBinding.{HardBinding}
@@ -113,7 +114,9 @@ text_is r file h b t c named name alg comes covers same is copied covered kept =
 -- ---- an item
 
 -- the fields were read
-pub read_fields : {E : Type 0} (hash : Alg → List ℕ → List ℕ) (r : Reading) (uri : List ℕ) (kind : Kind) (file : List ℕ) (p : Result HardBinding FieldError) (h : HardBinding) (b : Result Binding FieldError) (result : Result Bound E) → p ≡ Ok h → IfOk p (λ x. code_of x ≡ mismatch_code kind) → ReadsTo file p b
+pub read_fields : {E : Type 0} (hash : Alg → List ℕ → List ℕ) (r : Reading) (uri : List ℕ) (kind : Kind) (file : List ℕ)
+    (p : Result HardBinding FieldError) (h : HardBinding) (b : Result Binding FieldError) (result : Result Bound E)
+    → p ≡ Ok h → IfOk p (λ x. code_of x ≡ mismatch_code kind) → ReadsTo file p b
     → ((x : Binding) → code_of h ≡ mismatch_code kind → ComesTo file h x → IfOk result (IsItemBound hash r uri kind file (Ok x))) → IfOk result (IsItemBound hash r uri kind file b)
 read_fields {E} hash r uri kind file p h b result is coded reads found =
     let there = subst (λ (x : Result HardBinding FieldError). ReadsTo file x b) is reads in

@@ -2,7 +2,7 @@
 use Rattle.std.proofs.Common.{◌≡◌, ℕ, true, false, List, length, Option, Some, None, Result, option_and_then, refl, sym, ap, ◌∙◌, subst}
 use Rattle.c2_spec.specs.C2pa.Assertion.{data_hash_of}
 use Rattle.c2_spec.specs.Cbor.Item.{Item}
-use Rattle.c2_spec.specs.Cbor.Spelling.{Spells}
+use Rattle.c2_spec.proofs.OneMessage.{OneItem}
 use Rattle.c2_spec.specs.declared.assertion.FieldError.{FieldError}
 use Rattle.c2_spec.specs.declared.assertion.Kind.{Kind}
 use Rattle.c2_spec.specs.declared.assertion.Kind.TheVariants as kinds
@@ -44,10 +44,6 @@ data_item media kinds.Ordinary v b is h = h
 -- the payload of a binding is the item in the box with its label
 payload_is : (r : Reading) (label : List ℕ) → binding_label r ≡ Some label → binding_payload r ≡ item_with r label
 payload_is r label is = ap (λ (o : Option (List ℕ)). option_and_then (λ (b : ReadBox). b.boxed.item) (option_and_then (box_with r) o)) is
-
--- bytes spell one item at most
-abbrev pub OneItem : Type 0
-OneItem = (v w : Item) (s : List ℕ) → Spells v s → Spells w s → v ≡ w
 
 -- a payload has one item, or none
 one_item_of : OneItem → (o : Option (List ℕ)) (a b : Option Item) → IsItemOf o a → IsItemOf o b → a ≡ b

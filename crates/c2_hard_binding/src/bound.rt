@@ -22,7 +22,7 @@ use crate::fields::HardBinding;
 use c2_assertion::FieldError;
 use c2_base::limits::PIECE_LEN;
 use c2_base::{Failed, NoMemory, Source, Text};
-use c2_cbor::one_item;
+use c2_cbor_spec::one_item;
 use c2_check_facts::{alg_name, label_kind};
 use c2_container::Container;
 use c2_cover::{Cover, CoverError, digest_cover};

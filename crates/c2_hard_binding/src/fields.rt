@@ -12,10 +12,11 @@ use c2_assertion::{BmffHash, DataHash, FieldError, Kind, read_bmff_hash, read_da
 use c2_base::{Failed, Source, Text};
 use c2_bmff::Exclusion;
 use c2_bmff::types::Roots;
-use c2_cbor::{Cbor, field};
+use c2_cbor_fields::field;
 use c2_container::Container;
 use c2_cover::{Cover, CoverError, bmff_cover, data_cover};
 use c2_rules::Code;
+use c2_spec::Cbor;
 use std::alloc::Global;
 
 /// The fields of a binding, by its kind.

@@ -27,7 +27,9 @@ impl Model for Digest {
 
     ghost inverse = { λ list. record { bytes = padded list; len = length list } };
 
-    ghost inverse_ok = { λ a h. ap₂ (λ (b : List ℕ) (n : ℕ). record { bytes = b; len = n }) (sym h.zeros) (length_back a.bytes a.len h) };
+    ghost inverse_ok = { λ a h.
+        ap₂ (λ (b : List ℕ) (n : ℕ). record { bytes = b; len = n })
+        (sym h.zeros) (length_back a.bytes a.len h) };
 }
 
 impl Digest {

@@ -16,7 +16,8 @@ use Rattle.std.specs.List.{flat_map}
 use Rattle.c2_jpegseg.specs.Writing.{IsWriting, packet_head}
 
 -- what was written, and then two lists
-pub then_written-two : (w : Option (List ℕ)) (xs ys : List ℕ) → then_written (then_written w xs) ys ≡ then_written w (xs ++ ys)
+pub then_written-two : (w : Option (List ℕ)) (xs ys : List ℕ)
+    → then_written (then_written w xs) ys ≡ then_written w (xs ++ ys)
 then_written-two None xs ys = refl
 then_written-two (Some w) xs ys = let e : (w ++ xs) ++ ys ≡ w ++ (xs ++ ys) = append_assoc w xs ys in cc
 
@@ -26,7 +27,8 @@ spare_less-two None m n = refl
 spare_less-two (Some s) m n = let e : s - m - n ≡ s - (m + n) = omega arith in cc
 
 -- a prefix of the first list is one of both
-prefix-front : {K : Type 0} (written : K → Option (List ℕ)) (spare : K → Option ℕ) (front back : List ℕ) (old new : K) → TakesPrefix written spare front old new → TakesPrefix written spare (front ++ back) old new
+prefix-front : {K : Type 0} (written : K → Option (List ℕ)) (spare : K → Option ℕ) (front back : List ℕ) (old new : K)
+    → TakesPrefix written spare front old new → TakesPrefix written spare (front ++ back) old new
 prefix-front written spare front back old new h = record {
   count = h.count;
   in_piece = omega (arith, h.in_piece, length-append front back);
@@ -35,7 +37,8 @@ prefix-front written spare front back old new h = record {
 }
 
 -- the first list was appended, and then a prefix of the second
-prefix-back : {K : Type 0} (written : K → Option (List ℕ)) (spare : K → Option ℕ) (front back : List ℕ) (old mid new : K) → written mid ≡ then_written (written old) front → spare mid ≡ spare_less (spare old) (length front)
+prefix-back : {K : Type 0} (written : K → Option (List ℕ)) (spare : K → Option ℕ) (front back : List ℕ) (old mid new : K)
+    → written mid ≡ then_written (written old) front → spare mid ≡ spare_less (spare old) (length front)
     → TakesPrefix written spare back mid new → TakesPrefix written spare (front ++ back) old new
 prefix-back written spare front back old mid new all less h = record {
   count = length front + h.count;
@@ -45,7 +48,8 @@ prefix-back written spare front back old mid new all less h = record {
 }
 
 -- what is within a spare leaves room for the rest
-within-back : {T E : Type 0} (old : Option ℕ) (m n : ℕ) (r : Result T E) → OkWithinSpare (spare_less old m) n r → OkWithinSpare old (m + n) r
+within-back : {T E : Type 0} (old : Option ℕ) (m n : ℕ) (r : Result T E) → OkWithinSpare (spare_less old m) n r
+    → OkWithinSpare old (m + n) r
 within-back None m n r h s is fits = absurd (cc (is))
 within-back (Some t) m n r h s is fits =
     let same : t ≡ s = cc (is) in
@@ -53,7 +57,8 @@ within-back (Some t) m n r h s is fits =
 
 -- the same of an equal list and an equal answer
 pub same : {K T E : Type 0} (written : K → Option (List ℕ)) (spare : K → Option ℕ) (finished : K → Bool) (faults : K → ℕ) (xs ys : List ℕ) (old new : K) (r q : Result T E)
-    → xs ≡ ys → r ≡ q → IsWriting written spare finished faults xs old new r → IsWriting written spare finished faults ys old new q
+    → xs ≡ ys → r ≡ q → IsWriting written spare finished faults xs old new r
+    → IsWriting written spare finished faults ys old new q
 same written spare finished faults xs ys old new r q list answer h = subst (λ zs. IsWriting written spare finished faults zs old new q) list (subst (λ a. IsWriting written spare finished faults xs old new a) answer h)
 
 -- where the first append fails, so does the whole
@@ -89,7 +94,8 @@ follows {T = T} {E = E} written spare finished faults front back old mid new x (
 }
 
 -- the parts of a packet
-pub packet_split : (header body : List ℕ) (en z : ℕ) → length header ≡ 8 → packet_head en z (length body) ++ (header ++ body) ≡ segment_bytes (packet_segment header en z body)
+pub packet_split : (header body : List ℕ) (en z : ℕ) → length header ≡ 8
+    → packet_head en z (length body) ++ (header ++ body) ≡ segment_bytes (packet_segment header en z body)
 packet_split header body en z is =
     let size : length body + 18 ≡ length (packet_payload header en z body) + 2 = omega (arith, is, length-append header body) in
     ap (λ n. marker_bytes 0 APP11 ++ (to_be_bytes w16 n ++ packet_payload header en z body)) size
@@ -139,7 +145,8 @@ packet_next header body en z k some =
     ∙ ap (λ b. segment_bytes (packet_segment header en z (take (min (length body) PACKET_BODY_LEN) body)) ++ flat_map segment_bytes (packets_from header en (k - 1) (z + 1) b)) (sym (cut PACKET_BODY_LEN body).1)
 
 -- the same under other names for the count, the cut and the rest
-pub packet_step : (header body body' : List ℕ) (en z k k' n : ℕ) → n ≡ min (length body) PACKET_BODY_LEN → k ≡ k' + 1 → body' ≡ drop n body
+pub packet_step : (header body body' : List ℕ) (en z k k' n : ℕ) → n ≡ min (length body) PACKET_BODY_LEN → k ≡ k' + 1
+    → body' ≡ drop n body
     → flat_map segment_bytes (packets_from header en k z body) ≡ segment_bytes (packet_segment header en z (take n body)) ++ flat_map segment_bytes (packets_from header en k' (z + 1) body')
 packet_step header body body' en z k k' n at count rest =
     let less : k - 1 ≡ k' = omega arith in

@@ -1,26 +1,5 @@
-pub mod Outside
-pub mod Markers
-pub mod PacketLemmas
-pub mod SegmentLists
-pub mod PacketRuns
-pub mod Steps
-pub mod Outcomes
-pub mod Starts
-pub mod Reading
-pub mod OneStore
-pub mod Unique
-pub mod Answers
-pub mod WindowLemmas
-pub mod EachFile
-pub mod StoreBytes
 pub mod WrittenPackets
 pub mod WrittenRuns
 pub mod WrittenStores
 pub mod Appending
-pub mod OneList
-pub mod Kept
-pub mod NumberMarks
-pub mod Fronts
-mod FreeNumbers
-pub mod EachList
 pub mod PlaceRows

@@ -44,7 +44,8 @@ lbox : (len en z : ℕ) (body : List ℕ) → IsPiece len en z body → payload_
 lbox len en z body p = from_be_bytes-to_be_bytes_4 len p.most
 
 -- so the header that it repeats has 8 bytes
-pub header_8 : (len en z : ℕ) (body : List ℕ) → IsPiece len en z body → packet_header_len (payload_lbox (made len en z body).payload) ≡ 8
+pub header_8 : (len en z : ℕ) (body : List ℕ) → IsPiece len en z body
+    → packet_header_len (payload_lbox (made len en z body).payload) ≡ 8
 header_8 len en z body p = ap (λ b. cond b 16 8) (ne_eqb (payload_lbox (made len en z body).payload) 1 (λ e. omega (arith, lbox len en z body p, e, p.least)))
 
 -- it is a packet
@@ -63,7 +64,8 @@ pub made_z : (len en z : ℕ) (body : List ℕ) → IsPiece len en z body → (p
 made_z len en z body p = from_be_bytes-to_be_bytes_4 z p.z_fits
 
 -- with the header of its store
-pub made_header : (len en z : ℕ) (body : List ℕ) → IsPiece len en z body → (packet_in (made len en z body)).header ≡ head_of len
+pub made_header : (len en z : ℕ) (body : List ℕ) → IsPiece len en z body
+    → (packet_in (made len en z body)).header ≡ head_of len
 made_header len en z body p = ap (λ n. take n (drop 8 (made len en z body).payload)) (header_8 len en z body p)
 
 -- and with its piece of the store

@@ -37,17 +37,20 @@ pub piece : (len en z : ℕ) (body : List ℕ) → IsFrame len en → z < 2 ^ 32
 piece len en z body f lt = record { least = f.least; most = f.most; en_fits = f.en_fits; z_fits = lt; room = room_len body }
 
 -- all of them are segments
-pub all_legal : (len en k z : ℕ) (body : List ℕ) → IsFrame len en → z + k ≤ 2 ^ 32 → AllByRecursion IsSegment (packets_from (head_of len) en k z body)
+pub all_legal : (len en k z : ℕ) (body : List ℕ) → IsFrame len en → z + k ≤ 2 ^ 32
+    → AllByRecursion IsSegment (packets_from (head_of len) en k z body)
 all_legal len en zero z body f le = tt
 all_legal len en (suc k) z body f le = (made_legal len en z (take PACKET_BODY_LEN body) (piece len en z body f (omega arith)), all_legal len en k (z + 1) (drop PACKET_BODY_LEN body) f (omega arith))
 
 -- all are packets
-pub all_packets : (len en k z : ℕ) (body : List ℕ) → IsFrame len en → z + k ≤ 2 ^ 32 → AllByRecursion (λ s. is_packet s ≡ true) (packets_from (head_of len) en k z body)
+pub all_packets : (len en k z : ℕ) (body : List ℕ) → IsFrame len en → z + k ≤ 2 ^ 32
+    → AllByRecursion (λ s. is_packet s ≡ true) (packets_from (head_of len) en k z body)
 all_packets len en zero z body f le = tt
 all_packets len en (suc k) z body f le = (made_packet len en z (take PACKET_BODY_LEN body) (piece len en z body f (omega arith)), all_packets len en k (z + 1) (drop PACKET_BODY_LEN body) f (omega arith))
 
 -- they are numbered one after the other
-pub all_numbers : (len en k z : ℕ) (body : List ℕ) → IsFrame len en → z + k ≤ 2 ^ 32 → map (λ s. (packet_in s).z) (packets_from (head_of len) en k z body) ≡ range_with_len z k
+pub all_numbers : (len en k z : ℕ) (body : List ℕ) → IsFrame len en → z + k ≤ 2 ^ 32
+    → map (λ s. (packet_in s).z) (packets_from (head_of len) en k z body) ≡ range_with_len z k
 all_numbers len en zero z body f le = refl
 all_numbers len en (suc k) z body f le =
     ap (λ n. n ∷ map (λ s. (packet_in s).z) (packets_from (head_of len) en k (z + 1) (drop PACKET_BODY_LEN body))) (made_z len en z (take PACKET_BODY_LEN body) (piece len en z body f (omega arith)))
@@ -58,19 +61,22 @@ abbrev pub IsSame : ℕ → ℕ → Segment → Type 0
 IsSame len en s = ((packet_in s).en ≡ en) × ((packet_in s).header ≡ head_of len)
 
 -- all of them have both
-pub all_same : (len en k z : ℕ) (body : List ℕ) → IsFrame len en → z + k ≤ 2 ^ 32 → AllByRecursion (IsSame len en) (packets_from (head_of len) en k z body)
+pub all_same : (len en k z : ℕ) (body : List ℕ) → IsFrame len en → z + k ≤ 2 ^ 32
+    → AllByRecursion (IsSame len en) (packets_from (head_of len) en k z body)
 all_same len en zero z body f le = tt
 all_same len en (suc k) z body f le =
     let p : IsPiece len en z (take PACKET_BODY_LEN body) = piece len en z body f (omega arith) in
     ((made_en len en z (take PACKET_BODY_LEN body) p, made_header len en z (take PACKET_BODY_LEN body) p), all_same len en k (z + 1) (drop PACKET_BODY_LEN body) f (omega arith))
 
 -- with what the first packet has in place of that
-pub same_as : (len en : ℕ) (a : ℕ) (h : List ℕ) (ss : List Segment) → a ≡ en → h ≡ head_of len → AllByRecursion (IsSame len en) ss → AllByRecursion (λ s. ((packet_in s).en ≡ a) × ((packet_in s).header ≡ h)) ss
+pub same_as : (len en : ℕ) (a : ℕ) (h : List ℕ) (ss : List Segment) → a ≡ en → h ≡ head_of len
+    → AllByRecursion (IsSame len en) ss → AllByRecursion (λ s. ((packet_in s).en ≡ a) × ((packet_in s).header ≡ h)) ss
 same_as len en a h [] e f all = tt
 same_as len en a h (s ∷ ss) e f all = ((all.0.0 ∙ sym e, all.0.1 ∙ sym f), same_as len en a h ss e f all.1)
 
 -- none of them is empty
-pub all_bodies : (len en k z : ℕ) (body : List ℕ) → IsFrame len en → z + k ≤ 2 ^ 32 → Holds k (length body) → AllByRecursion (λ s. 0 < length (packet_in s).body) (packets_from (head_of len) en k z body)
+pub all_bodies : (len en k z : ℕ) (body : List ℕ) → IsFrame len en → z + k ≤ 2 ^ 32 → Holds k (length body)
+    → AllByRecursion (λ s. 0 < length (packet_in s).body) (packets_from (head_of len) en k z body)
 all_bodies len en zero z body f le h = tt
 all_bodies len en (suc k) z body f le h = (
   subst (λ (x : List ℕ). 0 < length x) (sym (made_body len en z (take PACKET_BODY_LEN body) (piece len en z body f (omega arith)))) (some_bytes k body h),
@@ -83,7 +89,8 @@ no_more [] h = refl
 no_more (b ∷ bs) h = absurd (omega (arith, h.enough))
 
 -- their pieces in order are the bytes that they hold
-pub joined : (len en k z : ℕ) (body : List ℕ) → IsFrame len en → z + k ≤ 2 ^ 32 → Holds k (length body) → flat_map (λ s. (packet_in s).body) (packets_from (head_of len) en k z body) ≡ body
+pub joined : (len en k z : ℕ) (body : List ℕ) → IsFrame len en → z + k ≤ 2 ^ 32 → Holds k (length body)
+    → flat_map (λ s. (packet_in s).body) (packets_from (head_of len) en k z body) ≡ body
 joined len en zero z body f le h = sym (no_more body h)
 joined len en (suc k) z body f le h =
     ap (λ (x : List ℕ). x ++ flat_map (λ s. (packet_in s).body) (packets_from (head_of len) en k (z + 1) (drop PACKET_BODY_LEN body))) (made_body len en z (take PACKET_BODY_LEN body) (piece len en z body f (omega arith)))
@@ -91,7 +98,8 @@ joined len en (suc k) z body f le h =
     ∙ take-append-drop PACKET_BODY_LEN body
 
 -- together they have 20 bytes each and those that they hold
-pub run_len : (len en k z : ℕ) (body : List ℕ) → Holds k (length body) → length (flat_map segment_bytes (packets_from (head_of len) en k z body)) ≡ 20 * k + length body
+pub run_len : (len en k z : ℕ) (body : List ℕ) → Holds k (length body)
+    → length (flat_map segment_bytes (packets_from (head_of len) en k z body)) ≡ 20 * k + length body
 run_len len en zero z body h = omega (arith, h.enough)
 run_len len en (suc k) z body h =
     let more : length (flat_map segment_bytes (packets_from (head_of len) en k (z + 1) (drop PACKET_BODY_LEN body))) ≡ 20 * k + length (drop PACKET_BODY_LEN body) = run_len len en k (z + 1) (drop PACKET_BODY_LEN body) (next k body h) in
@@ -128,7 +136,8 @@ pub frame : (store : List ℕ) (en : ℕ) → IsPacketStore store → en ≤ 0xF
 frame store en h le = record { least = omega (arith, h.sized.least); most = omega (arith, h.sized.most); en_fits = omega arith }
 
 -- the packets of a store, with the header written out
-pub packets_are : (store : List ℕ) (en : ℕ) → IsPacketStore store → packets_of store en ≡ packets_from (head_of (length store)) en (packet_count (length store)) 1 (drop 8 store)
+pub packets_are : (store : List ℕ) (en : ℕ) → IsPacketStore store
+    → packets_of store en ≡ packets_from (head_of (length store)) en (packet_count (length store)) 1 (drop 8 store)
 packets_are store en h = ap (λ (x : List ℕ). packets_from x en (packet_count (length store)) 1 (drop 8 store)) (front_store store h)
 
 -- as many packets as are counted hold it
@@ -140,7 +149,8 @@ pub few : (store : List ℕ) → IsPacketStore store → 1 + packet_count (lengt
 few store h = let c = count_holds (length store) h.sized.least in omega (arith, c.none_empty, h.sized.most)
 
 -- together they have as many bytes as was said
-pub store_len : (store : List ℕ) (en : ℕ) → IsPacketStore store → length (packets_bytes store en) ≡ segments_len (length store)
+pub store_len : (store : List ℕ) (en : ℕ) → IsPacketStore store
+    → length (packets_bytes store en) ≡ segments_len (length store)
 store_len store en h =
     let n : length (flat_map segment_bytes (packets_from (head_of (length store)) en (packet_count (length store)) 1 (drop 8 store))) ≡ 20 * packet_count (length store) + length (drop 8 store) = run_len (length store) en (packet_count (length store)) 1 (drop 8 store) (body_len store h) in
     ap (λ (ss : List Segment). length (flat_map segment_bytes ss)) (packets_are store en h) ∙ n ∙ total
@@ -149,5 +159,6 @@ store_len store en h =
     total = omega (arith, length-drop 8 store, h.sized.least)
 
 -- all of them are segments, in the words of the definition
-pub packets_legal : (store : List ℕ) (en : ℕ) → IsPacketStore store → en ≤ 0xFFFF → AllByRecursion IsSegment (packets_of store en)
+pub packets_legal : (store : List ℕ) (en : ℕ) → IsPacketStore store → en ≤ 0xFFFF
+    → AllByRecursion IsSegment (packets_of store en)
 packets_legal store en h le = subst (AllByRecursion IsSegment) (sym (packets_are store en h)) (all_legal (length store) en (packet_count (length store)) 1 (drop 8 store) (frame store en h le) (few store h))

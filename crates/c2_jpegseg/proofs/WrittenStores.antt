@@ -18,7 +18,8 @@ use Rattle.c2_jpegseg.proofs.WrittenRuns.{Holds, IsFrame, piece, all_packets, al
 -- ---- the first packet
 
 -- a packet with this number, header and piece is the first of a C2PA store
-first_test : (p : Packet) (len : ℕ) → p.z ≡ 1 → p.header ≡ head_of len → 24 ≤ length p.body → take 4 (drop 4 p.body) ≡ to_be_bytes w32 JUMD → take 16 (drop 8 p.body) ≡ STORE_TYPE → is_first_packet p ≡ true
+first_test : (p : Packet) (len : ℕ) → p.z ≡ 1 → p.header ≡ head_of len → 24 ≤ length p.body
+    → take 4 (drop 4 p.body) ≡ to_be_bytes w32 JUMD → take 16 (drop 8 p.body) ≡ STORE_TYPE → is_first_packet p ≡ true
 unfolding is_first_packet
 first_test p len z h n d t =
     and_from ((p.z == 1) && (header_tbox p.header == JUMB) && leb 24 (length p.body) && (from_be_bytes w32 (take 4 (drop 4 p.body)) == JUMD)) (bytes_eq (take 16 (drop 8 p.body)) STORE_TYPE)
@@ -49,7 +50,8 @@ unfolding is_store_start
 start_of s p f = and_from (is_packet s) (is_first_packet (packet_in s)) p f
 
 -- so does the first packet that is written
-begins : (store : List ℕ) (en : ℕ) → IsPacketStore store → en ≤ 0xFFFF → is_store_start (made (length store) en 1 (take PACKET_BODY_LEN (drop 8 store))) ≡ true
+begins : (store : List ℕ) (en : ℕ) → IsPacketStore store → en ≤ 0xFFFF
+    → is_store_start (made (length store) en 1 (take PACKET_BODY_LEN (drop 8 store))) ≡ true
 begins store en h le =
     let f : IsFrame (length store) en = frame store en h le in
     let p : IsPiece (length store) en 1 (take PACKET_BODY_LEN (drop 8 store)) = piece (length store) en 1 (drop 8 store) f (omega arith) in
@@ -74,7 +76,8 @@ not_stray en s h = go (is_packet s) (header_tbox (packet_in s).header == JUMB) (
     go true true true d e = absurd (cc (e))
 
 -- nor is one of several
-pub none_stray : (en a : ℕ) (ss : List Segment) → a ≡ en → is_taken ss en ≡ false → AllByRecursion (λ s. is_stray a s ≡ false) ss
+pub none_stray : (en a : ℕ) (ss : List Segment) → a ≡ en → is_taken ss en ≡ false
+    → AllByRecursion (λ s. is_stray a s ≡ false) ss
 none_stray en a [] e h = tt
 none_stray en a (s ∷ ss) e h =
     let parts = or_parts (has_number en s) (is_taken ss en) h in
@@ -83,8 +86,10 @@ none_stray en a (s ∷ ss) e h =
 -- ---- the run
 
 -- a run from its count on
-run_holds : (store : List ℕ) (en j : ℕ) (before after : List Segment) → IsPacketStore store → en ≤ 0xFFFF → packet_count (length store) ≡ suc j
-    → AllByRecursion (λ s. is_store_start s ≡ false) before → AllByRecursion (λ s. is_store_start s ≡ false) after → is_taken after en ≡ false
+run_holds : (store : List ℕ) (en j : ℕ) (before after : List Segment) → IsPacketStore store → en ≤ 0xFFFF
+    → packet_count (length store) ≡ suc j
+    → AllByRecursion (λ s. is_store_start s ≡ false) before → AllByRecursion (λ s. is_store_start s ≡ false) after
+    → is_taken after en ≡ false
     → HoldsStore (before ++ (packets_from (head_of (length store)) en (suc j) 1 (drop 8 store) ++ after)) (place_after before) (length (flat_map segment_bytes (packets_from (head_of (length store)) en (suc j) 1 (drop 8 store)))) store
 run_holds store en j before after h le count no_before no_after free =
     let len : ℕ = length store in
@@ -120,7 +125,8 @@ run_holds store en j before after h le count no_before no_after free =
 
 -- the packets of a store hold it, wherever they stand
 pub packets_hold : (store : List ℕ) (en : ℕ) (before after : List Segment) → IsPacketStore store → en ≤ 0xFFFF
-    → AllByRecursion (λ s. is_store_start s ≡ false) before → AllByRecursion (λ s. is_store_start s ≡ false) after → is_taken after en ≡ false
+    → AllByRecursion (λ s. is_store_start s ≡ false) before → AllByRecursion (λ s. is_store_start s ≡ false) after
+    → is_taken after en ≡ false
     → HoldsStore (before ++ (packets_of store en ++ after)) (place_after before) (length (packets_bytes store en)) store
 packets_hold store en before after h le no_before no_after free =
     let n : ℕ = packet_count (length store) - 1 in

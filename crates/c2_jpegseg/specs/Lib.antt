@@ -1,13 +1,6 @@
-pub mod Causes
-pub mod Segments
-pub mod Packets
-pub mod Runs
-pub mod Walks
-pub mod Windows
-pub mod Answers
+pub mod Founds
 pub mod Writing
 pub mod Laws
-pub mod Passing
+pub mod Numbers
 pub mod Refusals
 pub mod Peeks
-pub mod Fronts

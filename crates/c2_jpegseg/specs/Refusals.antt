@@ -6,7 +6,7 @@ use Rattle.c2_base.specs.declared.media.MediaError.{MediaError}
 use Rattle.c2_base.specs.declared.media.MediaError.TheVariants.{NotMedia, FileTooLarge, Truncated, BadMarker, BadSegment, ReadFault}
 use Rattle.c2_spec.specs.Jpeg.Places.{IsOfSegments, SegmentsFault}
 use Rattle.c2_spec.specs.Jpeg.Segments.{Segment}
-use Rattle.c2_jpegseg.specs.Causes.{OrOutside}
+use Rattle.c2_jpegseg_segments.specs.Causes.{OrOutside}
 
 -- an error tells the first test of the file's segments that fails, unless it says nothing of the file
 abbrev pub TellsFault : List ℕ → MediaError → Type 0

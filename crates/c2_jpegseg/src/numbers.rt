@@ -1,5 +1,5 @@
 // The box instance numbers that the packets of a file have.
-ghost use Rattle.std.specs.Prelude.{◌≡◌, ◌+◌, ◌^◌, ◌<◌, ◌≤◌, length, vec_len, [], None, OnOk, IfOk, IfErr};
+ghost use Rattle.std.specs.Prelude.{◌≡◌, ◌+◌, ◌<◌, ◌≤◌, length, OnOk, IfOk, IfErr};
 ghost use Rattle.std.specs.Option.{ForSome};
 ghost use Rattle.c2_base.specs.Causes.{HasCause};
 ghost use Rattle.c2_base.specs.Source.{StaysSource};
@@ -7,44 +7,23 @@ ghost use Rattle.c2_base.specs.declared.limits.TheConstants.{FILE_LEN_LIMIT};
 ghost use Rattle.c2_spec.specs.Located.{HasReason};
 ghost use Rattle.c2_spec.specs.PutIn.{taken_out};
 ghost use Rattle.c2_spec.specs.Jpeg.Places.{CanSkip, HasNumber};
-ghost use Rattle.c2_jpegseg.specs.Causes.{IsCaused};
-ghost use Rattle.c2_jpegseg.specs.Passing as passing;
+ghost use Rattle.c2_jpegseg.specs.Numbers.{Notes};
 ghost use Rattle.c2_jpegseg.specs.Refusals.{IsSegmentsOr, IsSegmentsRefusalOr, TellsFault};
-ghost use Rattle.c2_jpegseg.specs.Segments.{longest_payload};
-ghost use Rattle.c2_jpegseg.specs.Walks.{Walks};
-ghost use Rattle.c2_jpegseg.specs.Windows.{Shows};
+ghost use Rattle.c2_jpegseg_segments.specs.Beginnings.{IsStart};
+ghost use Rattle.c2_jpegseg_segments.specs.Causes.{IsCaused};
+ghost use Rattle.c2_jpegseg_segments.specs.Passing.{HasMarks};
+ghost use Rattle.c2_jpegseg_segments.specs.Segments.{longest_payload};
+ghost use Rattle.c2_jpegseg_segments.specs.Windows.{Shows};
+ghost use Rattle.c2_jpegseg_segments.specs.declared.numbers.TheConstants.{MARKS_LEN};
 
-use crate::marker::{self, Extent, Next};
-use crate::packet::Packet;
 use crate::passing::is_inside;
-use crate::search::{is_jpeg, load_packet, packet_at};
-use crate::window::Window;
 use c2_base::limits::FILE_LEN_LIMIT;
-use c2_base::{Failed, MediaError, NoMemory, Range, Source};
-use c2_spec::packets::LEAST_NUMBER;
+use c2_base::{Failed, MediaError, Range, Source};
+use c2_jpegseg_segments::{
+    Extent, MARKS_LEN, Next, Window, is_jpeg, least_free, load_packet, no_marks, note, packet_at,
+    segment_at,
+};
 use std::alloc::Global;
-
-// How many numbers there are.
-const NUMBERS: usize = 65536;
-
-// No number is marked.
-fn no_marks(alloc: Global) -> Result<Vec<bool>, NoMemory>
-    ensures sized { IfOk result (λ taken. vec_len taken ≡ 2 ^ 16) }
-    ensures marks { IfOk result (λ taken. passing.Marks taken.items []) }
-{
-    let taken = vec![in alloc; false; NUMBERS]?;
-    Ok(taken)
-}
-
-// Marks the number of a packet.
-fn note(taken: &mut [bool], packet: Option<Packet<'_>>)
-    requires { length taken.old ≡ 2 ^ 16 }
-    ensures { taken.new ≡ passing.noted packet.entry taken.old }
-{
-    if let Some(packet) = packet {
-        taken[packet.en as usize] = true;
-    }
-}
 
 // Marks the number of a segment, where it is a packet that isn't passed over.
 fn note_segment<S: Source>(
@@ -52,74 +31,58 @@ fn note_segment<S: Source>(
     window: &mut Window,
     extent: Extent,
     passed: bool,
-    taken: &mut [bool],
+    marks: &mut [u8],
 ) -> Result<(), Failed>
     requires inside { extent.end ≤ S.len source.old }
     requires ordered { extent.body ≤ extent.end }
     requires short { extent.end ≤ extent.body + longest_payload }
     requires shows { Shows (S.len source.old) (S.known source.old) window.old }
-    requires sized { length taken.old ≡ 2 ^ 16 }
+    requires sized { length marks.old ≡ MARKS_LEN }
     ensures stays { StaysSource S.len S.known S.faults source.old source.new }
     ensures cause { HasCause (S.faults source.old) (S.faults source.new) result }
     ensures shows { OnOk result (Shows (S.len source.old) (S.known source.old) window.new) }
+    ensures sized { length marks.new ≡ MARKS_LEN }
     ensures notes { OnOk result (ForSome (S.known source.old) (λ file.
-        passing.Notes file extent passed taken.old taken.new)) }
+        Notes file extent passed marks.old marks.new)) }
 {
     if passed {
         return Ok(());
     }
     load_packet(source, window, extent)?;
-    note(taken, packet_at(window, extent));
+    note(marks, packet_at(window, extent));
     Ok(())
 }
 
 // A mark for each number: whether a packet outside the range has it, in a file of `size` bytes that begins with SOI.
 fn marked<S: Source>(
-    alloc: Global,
     source: &mut S,
     window: &mut Window,
     size: u64,
     skip: Range,
-) -> Result<Vec<bool>, MediaError>
-    requires size { size ≡ S.len source.old }
-    requires inside { 2 ≤ size }
-    requires bounded { size < FILE_LEN_LIMIT }
+) -> Result<[u8; MARKS_LEN], MediaError>
+    requires start { IsStart (S.known source.old) (S.len source.old) size }
     requires shows { Shows (S.len source.old) (S.known source.old) window.old }
-    requires begun { ForSome (S.known source.old) (λ file. Walks file 2 None) }
     ensures stays { StaysSource S.len S.known S.faults source.old source.new }
     ensures count { OnOk result (S.faults source.new ≡ S.faults source.old) }
     ensures cause { IfErr result (IsCaused (S.faults source.old) (S.faults source.new)) }
-    ensures sized { IfOk result (λ taken. vec_len taken ≡ 2 ^ 16) }
+    ensures sized { IfOk result (λ marks. length marks ≡ MARKS_LEN) }
     ensures error { IfErr result (IsSegmentsRefusalOr size) }
-    ensures marks { IfOk result (λ taken. ForSome (S.known source.old) (λ file.
-        passing.HasMarks file skip taken.items)) }
+    ensures marks { IfOk result (λ marks. ForSome (S.known source.old) (λ file.
+        HasMarks file skip marks)) }
     ensures fault { IfErr result (λ e. ForSome (S.known source.old) (λ file.
         TellsFault file e)) }
 {
-    let mut taken = no_marks(alloc)?;
+    let mut marks = no_marks();
     let mut at: u64 = 2;
     'segments: loop {
-        let Next::Segment(extent) = marker::segment_at(source, window, at, size)? else {
+        let Next::Segment(extent) = segment_at(source, window, at, size)? else {
             break;
         };
         let passed = is_inside(skip, at, extent.end);
-        note_segment(source, window, extent, passed, &mut taken)?;
+        note_segment(source, window, extent, passed, &mut marks)?;
         at = extent.end;
     }
-    Ok(taken)
-}
-
-// The least number without a mark.
-fn least_free(taken: &[bool]) -> Option<u16>
-    requires { length taken.now ≡ 2 ^ 16 }
-    ensures { passing.IsLeastFree taken.now result }
-{
-    for number in LEAST_NUMBER as usize..taken.len() {
-        if !taken[number] {
-            return Some(number as u16);
-        }
-    }
-    None
+    Ok(marks)
 }
 
 /// The least box instance number from 0x0211 to 0xFFFF that no packet of a JPEG file has outside the range `skip`, whatever
@@ -155,6 +118,6 @@ pub fn free_number<S: Source>(
     if !is_jpeg(source, &mut window, size)? {
         return Err(MediaError::NotMedia);
     }
-    let taken = marked(alloc, source, &mut window, size, skip)?;
-    Ok(least_free(&taken))
+    let marks = marked(source, &mut window, size, skip)?;
+    Ok(least_free(&marks))
 }

@@ -1,6 +1,6 @@
 // Which segments a walk passes over.
 ghost use Rattle.std.specs.Prelude.{◌≡◌, ◌≤◌};
-ghost use Rattle.c2_jpegseg.specs.Passing as passing;
+ghost use Rattle.c2_jpegseg_segments.specs.Passing as passing;
 
 use c2_base::Range;
 

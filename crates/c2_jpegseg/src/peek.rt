@@ -4,8 +4,8 @@ ghost use Rattle.c2_base.specs.Causes.{HasCause};
 ghost use Rattle.c2_base.specs.Source.{StaysSource};
 ghost use Rattle.c2_jpegseg.specs.Peeks.{Peeks, HasByte};
 
-use crate::window::{Bytes, fill_first};
 use c2_base::{Failed, Source};
+use c2_jpegseg_segments::{Bytes, fill_first};
 
 // How many bytes are read at once.
 const PEEK_LEN: usize = 4096;

@@ -1,52 +1,23 @@
 // The place in a JPEG file where the packets of a store go.
-ghost use Rattle.std.specs.Prelude.{◌≡◌, ◌+◌, ◌-◌, ◌^◌, ◌<◌, ◌≤◌, length, List, None, ◌++◌, ◌∷◌, [], OnOk, IfOk, IfErr};
+ghost use Rattle.std.specs.Prelude.{◌≡◌, ◌-◌, ◌<◌, ◌≤◌, length, OnOk, IfOk, IfErr};
 ghost use Rattle.std.specs.Option.{ForSome};
 ghost use Rattle.c2_base.specs.Source.{StaysSource};
 ghost use Rattle.c2_base.specs.declared.limits.TheConstants.{FILE_LEN_LIMIT};
 ghost use Rattle.c2_spec.specs.Located.{HasReason};
 ghost use Rattle.c2_spec.specs.PutIn.{taken_out};
-ghost use Rattle.c2_spec.specs.Jpeg.Segments.{Segment, segment_bytes};
+ghost use Rattle.c2_spec.specs.Jpeg.Segments.{Segment};
 ghost use Rattle.c2_spec.specs.Jpeg.Places.{CanSkip, IsInsertPlace};
-ghost use Rattle.c2_jpegseg.specs.Causes.{IsCaused};
-ghost use Rattle.c2_jpegseg.specs.Fronts.{IsFront, HasFront};
+ghost use Rattle.c2_jpegseg_segments.specs.Beginnings.{IsStart};
+ghost use Rattle.c2_jpegseg_segments.specs.Causes.{IsCaused};
+ghost use Rattle.c2_jpegseg_segments.specs.Fronts.{HasFront};
 ghost use Rattle.c2_jpegseg.specs.Peeks.{Peeks};
 ghost use Rattle.c2_jpegseg.specs.Refusals.{IsSegmentsOr, IsSegmentsRefusal, TellsFault};
-ghost use Rattle.c2_jpegseg.specs.Walks.{Walks};
 
-use crate::marker::{self, Next};
 use crate::passing::is_inside;
 use crate::peek::Peek;
-use crate::search::is_jpeg;
 use c2_base::limits::FILE_LEN_LIMIT;
 use c2_base::{MediaError, Range, Source};
-use c2_spec::markers::APP0;
-
-/// The APP0 segments at the front of those that are kept: where they end in the file of these alone, and whether there are no
-/// others so far.
-#[derive(Clone, Copy, Debug, PartialEq, Eq)]
-struct Front {
-    end: u64,
-    only: bool,
-}
-
-// The front of the segments with one more, which has this marker and `len` bytes.
-fn grown(front: Front, marker: u8, len: u64) -> Front
-    requires { front.end + len < 2 ^ 64 }
-    ensures front { (ss : List Segment) (s : Segment) → s.marker ≡ marker
-        → length (segment_bytes s) ≡ len → IsFront front ss → IsFront result (ss ++ s ∷ []) }
-    ensures most { result.end ≤ front.end + len }
-{
-    if front.only && marker == APP0 {
-        return Front {
-            end: front.end + len,
-            only: true,
-        };
-    }
-    Front {
-        only: false,
-        ..front
-    }
-}
+use c2_jpegseg_segments::{Front, Next, grown, is_jpeg, segment_at};
 
 // The front of the segments outside the range, in a file of `size` bytes that begins with SOI.
 fn front_of<S: Source>(
@@ -55,11 +26,8 @@ fn front_of<S: Source>(
     size: u64,
     skip: Range,
 ) -> Result<Front, MediaError>
-    requires size { size ≡ S.len source.old }
-    requires inside { 2 ≤ size }
-    requires bounded { size < FILE_LEN_LIMIT }
+    requires start { IsStart (S.known source.old) (S.len source.old) size }
     requires shows { Peeks (S.len source.old) (S.known source.old) peek.old }
-    requires begun { ForSome (S.known source.old) (λ file. Walks file 2 None) }
     ensures stays { StaysSource S.len S.known S.faults source.old source.new }
     ensures count { OnOk result (S.faults source.new ≡ S.faults source.old) }
     ensures cause { IfErr result (IsCaused (S.faults source.old) (S.faults source.new)) }
@@ -72,7 +40,7 @@ fn front_of<S: Source>(
     let mut front = Front { end: 2, only: true };
     let mut at: u64 = 2;
     'segments: loop {
-        let Next::Segment(extent) = marker::segment_at(source, peek, at, size)? else {
+        let Next::Segment(extent) = segment_at(source, peek, at, size)? else {
             break;
         };
         if !is_inside(skip, at, extent.end) {

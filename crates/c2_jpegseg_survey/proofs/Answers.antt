@@ -1,35 +1,20 @@
 -- An answer names the one outcome of a file.
-use Rattle.std.proofs.Common.{◌≡◌, ℕ, ◌<◌, List, length, Option, Some, None, IfSome, Result, Ok, Err, refl, subst, ◌∙◌}
+use Rattle.std.proofs.Common.{◌≡◌, ℕ, ◌<◌, List, length, Option, Some, None, IfSome, Result, Ok, Err, subst, ◌∙◌}
 use Rattle.c2_base.specs.Causes.{Rose}
 use Rattle.c2_base.specs.declared.limits.TheConstants.{FILE_LEN_LIMIT}
 use Rattle.c2_base.specs.declared.media.Found.{Found}
 use Rattle.c2_base.specs.declared.media.MediaError.{MediaError}
-use Rattle.c2_base.specs.declared.media.MediaError.TheVariants.{NotMedia, FileTooLarge, Truncated, BadMarker, BadSegment, BadPacket, TwoStores, BadBox, BadProvenanceBox, StoreTooLarge, TooManyBoxes, ReadFault, NoMemory}
-use Rattle.c2_spec.specs.Located.{Located, refusal, said}
+use Rattle.c2_base.specs.declared.media.MediaError.TheVariants.{FileTooLarge, Truncated, BadMarker, BadSegment, BadPacket, TwoStores, BadBox, BadProvenanceBox, StoreTooLarge, TooManyBoxes, ReadFault, NoMemory}
+use Rattle.c2_spec.specs.Located.{Located, said}
 use Rattle.c2_spec.specs.Jpeg.Store.{IsLocated, IsJpegRefusal, FirstJpegFault, SegmentFault, segment}
 use Rattle.c2_jpegseg_survey.specs.Answers.{IsFoundOr, IsWalkedOr, IsWalkError}
-use Rattle.c2_jpegseg_survey.specs.Causes.{OrOutside, IsCaused}
+use Rattle.c2_jpegseg_segments.specs.Causes.{IsCaused}
 use Rattle.c2_jpegseg_survey.specs.Surveys.{IsSurveyCause}
-use Rattle.c2_jpegseg_survey.proofs.Outside.{or_outside-map}
-
--- an error that says something of the file is its first fault
-pub refusal_is : (file : List ℕ) (e : MediaError) → OrOutside e (FirstJpegFault file e) → IfSome (refusal e) (IsLocated file)
-refusal_is file NotMedia h = (NotMedia, h, refl)
-refusal_is file (FileTooLarge n) h = (FileTooLarge n, h, refl)
-refusal_is file (Truncated n) h = (Truncated n, h, refl)
-refusal_is file (BadMarker at) h = (BadMarker at, h, refl)
-refusal_is file (BadSegment at) h = (BadSegment at, h, refl)
-refusal_is file (BadPacket at) h = (BadPacket at, h, refl)
-refusal_is file (TwoStores at) h = (TwoStores at, h, refl)
-refusal_is file (BadBox at) h = (BadBox at, h, refl)
-refusal_is file (BadProvenanceBox at) h = (BadProvenanceBox at, h, refl)
-refusal_is file (StoreTooLarge n) h = (StoreTooLarge n, h, refl)
-refusal_is file TooManyBoxes h = (TooManyBoxes, h, refl)
-refusal_is file ReadFault h = tt
-refusal_is file NoMemory h = tt
+use Rattle.c2_jpegseg_segments.proofs.Outside.{or_outside-map, refusal_is}
 
 -- what the search returns is what the file comes to
-pub said_is : (file : List ℕ) (r : Result (Option Found) MediaError) → IsFoundOr file r → IfSome (said r) (IsLocated file)
+pub said_is : (file : List ℕ) (r : Result (Option Found) MediaError) → IsFoundOr file r
+    → IfSome (said r) (IsLocated file)
 said_is file (Ok None) h = h
 said_is file (Ok (Some f)) h = h
 said_is file (Err e) h = refusal_is file e h
@@ -39,22 +24,26 @@ abbrev pub OneLocated : Type 0
 OneLocated = (file : List ℕ) (v w : Located) → IsLocated file v → IsLocated file w → v ≡ w
 
 -- and what the file comes to is what the search returns
-only_one : OneLocated → (file : List ℕ) (x : Option Located) → IfSome x (IsLocated file) → (what : Located) → IsLocated file what → IfSome x (λ s. s ≡ what)
+only_one : OneLocated → (file : List ℕ) (x : Option Located) → IfSome x (IsLocated file) → (what : Located)
+    → IsLocated file what → IfSome x (λ s. s ≡ what)
 only_one once file None h what k = tt
 only_one once file (Some s) h what k = once file s what h k
 
 -- so it is of its answer
-pub only_said : OneLocated → (file : List ℕ) (r : Result (Option Found) MediaError) → IsFoundOr file r → (what : Located) → IsLocated file what → IfSome (said r) (λ s. s ≡ what)
+pub only_said : OneLocated → (file : List ℕ) (r : Result (Option Found) MediaError) → IsFoundOr file r
+    → (what : Located) → IsLocated file what → IfSome (said r) (λ s. s ≡ what)
 only_said once file r h = only_one once file (said r) (said_is file r h)
 
 -- the walk's answer is the search's
-pub found_by_walk : (file : List ℕ) (r : Result (Option Found) MediaError) → length file < FILE_LEN_LIMIT → IsWalkedOr file r → IsFoundOr file r
+pub found_by_walk : (file : List ℕ) (r : Result (Option Found) MediaError) → length file < FILE_LEN_LIMIT
+    → IsWalkedOr file r → IsFoundOr file r
 found_by_walk file (Ok None) fits h = h
 found_by_walk file (Ok (Some f)) fits h = h
 found_by_walk file (Err e) fits h = or_outside-map e (SegmentFault file e) (FirstJpegFault file e) (segment e fits) h
 
 -- the walk's errors are the search's
-pub cause_of : (len before mid now : ℕ) (e : MediaError) → len < FILE_LEN_LIMIT → mid ≡ before → IsWalkError len e → IsCaused mid now e → IsSurveyCause len before now e
+pub cause_of : (len before mid now : ℕ) (e : MediaError) → len < FILE_LEN_LIMIT → mid ≡ before → IsWalkError len e
+    → IsCaused mid now e → IsSurveyCause len before now e
 cause_of len before mid now (FileTooLarge n) fits same error cause = absurd error
 cause_of len before mid now ReadFault fits same error cause = subst (λ n. Rose n now) same cause
 cause_of len before mid now NoMemory fits same error cause = cause ∙ same

@@ -1,14 +1,2 @@
-pub mod Outside
-pub mod Markers
-pub mod PacketLemmas
-pub mod SegmentLists
-pub mod PacketRuns
-pub mod Steps
-pub mod Outcomes
-pub mod Starts
 pub mod Answers
-pub mod WindowLemmas
-pub mod Kept
-pub mod NumberMarks
-pub mod Fronts
 pub mod RunRanges

@@ -10,18 +10,18 @@ use Rattle.c2_spec.specs.Jpeg.Places.{CanSkip}
 use Rattle.c2_spec.specs.Jpeg.Segments.{Segment, segment_bytes, place_after}
 use Rattle.c2_spec.specs.Jpeg.Store.{EndsWithin, HasSmallStore}
 use Rattle.c2_jpegseg_survey.specs.Answers.{IsWalkedOr}
-use Rattle.c2_jpegseg_survey.specs.Fronts.{IsFront}
-use Rattle.c2_jpegseg_survey.specs.Keeping.{IsKept, HasKept, RunGoes, run_range}
-use Rattle.c2_jpegseg_survey.specs.Passing.{HasPassed, Marks, Passes, is_inside, kept, kept_from, kept_with}
-use Rattle.c2_jpegseg_survey.specs.Runs.{Collected}
-use Rattle.c2_jpegseg_survey.specs.Segments.{IsExtent, segment_of}
+use Rattle.c2_jpegseg_segments.specs.Fronts.{IsFront}
+use Rattle.c2_jpegseg_survey.specs.Keeping.{IsKept, HasKept, run_range}
+use Rattle.c2_jpegseg_segments.specs.Passing.{HasPassed, Marks, Passes, is_inside, kept, kept_from, kept_with}
+use Rattle.c2_jpegseg_segments.specs.Runs.{Collected, RunGoes}
+use Rattle.c2_jpegseg_segments.specs.Segments.{IsExtent, segment_of}
 use Rattle.c2_jpegseg_survey.specs.Surveys.{IsSurveyOf, range_of}
-use Rattle.c2_jpegseg_survey.specs.Walks.{Walks}
+use Rattle.c2_jpegseg_segments.specs.Walks.{Walks}
 use Rattle.c2_jpegseg_survey.specs.declared.keeping.Kept.{Kept}
-use Rattle.c2_jpegseg_survey.specs.declared.marker.Extent.{Extent}
+use Rattle.c2_jpegseg_segments.specs.declared.marker.Extent.{Extent}
 use Rattle.c2_jpegseg_survey.specs.declared.surveying.Surveyed.{Surveyed}
-use Rattle.c2_jpegseg_survey.proofs.Kept.{none_inside, one_more, outside_kept, passes-next}
-use Rattle.c2_jpegseg_survey.proofs.SegmentLists.{place-append}
+use Rattle.c2_jpegseg_segments.proofs.Kept.{none_inside, one_more, outside_kept, passes-next}
+use Rattle.c2_jpegseg_segments.proofs.SegmentLists.{place-append}
 
 -- where the second of two tests fails, not both hold
 second : (a b : Bool) → b ≡ false → (a && b) ≡ false
@@ -51,7 +51,9 @@ run_open file at r w short =
     h.to ∙ sym (ap place_after whole) ∙ sym w.place
 
 -- the same segments lie in two ranges that begin at one place and go on as far as the segments or further
-kept_same : (one two : Range) (at : ℕ) (ss : List Segment) → one.start ≡ two.start → at + length (flat_map segment_bytes ss) ≤ one.start + one.length → at + length (flat_map segment_bytes ss) ≤ two.start + two.length → kept_from one at ss ≡ kept_from two at ss
+kept_same : (one two : Range) (at : ℕ) (ss : List Segment) → one.start ≡ two.start
+    → at + length (flat_map segment_bytes ss) ≤ one.start + one.length
+    → at + length (flat_map segment_bytes ss) ≤ two.start + two.length → kept_from one at ss ≡ kept_from two at ss
 kept_same one two at [] from a b = refl
 kept_same one two at (s ∷ ss) from a b =
     let end : ℕ = at + length (segment_bytes s) in
@@ -61,24 +63,31 @@ kept_same one two at (s ∷ ss) from a b =
     ap (λ t. kept_with t s (kept_from one end ss)) test ∙ ap (λ (ts : List Segment). kept_with (is_inside two at end) s ts) (kept_same one two end ss from (omega (arith, a, more)) (omega (arith, b, more)))
 
 -- what is so of the segments that one range keeps is so of those that another one keeps, where they are the same
-passes_over : (file : List ℕ) (one two : Range) (at : ℕ) (State : List Segment → Type 0) (p : Passes file one at State) → kept one p.segments ≡ kept two p.segments → Passes file two at State
+passes_over : (file : List ℕ) (one two : Range) (at : ℕ) (State : List Segment → Type 0) (p : Passes file one at State)
+    → kept one p.segments ≡ kept two p.segments → Passes file two at State
 passes_over file one two at State p same = record { segments = p.segments; begins = p.begins; place = p.place; inside = p.inside; state = subst State same p.state }
 
 -- a segment behind the run is kept
-behind_kept : (file : List ℕ) (at end : ℕ) (run : Option Collected) → Walks file at run → at < end → is_inside (run_range run) at end ≡ false
+behind_kept : (file : List ℕ) (at end : ℕ) (run : Option Collected) → Walks file at run → at < end
+    → is_inside (run_range run) at end ≡ false
 behind_kept file at end None w later = second (leb 0 at) (leb (end - 0) 0) (lt-leb (end - 0) 0 (omega (arith, later)))
 behind_kept file at end (Some r) w later =
     let b : (r.start ≤ r.end) × (r.end ≤ at) = run_before file at r w in
     second (leb r.start at) (leb (end - r.start) (r.end - r.start)) (lt-leb (end - r.start) (r.end - r.start) (omega (arith, b.0, b.1, later)))
 
 -- one more segment, which lies in the range or doesn't
-on_by : (file : List ℕ) (range : Range) (at : ℕ) (State New : List Segment → Type 0) (e : Extent) (taken : Bool) → Passes file range at State → (x : IsExtent file at e) → is_inside range at e.end ≡ taken
-    → ((ss : List Segment) → State ss → New (ss ++ kept_with taken (segment_of x.fill file e) [])) → Passes file range e.end New
+on_by : (file : List ℕ) (range : Range) (at : ℕ) (State New : List Segment → Type 0) (e : Extent) (taken : Bool)
+    → Passes file range at State → (x : IsExtent file at e) → is_inside range at e.end ≡ taken
+    → ((ss : List Segment) → State ss → New (ss ++ kept_with taken (segment_of x.fill file e) []))
+    → Passes file range e.end New
 on_by file range at State New e taken p x test on = passes-next file range at State New e p x (λ ss h. subst (λ b. New (ss ++ kept_with b (segment_of x.fill file e) [])) (sym test) (on ss h))
 
 -- Whichever way the run goes, what is so of the segments outside it goes on.
-pub run-goes : (taken : Bool) (file : List ℕ) (at : ℕ) (run new : Option Collected) (e : Extent) (State New : List Segment → Type 0) → Passes file (run_range run) at State → Walks file at run → (x : IsExtent file at e) → RunGoes taken at e.end run new
-    → ((ss : List Segment) → State ss → New (ss ++ kept_with taken (segment_of x.fill file e) [])) → Passes file (run_range new) e.end New
+pub run-goes : (taken : Bool) (file : List ℕ) (at : ℕ) (run new : Option Collected) (e : Extent) (State New : List Segment → Type 0)
+    → Passes file (run_range run) at State → Walks file at run → (x : IsExtent file at e)
+    → RunGoes taken at e.end run new
+    → ((ss : List Segment) → State ss → New (ss ++ kept_with taken (segment_of x.fill file e) []))
+    → Passes file (run_range new) e.end New
 run-goes false file at run new e State New p w x goes on =
     subst (λ (r : Option Collected). Passes file (run_range r) e.end New) (sym goes) (on_by file (run_range run) at State New e false p x (behind_kept file at e.end run w x.later) on)
 run-goes true file at None None e State New p w x goes on = absurd goes
@@ -105,7 +114,8 @@ run-goes true file at (Some r) (Some new) e State New p w x goes on =
 -- ---- at the end of the walk
 
 -- what follows of the segments that are kept
-passed_as : (file : List ℕ) (skip : Range) (P Q : List Segment → Type 0) → ((ss : List Segment) → P ss → Q ss) → HasPassed file skip P → HasPassed file skip Q
+passed_as : (file : List ℕ) (skip : Range) (P Q : List Segment → Type 0) → ((ss : List Segment) → P ss → Q ss)
+    → HasPassed file skip P → HasPassed file skip Q
 passed_as file skip P Q follows h = record {
   at = h.at;
   passes = record { segments = h.passes.segments; begins = h.passes.begins; place = h.passes.place; inside = h.passes.inside; state = follows (kept skip h.passes.segments) h.passes.state };
@@ -120,21 +130,15 @@ kept-front file skip k h = passed_as file skip (IsKept k) (IsFront k.front) (λ 
 pub kept-marks : (file : List ℕ) (skip : Range) (k : Kept) → HasKept file skip k → HasPassed file skip (Marks k.marks)
 kept-marks file skip k h = passed_as file skip (IsKept k) (Marks k.marks) (λ ss i. i.marks) h
 
--- one more segment that isn't taken
-pub kept-more : (new : Kept) (taken : Bool) (ss : List Segment) (s : Segment) → taken ≡ false → IsFront new.front (ss ++ s ∷ []) → Marks new.marks (ss ++ s ∷ []) → IsKept new (ss ++ kept_with taken s [])
-kept-more new taken ss s not_taken front marks = subst (λ b. IsKept new (ss ++ kept_with b s [])) (sym not_taken) (record { front = front; marks = marks })
-
--- one that is
-pub kept-less : (k : Kept) (taken : Bool) (ss : List Segment) (s : Segment) → taken ≡ true → IsKept k ss → IsKept k (ss ++ kept_with taken s [])
-kept-less k taken ss s is_taken h = subst (λ b. IsKept k (ss ++ kept_with b s [])) (sym is_taken) (subst (IsKept k) (sym (append-nil ss)) h)
-
 -- the range of a store that the walk found may be passed over
 pub can-skip : (file : List ℕ) (found : Option Found) → IsWalkedOr file (Ok found) → CanSkip file (range_of found)
 can-skip file None h = inl refl
 can-skip file (Some f) h = inr (f.store, h)
 
 -- what is so of every survey
-pub survey-of : (len size : ℕ) (found : Option Found) (s : Surveyed) → size ≡ len → size < FILE_LEN_LIMIT → s.found ≡ found → IfSome found (EndsWithin size) → IfSome found HasSmallStore → s.point.size ≡ size - (range_of found).length → s.point.start ≤ s.point.size → IsSurveyOf len s
+pub survey-of : (len size : ℕ) (found : Option Found) (s : Surveyed) → size ≡ len → size < FILE_LEN_LIMIT
+    → s.found ≡ found → IfSome found (EndsWithin size) → IfSome found HasSmallStore
+    → s.point.size ≡ size - (range_of found).length → s.point.start ≤ s.point.size → IsSurveyOf len s
 survey-of len size found s same small is range store left inside = record {
   small = omega (arith, small, same);
   range = subst (λ (f : Option Found). IfSome f (EndsWithin len)) (sym is) (subst (λ n. IfSome found (EndsWithin n)) same range);

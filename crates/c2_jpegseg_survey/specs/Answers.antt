@@ -1,18 +1,12 @@
 -- What a walk and a search return, by cases, for private clauses.
-use Rattle.std.specs.Prelude.{◌≡◌, ◌≢◌, ℕ, ◌<◌, ⊤, Bool, true, false, List, take, Option, Some, None, Result, Ok, Err}
+use Rattle.std.specs.Prelude.{◌≡◌, ℕ, ◌<◌, ⊤, List, Option, Some, None, Result, Ok, Err, OnOk, IfOk, IfErr, IfSome}
+use Rattle.std.specs.Option.{ForSome}
 use Rattle.c2_base.specs.declared.limits.TheConstants.{MAX_STORE_LEN}
 use Rattle.c2_base.specs.declared.media.Found.{Found}
 use Rattle.c2_base.specs.declared.media.MediaError.{MediaError}
 use Rattle.c2_base.specs.declared.media.MediaError.TheVariants.{Truncated, BadMarker, BadSegment, BadPacket, TwoStores, StoreTooLarge, ReadFault, NoMemory}
-use Rattle.c2_spec.specs.Jpeg.Segments.{start_of_image}
-use Rattle.c2_spec.specs.Jpeg.Store.{HasJpegStore, HasNoJpegStore, SegmentFault, FirstJpegFault}
-use Rattle.c2_jpegseg_survey.specs.Causes.{OrOutside}
-use Rattle.c2_jpegseg_survey.specs.Walks.{Walks}
-
--- whether the file begins as a JPEG does
-abbrev pub IsBegun : List ℕ → Bool → Type 0
-IsBegun file true = Walks file 2 None
-IsBegun file false = take 2 file ≢ start_of_image
+use Rattle.c2_spec.specs.Jpeg.Store.{EndsWithin, HasSmallStore, HasJpegStore, HasNoJpegStore, SegmentFault, FirstJpegFault}
+use Rattle.c2_jpegseg_segments.specs.Causes.{IsCaused, OrOutside}
 
 -- what the walk over the segments returns
 abbrev pub IsWalkedOr : List ℕ → Result (Option Found) MediaError → Type 0
@@ -37,3 +31,18 @@ IsWalkError size (StoreTooLarge n) = MAX_STORE_LEN < n
 IsWalkError size ReadFault = ⊤
 IsWalkError size NoMemory = ⊤
 IsWalkError size _ = ⊥
+
+-- What a walk over the segments of a source of `size` bytes returned, whose count of faults went from `before` to `now`.
+pub record IsWalk (known : Option (List ℕ)) (size before now : ℕ) (result : Result (Option Found) MediaError) : Type 0 where
+  -- without an error the count stays
+  pub count : OnOk result (now ≡ before)
+  -- an error has the cause that it says
+  pub cause : IfErr result (IsCaused before now)
+  -- the range of a store ends in the source
+  pub within : IfOk result (λ found. IfSome found (EndsWithin size))
+  -- a store isn't too large
+  pub store : IfOk result (λ found. IfSome found HasSmallStore)
+  -- an error says no more than can be said of a file of this size
+  pub error : IfErr result (IsWalkError size)
+  -- where the bytes are known, this is their store, or the first test that fails
+  pub walked : ForSome known (λ file. IsWalkedOr file result)

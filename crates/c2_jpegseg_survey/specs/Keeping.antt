@@ -1,10 +1,10 @@
 -- What a walk knows of the segments outside the packets of a store, for private clauses.
-use Rattle.std.specs.Prelude.{◌≡◌, ℕ, ◌-◌, ◌<◌, Bool, true, false, List, length, Option, Some, None}
+use Rattle.std.specs.Prelude.{ℕ, ◌-◌, List, length, Option, Some, None}
 use Rattle.c2_base.specs.declared.values.Range.{Range}
 use Rattle.c2_spec.specs.Jpeg.Segments.{Segment}
-use Rattle.c2_jpegseg_survey.specs.Fronts.{IsFront}
-use Rattle.c2_jpegseg_survey.specs.Passing.{HasPassed, Marks}
-use Rattle.c2_jpegseg_survey.specs.Runs.{Collected}
+use Rattle.c2_jpegseg_segments.specs.Fronts.{IsFront}
+use Rattle.c2_jpegseg_segments.specs.Passing.{HasPassed, Marks}
+use Rattle.c2_jpegseg_segments.specs.Runs.{Collected}
 use Rattle.c2_jpegseg_survey.specs.declared.keeping.Kept.{Kept}
 
 -- this is known of these segments
@@ -20,10 +20,3 @@ HasKept file skip k = HasPassed file skip (IsKept k)
 abbrev pub run_range : Option Collected → Range
 run_range None = record { start = 0; length = 0 }
 run_range (Some r) = record { start = r.start; length = r.end - r.start }
-
--- A segment from `at` to `end` is taken into a run, which it may begin, or the run stays.
-abbrev pub RunGoes : Bool → ℕ → ℕ → Option Collected → Option Collected → Type 0
-RunGoes false at end run new = new ≡ run
-RunGoes true at end None (Some new) = (new.start ≡ at) × (new.end ≡ end)
-RunGoes true at end (Some run) (Some new) = (new.start ≡ run.start) × (new.end ≡ end) × (length run.store < run.total)
-RunGoes true at end run None = ⊥

@@ -1,11 +1,3 @@
-pub mod Causes
-pub mod Segments
-pub mod Packets
-pub mod Runs
-pub mod Walks
-pub mod Windows
-pub mod Passing
-pub mod Fronts
 pub mod Keeping
 pub mod Surveys
 pub mod Answers

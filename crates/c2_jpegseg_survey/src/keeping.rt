@@ -1,13 +1,11 @@
 // What a walk knows of the segments outside the packets of a store.
 ghost use Rattle.std.specs.Prelude.{◌≡◌, ◌+◌, ◌^◌, ◌<◌, ◌≤◌, length, List, [], ◌++◌};
 ghost use Rattle.c2_spec.specs.Jpeg.Segments.{Segment, segment_bytes};
-ghost use Rattle.c2_jpegseg_survey.specs.Packets.{Reads};
-ghost use Rattle.c2_jpegseg_survey.specs.Passing.{kept_with};
-ghost use Rattle.c2_jpegseg_survey.specs.declared.numbers.TheConstants.{MARKS_LEN};
+ghost use Rattle.c2_jpegseg_segments.specs.Packets.{Reads};
+ghost use Rattle.c2_jpegseg_segments.specs.Passing.{kept_with};
+ghost use Rattle.c2_jpegseg_segments.specs.declared.numbers.TheConstants.{MARKS_LEN};
 
-use crate::front::{Front, grown};
-use crate::numbers::{MARKS_LEN, no_marks, note};
-use crate::packet::Packet;
+use c2_jpegseg_segments::{Front, MARKS_LEN, Packet, grown, no_marks, note};
 
 /// The APP0 segments at the front of those that are kept, and a mark for each number that a packet among them has.
 #[derive(Drop)]

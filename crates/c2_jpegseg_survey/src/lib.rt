@@ -4,15 +4,8 @@
 //! place of packets and their number in `Jpeg.Places`. What a survey says of these stands in `specs/Surveys.antt`.
 #![tactic(auto)]
 
-mod front;
 mod keeping;
-mod marker;
-mod numbers;
-mod packet;
-mod run;
-mod segment;
 mod surveying;
 mod walking;
-mod window;
 
 pub use surveying::{PacketPoint, Surveyed, survey};

@@ -11,12 +11,10 @@ ghost use Rattle.c2_jpegseg_survey.specs.Keeping.{HasKept};
 ghost use Rattle.c2_jpegseg_survey.specs.Surveys.{HasPacketPoint, IsSurveyCause, IsSurveyOf, found_in, less_found, range_of};
 
 use crate::keeping::Kept;
-use crate::numbers::least_free;
-use crate::walking::{is_jpeg, walk};
-use crate::window::Window;
+use crate::walking::walk;
 use c2_base::limits::FILE_LEN_LIMIT;
 use c2_base::{Found, MediaError, Source};
-use c2_jpegseg::{each_file_is_located, segments_end_or_fail};
+use c2_jpegseg_segments::{Window, each_file_is_located, is_jpeg, least_free};
 use std::alloc::Global;
 
 /// Where the packets of a new store go in a JPEG file, once the packets of the store that was found in it are taken out.
@@ -60,8 +58,6 @@ fn point_of(size: u64, found: &Option<Found>, kept: &Kept) -> PacketPoint
     ensures size { result.size ≡ size - (range_of found.now).length }
     ensures inside { result.start ≤ result.size }
 {
-    // Only the prover needs this law.
-    segments_end_or_fail();
     let taken = taken_len(found);
     let left = size.saturating_sub(taken);
     // The packets could be more bytes than the file only where the source told other bytes before.

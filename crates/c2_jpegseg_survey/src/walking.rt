@@ -1,81 +1,24 @@
 // The walk over the segments of a JPEG file.
-ghost use Rattle.std.specs.Prelude.{◌≡◌, ◌+◌, ◌-◌, ◌<◌, ◌≤◌, true, [], length, OnOk, IfOk, IfErr, IfSome, None, Some};
+ghost use Rattle.std.specs.Prelude.{◌≡◌, ◌-◌, ◌<◌, ◌≤◌, [], OnOk, IfOk, IfErr, IfSome, None};
 ghost use Rattle.std.specs.Option.{ForSome};
-ghost use Rattle.c2_base.specs.Causes.{HasCause};
 ghost use Rattle.c2_base.specs.Source.{StaysSource};
 ghost use Rattle.c2_base.specs.declared.limits.TheConstants.{FILE_LEN_LIMIT};
 ghost use Rattle.c2_spec.specs.Jpeg.Store.{EndsWithin, HasSmallStore};
-ghost use Rattle.c2_jpegseg_survey.specs.Answers.{IsBegun, IsWalkedOr, IsWalkError};
-ghost use Rattle.c2_jpegseg_survey.specs.Causes.{IsCaused};
+ghost use Rattle.c2_jpegseg_segments.specs.Beginnings.{IsStart};
+ghost use Rattle.c2_jpegseg_segments.specs.Causes.{IsCaused};
+ghost use Rattle.c2_jpegseg_segments.specs.Walks.{Walks};
+ghost use Rattle.c2_jpegseg_segments.specs.Windows.{Shows};
+ghost use Rattle.c2_jpegseg_survey.specs.Answers.{IsWalk, IsWalkedOr, IsWalkError};
 ghost use Rattle.c2_jpegseg_survey.specs.Keeping.{IsKept, HasKept};
-ghost use Rattle.c2_jpegseg_survey.specs.Packets.{HasHeader};
-ghost use Rattle.c2_jpegseg_survey.specs.Segments.{longest_payload};
 ghost use Rattle.c2_jpegseg_survey.specs.Surveys.{range_of};
-ghost use Rattle.c2_jpegseg_survey.specs.Walks.{Walks};
-ghost use Rattle.c2_jpegseg_survey.specs.Windows.{Shows, CoversPacket, ShowsPacket};
 
 use crate::keeping::Kept;
-use crate::marker::{self, Extent, Next};
-use crate::packet::{self, Packet};
-use crate::segment;
-use crate::window::Window;
-use c2_base::limits::FILE_LEN_LIMIT;
-use c2_base::{Blob, Failed, Found, MediaError, Source};
-use c2_spec::markers::{APP11, FILL, SOI};
+use c2_base::{Blob, Found, MediaError, Source};
+use c2_jpegseg_segments::{Next, Window, load_packet, packet_at, segment_at, step};
 use std::alloc::Global;
 
-/// Whether the file begins with SOI.
-pub fn is_jpeg<S: Source>(source: &mut S, window: &mut Window, size: u64) -> Result<bool, Failed>
-    requires size { size ≡ S.len source.old }
-    requires shows { Shows (S.len source.old) (S.known source.old) window.old }
-    ensures stays { StaysSource S.len S.known S.faults source.old source.new }
-    ensures cause { HasCause (S.faults source.old) (S.faults source.new) result }
-    ensures shows { OnOk result (Shows (S.len source.old) (S.known source.old) window.new) }
-    ensures inside { IfOk result (λ b. b ≡ true → 2 ≤ size) }
-    ensures begun { IfOk result (λ b. ForSome (S.known source.old) (λ file. IsBegun file b)) }
-{
-    if size < 2 {
-        return Ok(false);
-    }
-    let first = window.byte_at(source, 0)?;
-    let second = window.byte_at(source, 1)?;
-    Ok(first == FILL && second == SOI)
-}
-
-// Makes the window show the segment's payload, where it may be a packet.
-fn load_packet<S: Source>(source: &mut S, window: &mut Window, extent: Extent) -> Result<(), Failed>
-    requires inside { extent.end ≤ S.len source.old }
-    requires ordered { extent.body ≤ extent.end }
-    requires short { extent.end ≤ extent.body + longest_payload }
-    requires shows { Shows (S.len source.old) (S.known source.old) window.old }
-    ensures stays { StaysSource S.len S.known S.faults source.old source.new }
-    ensures cause { HasCause (S.faults source.old) (S.faults source.new) result }
-    ensures shows { OnOk result (Shows (S.len source.old) (S.known source.old) window.new) }
-    ensures covers { OnOk result (CoversPacket window.new extent) }
-{
-    if extent.marker != APP11 {
-        return Ok(());
-    }
-    window.load(source, extent.body, (extent.end - extent.body) as usize)
-}
-
-// The packet that the segment is.
-fn packet_at(window: &Window, extent: Extent) -> Option<Packet<'_>>
-    requires ordered { extent.body ≤ extent.end }
-    requires short { extent.end ≤ extent.body + longest_payload }
-    requires covers { CoversPacket window.now extent }
-    ensures headed { HasHeader result }
-    ensures packet { ShowsPacket window.now extent result }
-{
-    if extent.marker != APP11 {
-        return None;
-    }
-    let payload = window.slice(extent.body, (extent.end - extent.body) as usize);
-    packet::packet_in(extent.marker, payload)
-}
-
-/// The walk over the segments of a file of `size` bytes that begins with SOI. What is known of those outside the store is kept.
-pub fn walk<S: Source>(
+// The walk, whose result its clauses say by cases.
+fn walked<S: Source>(
     alloc: Global,
     source: &mut S,
     window: &mut Window,
@@ -101,12 +44,12 @@ pub fn walk<S: Source>(
     let mut at: u64 = 2;
     let mut run = None;
     'segments: loop {
-        let Next::Segment(extent) = marker::segment_at(source, window, at, size)? else {
+        let Next::Segment(extent) = segment_at(source, window, at, size)? else {
             break;
         };
         load_packet(source, window, extent)?;
         let packet = packet_at(window, extent);
-        let taken = segment::step(alloc, at, extent.end, size, packet, &mut run)?;
+        let taken = step(alloc, at, extent.end, size, packet, &mut run)?;
         kept.pass(taken, extent.marker, extent.end - at, packet);
         at = extent.end;
     }
@@ -121,4 +64,24 @@ pub fn walk<S: Source>(
         length: run.end - run.start,
         store: Blob::from_vec(run.store),
     }))
+}
+
+/// The walk over the segments of a file of `size` bytes that begins with SOI. What is known of those outside the store is kept.
+pub fn walk<S: Source>(
+    alloc: Global,
+    source: &mut S,
+    window: &mut Window,
+    kept: &mut Kept,
+    size: u64,
+) -> Result<Option<Found>, MediaError>
+    requires start { IsStart (S.known source.old) (S.len source.old) size }
+    requires shows { Shows (S.len source.old) (S.known source.old) window.old }
+    requires none { IsKept kept.old [] }
+    ensures stays { StaysSource S.len S.known S.faults source.old source.new }
+    ensures walk { IsWalk
+        (S.known source.old) size (S.faults source.old) (S.faults source.new) result }
+    ensures kept { IfOk result (λ found. ForSome (S.known source.old) (λ file.
+        HasKept file (range_of found) kept.new)) }
+{
+    walked(alloc, source, window, kept, size)
 }

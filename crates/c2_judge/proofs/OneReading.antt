@@ -141,7 +141,10 @@ finds (r ∷ rows) [] line more a e = (r, All-head IsRow r rows a, sym (heads (l
 finds (r ∷ rows) (s ∷ others) line more a e = finds rows others line more (All-tail IsRow r rows a) (tails (line_of r) (line_of s) (map line_of rows) (map line_of others ++ line ∷ more) e)
 
 -- two prefixes of rows end at one place, where none of the lines behind them is a row's
-same_place : (rows others : List VerdictRow) (line line' : List ℕ) (more more' : List (List ℕ)) → All IsRow rows → All IsRow others → ((row : VerdictRow) → IsRow row → line ≢ line_of row) → ((row : VerdictRow) → IsRow row → line' ≢ line_of row) → map line_of rows ++ line ∷ more ≡ map line_of others ++ line' ∷ more' → length rows ≡ length others
+same_place : (rows others : List VerdictRow) (line line' : List ℕ) (more more' : List (List ℕ)) → All IsRow rows
+    → All IsRow others → ((row : VerdictRow) → IsRow row → line ≢ line_of row)
+    → ((row : VerdictRow) → IsRow row → line' ≢ line_of row)
+    → map line_of rows ++ line ∷ more ≡ map line_of others ++ line' ∷ more' → length rows ≡ length others
 same_place [] [] line line' more more' a b bad bad' e = refl
 same_place [] (s ∷ others) line line' more more' a b bad bad' e = absurd (bad s (All-head IsRow s others b) (heads line (line_of s) more (map line_of others ++ line' ∷ more') e))
 same_place (r ∷ rows) [] line line' more more' a b bad bad' e = absurd (bad' r (All-head IsRow r rows a) (sym (heads (line_of r) line' (map line_of rows ++ line ∷ more) more' e)))

@@ -68,7 +68,10 @@ left_over rows file rest (inl e) some = e
 left_over rows file rest (inr h) some = let none : length rest ≡ 0 = ap length h.0 in absurd (omega arith)
 
 -- one more row was read
-pub progress_more : (rows : List VerdictRow) (row : VerdictRow) (file rest line behind : List ℕ) (number : ℕ) (old new : BTreeMap (List ℕ) Verdict) → Progress rows file rest number old → 0 < length rest → FirstLine rest line behind → IsRow row → line ≡ line_of row → AddsRow row old new → Progress (rows ++ row ∷ []) file behind (number + 1) new
+pub progress_more : (rows : List VerdictRow) (row : VerdictRow) (file rest line behind : List ℕ) (number : ℕ)
+    (old new : BTreeMap (List ℕ) Verdict) → Progress rows file rest number old → 0 < length rest
+    → FirstLine rest line behind → IsRow row → line ≡ line_of row → AddsRow row old new
+    → Progress (rows ++ row ∷ []) file behind (number + 1) new
 progress_more rows row file rest line behind number old new so_far some first is_row is adds =
     let all : file ≡ lines_of rows ++ rest = left_over rows file rest so_far.spelled some in
     let size = length-append rows (row ∷ []) in

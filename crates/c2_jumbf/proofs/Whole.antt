@@ -102,7 +102,9 @@ super_tree region h before after depth at from old mid new bytes small k kind o 
         ∙ ap (λ n. old ++ own h.header n (length old + (2 + trees_count t.trees)) ∷ second h.header from ∷ below) size
         ∙ ap (λ n. old ++ own h.header (length (tree_bytes tree)) (length old + (2 + trees_count t.trees)) ∷ second h.header n ∷ rows_all (at + h.header + n) (depth + 1) (length mid) t.trees) o.size
         ∙ ap (λ n. old ++ own n (length (tree_bytes tree)) (length old + (2 + trees_count t.trees)) ∷ second n (length (description_bytes d)) ∷ rows_all (at + n + length (description_bytes d)) (depth + 1) (length mid) t.trees) k.header
-        ∙ ap (λ n. old ++ own (head_len (tells_wide region)) (length (tree_bytes tree)) (length old + (2 + trees_count t.trees)) ∷ second (head_len (tells_wide region)) (length (description_bytes d)) ∷ rows_all (at + head_len (tells_wide region) + length (description_bytes d)) (depth + 1) n t.trees) mid_length
+        ∙ ap (λ n. old ++ own (head_len (tells_wide region)) (length (tree_bytes tree))
+        (length old + (2 + trees_count t.trees)) ∷ second (head_len (tells_wide region)) (length (description_bytes d))
+        ∷ rows_all (at + head_len (tells_wide region) + length (description_bytes d)) (depth + 1) n t.trees) mid_length
 
 -- A fault among the children is a fault of the superbox.
 pub super_fault : (region : List ℕ) (h : Front) (before after : List Mark) (depth at from : ℕ) (old mid : List Row) (e : JumbfError) → IsHead region h → h.kind ≡ JUMB
@@ -112,7 +114,12 @@ super_fault region h before after depth at from old mid e k kind o f =
     let split : length (take (h.total - (h.header + from)) (drop (h.header + from) region)) ≡ length (trees_bytes f.trees) + length f.rest = ap length f.bytes ∙ length-append (trees_bytes f.trees) f.rest in
     let place : at + h.header + from + length (take (h.total - (h.header + from)) (drop (h.header + from) region)) - length f.rest ≡ at + told_total region - length f.rest = omega (arith, n, split, o.inside, k.total) in
     let fails : TreeFault (tree_labels f.trees) (depth + 1) (at + told_total region - length f.rest) f.rest e = subst (λ p. TreeFault (tree_labels f.trees) (depth + 1) p f.rest e) place f.fails in
-    let opens : OpensSuperbox depth region o.description (trees_bytes f.trees ++ f.rest) = record { superbox = record { head = k.good; kind = sym k.kind ∙ kind; deep = o.deep }; description = o.legal; payload = o.bytes ∙ ap (λ (x : List ℕ). description_bytes o.description ++ x) (children_are region h from o.inside ∙ f.bytes) } in
+    let children = children_are region h from o.inside ∙ f.bytes in
+    let opens : OpensSuperbox depth region o.description (trees_bytes f.trees ++ f.rest) = record {
+      superbox = record { head = k.good; kind = sym k.kind ∙ kind; deep = o.deep };
+      description = o.legal;
+      payload = o.bytes ∙ ap (λ (x : List ℕ). description_bytes o.description ++ x) children;
+    } in
     record { label = o.description.label; marked = o.marked; inside = λ earlier new. TreeFault.inside o.description f.trees f.rest opens new f.legal f.distinct f.some fails; duplicate = o.duplicate }
 
 -- The same with the record as the code writes it.
@@ -130,7 +137,15 @@ super_written region h before after depth at from old mid new x i n bytes small 
     rest = record { place = at + h.header; total = from; after = length old + 1 + 1; header = head_len o.description.wide; depth = depth + 1 } ∷ rows_all (at + h.header + from) (depth + 1) (length mid) t.trees
 
     spread : new ≡ old ++ own ∷ rest
-    spread = t.added ∙ ap (λ (y : List Row). y ++ rows_all (at + h.header + from) (depth + 1) (length mid) t.trees) o.added ∙ append_assoc old (own ∷ record { place = at + h.header; total = from; after = length old + 1 + 1; header = head_len o.description.wide; depth = depth + 1 } ∷ []) (rows_all (at + h.header + from) (depth + 1) (length mid) t.trees)
+    spread = t.added ∙ ap (λ (y : List Row). y ++ rows_all (at + h.header + from) (depth + 1) (length mid) t.trees)
+        o.added ∙ append_assoc old (own ∷ record {
+          place = at + h.header;
+          total = from;
+          after = length old + 1 + 1;
+          header = head_len o.description.wide;
+          depth = depth + 1;
+        } ∷ [])
+        (rows_all (at + h.header + from) (depth + 1) (length mid) t.trees)
 
     is : x ≡ own
     is = read ∙ ap (λ j. get_or new j x) index ∙ ap (λ (y : List Row). get_or y (length old) x) spread ∙ get_or_at old own rest x (length old) refl

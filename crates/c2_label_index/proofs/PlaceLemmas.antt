@@ -83,7 +83,9 @@ with_old labels kept text h some label = by (bytes_eq text label) refl ∙ sym (
 -- ---- the same of places that are kept
 
 -- kept places with a new label at the place after all others are right for the list with this label added
-pub new_added : (labels : List (Option (List ℕ))) (p q : Places) (o : Option (Bor (List ℕ))) (text : Bor (List ℕ)) (place : ℕ) (first : Option ℕ) → o ≡ Some text → first ≡ kept_place p text.now → is_none first ≡ true → ((label : List ℕ) → kept_place q label ≡ update bytes_eq (kept_place p) text.now (Some place) label)
+pub new_added : (labels : List (Option (List ℕ))) (p q : Places) (o : Option (Bor (List ℕ))) (text : Bor (List ℕ))
+    (place : ℕ) (first : Option ℕ) → o ≡ Some text → first ≡ kept_place p text.now → is_none first ≡ true
+    → ((label : List ℕ) → kept_place q label ≡ update bytes_eq (kept_place p) text.now (Some place) label)
     → ArePlaces labels p → place ≡ length labels → ArePlaces (labels ++ option_map (λ x. x.now) o ∷ []) q
 new_added labels p q o text place first some at none is h count =
     subst (λ (x : Option (Bor (List ℕ))). ArePlaces (labels ++ option_map (λ y. y.now) x ∷ []) q) (sym some) (with_new labels (kept_place p) (kept_place q) text.now place h count (ap is_none (sym at) ∙ none) is)

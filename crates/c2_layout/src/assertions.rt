@@ -7,9 +7,9 @@ ghost use Rattle.c2_new_store_spec.specs.Store as store;
 use crate::boxes::{only_memory, write_assertion};
 use crate::entries::own_ref;
 use c2_base::{Blob, NoMemory};
-use c2_cbor::Ref;
 use c2_definition::NewAssertion;
 use c2_hash::{Alg, Hashing, digest_of};
+use c2_spec::Ref;
 use std::alloc::Global;
 
 // How many bytes the header of a new box has.

@@ -7,9 +7,10 @@ ghost use Rattle.c2_new_store_spec.specs.Store as store;
 
 use c2_assertion::{DataHash, write_data_hash};
 use c2_base::{Blob, NoMemory, Range, Ranges, Text};
-use c2_cbor::{Cbor, EncodeError, encode};
+use c2_cbor_write::encode;
 use c2_definition::{NewAssertion, Payload};
 use c2_hash::{Alg, alg_name};
+use c2_spec::{Cbor, EncodeError};
 use std::alloc::Global;
 
 /// The bytes of a legal item.

@@ -5,10 +5,10 @@ ghost use Rattle.c2_claim.specs.Written.{claim_item};
 ghost use Rattle.c2_new_store_spec.specs.Store as store;
 
 use c2_base::{Blob, NoMemory, Text, Texts};
-use c2_cbor::{Ref, Refs};
 use c2_claim::{ClaimParts, write};
 use c2_definition::Definition;
 use c2_hash::alg_name;
+use c2_spec::{Ref, Refs};
 use std::alloc::Global;
 
 // A copy of a title, where there is one.

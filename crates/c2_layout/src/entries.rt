@@ -3,7 +3,7 @@ ghost use Rattle.std.specs.Prelude.{◌≡◌, IfOk};
 ghost use Rattle.c2_new_store_spec.specs.Store as store;
 
 use c2_base::{Blob, NoMemory, Text};
-use c2_cbor::Ref;
+use c2_spec::Ref;
 use std::alloc::Global;
 
 /// The reference to the assertion with this label in its own manifest, by the digest of its box's contents.

@@ -8,9 +8,8 @@ use crate::binding::item_bytes;
 use crate::carried::ManifestRefs;
 use c2_assertion::write_ingredient;
 use c2_base::{Blob, NoMemory, Text};
-use c2_cbor::Ref;
 use c2_definition::{NewAssertion, Payload};
-use c2_spec::{Ingredient, Relationship};
+use c2_spec::{Ingredient, Ref, Relationship};
 use std::alloc::Global;
 
 // A reference to the manifest with this label, by the digest of its contents.

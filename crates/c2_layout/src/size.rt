@@ -14,10 +14,10 @@ use crate::carried::Carried;
 use crate::claims::claim_of;
 use crate::entries::own_ref;
 use c2_base::NoMemory;
-use c2_cbor::Ref;
 use c2_definition::{Definition, NewAssertion};
 use c2_hash::{Alg, Digest};
 use c2_new_store_spec::new_stores_have_one_length;
+use c2_spec::Ref;
 use std::alloc::Global;
 use std::slice::from_ref;
 

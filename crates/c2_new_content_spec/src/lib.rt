@@ -7,7 +7,7 @@
 ghost use Rattle.c2_new_content_spec.specs.Gathered.{GatheredStoreMeets, GatheredStoreReaches};
 
 use c2_assertion::{a_written_ingredient_is_read, written_items_are_in_order};
-use c2_cbor::{round_trip, sorting_keeps_the_length};
+use c2_cbor_spec::{round_trip, sorting_keeps_the_length};
 use c2_chain_older_spec::rules_hold_without_redacted_boxes;
 use c2_claim::a_written_claim_is_read;
 use c2_uri::written_uris_are_read;

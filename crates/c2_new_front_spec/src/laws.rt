@@ -8,7 +8,7 @@ ghost use Rattle.c2_new_front_spec.specs.Splits.{FrontIsSplit};
 use crate::in_front::a_store_in_front_is_found;
 use c2_bmff_chunks::{a_shifted_file_has_its_boxes, a_shifted_file_is_one, chunk_places_stay_true};
 use c2_bmff_insert_spec::a_put_store_is_not_covered;
-use c2_cbor::sorting_keeps_the_length;
+use c2_cbor_spec::sorting_keeps_the_length;
 use c2_new_signature::a_message_fills_its_reserve_or_needs_more;
 use c2_new_split_spec::{a_content_meets_the_rules, the_file_of_a_content_meets_the_rules};
 use c2_new_store_spec::new_stores_have_one_length;

@@ -7,7 +7,7 @@ use crate::laws::{
     a_built_front_has_its_store, a_built_front_is_one, a_fresh_front_meets_the_rules,
     a_front_is_refused_or_planned, bytes_of_a_built_front_stay, chunks_of_a_built_front_stay,
 };
-use c2_cbor::one_item;
+use c2_cbor_spec::one_item;
 use c2_definition::{definitions_are_well_formed, each_definition_is_read_one_way};
 use c2_new_signature::{
     a_message_fills_its_reserve_or_needs_more, each_message_is_accepted_or_refused_for_one_test,

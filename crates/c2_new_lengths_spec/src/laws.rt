@@ -4,7 +4,7 @@ ghost use Rattle.c2_new_lengths_spec.specs.Lengths.{DefinitionsAreShort, BmffSto
 ghost use Rattle.c2_new_lengths_spec.specs.Lengths.{StoresFit};
 
 use c2_assertion::a_written_data_hash_has_one_length;
-use c2_cbor::sorting_keeps_the_length;
+use c2_cbor_spec::sorting_keeps_the_length;
 use c2_definition::definitions_are_well_formed;
 use c2_new_bmff_spec::a_new_bmff_store_has_one_length;
 

@@ -1,5 +1,5 @@
 -- Each message is accepted or refused.
-use Rattle.std.proofs.Common.{◌≡◌, ◌⊎◌, inl, inr, ℕ, ◌<◌, ◌≤◌, ◌^◌, Bool, true, false, List, length, All, Option, Some, None, refl, sym, ap, ◌∙◌, subst, arith, codes, is_some}
+use Rattle.std.proofs.Common.{◌≡◌, ◌⊎◌, inl, inr, ℕ, ◌<◌, ◌≤◌, ◌^◌, Bool, true, false, List, length, All, Option, Some, None, refl, subst, arith, codes, is_some}
 use Rattle.std.proofs.lemmas.Bool.{ltb-false, ltb-true}
 use Rattle.std.proofs.lemmas.Slice.Eq.{bytes_eq-Decides}
 use Rattle.std.specs.Prelude.{nat_lt}
@@ -13,8 +13,8 @@ use Rattle.c2_spec.specs.Cbor.Item.{Item, uint, nint, bytes, text, list, dict, t
 use Rattle.c2_spec.specs.Cbor.Legal.{IsLegal, depth}
 use Rattle.c2_spec.specs.Cbor.Lookup.{first_value}
 use Rattle.c2_spec.specs.Cbor.Plain.{DiffersFrom, HasPlainKeys, ItemsHavePlainKeys, PairsHavePlainKeys}
-use Rattle.c2_spec.specs.Cbor.Spelling.{Spells}
 use Rattle.c2_spec.specs.declared.cbor.CborError.{CborError}
+use Rattle.c2_spec.proofs.OneMessage.{OneItem, same_message}
 use Rattle.c2_new_signature.specs.Message.{IsAccepted, IsRefused}
 use Rattle.c2_new_signature.specs.Tested.{EntriesTested, HeaderTested, PartsTested}
 use Rattle.c2_new_signature.specs.declared.error.SignaturePart.{SignaturePart}
@@ -149,38 +149,12 @@ some_parts protected p (inl plain) (inl own) = let tested = some_header p.unprot
 
 -- ---- the message of bytes
 
--- parts of a message, written short
-abbrev parts : List ℕ → Item → List ℕ → SignParts
-parts protected unprotected signature = record { protected = protected; unprotected = unprotected; signature = signature }
-
--- lists of messages that are equal have equal parts
-same_parts : (p q : SignParts) → message_list p ≡ message_list q → p ≡ q
-same_parts p q e =
-    let protected : p.protected ≡ q.protected = cc (e) in
-    let unprotected : p.unprotected ≡ q.unprotected = cc (e) in
-    let signature : p.signature ≡ q.signature = cc (e) in
-    ap (λ (x : List ℕ). parts x p.unprotected p.signature) protected ∙ ap (λ (x : Item). parts q.protected x p.signature) unprotected
-    ∙ ap (λ (x : List ℕ). parts q.protected q.unprotected x) signature
-
--- an item is the message of one list of parts at most, with its tag or without
-same_form : (m : Item) (p q : SignParts) → (m ≡ message_list p) ⊎ (m ≡ tag 18 (message_list p)) → (m ≡ message_list q) ⊎ (m ≡ tag 18 (message_list q)) → p ≡ q
-same_form m p q (inl a) (inl b) = same_parts p q (sym a ∙ b)
-same_form m p q (inl a) (inr b) = absurd (let bad = sym a ∙ b in cc (bad))
-same_form m p q (inr a) (inl b) = absurd (let bad = sym a ∙ b in cc (bad))
-same_form m p q (inr a) (inr b) = same_parts p q (let both = sym a ∙ b in cc (both))
-
 -- what laws of items and messages say
 pub record MessageLaws : Type 0 where
-  pub one_item : (v w : Item) (s : List ℕ) → Spells v s → Spells w s → v ≡ w
+  pub one_item : OneItem
   pub each_list : (s : List ℕ) → All (λ b. b < 2 ^ 8) s → length s < 2 ^ 64 → ((v : Item) × HasItem s v) ⊎ ((e : CborError) × IsUnread s e)
   pub never_both : (s : List ℕ) → All (λ b. b < 2 ^ 8) s → length s < 2 ^ 64 → (v : Item) (e : CborError) → HasItem s v → IsUnread s e → ⊥
   pub each_message : (v : Item) → ((p : SignParts) × IsMessage v p) ⊎ ((p : SignParts) → IsMessage v p → ⊥)
-
--- bytes spell one message at most
-one_message : MessageLaws → (s : List ℕ) (p q : SignParts) → SpellsMessage s p → SpellsMessage s q → p ≡ q
-one_message laws s p q h k =
-    let same = laws.one_item k.message h.message s k.spelled h.spelled in
-    same_form h.message p q h.is.form (subst (λ (v : Item). (v ≡ message_list q) ⊎ (v ≡ tag 18 (message_list q))) same k.is.form)
 
 -- bytes that are an item spell a message or none
 known_item : MessageLaws → (s : List ℕ) (v : Item) → HasItem s v → ((p : SignParts) × IsMessage v p) ⊎ ((p : SignParts) → IsMessage v p → ⊥) → ((p : SignParts) × SpellsMessage s p) ⊎ ((p : SignParts) → SpellsMessage s p → ⊥)
@@ -199,8 +173,8 @@ known_message laws s all short = by (laws.each_list s all short)
 
 -- bytes that spell a message are accepted, or refused for a test
 of_parts : MessageLaws → (protected s : List ℕ) (p : SignParts) → length s ≤ MAX_INPUT_LEN → SpellsMessage s p → (t : Option SignaturePart) → PartsTested protected p t → IsAccepted protected s ⊎ ((test : SignaturePart) × IsRefused protected s test)
-of_parts laws protected s p small spelled None h = inl (accepted_parts protected s p small spelled (λ q k. one_message laws s p q spelled k) h)
-of_parts laws protected s p small spelled (Some test) h = inr (test, refused_parts protected s p test small spelled (λ q k. one_message laws s p q spelled k) h)
+of_parts laws protected s p small spelled None h = inl (accepted_parts protected s p small spelled (λ q k. same_message laws.one_item s p q spelled k) h)
+of_parts laws protected s p small spelled (Some test) h = inr (test, refused_parts protected s p test small spelled (λ q k. same_message laws.one_item s p q spelled k) h)
 
 -- the same whether or not they spell a message
 of_message : MessageLaws → (protected s : List ℕ) → length s ≤ MAX_INPUT_LEN → ((p : SignParts) × SpellsMessage s p) ⊎ ((p : SignParts) → SpellsMessage s p → ⊥) → IsAccepted protected s ⊎ ((test : SignaturePart) × IsRefused protected s test)

@@ -7,8 +7,8 @@ pub fn each_message_is_accepted_or_refused_for_one_test()
     ensures { RefusedForOne }
 {
     // Only the prover needs these laws.
-    c2_cbor::one_item();
-    c2_cbor::each_list_is_an_item_or_not();
+    c2_cbor_spec::one_item();
+    c2_cbor_spec::each_list_is_an_item_or_not();
     c2_sigstruct::each_item_is_a_message_or_not();
 }
 

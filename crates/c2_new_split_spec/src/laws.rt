@@ -12,7 +12,7 @@ use c2_assertion::{
     written_items_are_in_order, written_items_have_plain_keys,
 };
 use c2_bmff_insert_spec::{a_base_has_no_store, a_put_store_is_not_covered};
-use c2_cbor::{round_trip, sorting_keeps_the_length};
+use c2_cbor_spec::{round_trip, sorting_keeps_the_length};
 use c2_jpegseg::packets_hold_the_store;
 use c2_new_bmff_spec::a_new_bmff_store_has_one_length;
 use c2_new_content_spec::a_gathered_store_meets_the_rules;

@@ -6,7 +6,7 @@ ghost use Rattle.c2_new_store_spec.specs.Unbound.{BoundFileMeets};
 ghost use Rattle.c2_new_store_spec.specs.Written.{NewStoreIsRead};
 
 use c2_assertion::a_written_data_hash_has_one_length;
-use c2_cbor::sorting_keeps_the_length;
+use c2_cbor_spec::sorting_keeps_the_length;
 
 /// The manifests of a tree are the same, told by the indices of its boxes or by the boxes themselves.
 pub fn manifests_are_boxes()

@@ -1,12 +1,13 @@
 -- A file has one container at most, and is media in one way at most.
-use Rattle.std.proofs.Common.{◌≡◌, refl, sym, ◌∙◌, ap, ap₂, ℕ, Bool, true, false, not, ◌&&◌, List, subst}
+use Rattle.std.proofs.Common.{◌≡◌, refl, sym, ◌∙◌, ap, ap₂, ℕ, Bool, true, false, List, subst}
 use Rattle.std.specs.Bool.{MatchBool}
-use Rattle.c2_spec.specs.Bmff.Boxes.{Box, HasRoots, begins_bmff}
+use Rattle.c2_spec.specs.Bmff.Boxes.{Box, HasRoots}
 use Rattle.c2_spec.specs.Bmff.Store.{HasBmffStore, IsBmffLocated}
-use Rattle.c2_spec.specs.Container.{Container, jpeg, bmff, IsContainer, IsLocated, begins_jpeg, is_bmff}
+use Rattle.c2_spec.specs.Container.{Container, jpeg, bmff, IsContainer, IsLocated, is_bmff}
 use Rattle.c2_spec.specs.Jpeg.Store as jpeg_store
 use Rattle.c2_spec.specs.Jpeg.Store.{HasJpegStore}
 use Rattle.c2_spec.specs.Located.{here}
+use Rattle.c2_spec.proofs.Containers.{never_both}
 use Rattle.c2_rules.specs.Binding.{Media, IsMedia}
 use Rattle.c2_rules.proofs.JpegMedia.{of_jpeg, begins}
 use Rattle.c2_container.specs.Contained.{IsContainerOf}
@@ -18,15 +19,11 @@ use Rattle.c2_opening.specs.Media.{IsMediaOf, media}
 abbrev OneRoots : Type 0
 OneRoots = (file : List ℕ) (a b : List Box) → HasRoots file a → HasRoots file b → a ≡ b
 
--- no JPEG is read by root boxes
-apart : (file : List ℕ) → begins_jpeg file ≡ true → is_bmff file ≡ true → ⊥
-apart file is also = let no : false ≡ is_bmff file = sym (ap (λ (b : Bool). not b && begins_bmff file) is) in let bad = no ∙ also in cc (bad)
-
 -- a file has one container at most
 one_container : OneRoots → (file : List ℕ) (c d : Container) → IsContainer file c → IsContainer file d → c ≡ d
 one_container one file jpeg jpeg h k = refl
-one_container one file jpeg (bmff b) h k = absurd (apart file h k.0)
-one_container one file (bmff a) jpeg h k = absurd (apart file k h.0)
+one_container one file jpeg (bmff b) h k = absurd (never_both file h k.0)
+one_container one file (bmff a) jpeg h k = absurd (never_both file k h.0)
 one_container one file (bmff a) (bmff b) h k = ap bmff (one file a b h.1 k.1)
 
 -- it is media in one way at most

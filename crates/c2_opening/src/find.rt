@@ -44,7 +44,11 @@ fn unrefused(read: Contained) -> Opened
         → HasContainer file result }
     ensures within { (len : ℕ) → contained.IsWithin len read → IsWithin len result }
 {
-    let Contained { container, found } = read;
+    let Contained {
+        container,
+        found,
+        packets: _,
+    } = read;
     match found {
         Some(found) => Opened::Here(Media { container, found }),
         None => Opened::NoStore(container),

@@ -85,7 +85,9 @@ named_gone redacts before m l r h e is =
     sym (kept_find (takes_out redacts (label_in r)) l r.boxes ∙ ap (λ (x : Bool). is_some (find (is_labelled l) r.boxes) && not x) (taken redacts before m l r h e ∙ is) ∙ and_false (is_some (find (is_labelled l) r.boxes)))
 
 -- another one is, if it was
-pub unnamed_there : (redacts : List (List ℕ)) (before : Named) (m l : List ℕ) (r : Reading) (found : Option ReadBox) → AreNamed redacts before → m ≡ label_in r → named.is_among before m l ≡ false → found ≡ find (is_labelled l) r.boxes → is_some found ≡ is_some (find (is_labelled l) (kept_boxes redacts r))
+pub unnamed_there : (redacts : List (List ℕ)) (before : Named) (m l : List ℕ) (r : Reading) (found : Option ReadBox)
+    → AreNamed redacts before → m ≡ label_in r → named.is_among before m l ≡ false
+    → found ≡ find (is_labelled l) r.boxes → is_some found ≡ is_some (find (is_labelled l) (kept_boxes redacts r))
 unnamed_there redacts before m l r found h e isnt f =
     ap is_some f ∙ and_true (is_some (find (is_labelled l) r.boxes))
     ∙ sym (kept_find (takes_out redacts (label_in r)) l r.boxes ∙ ap (λ (x : Bool). is_some (find (is_labelled l) r.boxes) && not x) (taken redacts before m l r h e ∙ isnt))
@@ -189,11 +191,15 @@ assertion_tests own rs before text m l =
     ∙ ap (option_or (code_of rules)) (two x y text ∙ ap (λ (b : Bool). cond (not x) (Some ProfileRedactionTarget) (cond b (Some ProfileIngredientSignature) None)) (sym (unsigned_eq rs m l)))
 
 -- one that fails a rule on redactions
-pub rule_fails : (own : List ℕ) (rs : List Reading) (before : List (List ℕ)) (text m l : List ℕ) (o : Option Code) (code : Code) → o ≡ code_of (redacted_tests (bytes_eq m own) (label_kind l) (assertion_uri m l)) → o ≡ Some code → Some code ≡ code_of (uri_entry_tests own rs before text (Some (assertion_of m l)))
+pub rule_fails : (own : List ℕ) (rs : List Reading) (before : List (List ℕ)) (text m l : List ℕ) (o : Option Code)
+    (code : Code) → o ≡ code_of (redacted_tests (bytes_eq m own) (label_kind l) (assertion_uri m l)) → o ≡ Some code
+    → Some code ≡ code_of (uri_entry_tests own rs before text (Some (assertion_of m l)))
 rule_fails own rs before text m l o code e f = sym (assertion_tests own rs before text m l ∙ ap (λ (x : Option Code). option_or x (later_code rs before m l)) (sym e ∙ f))
 
 -- one that fails none of them
-pub rules_pass : (own : List ℕ) (rs : List Reading) (before : List (List ℕ)) (text m l : List ℕ) (o r : Option Code) → o ≡ code_of (redacted_tests (bytes_eq m own) (label_kind l) (assertion_uri m l)) → o ≡ None → r ≡ later_code rs before m l → r ≡ code_of (uri_entry_tests own rs before text (Some (assertion_of m l)))
+pub rules_pass : (own : List ℕ) (rs : List Reading) (before : List (List ℕ)) (text m l : List ℕ) (o r : Option Code)
+    → o ≡ code_of (redacted_tests (bytes_eq m own) (label_kind l) (assertion_uri m l)) → o ≡ None
+    → r ≡ later_code rs before m l → r ≡ code_of (uri_entry_tests own rs before text (Some (assertion_of m l)))
 rules_pass own rs before text m l o r e f g = g ∙ sym (assertion_tests own rs before text m l ∙ ap (λ (x : Option Code). option_or x (later_code rs before m l)) (sym e ∙ f))
 
 -- ---- one redaction after the other
@@ -231,7 +237,9 @@ pub place_within : (rs : List Reading) (m : List ℕ) (i : ℕ) → place_of rs 
 place_within rs m i e = let q = placed rs m i e in within rs i q.0 q.1
 
 -- of a manifest that is reached it is whether it has the assertion still
-pub still_here : (rs targets : List Reading) (redacts : List (List ℕ)) (m l : List ℕ) (i : ℕ) (r : Reading) (b : Bool) → LabelsDiffer rs → targets ≡ rs → place_of rs m ≡ Some i → r ≡ get_or targets i r → is_reached rs i ≡ true → (m ≡ label_in r → b ≡ has_assertion redacts r l) → b ≡ still_there rs redacts m l
+pub still_here : (rs targets : List Reading) (redacts : List (List ℕ)) (m l : List ℕ) (i : ℕ) (r : Reading) (b : Bool)
+    → LabelsDiffer rs → targets ≡ rs → place_of rs m ≡ Some i → r ≡ get_or targets i r → is_reached rs i ≡ true
+    → (m ≡ label_in r → b ≡ has_assertion redacts r l) → b ≡ still_there rs redacts m l
 still_here rs targets redacts m l i r b differ same place at is h =
     let q = placed rs m i place in
     let own : slice_get rs i ≡ Some r = slice_get-get_or rs i r (place_within rs m i place) ∙ ap Some (sym (at ∙ ap (λ (xs : List Reading). get_or xs i r) same)) in

@@ -161,7 +161,7 @@ fn target_code<'u>(
             Some(given) => assertion_code(own, known, before, given, *label),
             None => Some(Code::AssertionSelfRedacted),
         },
-        _ => Some(Code::ProfileRedactionUri),
+        Target::Whole | Target::Signature | Target::Other(_) => Some(Code::ProfileRedactionUri),
     }
 }
 

@@ -36,7 +36,7 @@ fn unsigned_label<'c>(b: &'c AssertionBox<'_>) -> Option<&'c str>
             }
             named_by(g)
         }
-        _ => None,
+        Parsed::NoItem | Parsed::NoForm => None,
     }
 }
 

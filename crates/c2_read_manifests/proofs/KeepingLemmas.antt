@@ -6,14 +6,13 @@ use Rattle.c2_spec.specs.Jumbf.Tree.{Tree}
 use Rattle.c2_spec.specs.Jumbf.Boxes.{tree_count, box_at, any_label, any_contents}
 use Rattle.c2_spec.specs.C2pa.Manifest.{Manifest, Superbox, IsStoreOf, superbox_at, claim_bytes, claim_version_of, manifest_at, manifests_of}
 use Rattle.c2_spec.specs.declared.store.ManifestBoxes.{ManifestBoxes}
-use Rattle.std.proofs.lemmas.Option.{slice_get-get_or, same_Some}
+use Rattle.std.proofs.lemmas.Option.{slice_get-get_or}
 use Rattle.c2_spec.proofs.BoxesOfManifests.{signature_inside}
 use Rattle.c2_read_manifests.proofs.ParsingLemmas.{zip_more, zip_all}
 use Rattle.c2_spec.specs.C2pa.Sign1.{SignParts}
 use Rattle.c2_spec.specs.declared.claim.Claim.{Claim}
 use Rattle.c2_rules.specs.Readings.{Reading, ReadBox, IsReadBox, IsReading, AreReadings, IsParsed, IsMessageOf}
 use Rattle.c2_rules.specs.declared.parsed.Parsed.{Parsed}
-use Rattle.c2_read_manifests.specs.Keeping.{manifest_of}
 
 -- the boxes in what a list of boxes is read as are the boxes of that list
 same_boxes : (bs : List Superbox) (rs : List ReadBox) → AllZip IsReadBox bs rs → map (λ (b : ReadBox). b.boxed) rs ≡ bs
@@ -26,20 +25,34 @@ same_boxes (b ∷ bs) (r ∷ rs) h = ap₂ (λ (x : Superbox) (xs : List Superbo
 abbrev made : Option (List ℕ) → List ℕ → Bool → List Superbox → Option Superbox → List Superbox → Manifest
 made label contents is_update claims signature assertions = record { label = label; contents = contents; is_update = is_update; claims = claims; signature = signature; assertions = assertions }
 
--- what is kept of a manifest's label, contents, boxes, claim and message is a reading of the manifest at these indices
-pub kept_is : (t : Tree) (whole : ℕ) (is_update : Bool) (claims : List ℕ) (signature : Option ℕ) (assertions : List ℕ) (label : Option (List ℕ)) (contents : List ℕ) (cs : List Superbox) (sign : Option Superbox) (claim : Parsed Claim) (message : Option SignParts)
-    (bs : List ReadBox) → label ≡ any_label (box_at t whole).box → contents ≡ any_contents (box_at t whole).box → cs ≡ map (superbox_at t) claims → sign ≡ option_map (superbox_at t) signature
-    → AllZip IsReadBox (map (superbox_at t) assertions) bs → IsParsed (claim_of (claim_version_of cs)) (claim_bytes cs) claim → IsMessageOf (option_and_then (λ (b : Superbox). b.item) sign) message
-    → IsReading (manifest_of t whole is_update claims signature assertions) (record { manifest = made label contents is_update cs sign (map (λ (b : ReadBox). b.boxed) bs); claim = claim; message = message; boxes = bs })
-kept_is t whole is_update claims signature assertions label contents cs sign claim message bs named held listed signed read parsed asked = record {
-  same =
-      ap₂ (λ (x : Option (List ℕ)) (y : List ℕ). made x y is_update cs sign (map (λ (b : ReadBox). b.boxed) bs)) named held
-      ∙ ap₂ (λ (x : List Superbox) (y : Option Superbox). made (any_label (box_at t whole).box) (any_contents (box_at t whole).box) is_update x y (map (λ (b : ReadBox). b.boxed) bs)) listed signed
-      ∙ ap (λ (x : List Superbox). made (any_label (box_at t whole).box) (any_contents (box_at t whole).box) is_update (map (superbox_at t) claims) (option_map (superbox_at t) signature) x) (same_boxes (map (superbox_at t) assertions) bs read);
-  claim = subst (λ (x : List Superbox). IsParsed (claim_of (claim_version_of x)) (claim_bytes x) claim) listed parsed;
-  message = subst (λ (x : Option Superbox). IsMessageOf (option_and_then (λ (b : Superbox). b.item) x) message) signed asked;
-  boxes = read;
-}
+-- what is kept of a manifest's label, contents, boxes, claim and message is a reading of the manifest that has these boxes
+pub kept_is : (t : Tree) (m : ManifestBoxes) (label : Option (List ℕ)) (contents : List ℕ) (cs : List Superbox)
+    (sign : Option Superbox) (claim : Parsed Claim) (message : Option SignParts) (bs : List ReadBox)
+    → label ≡ any_label (box_at t m.whole).box → contents ≡ any_contents (box_at t m.whole).box
+    → cs ≡ map (superbox_at t) m.claims → sign ≡ option_map (superbox_at t) m.signature
+    → AllZip IsReadBox (map (superbox_at t) m.assertions) bs
+    → IsParsed (claim_of (claim_version_of cs)) (claim_bytes cs) claim
+    → IsMessageOf (option_and_then (λ (b : Superbox). b.item) sign) message
+    → IsReading (manifest_at t m) (record {
+      manifest = made label contents m.is_update cs sign (map (λ (b : ReadBox). b.boxed) bs);
+      claim = claim;
+      message = message;
+      boxes = bs;
+    })
+kept_is t m label contents cs sign claim message bs named held listed signed read parsed asked =
+    let boxes : List Superbox = map (λ (b : ReadBox). b.boxed) bs in
+    let own_label : Option (List ℕ) = any_label (box_at t m.whole).box in
+    let own_contents : List ℕ = any_contents (box_at t m.whole).box in
+    record {
+      same =
+          ap₂ (λ (x : Option (List ℕ)) (y : List ℕ). made x y m.is_update cs sign boxes) named held
+          ∙ ap₂ (λ (x : List Superbox) (y : Option Superbox). made own_label own_contents m.is_update x y boxes) listed signed
+          ∙ ap (made own_label own_contents m.is_update (map (superbox_at t) m.claims) (option_map (superbox_at t) m.signature))
+          (same_boxes (map (superbox_at t) m.assertions) bs read);
+      claim = subst (λ (x : List Superbox). IsParsed (claim_of (claim_version_of x)) (claim_bytes x) claim) listed parsed;
+      message = subst (λ (x : Option Superbox). IsMessageOf (option_and_then (λ (b : Superbox). b.item) x) message) signed asked;
+      boxes = read;
+    }
 
 -- ---- the manifests of a store
 
@@ -47,17 +60,10 @@ kept_is t whole is_update claims signature assertions label contents cs sign cla
 abbrev no_boxes : ManifestBoxes
 no_boxes = record { whole = 0; is_update = false; claims = []; signature = None; assertions = [] }
 
--- a reading of the manifest of a place's five indices is a reading of the manifest at that place, if one is there
-pub kept_there : (t : Tree) (o : Option ManifestBoxes) (whole : ℕ) (is_update : Bool) (claims : List ℕ) (signature : Option ℕ) (assertions : List ℕ) (r : Reading) → Some whole ≡ option_map (λ (m : ManifestBoxes). m.whole) o
-    → Some is_update ≡ option_map (λ (m : ManifestBoxes). m.is_update) o → Some claims ≡ option_map (λ (m : ManifestBoxes). m.claims) o → Some signature ≡ option_map (λ (m : ManifestBoxes). m.signature) o
-    → Some assertions ≡ option_map (λ (m : ManifestBoxes). m.assertions) o → IsReading (manifest_of t whole is_update claims signature assertions) r → IfSome o (λ m. IsReading (manifest_at t m) r)
-kept_there t None whole is_update claims signature assertions r at_whole at_update at_claims at_signature at_assertions h = tt
-kept_there t (Some m) whole is_update claims signature assertions r at_whole at_update at_claims at_signature at_assertions h =
-    subst (λ (x : List ℕ). IsReading (manifest_of t m.whole m.is_update m.claims m.signature x) r) (same_Some assertions m.assertions at_assertions)
-    (subst (λ (x : Option ℕ). IsReading (manifest_of t m.whole m.is_update m.claims x assertions) r) (same_Some signature m.signature at_signature)
-    (subst (λ (x : List ℕ). IsReading (manifest_of t m.whole m.is_update x signature assertions) r) (same_Some claims m.claims at_claims)
-    (subst (λ (x : Bool). IsReading (manifest_of t m.whole x claims signature assertions) r) (same_Some is_update m.is_update at_update)
-    (subst (λ (x : ℕ). IsReading (manifest_of t x is_update claims signature assertions) r) (same_Some whole m.whole at_whole) h))))
+-- a reading of the manifest that has the boxes at a place is a reading of the manifest at that place, if one is there
+pub kept_there : (t : Tree) (o : Option ManifestBoxes) (m : ManifestBoxes) (r : Reading) → Some m ≡ o
+    → IsReading (manifest_at t m) r → IfSome o (λ n. IsReading (manifest_at t n) r)
+kept_there t o m r at h = subst (λ (p : Option ManifestBoxes). IfSome p (λ n. IsReading (manifest_at t n) r)) at h
 
 -- readings of a store's first `k` manifests and a reading of the next are readings of the first `k + 1`
 pub kept_more : (t : Tree) (s : List ManifestBoxes) (k : ℕ) (old new : List Reading) (r : Reading) → k < length s → AllZip IsReading (map (manifest_at t) (take k s)) old → new ≡ old ++ r ∷ []

@@ -13,7 +13,8 @@ use Rattle.c2_spec.specs.declared.claim.Claim.{Claim}
 use Rattle.c2_rules.specs.Questions.{HasQuestion, IsQuestionOf, is_signature_uri}
 use Rattle.c2_read_manifests.specs.Existing.{IsHeld}
 use Rattle.c2_read_manifests.proofs.Existing.{each_manifest}
-use Rattle.c2_read_manifests.proofs.TakenLaws.{OneItem, ItemLaws, EachMessage}
+use Rattle.c2_spec.proofs.OneMessage.{OneItem}
+use Rattle.c2_read_manifests.proofs.TakenLaws.{ItemLaws, EachMessage}
 use Rattle.c2_read_manifests.proofs.Unique.{one_claim}
 
 -- ---- whether bytes are a message
@@ -74,7 +75,9 @@ by_message m b c s at is names stored (inl (p, h)) =
 by_message m b c s at is names stored (inr none) = (None, no_message m s stored none)
 
 -- the same by the signature box
-by_item : ItemLaws → EachMessage → (m : Manifest) (b : List ℕ) (c : Claim) → claim_bytes m.claims ≡ Some b → IsClaim (claim_version_of m.claims) b c → is_signature_uri m (uri_of c.signature) ≡ true → (o : Option (List ℕ)) → signature_item m ≡ o → IfSome o IsHeld → (found : Option Question) × IsQuestionOf m found
+by_item : ItemLaws → EachMessage → (m : Manifest) (b : List ℕ) (c : Claim) → claim_bytes m.claims ≡ Some b
+    → IsClaim (claim_version_of m.claims) b c → is_signature_uri m (uri_of c.signature) ≡ true → (o : Option (List ℕ))
+    → signature_item m ≡ o → IfSome o IsHeld → (found : Option Question) × IsQuestionOf m found
 by_item laws each_message m b c at is names None stored held = (None, without_item m stored)
 by_item laws each_message m b c at is names (Some s) stored held = by_message m b c s at is names stored (message_bytes laws each_message s held)
 

@@ -18,8 +18,7 @@ use Rattle.c2_rules.specs.Ingredients.{is_ingredient, box_version}
 use Rattle.c2_rules.specs.Readings.{IsParsed, IsMessageOf, ReadBox, IsReadBox, Reading, IsReading, AreReadings, signature_item}
 use Rattle.c2_rules.specs.declared.parsed.Parsed.{Parsed}
 use Rattle.c2_rules.specs.declared.parsed.Parsed.TheVariants.{NoItem, NoForm, Value}
-use Rattle.c2_read_manifests.proofs.TakenLaws.{OneItem}
-use Rattle.c2_read_manifests.proofs.Unique.{same_message}
+use Rattle.c2_spec.proofs.OneMessage.{OneItem, same_message}
 
 -- ---- an item
 

@@ -76,13 +76,22 @@ reads_here b is bytes p same wanted at h = record { same = refl; reads = subst (
 
 -- a box of an ingredient without a payload is read as no item
 pub reads_nothing : (b : Superbox) (is : Bool) → is ≡ is_ingredient b → is ≡ true → b.item ≡ None → IsReadBox b (record { boxed = b; ingredient = NoItem })
-reads_nothing b is same wanted at = record { same = refl; reads = subst (λ (t : Bool). MatchBool t (IsParsed (ingredient_of (box_version b)) b.item NoItem) (◌≡◌ {A = Parsed Ingredient} NoItem NoItem)) (sym wanted ∙ same) (subst (λ (o : Option (List ℕ)). IsParsed (ingredient_of (box_version b)) o NoItem) (sym at) tt) }
+reads_nothing b is same wanted at =
+    let read = IsParsed (ingredient_of (box_version b)) in
+    record {
+      same = refl;
+      reads = subst (λ (t : Bool). MatchBool t (read b.item NoItem) (◌≡◌ {A = Parsed Ingredient} NoItem NoItem))
+          (sym wanted ∙ same) (subst (λ (o : Option (List ℕ)). read o NoItem) (sym at) tt);
+    }
 
 -- a box of another kind is read as no item
 pub reads_other : (b : Superbox) (is : Bool) → is ≡ is_ingredient b → is ≡ false → IsReadBox b (record { boxed = b; ingredient = NoItem })
 reads_other b is same no_ingredient = record { same = refl; reads = subst (λ (t : Bool). MatchBool t (IsParsed (ingredient_of (box_version b)) b.item NoItem) (◌≡◌ {A = Parsed Ingredient} NoItem NoItem)) (sym no_ingredient ∙ same) refl }
 
 -- unless memory ran out, a box of an ingredient is read as its payload is
-pub reads_here_ok : {E : Type 0} (b : Superbox) (is : Bool) (bytes : List ℕ) (r : Result (Parsed Ingredient) E) → is ≡ is_ingredient b → is ≡ true → b.item ≡ Some bytes → IfOk r (λ p. IsParsed (ingredient_of (box_version b)) (Some bytes) p) → IfOk r (λ p. IsReadBox b (record { boxed = b; ingredient = p }))
+pub reads_here_ok : {E : Type 0} (b : Superbox) (is : Bool) (bytes : List ℕ) (r : Result (Parsed Ingredient) E)
+    → is ≡ is_ingredient b → is ≡ true → b.item ≡ Some bytes
+    → IfOk r (λ p. IsParsed (ingredient_of (box_version b)) (Some bytes) p)
+    → IfOk r (λ p. IsReadBox b (record { boxed = b; ingredient = p }))
 reads_here_ok b is bytes (Ok p) same wanted at h = reads_here b is bytes p same wanted at h
 reads_here_ok b is bytes (Err e) same wanted at h = tt

@@ -13,7 +13,7 @@ use Rattle.c2_rules.specs.Readings.{IsParsed, IsMessageOf, Reading, IsReading, v
 use Rattle.c2_rules.specs.declared.parsed.Parsed.{Parsed}
 use Rattle.c2_rules.specs.declared.parsed.Parsed.TheVariants.{NoItem, NoForm, Value}
 use Rattle.c2_read_manifests.proofs.OneReading.{one_parsed, one_message}
-use Rattle.c2_read_manifests.proofs.TakenLaws.{OneItem}
+use Rattle.c2_spec.proofs.OneMessage.{OneItem}
 
 -- ---- the claim
 
@@ -85,7 +85,10 @@ asked_from true None p q e = absurd cc
 asked_from false b p q e = absurd cc
 
 -- where a read claim names its signature, the claim bytes are a claim that does
-claim_value : (m : Manifest) (p : Parsed Claim) (bytes : List ℕ) → IsParsed (claim_of (claim_version_of m.claims)) (claim_bytes m.claims) p → claim_bytes m.claims ≡ Some bytes → names_signature m (value_in p) ≡ true → (c : Claim) × IsClaim (claim_version_of m.claims) bytes c × (is_signature_uri m (uri_of c.signature) ≡ true)
+claim_value : (m : Manifest) (p : Parsed Claim) (bytes : List ℕ)
+    → IsParsed (claim_of (claim_version_of m.claims)) (claim_bytes m.claims) p → claim_bytes m.claims ≡ Some bytes
+    → names_signature m (value_in p) ≡ true
+    → (c : Claim) × IsClaim (claim_version_of m.claims) bytes c × (is_signature_uri m (uri_of c.signature) ≡ true)
 claim_value m NoItem bytes h at names = absurd (let wrong = (both_true (is_some m.signature) false names).1 in cc (wrong))
 claim_value m NoForm bytes h at names = absurd (let wrong = (both_true (is_some m.signature) false names).1 in cc (wrong))
 claim_value m (Value c) bytes h at names =

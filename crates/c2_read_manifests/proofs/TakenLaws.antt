@@ -1,15 +1,11 @@
 -- What laws of c2_cbor and c2_sigstruct say, as lemmas here take it: each law function calls those laws and hands on what they say.
-use Rattle.std.proofs.Common.{◌≡◌, ◌⊎◌, ℕ, List}
+use Rattle.std.proofs.Common.{◌⊎◌, ℕ, List}
 use Rattle.c2_spec.specs.Cbor.Item.{Item}
 use Rattle.c2_spec.specs.Cbor.Fields.{HasItem, IsUnread}
-use Rattle.c2_spec.specs.Cbor.Spelling.{Spells}
 use Rattle.c2_spec.specs.C2pa.Sign1.{SignParts, IsMessage}
 use Rattle.c2_spec.specs.declared.cbor.CborError.{CborError}
+use Rattle.c2_spec.proofs.OneMessage.{OneItem}
 use Rattle.c2_read_manifests.specs.Existing.{IsHeld}
-
--- a list spells at most one item
-abbrev pub OneItem : Type 0
-OneItem = (v w : Item) (s : List ℕ) → Spells v s → Spells w s → v ≡ w
 
 -- a list that a program can hold is one item or is none for a cause, and never both
 pub record ItemLaws : Type 0 where

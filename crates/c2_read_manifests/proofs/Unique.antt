@@ -1,16 +1,15 @@
 -- A manifest has one claim or none, and judges are asked at most one question of it.
-use Rattle.std.proofs.Common.{◌≡◌, ◌⊎◌, inl, inr, ℕ, List, [], ◌∷◌, Option, Some, None, refl, sym, ap, ◌∙◌, subst}
+use Rattle.std.proofs.Common.{◌≡◌, ℕ, List, [], ◌∷◌, Option, Some, None, refl, sym, ap, ◌∙◌, subst}
 use Rattle.std.specs.Option.{option_and_then}
 use Rattle.c2_base.specs.declared.values.Question.{Question}
-use Rattle.c2_spec.specs.Cbor.Item.{Item, tag}
 use Rattle.c2_spec.specs.C2pa.Claim.{claim_of, IsClaim}
 use Rattle.c2_spec.specs.C2pa.Manifest.{Manifest, Superbox, HasClaim, claim_bytes, claim_version_of}
-use Rattle.c2_spec.specs.C2pa.Sign1.{SignParts, message_list, SpellsMessage, question_of}
+use Rattle.c2_spec.specs.C2pa.Sign1.{SignParts, SpellsMessage, question_of}
 use Rattle.c2_spec.specs.declared.claim.Claim.{Claim}
 use Rattle.c2_spec.specs.declared.claim.ClaimVersion.{ClaimVersion}
 use Rattle.c2_rules.specs.Claims.{HaveClaims}
 use Rattle.c2_rules.specs.Questions.{HasQuestion}
-use Rattle.c2_read_manifests.proofs.TakenLaws.{OneItem}
+use Rattle.c2_spec.proofs.OneMessage.{OneItem, same_message}
 
 -- what is there is one
 one_some : {A : Type 0} (o : Option A) (x y : A) → o ≡ Some x → o ≡ Some y → x ≡ y
@@ -46,33 +45,7 @@ one_list_of_claims one_item (m ∷ ms) (c ∷ cs) (d ∷ ds) p q =
     let rest : cs ≡ ds = one_list_of_claims one_item ms cs ds p.1 q.1 in
     cc (first, rest)
 
--- ---- a message has one list of parts
-
--- parts of a message, written short
-abbrev parts : List ℕ → Item → List ℕ → SignParts
-parts protected unprotected signature = record { protected = protected; unprotected = unprotected; signature = signature }
-
--- equal lists of members have equal parts
-same_parts : (p q : SignParts) → message_list p ≡ message_list q → p ≡ q
-same_parts p q e =
-    let protected : p.protected ≡ q.protected = cc (e) in
-    let unprotected : p.unprotected ≡ q.unprotected = cc (e) in
-    let signature : p.signature ≡ q.signature = cc (e) in
-    ap (λ (x : List ℕ). parts x p.unprotected p.signature) protected ∙ ap (λ (x : Item). parts q.protected x p.signature) unprotected
-    ∙ ap (λ (x : List ℕ). parts q.protected q.unprotected x) signature
-
--- an item is the message of one list of parts, with its tag or without
-same_form : (v : Item) (p q : SignParts) → (v ≡ message_list p) ⊎ (v ≡ tag 18 (message_list p)) → (v ≡ message_list q) ⊎ (v ≡ tag 18 (message_list q)) → p ≡ q
-same_form v p q (inl a) (inl b) = same_parts p q (sym a ∙ b)
-same_form v p q (inl a) (inr b) = absurd (let bad = sym a ∙ b in cc (bad))
-same_form v p q (inr a) (inl b) = absurd (let bad = sym a ∙ b in cc (bad))
-same_form v p q (inr a) (inr b) = same_parts p q (let both = sym a ∙ b in cc (both))
-
--- bytes are one message
-pub same_message : OneItem → (s : List ℕ) (p q : SignParts) → SpellsMessage s p → SpellsMessage s q → p ≡ q
-same_message one_item s p q a b =
-    let one : b.message ≡ a.message = one_item b.message a.message s b.spelled a.spelled in
-    same_form a.message p q a.is.form (subst (λ (v : Item). (v ≡ message_list q) ⊎ (v ≡ tag 18 (message_list q))) one b.is.form)
+-- ---- one question
 
 -- equal parts and equal claims make one question
 same_asked : (p q : SignParts) (a b : List ℕ) → p ≡ q → a ≡ b → question_of p a ≡ question_of q b

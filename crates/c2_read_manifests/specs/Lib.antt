@@ -1,8 +1,8 @@
 pub mod Existing
 pub mod Held
-pub mod Keeping
 pub mod Kept
 pub mod Named
 pub mod Parsing
+pub mod Placed
 pub mod Redacted
 pub mod Rows

@@ -7,7 +7,6 @@ ghost use Rattle.c2_spec.specs.C2pa.Manifest as form;
 ghost use Rattle.c2_spec.specs.C2pa.Manifest.{Superbox, IsStoreOf, superbox_at};
 ghost use Rattle.c2_spec.specs.C2pa.Sign1.{IsHeader, parts_of};
 ghost use Rattle.c2_rules.specs.Readings.{IsParsed, IsMessageOf, IsReading, AreReadings};
-ghost use Rattle.c2_read_manifests.specs.Keeping.{manifest_of};
 
 use crate::kept::{Kept, StoreBox};
 use crate::reading::{read_boxes, read_claim, read_message, store_box};
@@ -15,8 +14,8 @@ use c2_base::NoMemory;
 use c2_claim::claim_version;
 use c2_jumbf::{Tree, contents, label_of};
 use c2_rules::Parsed;
-use c2_spec::{Claim, ClaimVersion, Sign1};
-use c2_store::{Store, assertions, claims, is_update, manifest_count, signature, whole};
+use c2_spec::{Claim, ClaimVersion, ManifestBoxes, Sign1};
+use c2_store::{Store, manifest_boxes, manifest_count};
 use std::alloc::Global;
 
 /// The boxes with these indices.
@@ -129,34 +128,27 @@ fn some_box<'t>(tree: &'t Tree<'_>, k: Option<usize>) -> Option<StoreBox<'t>>
     }
 }
 
-/// What is kept of the manifest whose own box and whose boxes have these indices.
-pub fn keep<'t>(
-    alloc: Global,
-    tree: &'t Tree<'_>,
-    whole: usize,
-    is_update: bool,
-    claims: &[usize],
-    signature: Option<usize>,
-    assertions: &[usize],
-) -> Result<Kept<'t>, NoMemory>
-    requires whole { whole < tree_count tree.now }
-    requires claims { All (λ k. k < tree_count tree.now) claims.now }
-    requires signature { IfSome signature (λ k. k < tree_count tree.now) }
-    requires assertions { All (λ k. k < tree_count tree.now) assertions.now }
-    ensures { IfOk result (λ r. IsReading
-        (manifest_of tree.now whole is_update claims.now signature assertions.now) r) }
+/// What is kept of the manifest that has these boxes in the tree.
+fn keep<'t>(alloc: Global, tree: &'t Tree<'_>, own: &ManifestBoxes) -> Result<Kept<'t>, NoMemory>
+    requires whole { own.now.whole < tree_count tree.now }
+    requires claims { All (λ k. k < tree_count tree.now) own.now.claims }
+    requires signature { IfSome own.now.signature (λ k. k < tree_count tree.now) }
+    requires assertions { All (λ k. k < tree_count tree.now) own.now.assertions }
+    ensures { IfOk result (λ r. IsReading (form.manifest_at tree.now own.now) r) }
 {
-    let name = label_of(tree, whole);
-    let bytes = contents(tree, whole);
+    let name = label_of(tree, own.whole);
+    let bytes = contents(tree, own.whole);
+    let claims = own.claims.as_slice();
     let claim_boxes = store_boxes(alloc, tree, claims)?;
-    let signature_box = some_box(tree, signature);
+    let signature_box = some_box(tree, own.signature);
     let claim = read_claims(alloc, &claim_boxes)?;
     let message = read_signature(alloc, &signature_box)?;
+    let assertions = own.assertions.as_slice();
     let boxes = read_boxes(alloc, tree, assertions)?;
     Ok(Kept {
         label: name,
         contents: bytes,
-        is_update,
+        is_update: own.is_update,
         claims: claim_boxes,
         signature: signature_box,
         claim,
@@ -178,12 +170,8 @@ fn keep_at<'t>(
         (λ r. IfSome (slice_get store.now i)
         (λ m. IsReading (form.manifest_at tree.now m) r)) }
 {
-    let index = whole(store, i);
-    let update = is_update(store, i);
-    let claim_boxes = claims(store, i);
-    let sign = signature(store, i);
-    let boxes = assertions(store, i);
-    let own = keep(alloc, tree, index, update, claim_boxes, sign, boxes)?;
+    let boxes = manifest_boxes(store, i);
+    let own = keep(alloc, tree, boxes)?;
     Ok(own)
 }
 

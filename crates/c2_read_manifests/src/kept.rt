@@ -116,7 +116,7 @@ pub fn claim_in<'c>(own: &'c Kept<'_>) -> Option<&'c Claim>
 {
     match &own.claim {
         Parsed::Value(claim) => Some(claim),
-        _ => None,
+        Parsed::NoItem | Parsed::NoForm => None,
     }
 }
 

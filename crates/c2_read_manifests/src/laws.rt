@@ -17,7 +17,7 @@ ghost use Rattle.c2_rules.specs.Claims.{HaveClaims};
 ghost use Rattle.c2_rules.specs.Questions.{HasQuestion, IsQuestionOf};
 ghost use Rattle.c2_rules.specs.Readings.{Reading, IsReading, AreReadings, claim_in, question_in};
 
-use c2_cbor::one_item;
+use c2_cbor_spec::one_item;
 use c2_sigstruct::each_item_is_a_message_or_not;
 
 /// A manifest has one claim, or none.
@@ -53,7 +53,7 @@ pub fn each_list_is_an_item_or_not()
         → IsUnread s e → ⊥ }
 {
     // Only the prover needs this law.
-    c2_cbor::each_list_is_an_item_or_not();
+    c2_cbor_spec::each_list_is_an_item_or_not();
 }
 
 /// A manifest whose claim bytes a program can hold has a claim or none.
@@ -63,7 +63,7 @@ pub fn each_manifest_has_a_claim_or_not()
 {
     // Only the prover needs these laws.
     one_item();
-    c2_cbor::each_list_is_an_item_or_not();
+    c2_cbor_spec::each_list_is_an_item_or_not();
 }
 
 /// A manifest whose claim bytes and signature item a program can hold has a question or none.
@@ -74,7 +74,7 @@ pub fn each_manifest_has_a_question_or_not()
 {
     // Only the prover needs these laws.
     one_item();
-    c2_cbor::each_list_is_an_item_or_not();
+    c2_cbor_spec::each_list_is_an_item_or_not();
     each_item_is_a_message_or_not();
 }
 
@@ -115,6 +115,6 @@ pub fn each_store_is_read()
 {
     // Only the prover needs these laws.
     one_item();
-    c2_cbor::each_list_is_an_item_or_not();
+    c2_cbor_spec::each_list_is_an_item_or_not();
     each_item_is_a_message_or_not();
 }

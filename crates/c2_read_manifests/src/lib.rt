@@ -9,6 +9,7 @@ mod keeping;
 mod kept;
 mod labelled;
 mod laws;
+mod placed;
 mod places;
 mod reading;
 mod redacted;
@@ -27,5 +28,6 @@ pub use laws::{
     each_manifest_has_a_claim_or_not, each_manifest_has_a_question_or_not, each_store_is_read,
     labels_of_a_store_differ, one_claim, one_list_of_claims, one_question, one_reading,
 };
+pub use placed::Placed;
 pub use places::named;
 pub use redacted::entry_label;

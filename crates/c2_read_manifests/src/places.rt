@@ -19,7 +19,7 @@ pub fn named(url: &str) -> Option<&str>
     match parse(url) {
         Some(uri) => match uri.target {
             Target::Whole => uri.manifest,
-            _ => None,
+            Target::Assertion(_) | Target::Signature | Target::Other(_) => None,
         },
         None => None,
     }
@@ -55,7 +55,7 @@ pub fn child_among(all: &Manifests<'_>, n: usize, b: &AssertionBox<'_>) -> Optio
 {
     match ingredient(b) {
         Parsed::Value(g) => child_named(all, n, g),
-        _ => None,
+        Parsed::NoItem | Parsed::NoForm => None,
     }
 }
 

@@ -14,12 +14,14 @@ ghost use Rattle.c2_read_manifests.specs.Parsing.{claim_parsed, ingredient_parse
 use crate::kept::{AssertionBox, StoreBox};
 use c2_assertion::{Kind, ingredient_version, kind, read_ingredient};
 use c2_base::NoMemory;
-use c2_cbor::{CborError, decode_whole};
+use c2_cbor::decode_whole;
 use c2_claim::read;
 use c2_jumbf::{Tree, contents, label_of};
 use c2_rules::Parsed;
 use c2_sigstruct::{SignError, read_sign1};
-use c2_spec::{Claim, ClaimError, ClaimVersion, FieldError, Ingredient, IngredientVersion, Sign1};
+use c2_spec::{
+    CborError, Claim, ClaimError, ClaimVersion, FieldError, Ingredient, IngredientVersion, Sign1,
+};
 use c2_store::item;
 use std::alloc::Global;
 

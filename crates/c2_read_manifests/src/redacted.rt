@@ -35,7 +35,7 @@ pub fn assertion_label<'u>(target: &Target<'u>) -> Option<&'u str>
 {
     match target {
         Target::Assertion(name) => Some(*name),
-        _ => None,
+        Target::Whole | Target::Signature | Target::Other(_) => None,
     }
 }
 
@@ -124,7 +124,7 @@ fn redactions<'c>(own: &'c Kept<'_>) -> &'c [Text]
 {
     match &own.claim {
         Parsed::Value(claim) => claim.redacted.as_slice(),
-        _ => &[],
+        Parsed::NoItem | Parsed::NoForm => &[],
     }
 }
 
@@ -269,7 +269,7 @@ fn touches(all: &Redacting<'_>, m: usize, own: &Kept<'_>) -> bool
             lists_redacted(all, m, own, claim.created.as_slice())
                 || lists_redacted(all, m, own, claim.gathered.as_slice())
         }
-        _ => false,
+        Parsed::NoItem | Parsed::NoForm => false,
     }
 }
 

@@ -1,13 +1,17 @@
+pub mod Approving
 pub mod AskingLemmas
 pub mod BindingLaws
 pub mod BindingLemmas
 mod BmffRows
 mod ChainRows
 pub mod ClaimLemmas
+pub mod Conditions
 pub mod FirstLemmas
 pub mod ItemCode
 pub mod JpegMedia
 pub mod ListLemmas
+pub mod OneMedia
+pub mod OpenedStore
 pub mod ReachLemmas
 pub mod SeenLemmas
 pub mod TestLemmas

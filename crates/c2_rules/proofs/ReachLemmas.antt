@@ -9,6 +9,7 @@ use Rattle.std.proofs.lemmas.Slice.Eq.{bytes_eq-Decides}
 use Rattle.c2_spec.specs.C2pa.Manifest.{is_given}
 use Rattle.c2_spec.specs.C2pa.Uri.{PlainUri, PlainTarget, whole, assertion, signature, other, uri_of}
 use Rattle.c2_spec.specs.declared.cbor.Ref.{Ref}
+use Rattle.c2_spec.proofs.GivenLabels.{given_is}
 use Rattle.c2_rules.specs.Chains.{label_in, LabelsDiffer, place_of, named_in, IsChild, place_before, child_of, boxes_of, boxes_at, children, Reaches, Reached, reaches_within, reaches, is_active, is_reached, assertion_label, names_assertion, IsRedacted, redacts, is_redacted, entry_label, IsTouched, passes_some, lists_redacted, is_touched}
 use Rattle.c2_rules.specs.Chains.Reaches.{child, through}
 use Rattle.c2_rules.specs.Chains.Reached.{active, below}
@@ -178,11 +179,6 @@ reached_within rs n (below k _ there h) = slice_get_within rs n h.child h.is_chi
 
 -- ---- what is redacted
 
--- a text that passes as given is the one that is there
-given_text : (text : List ℕ) (o : Option (List ℕ)) → is_given o text ≡ true → o ≡ Some text
-given_text text None e = absurd cc
-given_text text (Some given) e = ap Some ((bytes_eq-Decides given text).0 e)
-
 -- a target whose label passes as given is the assertion with that label
 given_label : (label : List ℕ) (t : PlainTarget) → is_given (assertion_label t) label ≡ true → t ≡ assertion label
 given_label label whole e = absurd cc
@@ -191,11 +187,11 @@ given_label label signature e = absurd cc
 given_label label (other path) e = absurd cc
 
 -- a URI that passes names the assertion by its manifest and its label
-named_assertion : (manifest label : List ℕ) (o : Option PlainUri) → names_assertion manifest label o ≡ true → o ≡ Some (record { manifest = Some manifest; target = assertion label })
+pub named_assertion : (manifest label : List ℕ) (o : Option PlainUri) → names_assertion manifest label o ≡ true → o ≡ Some (record { manifest = Some manifest; target = assertion label })
 named_assertion manifest label None e = absurd cc
 named_assertion manifest label (Some u) e =
     let both = both_true (is_given u.manifest manifest) (is_given (assertion_label u.target) label) e in
-    let first : u.manifest ≡ Some manifest = given_text manifest u.manifest both.0 in
+    let first : u.manifest ≡ Some manifest = given_is u.manifest manifest both.0 in
     let second : u.target ≡ assertion label = given_label label u.target both.1 in
     ap (λ (m : Option (List ℕ)). Some (record { manifest = m; target = u.target })) first ∙ ap (λ (t : PlainTarget). Some (record { manifest = Some manifest; target = t })) second
 

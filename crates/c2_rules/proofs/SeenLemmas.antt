@@ -15,7 +15,28 @@ use Rattle.c2_spec.specs.declared.panel.Verdict.{Verdict}
 use Rattle.c2_rules.specs.Chains.{label_in, named_by, named_in}
 use Rattle.c2_rules.specs.Ingredients.{assertion_uri}
 use Rattle.c2_rules.specs.Readings.{ReadBox, Reading, value_in, entries_in, redactions_in, question_in}
-use Rattle.c2_rules.specs.Rules.{label_kind, claim_uri, assertion_box_uri, verdict_tests, entry_tests, box_test, redaction_tests, binding_tests, standing_tests, reference_tests, child_tests, ingredient_tests, order_tests, parsed_tests, kind_tests, form_tests, claim_tests, rest_tests, manifest_tests, unjudged_tests}
+use Rattle.c2_rules.specs.Rules.{
+  label_kind,
+  claim_uri,
+  assertion_box_uri,
+  verdict_tests,
+  entry_tests,
+  box_test,
+  redaction_tests,
+  binding_tests,
+  standing_tests,
+  reference_tests,
+  child_tests,
+  ingredient_tests,
+  order_tests,
+  parsed_tests,
+  kind_tests,
+  form_tests,
+  claim_tests,
+  rest_tests,
+  manifest_tests,
+  unjudged_tests,
+}
 use Rattle.c2_rules.specs.Seen.{Seen, Standing, SameSeen}
 use Rattle.c2_rules.specs.Tests.{Test, each, over_all}
 use Rattle.c2_rules.specs.declared.parsed.Parsed.{Parsed}

@@ -2,12 +2,13 @@
 -- manifest, from the last to the first; then the binding to the file. And what is answered by it.
 use Rattle.std.specs.Prelude.{ℕ, zero, suc, ◌-◌, Bool, not, List, [], ◌∷◌, ◌++◌, Option, Some, None, ◌≡◌, length, filter, slice_get, is_none, option_map, option_to_list, if◌then◌else◌}
 use Rattle.std.specs.declared.result.Result.{Result}
-use Rattle.std.specs.List.{range_with_len}
+use Rattle.std.specs.List.{AllByRecursion, range_with_len}
 use Rattle.c2_base.specs.declared.values.Question.{Question}
 use Rattle.c2_spec.specs.declared.assertion.FieldError.{FieldError}
 use Rattle.c2_spec.specs.C2pa.Manifest.{Manifest}
 use Rattle.c2_spec.specs.declared.digest.Alg.{Alg}
 use Rattle.c2_spec.specs.declared.panel.Verdict.{Verdict}
+use Rattle.c2_spec.specs.declared.panel.Verdict.TheVariants.{Approved}
 use Rattle.c2_rules.specs.Binding.{Binding, Media, HasBinding, media_tests, binding_value}
 use Rattle.c2_rules.specs.Chains.{label_in, is_reached, is_redacted}
 use Rattle.c2_spec.specs.Cover.{covered_count, outside_count}
@@ -105,6 +106,10 @@ question_at rs i = if is_reached rs i then questions_of (slice_get rs i) else []
 -- those of all manifests, the last first
 abbrev pub questions : List Reading → List Question
 questions rs = downward (question_at rs) (length rs)
+
+-- judges who say this approve each of these questions
+abbrev pub AreApproved : (Question → Verdict) → List Question → Type 0
+AreApproved said qs = AllByRecursion (λ (q : Question). said q ≡ Approved) qs
 
 -- a manifest's label, and its question where it has one
 pub record Asked : Type 0 where

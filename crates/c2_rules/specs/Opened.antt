@@ -48,3 +48,7 @@ IsBoxed file what = (l : Located) × IsLocated file l × Opens IsBoxTree l what
 -- a file as a store of manifests: then also those of the manifests
 abbrev pub IsOpened : List ℕ → Opening Tree → Type 0
 IsOpened file what = (l : Located) × IsLocated file l × Opens IsManifestStore l what
+
+-- a file is opened as one thing
+abbrev pub IsOpenedOnce : List ℕ → Type 0
+IsOpenedOnce file = (v w : Opening Tree) → IsOpened file v → IsOpened file w → v ≡ w

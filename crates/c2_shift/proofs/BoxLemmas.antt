@@ -11,6 +11,7 @@ use Rattle.std.proofs.lemmas.List.Elements.{recursion_from_All}
 use Rattle.c2_bmff_rows.specs.Rows.{IsBoxWithin, IsRowWithin, payload_at}
 use Rattle.c2_bmff_rows.specs.declared.row.RootBox.{RootBox}
 use Rattle.c2_bmff_rows.proofs.Lists.{piece_of}
+use Rattle.c2_bmff_boxes.proofs.Filling.{fill_end}
 use Rattle.c2_bmff_boxes.specs.Children.{rows_between}
 use Rattle.c2_bmff_boxes.specs.Roots.{FillSource}
 use Rattle.c2_bmff_rows.specs.Children.{child_rows}
@@ -30,11 +31,6 @@ use Rattle.c2_shift.proofs.PartLemmas.{first_of}
 -- a row of nothing
 abbrev pub no_row : RootBox
 no_row = record { start = 0; length = 0; header = 0; kind = []; to_end = false }
-
--- rows that fill a part end at its end
-pub fill_end : (size low : ℕ) (rows : List RootBox) → FillSource size low rows → low ≤ size
-fill_end size low [] f = omega (arith, f)
-fill_end size low (r ∷ rs) f = omega (arith, fill_end size (low + r.length) rs f.3)
 
 -- the first of rows that fill a part, and those after
 pub fill_step : (high low : ℕ) (rows : List RootBox) → 0 < length rows → FillSource high low rows

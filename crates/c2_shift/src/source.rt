@@ -5,7 +5,7 @@ ghost use Rattle.c2_base.specs.Causes.{HasCause};
 ghost use Rattle.c2_base.specs.Source.{IsReadCount, ReadsAt, StaysSource};
 ghost use Rattle.c2_bmff_chunks.specs.Shifted.{shifted};
 ghost use Rattle.c2_bmff_chunks.specs.Tables.{StandApart};
-ghost use Rattle.c2_shift.specs.Lengths.{stand_apart_once};
+ghost use Rattle.c2_bmff_chunks.proofs.Lengths.{stand_apart_once};
 
 use crate::moving::Shift;
 use crate::shifting::put_tables;
@@ -121,7 +121,7 @@ impl<'m, S: Source, K: NamedTables> Shifted<'m, S, K> {
 impl<'m, S: Source, K: NamedTables> Source for Shifted<'m, S, K> {
     ghost use Rattle.std.specs.Prelude.{option_map};
     ghost use Rattle.c2_bmff_chunks.specs.Shifted.{shifted};
-    ghost use Rattle.c2_shift.specs.Lengths.{shifted_bytes, shifted_size};
+    ghost use Rattle.c2_bmff_chunks.proofs.Lengths.{shifted_bytes, shifted_size};
 
     ghost len = { λ s. S.len s.media.now };
 

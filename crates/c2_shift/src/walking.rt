@@ -87,8 +87,21 @@ fn inner_boxes<S: Source>(alloc: Global, source: &mut S, row: RootBox) -> Result
         Ok(Some(list)) => Ok(list),
         Ok(None) => Err(ShiftError::BadTree(row.start)),
         Err(MediaError::ReadFault) => Err(ShiftError::ReadFault),
+        Err(MediaError::NoMemory) => Err(ShiftError::NoMemory),
         // No other error comes.
-        Err(_) => Err(ShiftError::NoMemory),
+        Err(
+            MediaError::NotMedia
+            | MediaError::FileTooLarge(_)
+            | MediaError::Truncated(_)
+            | MediaError::BadMarker(_)
+            | MediaError::BadSegment(_)
+            | MediaError::BadPacket(_)
+            | MediaError::TwoStores(_)
+            | MediaError::BadBox(_)
+            | MediaError::BadProvenanceBox(_)
+            | MediaError::StoreTooLarge(_)
+            | MediaError::TooManyBoxes,
+        ) => unreachable!(),
     }
 }
 

@@ -43,6 +43,7 @@ fn container_of(contained: Contained) -> Container
     let Contained {
         container,
         found: _,
+        packets: _,
     } = contained;
     container
 }

@@ -56,6 +56,7 @@ fn found_in(contained: Contained) -> Option<Found>
     let Contained {
         container: _,
         found,
+        packets: _,
     } = contained;
     found
 }

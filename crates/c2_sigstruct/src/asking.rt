@@ -9,8 +9,8 @@ ghost use Rattle.c2_spec.specs.C2pa.Sign1.{parts_of, IsHeader, sig_structure, qu
 
 use crate::Sign1;
 use c2_base::{Blob, NoMemory, Question, Text};
-use c2_cbor::encode;
-use c2_spec::Cbor;
+use c2_cbor_write::encode;
+use c2_spec::{Cbor, EncodeError};
 use std::alloc::Global;
 
 // The context of a message with one signature (RFC 9052, section 4.4).
@@ -42,7 +42,12 @@ pub fn written(alloc: Global, item: &Cbor) -> Result<Blob, NoMemory>
 {
     match encode(alloc, item) {
         Ok(bytes) => Ok(bytes),
-        Err(_) => Err(NoMemory),
+        Err(
+            EncodeError::BadSimple
+            | EncodeError::DuplicateKey
+            | EncodeError::TooDeep
+            | EncodeError::NoMemory,
+        ) => Err(NoMemory),
     }
 }
 

@@ -5,7 +5,7 @@ ghost use Rattle.c2_spec.specs.Cbor.Item.{Item};
 ghost use Rattle.c2_spec.specs.C2pa.Sign1.{SignParts, IsMessage};
 ghost use Rattle.c2_sigstruct.specs.Padded.{PaddingAddsItsCost, PaddedIsRead, PaddingIsAllThatIsAdded};
 
-use c2_cbor::{round_trip, sorting_keeps_the_length};
+use c2_cbor_spec::{round_trip, sorting_keeps_the_length};
 
 /// An item is a message, with its parts, or is none.
 pub fn each_item_is_a_message_or_not()

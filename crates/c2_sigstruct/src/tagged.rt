@@ -7,7 +7,7 @@ ghost use Rattle.c2_spec.specs.C2pa.Message.{tagged_message, IsPlainMessage};
 use crate::Sign1;
 use crate::message::SIGN1_TAG;
 use c2_base::{Blob, NoMemory};
-use c2_cbor::copy;
+use c2_cbor_write::copy;
 use c2_spec::Cbor;
 use std::alloc::Global;
 
@@ -36,5 +36,5 @@ pub fn is_plain(alloc: Global, sign: &Sign1) -> Result<bool, NoMemory>
 {
     let unprotected = copy(alloc, &sign.unprotected)?;
     let item = tagged_item(alloc, sign, unprotected)?;
-    c2_cbor::is_plain(alloc, &item)
+    c2_cbor_write::is_plain(alloc, &item)
 }

@@ -10,7 +10,7 @@ use crate::Sign1;
 use crate::asking::written;
 use crate::tagged::tagged_item;
 use c2_base::{Blob, NoMemory, Text};
-use c2_cbor::copy;
+use c2_cbor_write::copy;
 use c2_pad::types::Fill;
 use c2_spec::Cbor;
 use std::alloc::Global;
@@ -67,7 +67,7 @@ pub fn write_sign1(alloc: Global, sign: &Sign1, fill: Fill) -> Result<Blob, NoMe
         SpellsMessage b (padded_read (parts_of sign.now) (fill_pairs fill))) }
 {
     // Only the prover needs this law.
-    c2_cbor::sorting_keeps_the_length();
+    c2_cbor_spec::sorting_keeps_the_length();
     let header = padded_header(alloc, &sign.unprotected, fill)?;
     let item = tagged_item(alloc, sign, header)?;
     written(alloc, &item)

@@ -10,7 +10,9 @@ use Rattle.c2_spec.proofs.BmffOneList.{box_once, no_bytes, first_box, other_boxe
 use Rattle.c2_spec.proofs.BmffPassing.{box_passes}
 
 -- bytes that are root boxes, no more than the limit, have no fault where any of them begins
-fault_or_boxes : (before cs : List Box) (rest : List ℕ) (count p : ℕ) (e : MediaError) → AllByRecursion IsSizedBox before → AreBoxForms cs → flat_map box_bytes before ++ rest ≡ flat_map box_bytes cs → 0 < length rest → count + length cs ≤ most_roots → root_fault (count + length before) p rest ≡ Some e → ⊥
+fault_or_boxes : (before cs : List Box) (rest : List ℕ) (count p : ℕ) (e : MediaError)
+    → AllByRecursion IsSizedBox before → AreBoxForms cs → flat_map box_bytes before ++ rest ≡ flat_map box_bytes cs
+    → 0 < length rest → count + length cs ≤ most_roots → root_fault (count + length before) p rest ≡ Some e → ⊥
 fault_or_boxes [] [] rest count p e s f same more few bad = let none : length rest ≡ 0 = ap length same in absurd (omega (arith, none, more))
 fault_or_boxes [] (c ∷ cs) rest count p e s f same more few bad =
     let below : ltb (count + 0) most_roots ≡ true = (Decides-ltb (count + 0) most_roots).1 (omega (arith, few)) in

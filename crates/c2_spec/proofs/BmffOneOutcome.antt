@@ -7,7 +7,11 @@ use borrow.Author.Tests.{le-ltb, leb-true}
 use Rattle.c2_base.specs.declared.media.MediaError.{MediaError}
 use Rattle.c2_base.specs.declared.media.MediaError.TheVariants.{TooManyBoxes}
 use Rattle.c2_spec.specs.Bmff.Boxes.{Box, IsSizedBox, HasRoots, RootFault, box_bytes, box_fault, root_fault, boxes_len, most_roots, is_to_end}
-use Rattle.c2_spec.specs.Bmff.Store.{is_c2pa_box, is_store_box, is_other_box, is_version_zero, is_for_manifest, has_store_box, content_of, store_in, store_len, store_part, c2pa_fault, provenance_fault, most_store_bytes, HoldsBmffStore, HasBmffStore, HasNoBmffStore, AllRootsPass, ProvenanceFault, FirstBmffFault, too_large, not_media, root, provenance, IsBmffLocated}
+use Rattle.c2_spec.specs.Bmff.Store.{is_c2pa_box, is_store_box, is_other_box, is_version_zero, is_for_manifest}
+use Rattle.c2_spec.specs.Bmff.Store.{has_store_box, content_of, store_in, store_len, store_part, c2pa_fault}
+use Rattle.c2_spec.specs.Bmff.Store.{provenance_fault, most_store_bytes, HoldsBmffStore, HasBmffStore, HasNoBmffStore}
+use Rattle.c2_spec.specs.Bmff.Store.{AllRootsPass, ProvenanceFault, FirstBmffFault, too_large, not_media, root}
+use Rattle.c2_spec.specs.Bmff.Store.{provenance, IsBmffLocated}
 use Rattle.c2_spec.specs.Jumbf.Faults.{has_head}
 use Rattle.c2_spec.specs.Located.{Located, refused, absent, here, refusal}
 use Rattle.c2_spec.proofs.BmffOneList.{box_once, roots_once}
@@ -116,7 +120,10 @@ unfolding is_other_box c2pa_fault
 other_passes before b h = tests_by (is_c2pa_box b) (is_version_zero (content_of b)) (is_for_manifest (content_of b)) (list_any is_store_box before) (has_store_box (content_of b)) (ltb most_store_bytes (store_len (content_of b))) _ _ _ h
 
 -- the tests of a C2PA box that holds a store
-holder_by : (c2pa zero manifest found whole big : Bool) (x y z : MediaError) → (c2pa && zero && manifest) ≡ true → found ≡ false → whole ≡ true → big ≡ false → cond c2pa (cond (not zero) (Some x) (cond (not manifest) None (cond found (Some y) (cond (not whole) (Some x) (cond big (Some z) None))))) None ≡ None
+holder_by : (c2pa zero manifest found whole big : Bool) (x y z : MediaError) → (c2pa && zero && manifest) ≡ true
+    → found ≡ false → whole ≡ true → big ≡ false
+    → cond c2pa (cond (not zero) (Some x) (cond (not manifest) None
+    (cond found (Some y) (cond (not whole) (Some x) (cond big (Some z) None))))) None ≡ None
 holder_by true true true false true false x y z h f w s = refl
 holder_by true true true true whole big x y z h f w s = absurd (cc (f))
 holder_by true true true false false big x y z h f w s = absurd (cc (w))
@@ -147,14 +154,21 @@ third false b c h = absurd (cc (h))
 
 -- the store has the length that its header states
 store_whole : (b : Box) → has_store_box (content_of b) ≡ true → length (store_in (content_of b)) ≡ store_len (content_of b)
-store_whole b whole = length-take-le (store_len (content_of b)) (store_part (content_of b)) (leb-true (store_len (content_of b)) (length (store_part (content_of b))) (third (leb 21 (length (content_of b))) (has_head (store_part (content_of b))) (leb (store_len (content_of b)) (length (store_part (content_of b)))) whole))
+store_whole b whole =
+    length-take-le (store_len (content_of b)) (store_part (content_of b))
+    (leb-true (store_len (content_of b)) (length (store_part (content_of b)))
+    (third (leb 21 (length (content_of b))) (has_head (store_part (content_of b)))
+    (leb (store_len (content_of b)) (length (store_part (content_of b)))) whole))
 
 -- a box that holds a store passes where none was found before
 holder_passes : (before : List Box) (b : Box) (store : List ℕ) → is_store_box b ≡ true → has_store_box (content_of b) ≡ true → store ≡ store_in (content_of b) → length store ≤ most_store_bytes → AllByRecursion (λ (x : Box). is_other_box x ≡ true) before → provenance_fault before b ≡ None
 unfolding is_store_box c2pa_fault
 holder_passes before b store holds whole is small others =
     let len : length store ≡ store_len (content_of b) = ap length is ∙ store_whole b whole in
-    holder_by (is_c2pa_box b) (is_version_zero (content_of b)) (is_for_manifest (content_of b)) (list_any is_store_box before) (has_store_box (content_of b)) (ltb most_store_bytes (store_len (content_of b))) _ _ _ holds (none_found before others) whole (le-ltb most_store_bytes (store_len (content_of b)) (omega (arith, len, small)))
+    holder_by (is_c2pa_box b) (is_version_zero (content_of b)) (is_for_manifest (content_of b))
+    (list_any is_store_box before) (has_store_box (content_of b)) (ltb most_store_bytes (store_len (content_of b))) _
+    _ _ holds (none_found before others) whole
+    (le-ltb most_store_bytes (store_len (content_of b)) (omega (arith, len, small)))
 
 -- one of a list of other boxes is one
 other_in : (bs : List Box) (b : Box) (cs : List Box) → AllByRecursion (λ (x : Box). is_other_box x ≡ true) (bs ++ b ∷ cs) → is_other_box b ≡ true

@@ -67,7 +67,11 @@ box_passes long kind payload tail b ends p =
     let region : List ℕ = box_bytes (box_of long kind payload) ++ tail in
     let n : ℕ = 16 + length payload in
     let four : length kind ≡ 4 = b.kind in
-    let parts : length (kind ++ to_be_bytes w64 n ++ payload ++ tail) ≡ length kind + 8 + length payload + length tail = length-append (kind ++ to_be_bytes w64 n ++ payload) tail ∙ ap (λ m. m + length tail) (length-append (kind ++ to_be_bytes w64 n) payload ∙ ap (λ m. m + length payload) (length-append kind (to_be_bytes w64 n))) in
+    let parts : length (kind ++ to_be_bytes w64 n ++ payload ++ tail)
+    ≡ length kind + 8 + length payload + length tail =
+    length-append (kind ++ to_be_bytes w64 n ++ payload) tail
+    ∙ ap (λ m. m + length tail) (length-append (kind ++ to_be_bytes w64 n) payload
+    ∙ ap (λ m. m + length payload) (length-append kind (to_be_bytes w64 n))) in
     let whole : length region ≡ n + length tail = omega (arith, four, parts) in
     let t : Tells region long kind payload = tells long kind payload tail b.kind b in
     let wide : stated_long_size region ≡ n = t.size_is refl in

@@ -254,7 +254,17 @@ moov_box = record { form = short; kind = codes "moov"; payload = box_bytes (trak
 -- The second `trak` in `moov` is at 33.
 second_trak : OnPath (placed_from 0 (ftyp_box ∷ moov_box ∷ [])) (step (codes "moov") None ∷ step (codes "trak") (Some 2) ∷ []) (record { at = 33; box = trak_box [] })
 second_trak = below _ _ _ [] _ (record { at = 16; box = moov_box }) (placed_from 24 (trak_box (7 ∷ []) ∷ trak_box [] ∷ [])) refl (0, lit< tt, refl)
-    (filled (trak_box (7 ∷ []) ∷ trak_box [] ∷ []) (record { bytes = refl; forms = (record { is_box = record { kind = refl; fits = refl; user_type = λ h. absurd (false≢true h) }; sized = refl }, (record { is_box = record { kind = refl; fits = refl; user_type = λ h. absurd (false≢true h) }; sized = refl }, tt)) }))
+    (filled (trak_box (7 ∷ []) ∷ trak_box [] ∷ [])
+    (record {
+      bytes = refl;
+      forms = (
+        record { is_box = record { kind = refl; fits = refl; user_type = λ h. absurd (false≢true h) }; sized = refl },
+        (
+          record { is_box = record { kind = refl; fits = refl; user_type = λ h. absurd (false≢true h) }; sized = refl },
+          tt,
+        ),
+      );
+    }))
     (last _ _ _ (0, lit< tt, refl))
 
 -- ---- at the edges

@@ -17,7 +17,12 @@ mutual
   -- as many boxes as are counted, of trees side by side
   pub length-boxes_all : (ts : Trees) (at depth i : ℕ) → length (boxes_from_all at depth i ts) ≡ trees_count ts
   length-boxes_all none at depth i = refl
-  length-boxes_all (more t ts) at depth i = length-append (boxes_from at depth i t) (boxes_from_all (at + length (tree_bytes t)) depth (i + tree_count t) ts) ∙ ap (λ n. n + length (boxes_from_all (at + length (tree_bytes t)) depth (i + tree_count t) ts)) (length-boxes t at depth i) ∙ ap (λ n. tree_count t + n) (length-boxes_all ts (at + length (tree_bytes t)) depth (i + tree_count t))
+  length-boxes_all (more t ts) at depth i =
+      length-append (boxes_from at depth i t)
+      (boxes_from_all (at + length (tree_bytes t)) depth (i + tree_count t) ts)
+      ∙ ap (λ n. n + length (boxes_from_all (at + length (tree_bytes t)) depth (i + tree_count t) ts))
+      (length-boxes t at depth i) ∙ ap (λ n. tree_count t + n)
+      (length-boxes_all ts (at + length (tree_bytes t)) depth (i + tree_count t))
 
 -- what holds of the members of two lists holds of those of both together
 all-append : {X : Type 0} (P : X → Type 0) (xs ys : List X) → AllByRecursion P xs → AllByRecursion P ys → AllByRecursion P (xs ++ ys)
@@ -73,7 +78,11 @@ mutual
   -- the same of trees side by side
   numbered_all : (ts : Trees) (at depth i j : ℕ) → i ≡ j → Numbered j (boxes_from_all at depth i ts)
   numbered_all none at depth i j e = tt
-  numbered_all (more t ts) at depth i j e = numbered-append j (boxes_from at depth i t) (boxes_from_all (at + length (tree_bytes t)) depth (i + tree_count t) ts) (numbered t at depth i j e) (numbered_all ts (at + length (tree_bytes t)) depth (i + tree_count t) (j + length (boxes_from at depth i t)) (omega (arith, e, length-boxes t at depth i)))
+  numbered_all (more t ts) at depth i j e =
+      numbered-append j (boxes_from at depth i t)
+      (boxes_from_all (at + length (tree_bytes t)) depth (i + tree_count t) ts) (numbered t at depth i j e)
+      (numbered_all ts (at + length (tree_bytes t)) depth (i + tree_count t) (j + length (boxes_from at depth i t))
+      (omega (arith, e, length-boxes t at depth i)))
 
 -- the box at a place of a numbered list has the index of that place
 numbered_at : (i k : ℕ) (xs : List IndexedBox) (d : IndexedBox) → k < length xs → Numbered i xs → (get_or xs k d).index ≡ i + k

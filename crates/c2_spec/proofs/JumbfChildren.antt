@@ -37,13 +37,18 @@ chain_all none t at depth i rest e = let z : i ≡ i + 0 = omega arith in z
 chain_all (more u us) t at depth i rest e =
     let h : (more_boxes : List IndexedBox) × (boxes_from at depth i u ≡ record { index = i; place = at; depth = depth; box = node u } ∷ more_boxes) = head_of u at depth i in
     let whole : drop i (boxes_of t) ≡ boxes_from at depth i u ++ (boxes_from_all (at + length (tree_bytes u)) depth (i + tree_count u) us ++ rest) = e ∙ append_assoc (boxes_from at depth i u) (boxes_from_all (at + length (tree_bytes u)) depth (i + tree_count u) us) rest in
-    let f = front_box_is t i (record { index = i; place = at; depth = depth; box = node u }) (h.0 ++ (boxes_from_all (at + length (tree_bytes u)) depth (i + tree_count u) us ++ rest)) (whole ∙ ap (λ (x : List IndexedBox). x ++ (boxes_from_all (at + length (tree_bytes u)) depth (i + tree_count u) us ++ rest)) h.1) in
+    let f = front_box_is t i (record { index = i; place = at; depth = depth; box = node u })
+    (h.0 ++ (boxes_from_all (at + length (tree_bytes u)) depth (i + tree_count u) us ++ rest))
+    (whole ∙ ap (λ (x : List IndexedBox). x ++ (boxes_from_all (at + length (tree_bytes u)) depth (i + tree_count u)
+    us ++ rest)) h.1) in
     let after : index_after t i ≡ i + tree_count u = ap (λ b. i + any_count b.box) f.0 in
     let next : drop (i + tree_count u) (boxes_of t) ≡ boxes_from_all (at + length (tree_bytes u)) depth (i + tree_count u) us ++ rest =
     sym (drop-drop (tree_count u) i (boxes_of t)) ∙ ap (drop (tree_count u)) whole ∙ drop_at (boxes_from at depth i u) (boxes_from_all (at + length (tree_bytes u)) depth (i + tree_count u) us ++ rest) (tree_count u) (length-boxes u at depth i) in
     let tail : Chain t (i + tree_count u + trees_count us) (i + tree_count u) (indices_from (i + tree_count u) us) = chain_all us t (at + length (tree_bytes u)) depth (i + tree_count u) rest next in
     let end : i + tree_count u + trees_count us ≡ i + (tree_count u + trees_count us) = omega arith in
-    let chain : Chain t (i + (tree_count u + trees_count us)) (index_after t i) (indices_from (i + tree_count u) us) = subst (λ k. Chain t (i + (tree_count u + trees_count us)) k (indices_from (i + tree_count u) us)) (sym after) (subst (λ k. Chain t k (i + tree_count u) (indices_from (i + tree_count u) us)) end tail) in
+    let chain : Chain t (i + (tree_count u + trees_count us)) (index_after t i) (indices_from (i + tree_count u) us) =
+    subst (λ k. Chain t (i + (tree_count u + trees_count us)) k (indices_from (i + tree_count u) us)) (sym after)
+    (subst (λ k. Chain t k (i + tree_count u) (indices_from (i + tree_count u) us)) end tail) in
     (refl, (omega (arith, count_some u), (f.1, (omega (arith, after, count_some u), (omega (arith, after), chain)))))
 
 -- the children of a box
@@ -149,7 +154,10 @@ labels_all none t at depth i rest e = refl
 labels_all (more u us) t at depth i rest e =
     let h : (others : List IndexedBox) × (boxes_from at depth i u ≡ record { index = i; place = at; depth = depth; box = node u } ∷ others) = head_of u at depth i in
     let whole : drop i (boxes_of t) ≡ boxes_from at depth i u ++ (boxes_from_all (at + length (tree_bytes u)) depth (i + tree_count u) us ++ rest) = e ∙ append_assoc (boxes_from at depth i u) (boxes_from_all (at + length (tree_bytes u)) depth (i + tree_count u) us) rest in
-    let f = front_box_is t i (record { index = i; place = at; depth = depth; box = node u }) (h.0 ++ (boxes_from_all (at + length (tree_bytes u)) depth (i + tree_count u) us ++ rest)) (whole ∙ ap (λ (x : List IndexedBox). x ++ (boxes_from_all (at + length (tree_bytes u)) depth (i + tree_count u) us ++ rest)) h.1) in
+    let f = front_box_is t i (record { index = i; place = at; depth = depth; box = node u })
+    (h.0 ++ (boxes_from_all (at + length (tree_bytes u)) depth (i + tree_count u) us ++ rest))
+    (whole ∙ ap (λ (x : List IndexedBox). x ++ (boxes_from_all (at + length (tree_bytes u)) depth (i + tree_count u)
+    us ++ rest)) h.1) in
     let next : drop (i + tree_count u) (boxes_of t) ≡ boxes_from_all (at + length (tree_bytes u)) depth (i + tree_count u) us ++ rest =
     sym (drop-drop (tree_count u) i (boxes_of t)) ∙ ap (drop (tree_count u)) whole ∙ drop_at (boxes_from at depth i u) (boxes_from_all (at + length (tree_bytes u)) depth (i + tree_count u) us ++ rest) (tree_count u) (length-boxes u at depth i) in
     ap (λ o. o ∷ map (label_at t) (indices_from (i + tree_count u) us)) (ap (λ b. any_label b.box) f.0 ∙ node_label u)

@@ -63,7 +63,11 @@ kept_around r file fits =
     let inner : length (take r.length rest) ≡ r.length = length-take-le r.length rest (omega (arith, fits, length-drop r.start file)) in
     let before : kept_from ex 0 (take r.start file) ≡ take r.start file = kept_whole ex 0 (take r.start file) (λ i l m. one_range_not r i (inl (omega (arith, m, first)))) in
     let inside : kept_from ex (0 + length (take r.start file)) (take r.length rest) ≡ [] = kept_none ex (0 + length (take r.start file)) (take r.length rest) (λ i l m. one_range_in r i (omega (arith, l, first)) (omega (arith, m, first, inner))) in
-    let after : kept_from ex (0 + length (take r.start file) + length (take r.length rest)) (drop r.length rest) ≡ drop r.length rest = kept_whole ex (0 + length (take r.start file) + length (take r.length rest)) (drop r.length rest) (λ i l m. one_range_not r i (inr (omega (arith, l, first, inner)))) in
+    let after : kept_from ex (0 + length (take r.start file) + length (take r.length rest))
+    (drop r.length rest)
+    ≡ drop r.length rest =
+    kept_whole ex (0 + length (take r.start file) + length (take r.length rest)) (drop r.length rest)
+    (λ i l m. one_range_not r i (inr (omega (arith, l, first, inner)))) in
     ap (kept_from ex 0) (sym (take-append-drop r.start file)) ∙ kept_append ex 0 (take r.start file) rest
     ∙ ap₂ (λ (xs ys : List ℕ). xs ++ ys) before
     (ap (kept_from ex (0 + length (take r.start file))) (sym (take-append-drop r.length rest)) ∙ kept_append ex (0 + length (take r.start file)) (take r.length rest) (drop r.length rest)

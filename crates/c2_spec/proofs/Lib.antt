@@ -33,3 +33,6 @@ pub mod StoreRefusals
 pub mod BoxesOfManifests
 pub mod LabelsOfManifests
 pub mod BoxParts
+pub mod GivenLabels
+pub mod Containers
+pub mod OneMessage

@@ -14,4 +14,6 @@ pub use c2_spec::StoreError;
 pub use items::item;
 pub use laws::items_are_parts;
 pub use reading::of_tree;
-pub use store::{Store, assertions, claims, is_update, label, manifest_count, signature, whole};
+pub use store::{
+    Store, assertions, claims, is_update, label, manifest_boxes, manifest_count, signature, whole,
+};

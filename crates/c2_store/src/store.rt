@@ -47,6 +47,14 @@ pub fn manifest_count(store: &Store) -> usize
     store.manifests.len()
 }
 
+/// The boxes of a manifest, by their indices. Takes no memory.
+pub fn manifest_boxes(store: &Store, i: usize) -> &ManifestBoxes
+    requires { i < length store.now }
+    ensures { Some result.now ≡ slice_get store.now i }
+{
+    store.at(i)
+}
+
 /// The index of a manifest's own box. Takes no memory.
 pub fn whole(store: &Store, i: usize) -> usize
     requires { i < length store.now }

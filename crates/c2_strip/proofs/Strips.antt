@@ -1,11 +1,10 @@
 -- What a file comes to without its store.
-use Rattle.std.proofs.Common.{◌≡◌, ℕ, ◌<◌, ◌^◌, Bool, true, false, not, ◌&&◌, List, All, Option, Some, None, Ok, Err, IfSome, IsSome, refl, sym, ap, ap₂, ◌∙◌, subst}
+use Rattle.std.proofs.Common.{◌≡◌, ℕ, ◌<◌, ◌^◌, Bool, true, false, List, All, Option, Some, None, Ok, Err, IfSome, IsSome, refl, sym, ap, ap₂, ◌∙◌, subst}
 use Rattle.std.specs.Option.{option_map}
 use Rattle.c2_base.specs.declared.media.Found.{Found}
 use Rattle.c2_base.specs.declared.media.MediaError.{MediaError}
 use Rattle.c2_base.specs.declared.media.MediaError.TheVariants as media
 use Rattle.c2_base.specs.declared.values.Range.{Range}
-use Rattle.c2_spec.specs.Bmff.Boxes.{begins_bmff}
 use Rattle.c2_spec.specs.Bmff.Store.{HasBmffStore, IsBmffLocated}
 use Rattle.c2_spec.specs.Bmff.Writing.{is_file_end}
 use Rattle.c2_spec.specs.Container.{IsLocated, begins_jpeg, is_bmff}
@@ -15,6 +14,7 @@ use Rattle.c2_spec.specs.Reason.{media_refusal}
 use Rattle.c2_spec.specs.declared.reason.Reason.{Reason}
 use Rattle.c2_spec.specs.declared.reason.Reason.TheVariants as why
 use Rattle.c2_spec.specs.declared.reason.Refusal.{Refusal}
+use Rattle.c2_spec.proofs.Containers.{never_both}
 use Rattle.c2_bmff_boxes.specs.Roots.{AreRootsOf}
 use Rattle.c2_bmff_rows.specs.Rows.{rows_of}
 use Rattle.c2_bmff_rows.specs.declared.row.RootBox.{RootBox}
@@ -31,10 +31,6 @@ use Rattle.c2_strip.proofs.Endings.{last_is}
 -- a file comes to one thing at most as a container
 abbrev pub OneLocated : Type 0
 OneLocated = (file : List ℕ) (v w : Located) → IsLocated file v → IsLocated file w → v ≡ w
-
--- no JPEG is read by root boxes
-apart : (file : List ℕ) → begins_jpeg file ≡ true → is_bmff file ≡ true → ⊥
-apart file is also = let no : false ≡ is_bmff file = sym (ap (λ (b : Bool). not b && begins_bmff file) is) in let bad = no ∙ also in cc (bad)
 
 -- ---- refusals
 
@@ -175,7 +171,7 @@ not_middle one file rows range store r h last m =
 
 -- a JPEG has no store in the middle of boxes
 pub jpeg_done : (file : List ℕ) (range : Range) (store : List ℕ) → begins_jpeg file ≡ true → IsLocated file (here range.start range.length store) → StripsTo file (Done range)
-jpeg_done file range store begins h = ((store, h), λ m. apart file begins m.is)
+jpeg_done file range store begins h = ((store, h), λ m. never_both file begins m.is)
 
 -- nor has a BMFF file whose rows end with its box
 pub boxes_done : OneLocated → (file : List ℕ) (rows : List RootBox) (range : Range) (store : List ℕ) → AreRootsOf file rows → IsLocated file (here range.start range.length store) → is_last range rows ≡ true → StripsTo file (Done range)

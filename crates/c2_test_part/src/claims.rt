@@ -1,7 +1,7 @@
 // The bytes of claims that are written, as another encoder makes them.
 use c2_base::{Blob, NoMemory, Text, Texts};
-use c2_cbor::{Ref, Refs};
 use c2_claim::{ClaimParts, write};
+use c2_spec::{Ref, Refs};
 use std::alloc::Global;
 use std::test::Fail;
 

@@ -2,8 +2,8 @@
 use crate::line::Line;
 use crate::settings::Settings;
 use crate::trouble::Trouble;
-use c2_cbor::Ref;
 use c2_claim::{Claim, ClaimVersion, claim_version, read};
+use c2_spec::Ref;
 use std::alloc::Global;
 
 /// A reference: its URI, its digest and its algorithm.

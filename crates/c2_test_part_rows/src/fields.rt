@@ -9,7 +9,9 @@ use c2_assertion::{
 };
 use c2_base::{Blob, Text};
 use c2_bmff::Exclusion;
-use c2_cbor::{Cbor, Ref, decode_whole, encode};
+use c2_cbor::decode_whole;
+use c2_cbor_write::encode;
+use c2_spec::{Cbor, Ref};
 use std::alloc::Global;
 
 // The item of these bytes.

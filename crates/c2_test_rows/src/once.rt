@@ -176,7 +176,15 @@ fn run_over<H: Hashing, A: Source>(
             Named::Listed(judge) => judges.push(Box::new(alloc, judge)?)?,
         }
     }
-    run_before(alloc, hashing, settings, media, read, fault, &mut judges)
+    let mut objects = objects_of(alloc, settings, read, fault)?;
+    run_before(
+        alloc,
+        hashing,
+        &settings.words,
+        media,
+        &mut objects,
+        &mut judges,
+    )
 }
 
 // What a run reads and writes beside its first file.
@@ -206,21 +214,19 @@ fn objects_of(
     })
 }
 
-// Runs the words over this first file, before these judges.
+// Runs the words over this first file and these objects, before these judges.
 fn run_before<H: Hashing, A: Source>(
     alloc: Global,
     hashing: &H,
-    settings: &Settings,
+    words: &Vec<String>,
     media: &mut A,
-    read: Read,
-    fault: Fault,
+    objects: &mut Objects,
     judges: &mut Vec<Box<dyn Judge>>,
 ) -> Result<Outcome, Trouble> {
-    let mut objects = objects_of(alloc, settings, read, fault)?;
     let status = run(
         alloc,
         hashing,
-        &settings.words,
+        words,
         media,
         &mut objects.second,
         &mut objects.third,
@@ -229,7 +235,7 @@ fn run_before<H: Hashing, A: Source>(
         &mut objects.report,
         judges,
     );
-    outcome_of(alloc, status.code(), &objects, judges)
+    outcome_of(alloc, status.code(), objects, judges)
 }
 
 // The outcome of a run.

@@ -5,7 +5,33 @@ use Rattle.std.specs.Str.{bytes_eq}
 use Rattle.std.proofs.lemmas.Bool.Decides.{Decides-eqb}
 use Rattle.std.proofs.lemmas.Slice.Eq.{starts_is, bytes_eq-Decides}
 use Rattle.std.proofs.lemmas.List.Sums.{split_at_first, passes_at_first, prefix_len-le-length}
-use Rattle.c2_spec.specs.C2pa.Uri.{PlainTarget, whole, assertion, signature, other, PlainUri, scheme, store_path, signature_path, assertions_path, is_slash, target_path, behind_manifest, path_text, uri_text, after_piece, is_one_label, has_empty_label, assertion_or_path, target_of, absolute_uri, relative_uri, uri_of_labels, uri_of_path, uri_of}
+use Rattle.c2_spec.specs.C2pa.Uri.{
+  PlainTarget,
+  whole,
+  assertion,
+  signature,
+  other,
+  PlainUri,
+  scheme,
+  store_path,
+  signature_path,
+  assertions_path,
+  is_slash,
+  target_path,
+  behind_manifest,
+  path_text,
+  uri_text,
+  after_piece,
+  is_one_label,
+  has_empty_label,
+  assertion_or_path,
+  target_of,
+  absolute_uri,
+  relative_uri,
+  uri_of_labels,
+  uri_of_path,
+  uri_of,
+}
 
 -- a text that a piece was cut from is that piece and what is left
 pub after_spelled : (piece text rest : List ℕ) → after_piece piece text ≡ Some rest → text ≡ piece ++ rest

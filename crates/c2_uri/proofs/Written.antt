@@ -9,7 +9,32 @@ use Rattle.std.proofs.lemmas.Slice.Eq.{starts_is, bytes_eq-Decides}
 use Rattle.std.proofs.lemmas.List.{take_at, drop_at, length-append}
 use Rattle.std.proofs.lemmas.List.Elements.{All-nil, All-cons, All-head, All-tail}
 use Rattle.std.proofs.lemmas.List.Splits.{slice_split_none, slice_split_at}
-use Rattle.c2_spec.specs.C2pa.Uri.{PlainTarget, whole, assertion, signature, other, PlainUri, scheme, store_path, signature_path, assertions_path, is_slash, target_path, path_text, uri_text, after_piece, is_one_label, has_empty_label, assertion_or_path, target_of, absolute_uri, relative_uri, uri_of_labels, uri_of_path, uri_of}
+use Rattle.c2_spec.specs.C2pa.Uri.{
+  PlainTarget,
+  whole,
+  assertion,
+  signature,
+  other,
+  PlainUri,
+  scheme,
+  store_path,
+  signature_path,
+  assertions_path,
+  is_slash,
+  target_path,
+  path_text,
+  uri_text,
+  after_piece,
+  is_one_label,
+  has_empty_label,
+  assertion_or_path,
+  target_of,
+  absolute_uri,
+  relative_uri,
+  uri_of_labels,
+  uri_of_path,
+  uri_of,
+}
 use Rattle.c2_uri.specs.Writing.{IsLabel, IsWritableTarget, IsWritable}
 use Rattle.c2_uri.proofs.Spelled.{after_spelled}
 

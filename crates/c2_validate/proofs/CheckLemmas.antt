@@ -118,7 +118,10 @@ chain_fails hash said o file failing passes fails =
     (part_fails (chain_tests (judged_tests hash said) (readings_of o)) (last_tests hash b (active_in (readings_of o))) failing fails))
 
 -- the rule on the binding decides
-last_decides : (hash : Alg → List ℕ → List ℕ) (said : Question → Verdict) (rs : List Reading) (own : Reading) (b : Option (Result Binding FieldError)) (o : Option Failing) → active_in rs ≡ Some own → None ≡ first_failing (active_tests (active_in rs)) → None ≡ first_failing (chain_tests (judged_tests hash said) rs)
+last_decides : (hash : Alg → List ℕ → List ℕ) (said : Question → Verdict) (rs : List Reading) (own : Reading)
+    (b : Option (Result Binding FieldError)) (o : Option Failing) → active_in rs ≡ Some own
+    → None ≡ first_failing (active_tests (active_in rs))
+    → None ≡ first_failing (chain_tests (judged_tests hash said) rs)
     → o ≡ first_failing (media_tests hash own b) → o ≡ first_failing (check_list hash said (record { readings = rs; binding = b }))
 last_decides hash said rs own b o is first passes h =
     part_passes (active_tests (active_in rs)) (chain_tests (judged_tests hash said) rs ++ last_tests hash b (active_in rs)) o first

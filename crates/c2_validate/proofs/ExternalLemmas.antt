@@ -64,14 +64,19 @@ pub refused_asks : OneStore → (hash : Alg → List ℕ → List ℕ) (store : 
 refused_asks one hash store said reason number qs small h k = subst (λ (o : Opening Tree). OpenedAsks (check_asks hash said) o qs) (seen one store (read.Refused reason number) k.0 small h k.1) k.2
 
 -- the answer over the manifests of the list is that over the list
-pub list_answered : ContainsMedia → OneReading → OneStore → (hash : Alg → List ℕ → List ℕ) (said : Question → Verdict) (c : Container) (store file : List ℕ) (t : Tree) (b : List ManifestBoxes) (rs : List Reading) (a : Answer) → nat_lt MAX_STORE_LEN (length store) ≡ false → IsReadFrom store (read.Here t b)
+pub list_answered : ContainsMedia → OneReading → OneStore
+    → (hash : Alg → List ℕ → List ℕ) (said : Question → Verdict) (c : Container) (store file : List ℕ) (t : Tree)
+    (b : List ManifestBoxes) (rs : List Reading) (a : Answer) → nat_lt MAX_STORE_LEN (length store) ≡ false
+    → IsReadFrom store (read.Here t b)
     → AreReadings (manifests_of t) rs → AnswersOver hash said file c 0 0 rs a → IsListAnswered hash said c store file (Of a)
 list_answered media reading one hash said c store file t b rs a small h reads k contained expected l =
     let there : IsStoreAnswer hash said file (here 0 0 t) expected = subst (λ (w : Opening Tree). IsStoreAnswer hash said file w expected) (seen one store (read.Here t b) l.0 small h l.1) l.2 in
     there.2 ∙ ap Of (sym (tree_answered media reading hash said file c 0 0 t rs a there.0 contained reads k there.1))
 
 -- what is asked over the list is asked over its manifests
-pub list_asks : OneReading → OneStore → (hash : Alg → List ℕ → List ℕ) (store : List ℕ) (said : Question → Verdict) (t : Tree) (b : List ManifestBoxes) (rs : List Reading) (qs : List Question) → nat_lt MAX_STORE_LEN (length store) ≡ false → IsReadFrom store (read.Here t b) → AreReadings (manifests_of t) rs
+pub list_asks : OneReading → OneStore → (hash : Alg → List ℕ → List ℕ) (store : List ℕ) (said : Question → Verdict)
+    (t : Tree) (b : List ManifestBoxes) (rs : List Reading) (qs : List Question)
+    → nat_lt MAX_STORE_LEN (length store) ≡ false → IsReadFrom store (read.Here t b) → AreReadings (manifests_of t) rs
     → ListAsks hash store said qs → qs ≡ check_asks hash said rs
 list_asks reading one hash store said t b rs qs small h reads k =
     let there = subst (λ (w : Opening Tree). OpenedAsks (check_asks hash said) w qs) (seen one store (read.Here t b) k.0 small h k.1) k.2 in
@@ -97,13 +102,18 @@ answered : EachExternal → (hash : Alg → List ℕ → List ℕ) (said : Quest
 answered each hash said file store e bytes held only = let a = each hash said file store bytes held in record { is = subst (IsExternalAnswer hash said file store) (only a.0 a.1) a.1; only = only }
 
 -- what is answered over the list is answered of a file with a store
-pub external_here : {E : Type 0} → EachExternal → (hash : Alg → List ℕ → List ℕ) (said : Question → Verdict) (file store : List ℕ) (m : MediaFile) (r : Result External E) → All (λ b. b < 2 ^ 8) file → All (λ b. b < 2 ^ 8) store → IsFound file (opened.Here m) → IfOk r (IsListAnswered hash said m.container store file)
+pub external_here : {E : Type 0} → EachExternal → (hash : Alg → List ℕ → List ℕ) (said : Question → Verdict)
+    (file store : List ℕ) (m : MediaFile) (r : Result External E) → All (λ b. b < 2 ^ 8) file
+    → All (λ b. b < 2 ^ 8) store → IsFound file (opened.Here m)
+    → IfOk r (IsListAnswered hash said m.container store file)
     → IfOk r (IsAnsweredExternal hash said file store)
 external_here each hash said file store m (Ok e) bytes held h k = answered each hash said file store e bytes held (λ expected answers. k h.container expected (at_found hash said file store (opened.Here m) expected h answers))
 external_here each hash said file store m (Err e) bytes held h k = tt
 
 -- and of one without
-pub external_none : {E : Type 0} → EachExternal → (hash : Alg → List ℕ → List ℕ) (said : Question → Verdict) (file store : List ℕ) (c : Container) (r : Result External E) → All (λ b. b < 2 ^ 8) file → All (λ b. b < 2 ^ 8) store → IsFound file (opened.NoStore c) → IfOk r (IsListAnswered hash said c store file)
+pub external_none : {E : Type 0} → EachExternal → (hash : Alg → List ℕ → List ℕ) (said : Question → Verdict)
+    (file store : List ℕ) (c : Container) (r : Result External E) → All (λ b. b < 2 ^ 8) file
+    → All (λ b. b < 2 ^ 8) store → IsFound file (opened.NoStore c) → IfOk r (IsListAnswered hash said c store file)
     → IfOk r (IsAnsweredExternal hash said file store)
 external_none each hash said file store c (Ok e) bytes held h k = answered each hash said file store e bytes held (λ expected answers. k h.container expected (at_found hash said file store (opened.NoStore c) expected h answers))
 external_none each hash said file store c (Err e) bytes held h k = tt

@@ -64,7 +64,9 @@ AnswersOver hash said file c start len rs a =
     (m : Media) → IsMediaOf file c m → (b : Option (Result Binding FieldError)) → HasBindingOf m (active_in rs) b → a ≡ store_answer hash said (length file) start len (record { readings = rs; binding = b })
 
 -- it is what is answered over the tree that they were read of
-pub tree_answered : ContainsMedia → OneReading → (hash : Alg → List ℕ → List ℕ) (said : Question → Verdict) (file : List ℕ) (c : Container) (start len : ℕ) (t : Tree) (rs : List Reading) (a expected : Answer) → IsContainerOf file c → AreReadings (manifests_of t) rs → AnswersOver hash said file c start len rs a
+pub tree_answered : ContainsMedia → OneReading → (hash : Alg → List ℕ → List ℕ) (said : Question → Verdict)
+    (file : List ℕ) (c : Container) (start len : ℕ) (t : Tree) (rs : List Reading) (a expected : Answer)
+    → IsContainerOf file c → AreReadings (manifests_of t) rs → AnswersOver hash said file c start len rs a
     → IsTreeAnswer hash said file start len t expected → a ≡ expected
 tree_answered media one hash said file c start len t rs a expected contained reads h k =
     let s : StoreReading = k.0 in
@@ -77,7 +79,10 @@ pub tree_asks : OneReading → (hash : Alg → List ℕ → List ℕ) (said : Qu
 tree_asks one hash said t rs ss qs reads others is = is ∙ ap (check_asks hash said) (one (manifests_of t) ss rs others reads)
 
 -- so it is the answer of the file that is opened as that tree
-answer_by : ContainsMedia → OneReading → OneOpening → OneAnswer → (hash : Alg → List ℕ → List ℕ) (said : Question → Verdict) (file : List ℕ) (c : Container) (start len : ℕ) (t : Tree) (rs : List Reading) (a b : Answer) → IsAnswer hash said file b → IsContainerOf file c → IsOpened file (here start len t)
+answer_by : ContainsMedia → OneReading → OneOpening → OneAnswer
+    → (hash : Alg → List ℕ → List ℕ) (said : Question → Verdict) (file : List ℕ) (c : Container) (start len : ℕ)
+    (t : Tree) (rs : List Reading) (a b : Answer) → IsAnswer hash said file b → IsContainerOf file c
+    → IsOpened file (here start len t)
     → AreReadings (manifests_of t) rs → AnswersOver hash said file c start len rs a → IsAnswered hash said file a
 answer_by media one opening answers hash said file c start len t rs a b is contained opened_as reads h =
     let over = subst (λ (w : Opening Tree). IsOpenedAnswer hash said file w b) (opening file is.0 (here start len t) is.1 opened_as) is.2 in
@@ -95,7 +100,9 @@ read_answers media one opening answers each hash said file c start len t rs a by
     let e = each hash said file bytes in answer_by media one opening answers hash said file c start len t rs a e.0 e.1 contained opened_as reads h
 
 -- and what is asked of the file is asked over them
-pub read_asks : OneReading → OneOpening → (hash : Alg → List ℕ → List ℕ) (said : Question → Verdict) (file : List ℕ) (start len : ℕ) (t : Tree) (rs : List Reading) (qs : List Question) → IsOpened file (here start len t) → AreReadings (manifests_of t) rs → CheckAsks hash said file qs → qs ≡ check_asks hash said rs
+pub read_asks : OneReading → OneOpening → (hash : Alg → List ℕ → List ℕ) (said : Question → Verdict) (file : List ℕ)
+    (start len : ℕ) (t : Tree) (rs : List Reading) (qs : List Question) → IsOpened file (here start len t)
+    → AreReadings (manifests_of t) rs → CheckAsks hash said file qs → qs ≡ check_asks hash said rs
 read_asks one opening hash said file start len t rs qs opened_as reads asks =
     let over = opened_asks opening hash said file (here start len t) qs opened_as asks in
     tree_asks one hash said t rs over.0 qs reads over.1 over.2
@@ -107,7 +114,9 @@ store_answers media one opening answers each hash said file o checked bytes from
     read_answers media one opening answers each hash said file o.container.now o.range.start o.range.length from.tree (readings_of o) (answer_as checked) bytes from.container from.opened from.reads (λ m i b has. (h m i b has).answer)
 
 -- an opened store with this container, this range and these manifests is checked over them
-pub over_opened : (hash : Alg → List ℕ → List ℕ) (said : Question → Verdict) (file : List ℕ) (o : OpenedStore) (c : Container) (start len : ℕ) (rs : List Reading) (checked : Checked) → o.container.now ≡ c → o.range.start ≡ start → o.range.length ≡ len → readings_of o ≡ rs → IsCheckedOver hash said o file checked
+pub over_opened : (hash : Alg → List ℕ → List ℕ) (said : Question → Verdict) (file : List ℕ) (o : OpenedStore)
+    (c : Container) (start len : ℕ) (rs : List Reading) (checked : Checked) → o.container.now ≡ c
+    → o.range.start ≡ start → o.range.length ≡ len → readings_of o ≡ rs → IsCheckedOver hash said o file checked
     → AnswersOver hash said file c start len rs (answer_as checked)
 over_opened hash said file o c start len rs checked contained starts long reads h =
     subst (λ (x : Container). AnswersOver hash said file x start len rs (answer_as checked)) contained
@@ -140,7 +149,10 @@ pub known_absent : OneOpening → (known : Option (List ℕ)) (hash : Alg → Li
 known_absent opening known hash said qs is asks = opened_asks opening hash said asks.0 absent qs (is asks.0 asks.1) asks.2
 
 -- nothing, where it is refused
-pub known_refused : OneOpening → (known : Option (List ℕ)) (hash : Alg → List ℕ → List ℕ) (said : Question → Verdict) (reason : Reason) (number : ℕ) (qs : List Question) → ((file : List ℕ) → known ≡ Some file → IsOpened file (refused reason number)) → AsksKnown known (FileAsks hash) said qs → qs ≡ []
+pub known_refused : OneOpening → (known : Option (List ℕ)) (hash : Alg → List ℕ → List ℕ) (said : Question → Verdict)
+    (reason : Reason) (number : ℕ) (qs : List Question)
+    → ((file : List ℕ) → known ≡ Some file → IsOpened file (refused reason number))
+    → AsksKnown known (FileAsks hash) said qs → qs ≡ []
 known_refused opening known hash said reason number qs is asks = opened_asks opening hash said asks.0 (refused reason number) qs (is asks.0 asks.1) asks.2
 
 -- what is asked over the manifests that were read of its store

@@ -2,4 +2,5 @@ pub mod External
 pub mod Checked
 pub mod Checks
 pub mod Counts
+pub mod EachLaws
 pub mod Validation

@@ -9,7 +9,7 @@ use Rattle.c2_base.specs.declared.values.Range.{Range}
 use Rattle.c2_spec.specs.Bmff.Boxes.{SizeForm, short, long, to_end, Box, IsBox, box_bytes, box_len, boxes_len, header_len}
 use Rattle.c2_spec.specs.Bmff.Paths.{placed_from}
 use Rattle.c2_spec.specs.Bmff.Store.{HasBmffStore}
-use Rattle.c2_spec.specs.Bmff.Writing.{base_roots, freed, is_file_end, same, without}
+use Rattle.c2_spec.specs.Bmff.Writing.{IsBmffBase, base_roots, freed, is_file_end, without}
 use Rattle.c2_spec.specs.PutIn.{taken_out}
 use Rattle.c2_spec.proofs.BmffOneList.{roots_once}
 use Rattle.c2_spec.proofs.BmffSizes.{bytes_size}
@@ -17,7 +17,7 @@ use Rattle.c2_bmff_boxes.specs.Roots.{AreRootsOf}
 use Rattle.c2_bmff_rows.specs.Rows.{row_of, rows_of}
 use Rattle.c2_bmff_rows.specs.declared.row.RootBox.{RootBox}
 use Rattle.c2_bmff_rows.proofs.StandLemmas.{form_boxes}
-use Rattle.c2_without_store.specs.Clears.{ClearsTo, cleared, clearing_in, ends_file}
+use Rattle.c2_without_store.specs.Clears.{ClearsTo, cleared, clearing_in, ends_file, row_range}
 use Rattle.c2_without_store.specs.declared.clearing.Clearing.{Clearing}
 use Rattle.c2_without_store.specs.declared.clearing.Clearing.TheVariants.{Cut, Freed}
 use Rattle.c2_without_store.proofs.FreedBoxes.{freed_file}
@@ -25,53 +25,56 @@ use Rattle.c2_without_store.proofs.FreedBoxes.{freed_file}
 -- ---- lists
 
 -- what holds of two lists together holds of the first
-all_front : {A : Type 0} (P : A → Type 0) (xs ys : List A) → AllByRecursion P (xs ++ ys) → AllByRecursion P xs
+pub all_front : {A : Type 0} (P : A → Type 0) (xs ys : List A) → AllByRecursion P (xs ++ ys) → AllByRecursion P xs
 all_front P [] ys h = tt
 all_front P (x ∷ xs) ys h = (h.0, all_front P xs ys h.1)
 
 -- and of the second
-all_back : {A : Type 0} (P : A → Type 0) (xs ys : List A) → AllByRecursion P (xs ++ ys) → AllByRecursion P ys
+pub all_back : {A : Type 0} (P : A → Type 0) (xs ys : List A) → AllByRecursion P (xs ++ ys) → AllByRecursion P ys
 all_back P [] ys h = h
 all_back P (x ∷ xs) ys h = all_back P xs ys h.1
 
 -- the bytes of boxes with one more before them
-len_more : (b : Box) (bs : List Box) → IsBox b → boxes_len (b ∷ bs) ≡ box_len b + boxes_len bs
+pub len_more : (b : Box) (bs : List Box) → IsBox b → boxes_len (b ∷ bs) ≡ box_len b + boxes_len bs
 len_more b bs h = length-append (box_bytes b) (flat_map box_bytes bs) ∙ ap (λ n. n + boxes_len bs) (bytes_size b h)
 
 -- a number that isn't another
-not_equal : (n m : ℕ) → (n ≡ m → ⊥) → (n == m) ≡ false
+pub not_equal : (n m : ℕ) → (n ≡ m → ⊥) → (n == m) ≡ false
 not_equal n m h = go (n == m) refl
   where
     go : (t : Bool) → (n == m) ≡ t → (n == m) ≡ false
     go true e = absurd (h (eqb-true n m e))
     go false e = e
 
+-- a header has eight bytes at least
+pub some_header : (f : SizeForm) → 8 ≤ header_len f
+some_header short = omega arith
+some_header long = omega arith
+some_header to_end = omega arith
+
 -- ---- the row that is cleared
 
 -- nothing but one `mfra` stands behind a box, by the rows
-ends_is : (p : ℕ) (bs : List Box) → ends_file (map row_of (placed_from p bs)) ≡ is_file_end bs
+pub ends_is : (p : ℕ) (bs : List Box) → ends_file (map row_of (placed_from p bs)) ≡ is_file_end bs
 ends_is p [] = refl
 ends_is p (b ∷ []) = refl
 ends_is p (b ∷ c ∷ cs) = refl
 
 -- how a box among others is cleared away, by the rows
-clearing_at : (p : ℕ) (before : List Box) (b : Box) (after : List Box) (range : Range) → AllByRecursion IsBox before → range.start ≡ p + boxes_len before
-    → clearing_in range (map row_of (placed_from p (before ++ b ∷ after))) ≡ cond (is_file_end after) (Cut range) (Freed (row_of (record { at = range.start; box = b })))
-clearing_at p [] b after range h e =
-    let here : p ≡ range.start = omega (arith, e) in
-    ap (λ (t : Bool). cond t (cond (ends_file (map row_of (placed_from (p + box_len b) after))) (Cut range) (Freed (row_of (record { at = p; box = b })))) (clearing_in range (map row_of (placed_from (p + box_len b) after)))) (eq-eqb p range.start here)
-    ∙ ap₂ (λ (t : Bool) (n : ℕ). cond t (Cut range) (Freed (row_of (record { at = n; box = b })))) (ends_is (p + box_len b) after) here
-clearing_at p (c ∷ cs) b after range h e =
+clearing_at : (p : ℕ) (before : List Box) (b : Box) (after : List Box) (start : ℕ) → AllByRecursion IsBox before → start ≡ p + boxes_len before
+    → clearing_in start (map row_of (placed_from p (before ++ b ∷ after))) ≡ cond (is_file_end after) (Cut (row_range (row_of (record { at = start; box = b })))) (Freed (row_of (record { at = start; box = b })))
+clearing_at p [] b after start h e =
+    let here : p ≡ start = omega (arith, e) in
+    ap (λ (t : Bool). cond t (cond (ends_file (map row_of (placed_from (p + box_len b) after))) (Cut (row_range (row_of (record { at = p; box = b })))) (Freed (row_of (record { at = p; box = b }))))
+    (clearing_in start (map row_of (placed_from (p + box_len b) after)))) (eq-eqb p start here)
+    ∙ ap₂ (λ (t : Bool) (n : ℕ). cond t (Cut (row_range (row_of (record { at = n; box = b })))) (Freed (row_of (record { at = n; box = b })))) (ends_is (p + box_len b) after) here
+clearing_at p (c ∷ cs) b after start h e =
     let more : boxes_len (c ∷ cs) ≡ box_len c + boxes_len cs = len_more c cs h.0 in
-    let header : 8 ≤ header_len c.form = some c.form in
-    let other : (p == range.start) ≡ false = not_equal p range.start (λ same. omega (arith, same, e, more, header)) in
-    ap (λ (t : Bool). cond t (cond (ends_file (map row_of (placed_from (p + box_len c) (cs ++ b ∷ after)))) (Cut range) (Freed (row_of (record { at = p; box = c })))) (clearing_in range (map row_of (placed_from (p + box_len c) (cs ++ b ∷ after))))) other
-    ∙ clearing_at (p + box_len c) cs b after range h.1 (omega (arith, e, more))
-  where
-    some : (f : SizeForm) → 8 ≤ header_len f
-    some short = omega arith
-    some long = omega arith
-    some to_end = omega arith
+    let header : 8 ≤ header_len c.form = some_header c.form in
+    let other : (p == start) ≡ false = not_equal p start (λ same. omega (arith, same, e, more, header)) in
+    ap (λ (t : Bool). cond t (cond (ends_file (map row_of (placed_from (p + box_len c) (cs ++ b ∷ after)))) (Cut (row_range (row_of (record { at = p; box = c })))) (Freed (row_of (record { at = p; box = c }))))
+    (clearing_in start (map row_of (placed_from (p + box_len c) (cs ++ b ∷ after))))) other
+    ∙ clearing_at (p + box_len c) cs b after start h.1 (omega (arith, e, more))
 
 -- ---- what is left
 
@@ -110,23 +113,45 @@ left_is before b after range is from for = go (is_file_end after)
 
 -- ---- the base
 
--- a file with a store is cleared to its base
-pub clears_store : (file : List ℕ) (rows : List RootBox) (range : Range) (store : List ℕ) → AreRootsOf file rows → HasBmffStore file range.start range.length store → ClearsTo file (clearing_in range rows)
-clears_store file rows range store r h =
-    let roots : List Box = h.roots in
-    let once : r.boxes ≡ roots = roots_once file r.boxes roots r.has_roots h.has_roots in
+-- the boxes of a file whose store is found among them, by their rows
+pub record FoundAmong (rows : List RootBox) (start len : ℕ) (before : List Box) (holder : Box) (after : List Box) : Type 0 where
+  pub all : AllByRecursion IsBox (before ++ holder ∷ after)
+  pub is : IsBox holder
+  pub split : rows ≡ rows_of (before ++ holder ∷ after)
+  pub from : start ≡ boxes_len before
+  pub for : len ≡ box_len holder
+
+-- so it is with each store that is found
+pub found_among : (file : List ℕ) (rows : List RootBox) (start len : ℕ) (store : List ℕ) → AreRootsOf file rows → (h : HasBmffStore file start len store) → FoundAmong rows start len h.holds.before h.holds.holder h.holds.after
+found_among file rows start len store r h =
     let s = h.holds in
-    let all : AllByRecursion IsBox (s.before ++ s.holder ∷ s.after) = subst (AllByRecursion IsBox) s.split (form_boxes roots h.has_roots.forms) in
-    let is : IsBox s.holder = (all_back IsBox s.before (s.holder ∷ s.after) all).0 in
-    let split : rows ≡ rows_of (s.before ++ s.holder ∷ s.after) = r.are ∙ ap rows_of (once ∙ s.split) in
-    let how : clearing_in range rows ≡ cond (is_file_end s.after) (Cut range) (Freed (row_of (record { at = range.start; box = s.holder }))) =
-    ap (clearing_in range) split ∙ clearing_at 0 s.before s.holder s.after range (all_front IsBox s.before (s.holder ∷ s.after) all) (omega (arith, s.from)) in
-    let bytes : file ≡ flat_map box_bytes (s.before ++ s.holder ∷ s.after) = h.has_roots.bytes ∙ ap (flat_map box_bytes) s.split in (
-      base_roots s.before s.holder s.after,
-      record {
-        boxes = roots;
-        has_roots = h.has_roots;
-        are = without range.start range.length store s refl;
-        bytes = ap₂ (λ (c : Clearing) (f : List ℕ). cleared c f) how bytes ∙ left_is s.before s.holder s.after range is s.from s.for;
-      },
-    )
+    let once : r.boxes ≡ h.roots = roots_once file r.boxes h.roots r.has_roots h.has_roots in
+    let all : AllByRecursion IsBox (s.before ++ s.holder ∷ s.after) = subst (AllByRecursion IsBox) s.split (form_boxes h.roots h.has_roots.forms) in
+    record {
+      all = all;
+      is = (all_back IsBox s.before (s.holder ∷ s.after) all).0;
+      split = r.are ∙ ap rows_of (once ∙ s.split);
+      from = s.from;
+      for = s.for;
+    }
+
+-- a file with a store is cleared to its base
+pub store_base : (file : List ℕ) (rows : List RootBox) (start len : ℕ) (store : List ℕ) → AreRootsOf file rows → (h : HasBmffStore file start len store)
+    → IsBmffBase file (cleared (clearing_in start rows) file) (base_roots h.holds.before h.holds.holder h.holds.after)
+store_base file rows start len store r h =
+    let s = h.holds in
+    let f = found_among file rows start len store r h in
+    let row : RootBox = row_of (record { at = start; box = s.holder }) in
+    let how : clearing_in start rows ≡ cond (is_file_end s.after) (Cut (row_range row)) (Freed row) =
+    ap (clearing_in start) f.split ∙ clearing_at 0 s.before s.holder s.after start (all_front IsBox s.before (s.holder ∷ s.after) f.all) (omega (arith, s.from)) in
+    let bytes : file ≡ flat_map box_bytes (s.before ++ s.holder ∷ s.after) = h.has_roots.bytes ∙ ap (flat_map box_bytes) s.split in
+    record {
+      boxes = h.roots;
+      has_roots = h.has_roots;
+      are = without start len store s refl;
+      bytes = ap₂ (λ (c : Clearing) (f : List ℕ). cleared c f) how bytes ∙ left_is s.before s.holder s.after (row_range row) f.is s.from refl;
+    }
+
+-- so what is left of it is one
+pub clears_store : (file : List ℕ) (rows : List RootBox) (start len : ℕ) (store : List ℕ) → AreRootsOf file rows → HasBmffStore file start len store → ClearsTo file (clearing_in start rows)
+clears_store file rows start len store r h = (base_roots h.holds.before h.holds.holder h.holds.after, store_base file rows start len store r h)

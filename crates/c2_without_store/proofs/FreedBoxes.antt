@@ -27,7 +27,11 @@ kind_put front short n kind back four =
     ap (λ (xs : List ℕ). written_at (length front + 4) free_kind (front ++ xs)) (append_assoc (to_be_bytes w32 n) kind back)
     ∙ type_put front (to_be_bytes w32 n) kind back refl four ∙ ap (λ (xs : List ℕ). front ++ xs) (sym (append_assoc (to_be_bytes w32 n) free_kind back))
 kind_put front long n kind back four =
-    let split : (k : List ℕ) → (to_be_bytes w32 1 ++ (k ++ to_be_bytes w64 n)) ++ back ≡ to_be_bytes w32 1 ++ (k ++ (to_be_bytes w64 n ++ back)) = λ k. append_assoc (to_be_bytes w32 1) (k ++ to_be_bytes w64 n) back ∙ ap (λ (xs : List ℕ). to_be_bytes w32 1 ++ xs) (append_assoc k (to_be_bytes w64 n) back) in
+    let split : (k : List ℕ)
+    → (to_be_bytes w32 1 ++ (k ++ to_be_bytes w64 n)) ++ back
+    ≡ to_be_bytes w32 1 ++ (k ++ (to_be_bytes w64 n ++ back)) =
+    λ k. append_assoc (to_be_bytes w32 1) (k ++ to_be_bytes w64 n) back
+    ∙ ap (λ (xs : List ℕ). to_be_bytes w32 1 ++ xs) (append_assoc k (to_be_bytes w64 n) back) in
     ap (λ (xs : List ℕ). written_at (length front + 4) free_kind (front ++ xs)) (split kind)
     ∙ type_put front (to_be_bytes w32 1) kind (to_be_bytes w64 n ++ back) refl four ∙ ap (λ (xs : List ℕ). front ++ xs) (sym (split free_kind))
 kind_put front to_end n kind back four =
@@ -35,7 +39,7 @@ kind_put front to_end n kind back four =
     ∙ type_put front (to_be_bytes w32 0) kind back refl four ∙ ap (λ (xs : List ℕ). front ++ xs) (sym (append_assoc (to_be_bytes w32 0) free_kind back))
 
 -- a freed box keeps its length
-freed_len : (b : Box) → box_len (freed b) ≡ box_len b
+pub freed_len : (b : Box) → box_len (freed b) ≡ box_len b
 freed_len b = ap (λ n. header_len b.form + n) (length-replicate (length b.payload) 0)
 
 -- a box between others is freed

@@ -2,5 +2,6 @@ mod Clearings
 mod Cuts
 mod FreedBoxes
 mod Frees
+mod LeftRows
 mod Outcomes
 mod Regions

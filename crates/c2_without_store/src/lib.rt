@@ -5,7 +5,9 @@
 
 mod clearing;
 mod freeing;
+mod leaving;
 mod source;
 
 pub use clearing::{Clearing, clearing_of};
+pub use leaving::roots_left;
 pub use source::{Named, WithoutStore};

@@ -19,8 +19,12 @@ loop-ask-preserved g c =
     let k = c.loop-ask.ask-index in
     let ask : Exclusion = c.ask-item.result in
     record {
-      stays = record { same_len = call.stays.same_len ∙ front.stays.same_len ∙ before.stays.same_len; same_bytes = call.stays.same_bytes ∙ front.stays.same_bytes ∙ before.stays.same_bytes; later = omega (arith, call.stays.later, front.stays.later, before.stays.later) };
-      count = call.count ∙ front.cause.ok ∙ before.count;
+      stays = record {
+        same_len = call.reads.stays.same_len ∙ front.stays.same_len ∙ before.stays.same_len;
+        same_bytes = call.reads.stays.same_bytes ∙ front.stays.same_bytes ∙ before.stays.same_bytes;
+        later = omega (arith, call.reads.stays.later, front.stays.later, before.stays.later);
+      };
+      count = call.reads.quiet ∙ front.cause.ok ∙ before.count;
       within = subst (λ (n : ℕ). All (IsRangeWithin n) c.mark_row.new.ranges.items) (front.stays.same_len ∙ before.stays.same_len) call.within;
       same = λ file known i.
           call.same file (front.stays.same_bytes ∙ before.stays.same_bytes ∙ known) i ∙ ap (λ (a : Bool). a || marks file ask i c.args.row) (before.same file known i)
@@ -38,4 +42,9 @@ returns-clause-same g c file known i =
 -- where the ranges hold the box whole, the other exclusions add nothing
 pub returns-then-is_whole-clause-same : goal.returns-then-is_whole-clause-same
 returns-then-is_whole-clause-same g c file known i =
-    whole_asks file i c.args.row c.args.asks.now c.loop-ask.ask-index (is_excluded c.loop-ask.ranges.items i) (is_excluded c.args.ranges.now.items i) (λ inside. ap (λ (rs : List Range). is_excluded rs i) (sym c.deref.ensures.value) ∙ c.is_whole.ensures.holds c.if-is_whole.true i inside) (c.loop-ask.invariant.same file known i)
+    let old : Bool = is_excluded c.args.ranges.now.items i in
+    let new : Bool = is_excluded c.loop-ask.ranges.items i in
+    whole_asks file i c.args.row c.args.asks.now c.loop-ask.ask-index new old
+    (λ inside. ap (λ (rs : List Range). is_excluded rs i) (sym c.deref.ensures.value)
+    ∙ c.is_whole.ensures.holds c.if-is_whole.true i inside)
+    (c.loop-ask.invariant.same file known i)

@@ -15,11 +15,17 @@ loop-k-preserved g c =
     let call = c.in-Ok.ensures in
     let k = c.loop-k.k-index in
     record {
-      stays = record { same_len = call.stays.same_len ∙ before.stays.same_len; same_bytes = call.stays.same_bytes ∙ before.stays.same_bytes; later = omega (arith, call.stays.later, before.stays.later) };
+      stays = record {
+        same_len = call.stays.same_len ∙ before.stays.same_len;
+        same_bytes = call.stays.same_bytes ∙ before.stays.same_bytes;
+        later = omega (arith, call.stays.later, before.stays.later);
+      };
       count = call.count ∙ before.count;
-      within = subst (λ (n : ℕ). All (IsRangeWithin n) c.mark_entry.new.ranges.items) (before.stays.same_len) call.within;
+      within = subst (λ (n : ℕ). All (IsRangeWithin n) c.mark_asks.new.ranges.items) (before.stays.same_len) call.within;
       same = λ file known i.
-          call.same file (before.stays.same_bytes ∙ known) i ∙ ap (λ (a : Bool). a || through file c.args.entries.now i c.args.row (get_or c.args.here.now k 0)) (before.same file known i)
+          call.same file (before.stays.same_bytes ∙ known) i
+          ∙ ap (λ (b : Bool). is_excluded c.loop-k.ranges.items i || b) (c.asks_at-asks.ensures file i c.args.row)
+          ∙ ap (λ (a : Bool). a || through file c.args.entries.now i c.args.row (get_or c.args.here.now k 0)) (before.same file known i)
           ∙ sym (any_more (through file c.args.entries.now i c.args.row) c.args.here.now k 0 (is_excluded c.args.ranges.now.items i) c.loop-k-test.true);
       few = call.few;
       front = λ file known. call.front file (before.stays.same_bytes ∙ known);

@@ -1,4 +1,4 @@
-use Rattle.std.proofs.Common.{◌∙◌, ◌||◌, ◌∷◌, ◌+◌, ◌<◌, ◌≤◌, Bool, List, get_or, length, take, refl, sym, ap, arith}
+use Rattle.std.proofs.Common.{◌∙◌, ◌||◌, ◌∷◌, ℕ, ◌+◌, ◌<◌, ◌≤◌, Bool, List, get_or, length, take, refl, sym, ap, arith}
 use Rattle.std.specs.List.{list_any}
 use Rattle.std.proofs.lemmas.List.{drop-set-lt, length-set, take_all, take_more}
 use Rattle.std.proofs.lemmas.Grind.{take-set_at}
@@ -22,14 +22,20 @@ loop-k-preserved c =
     let inside : k < length ts = omega (arith, c.loop-k-test.true, before.size) in
     let inside' : k < length init = omega (arith, inside, before.size) in
     let same = rest_same k ts init t inside inside' before.others in
+    let first = λ (file : List ℕ) (i : ℕ). found file es i row c.args.here.now.items c.args.below.now.items in
+    let old = λ (file : List ℕ) (i : ℕ). found file es i row c.loop-k.here.items c.loop-k.below.items in
+    let new = λ (file : List ℕ) (i : ℕ). found file es i row c.pass.new.here.items c.pass.new.below.items in
     record {
       same = λ file i rows.
-          ap (λ (xs : List Trail). found file es i row c.pass.new.here.items c.pass.new.below.items || list_any (ahead file es i rows) xs) (take-set_at ts k (k + 1) t' refl inside)
-          ∙ ap (λ (b : Bool). found file es i row c.pass.new.here.items c.pass.new.below.items || b) (any_append (ahead file es i rows) (take k ts) t')
-          ∙ pass_joins (found file es i row c.loop-k.here.items c.loop-k.below.items) (found file es i row c.pass.new.here.items c.pass.new.below.items) (list_any (ahead file es i rows) (take k ts)) (ahead file es i (row ∷ rows) (get_or ts k t)) (ahead file es i rows t') (found file es i row c.args.here.now.items c.args.below.now.items) (list_any (ahead file es i (row ∷ rows)) (take k init)) (c.in_ok-pass.ensures file i rows) (before.same file i rows)
-          ∙ ap (λ (b : Bool). found file es i row c.args.here.now.items c.args.below.now.items || b)
-          (ap (λ (x : Trail). list_any (ahead file es i (row ∷ rows)) (take k init) || ahead file es i (row ∷ rows) x) same.0
-          ∙ sym (ap (list_any (ahead file es i (row ∷ rows))) (take_more init k t inside') ∙ any_append (ahead file es i (row ∷ rows)) (take k init) _));
+          let at : Trail → Bool = ahead file es i rows in
+          let from : Trail → Bool = ahead file es i (row ∷ rows) in
+          ap (λ (xs : List Trail). new file i || list_any at xs) (take-set_at ts k (k + 1) t' refl inside)
+          ∙ ap (λ (b : Bool). new file i || b) (any_append at (take k ts) t')
+          ∙ pass_joins (old file i) (new file i) (list_any at (take k ts)) (from (get_or ts k t)) (at t') (first file i)
+          (list_any from (take k init)) (c.in_ok-pass.ensures file i rows) (before.same file i rows)
+          ∙ ap (λ (b : Bool). first file i || b)
+          (ap (λ (x : Trail). list_any from (take k init) || from x) same.0
+          ∙ sym (ap (list_any from) (take_more init k t inside') ∙ any_append from (take k init) _));
       others = drop-set-lt (k + 1) ts k t' (omega arith) ∙ same.1;
       size = length-set ts k t' ∙ before.size;
     }

@@ -18,7 +18,7 @@ returns-then-next-len-clause-same g c file known i =
     let es = c.args.entries.now in
     let l = c.args.level in
     let others : Bool = list_any (level_ahead file es i) c.args.levels.now.items in
-    sym (ap (λ (b : Bool). is_excluded c.args.ranges.now.items i || b) (ap (λ (b : Bool). others || b) (level_none file es i (drop l.next l.rows.items) l.trails.items (drop_all l.next l.rows.items (omega (arith, c.if-next-len.true, c.len.ensures)))) ∙ or_false others))
+    sym (ap (λ (b : Bool). is_excluded c.args.marking.now.ranges.items i || b) (ap (λ (b : Bool). others || b) (level_none file es i (drop l.next l.rows.items) l.trails.items (drop_all l.next l.rows.items (omega (arith, c.if-next-len.true, c.len.ensures)))) ∙ or_false others))
 
 -- the rows of this list lie inside the source as before
 pub open_row-requires-clause-levels : goal.open_row-requires-clause-levels
@@ -37,14 +37,14 @@ returns-in-Ok-open_row-clause-same g c file known i =
     let others : Bool = list_any (level_ahead file es i) c.args.levels.now.items in
     let below : Bool = list_any (ahead file es i (kids file row)) c.in-Ok.below.items in
     let beside : Bool = list_any (ahead file es i (drop (next + 1) rows)) c.visit.new.trails in
-    let after : Bool = is_excluded c.visit.new.ranges.items i in
+    let after : Bool = is_excluded c.visit.new.marking.ranges.items i in
     let same : length c.visit.new.trails ≡ c.args.level.trails.len = c.visit.auto.trails ∙ c.deref_mut.ensures.len in
     let written : take c.args.level.trails.len (c.visit.new.trails ++ drop (length c.visit.new.trails) c.args.level.trails.items) ≡ c.visit.new.trails =
     take-append-le c.args.level.trails.len c.visit.new.trails (drop (length c.visit.new.trails) c.args.level.trails.items) (omega (arith, same)) ∙ take_all c.args.level.trails.len c.visit.new.trails (omega (arith, same)) in
     ap (λ (b : Bool). after || b)
     (c.in-Ok-open_row.ensures.ahead file (c.in-Ok.ensures.stays.same_bytes ∙ known) es i ∙ ap (λ (b : Bool). b || below) (ap (list_any (level_ahead file es i)) c.in_ok-add_level.ensures ∙ any_append (level_ahead file es i) c.args.levels.now.items _))
     ∙ ap (λ (ts : List Trail). after || ((others || list_any (ahead file es i (drop (next + 1) rows)) ts) || below)) written
-    ∙ turn_joins after (is_excluded c.args.ranges.now.items i) others beside below (level_ahead file es i c.args.level)
+    ∙ turn_joins after (is_excluded c.args.marking.now.ranges.items i) others beside below (level_ahead file es i c.args.level)
     (c.in-Ok.ensures.same file known i (drop (next + 1) rows)
-    ∙ ap (λ (xs : List RootBox). is_excluded c.args.ranges.now.items i || list_any (ahead file es i xs) c.deref_mut.result.now) (sym first)
-    ∙ ap (λ ts. is_excluded c.args.ranges.now.items i || list_any (ahead file es i (drop next rows)) ts) c.deref_mut.ensures.value)
+    ∙ ap (λ (xs : List RootBox). is_excluded c.args.marking.now.ranges.items i || list_any (ahead file es i xs) c.deref_mut.result.now) (sym first)
+    ∙ ap (λ ts. is_excluded c.args.marking.now.ranges.items i || list_any (ahead file es i (drop next rows)) ts) c.deref_mut.ensures.value)

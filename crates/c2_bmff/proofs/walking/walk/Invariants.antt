@@ -13,9 +13,9 @@ abbrev pub invariant-boxes : goal.invariant-boxes
 invariant-boxes g l = record {
   stays : StaysSource g.S.Source.len g.S.Source.known g.S.Source.faults l.initial.source l.source;
   count : g.S.Source.faults l.source ≡ g.S.Source.faults l.initial.source;
-  within : All (IsRangeWithin (g.S.Source.len l.initial.source)) l.ranges.items;
+  within : All (IsRangeWithin (g.S.Source.len l.initial.source)) l.marking.ranges.items;
   levels : All (IsLevelWithin (g.S.Source.len l.initial.source)) l.levels.items;
-  same : ForSome (g.S.Source.known l.initial.source) (λ file. (i : ℕ) → (is_excluded l.ranges.items i || list_any (level_ahead file l.entries i) l.levels.items) ≡ (is_excluded l.initial.ranges.items i || list_any (level_ahead file l.entries i) l.initial.levels.items));
+  same : ForSome (g.S.Source.known l.initial.source) (λ file. (i : ℕ) → (is_excluded l.marking.ranges.items i || list_any (level_ahead file l.entries i) l.levels.items) ≡ (is_excluded l.initial.marking.ranges.items i || list_any (level_ahead file l.entries i) l.initial.levels.items));
 }
 
 -- the boxes that are left, by their lengths, and the lists

@@ -2,7 +2,7 @@ use Rattle.std.proofs.Common.{◌≡◌, length, Some, None, arith}
 use Rattle.c2_bmff_rows.proofs.BoxThere.{are_bytes}
 use Rattle.c2_bmff_boxes.specs.Roots.{FillSource}
 use Rattle.c2_bmff_boxes.proofs.ChildLemmas.{list_is}
-use Rattle.c2_bmff_boxes.proofs.WalkLemmas.{fill_headed}
+use Rattle.c2_bmff_boxes.proofs.Filling.{fill_headed}
 use Rattle.c2_bmff_boxes.proofs.child_boxes.boxes_between.Goals as goal
 
 -- rows that fill a part of a source have headers, and end in it

@@ -3,7 +3,7 @@ use Rattle.c2_bmff_boxes.specs.Children.{rows_len}
 use Rattle.c2_bmff_boxes.specs.Roots.{FillSource}
 use Rattle.c2_bmff_rows.specs.Children.{or_none}
 use Rattle.c2_bmff_boxes.proofs.ChildLemmas.{kids_between}
-use Rattle.c2_bmff_boxes.proofs.WalkLemmas.{fill_rows, fill_total}
+use Rattle.c2_bmff_boxes.proofs.Filling.{fill_rows, fill_total}
 use Rattle.c2_bmff_boxes.proofs.child_boxes.children.Goals as goal
 
 -- the rows of the list in the payload are those of the children

@@ -1,4 +1,4 @@
-use Rattle.std.proofs.Common.{◌≡◌, ◌∙◌, ◌+◌, ◌-◌, ◌<◌, ◌∷◌, [], ◌++◌, length, take, drop, subst, sym, ap, refl, arith}
+use Rattle.std.proofs.Common.{◌≡◌, ◌∙◌, ℕ, ◌+◌, ◌-◌, ◌<◌, List, ◌∷◌, [], ◌++◌, length, take, drop, subst, sym, ap, refl, arith}
 use Rattle.std.specs.Prelude.{IfSome}
 use Rattle.std.specs.declared.option.Option.{Option}
 use Rattle.std.proofs.lemmas.List.{length-drop}
@@ -6,7 +6,7 @@ use Rattle.c2_bmff_boxes.specs.declared.header.BoxHead.{BoxHead}
 use Rattle.c2_bmff_boxes.specs.Children.{IsChildHead, IsHeadWithin, ListWalk, part_between}
 use Rattle.c2_bmff_boxes.specs.Roots.{FillSource, row_at}
 use Rattle.c2_bmff_boxes.proofs.ChildLemmas.{part_len, rest_is, walk_end, walk_more, walk_none, walk_start}
-use Rattle.c2_bmff_boxes.proofs.WalkLemmas.{fill_more}
+use Rattle.c2_bmff_boxes.proofs.Filling.{fill_more}
 use Rattle.c2_bmff_boxes.proofs.child_boxes.list_between.Goals as goal
 
 -- before the first box no bytes are walked, and there are no rows
@@ -53,11 +53,16 @@ boxes-preserved g c =
           (subst (λ n. FillSource n start (c.boxes.rows.items ++ row_at (start + c.boxes.done) h ∷ [])) next (fill_more (start + c.boxes.done) start c.boxes.rows.items (row_at (start + c.boxes.done) h) before.fill refl within.2 within.0));
       walked = λ file known.
           let size : length file ≡ g.S.Source.len c.args.source.now = g.met.S.Source.known_len c.args.source.now file known in
-          let part : length (part_between file start end) ≡ len = part_len file start end c.requires.ordered (omega (arith, size, c.requires.inside)) in
-          let rest : drop c.boxes.done (part_between file start end) ≡ take (len - c.boxes.done) (drop (start + c.boxes.done) file) = rest_is file start len c.boxes.done before.inside in
-          let some : 0 < length (take (len - c.boxes.done) (drop (start + c.boxes.done) file)) = omega (arith, ap length (sym rest), length-drop c.boxes.done (part_between file start end), part, c.boxes-test.true) in
-          let head = subst (IsChildHead (take (len - c.boxes.done) (drop (start + c.boxes.done) file))) c.in-Some.is (call.read file (before.stays.same_bytes ∙ known)) in
-          subst (ListWalk file start end (c.boxes.done + h.length)) (sym c.in_ok-keep.ensures) (walk_more file start end c.boxes.done c.boxes.rows.items (take (len - c.boxes.done) (drop (start + c.boxes.done) file)) h (before.walked file known) rest some head.0 head.1 (omega (arith, within.0, within.2)));
+          let part : length (part_between file start end) ≡ len =
+          part_len file start end c.requires.ordered (omega (arith, size, c.requires.inside)) in
+          let left : List ℕ = take (len - c.boxes.done) (drop (start + c.boxes.done) file) in
+          let rest : drop c.boxes.done (part_between file start end) ≡ left = rest_is file start len c.boxes.done before.inside in
+          let some : 0 < length left =
+          omega (arith, ap length (sym rest), length-drop c.boxes.done (part_between file start end), part, c.boxes-test.true) in
+          let head = subst (IsChildHead left) c.in-Some.is (call.read file (before.stays.same_bytes ∙ known)) in
+          subst (ListWalk file start end (c.boxes.done + h.length)) (sym c.in_ok-keep.ensures)
+          (walk_more file start end c.boxes.done c.boxes.rows.items left h (before.walked file known) rest some head.0 head.1
+          (omega (arith, within.0, within.2)));
     }
 
 -- where the boxes fill the bytes, their rows are those of the list

@@ -4,7 +4,8 @@ use Rattle.c2_base.specs.declared.media.MediaError.TheVariants.{FileTooLarge}
 use Rattle.c2_bmff_boxes.specs.Causes.{IsRootsCause}
 use Rattle.c2_bmff_rows.specs.Faults.{FirstRootsFault, too_large, not_media, root}
 use Rattle.c2_bmff_rows.specs.Rows.{IsBoxWithin}
-use Rattle.c2_bmff_boxes.proofs.WalkLemmas.{fill_headed, fill_within, outside_map}
+use Rattle.c2_bmff_boxes.proofs.Filling.{fill_headed, fill_within}
+use Rattle.c2_bmff_boxes.proofs.WalkLemmas.{outside_map}
 use Rattle.c2_bmff_boxes.proofs.reading.roots.Goals as goal
 
 -- in a file of 2^62 bytes or more, its size is the first test to fail
@@ -50,5 +51,11 @@ returns-then-not-branch-clause-cause g c = (omega (arith, c.in_ok-size.ensures.l
 -- one of its root boxes is refused
 pub returns-in-Err-clause-cause : goal.returns-in-Err-clause-cause
 returns-in-Err-clause-cause g c =
-    subst (λ n. IsRootsCause (g.S.Source.len c.args.source.now) n (g.S.Source.faults c.walk.new.source) c.in-Err.error) (c.in_ok-is_bmff.ensures.cause.ok ∙ c.in_ok-size.ensures.cause.ok)
-    (subst (λ n. IsRootsCause n (g.S.Source.faults c.is_bmff.new.source) (g.S.Source.faults c.walk.new.source) c.in-Err.error) (c.in_ok-is_bmff.ensures.stays.same_len ∙ c.in_ok-size.ensures.stays.same_len) c.in-Err.ensures.cause)
+    let size = c.in_ok-size.ensures in
+    let begins = c.in_ok-is_bmff.ensures in
+    let len = g.S.Source.len in
+    let faults = g.S.Source.faults in
+    let new = c.walk.new.source in
+    subst (λ n. IsRootsCause (len c.args.source.now) n (faults new) c.in-Err.error) (begins.cause.ok ∙ size.cause.ok)
+    (subst (λ n. IsRootsCause n (faults c.is_bmff.new.source) (faults new) c.in-Err.error)
+    (begins.stays.same_len ∙ size.stays.same_len) c.in-Err.ensures.reads.cause)

@@ -2,7 +2,8 @@ use Rattle.std.proofs.Common.{◌++◌, refl, sym}
 use Rattle.std.proofs.lemmas.Result.{err_from_is_err_and}
 use Rattle.c2_spec.specs.Bmff.Store.{c2pa_user_type}
 use Rattle.c2_bmff_boxes.specs.Appends.{before_store}
-use Rattle.c2_bmff_boxes.proofs.Appending.{box_split, follows, same, stops}
+use Rattle.c2_copying.proofs.Appending.{follows, same, stops}
+use Rattle.c2_bmff_boxes.proofs.Appending.{box_split}
 use Rattle.c2_bmff_boxes.proofs.writing.put_box.Goals as goal
 
 -- the header fails

@@ -15,4 +15,4 @@ returns-in-Jpeg c = λ file f found is located.
 pub returns-in-Bmff : goal.returns-in-Bmff
 returns-in-Bmff c = λ file f found is located.
     let of = subst (IsContainerOf file) c.in-Bmff.is is in
-    bmff_left file f.start f.length c.clearing_of.result of.0 (c.clearing_of.ensures file of.1 (bmff_found file c.args.found.now f found of.0 located))
+    bmff_left file f.start f.length c.clearing_of.result of.0 (c.clearing_of.ensures.clears file of.1 (bmff_found file c.args.found.now f found of.0 located))

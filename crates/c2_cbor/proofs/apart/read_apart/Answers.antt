@@ -1,10 +1,10 @@
 use Rattle.std.proofs.Common.{Ok, ap, ◌∙◌, arith, sym}
 use Rattle.std.proofs.lemmas.Result.{err_from_is_err_and}
 use Rattle.c2_cbor.specs.Apart.{with_texts}
-use Rattle.c2_cbor.specs.Reading.{is_known, pairs_seen}
+use Rattle.c2_cbor_spec.specs.Reading.{is_known, pairs_seen}
 use Rattle.c2_cbor.proofs.HeldApart.{fields_item, fields_wrong}
 use Rattle.c2_cbor.proofs.Loops.{item_at-wrong}
-use Rattle.c2_cbor.proofs.Views.{view-Map}
+use Rattle.c2_cbor_spec.proofs.Views.{view-Map}
 use Rattle.c2_cbor.proofs.apart.read_apart.Goals as goal
 
 pub returns-in_err-head : goal.returns-in_err-head

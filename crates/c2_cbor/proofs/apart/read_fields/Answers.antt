@@ -7,13 +7,13 @@ use Rattle.c2_spec.specs.Cbor.Deterministic.{preferred}
 use Rattle.c2_spec.specs.Cbor.View.{view}
 use Rattle.c2_spec.specs.declared.cbor.Cbor.{Cbor}
 use Rattle.c2_cbor.specs.Apart.{pairs_with, whole_value}
-use Rattle.c2_cbor.specs.Reading.{is_known, with_key, pairs, pairs_seen, item_at}
-use Rattle.c2_cbor.specs.Tracking.{keys_of, first_equal}
+use Rattle.c2_cbor_spec.specs.Reading.{is_known, with_key, pairs, pairs_seen, item_at}
+use Rattle.c2_cbor_spec.specs.Tracking.{keys_of, first_equal}
 use Rattle.c2_cbor.proofs.HeldApart.{IsThere, apart_on, there_on}
 use Rattle.c2_cbor.proofs.KeyFaults.{until_none, until_fault, until_next, until_key}
 use Rattle.c2_cbor.proofs.Loops.{pairs_on, pairs_wrong, pairs_wrong_value, pairs_out, pairs_same}
-use Rattle.c2_cbor.proofs.Shorter.{under_ok, item_at-under}
-use Rattle.c2_cbor.proofs.Tracks.{keys_push}
+use Rattle.c2_cbor_spec.proofs.Shorter.{under_ok, item_at-under}
+use Rattle.c2_cbor_spec.proofs.Tracks.{keys_push}
 use Rattle.c2_cbor.proofs.apart.read_fields.Goals as goal
 
 pub returns-in-Some : goal.returns-in-Some
@@ -34,18 +34,31 @@ pub returns-in_err-check_keys-in-Err-read_value : goal.returns-in_err-check_keys
 returns-in_err-check_keys-in-Err-read_value c =
     let total = pairs is_known (item_at is_known c.args.levels) (suc (length c.args.bytes.now)) c.args.count [] c.args.bytes.now in
     let p = err_from_is_err_and c.from_residual-in_err-check_keys-in-Err-read_value.result c.from_residual-in_err-check_keys-in-Err-read_value.ensures.1 in
-    let key = until_key (item_at is_known c.args.levels) (item_at-under is_known c.args.levels) total (pairs_with c.args.name.now c.loop-after.texts (pairs_seen c.loop-after.found.items)) c.loop-after.found.items c.push_member.new.members.items (c.in-Ok.read.0, _) c.in_ok-push_member-in-Err-read_value.ensures
-    c.loop-after.places.items c.push.new.self.items c.loop-after.rest.now c.loop-after.due c.in-Ok.read.1.now c.in_ok-push.ensures.items c.loop-after.invariant.1 (sym c.in-None.ensures) c.in-Ok.ensures c.loop-after.invariant.0 in
+    let item = item_at is_known c.args.levels in
+    let under = item_at-under is_known c.args.levels in
+    let found = c.loop-after.found.items in
+    let whole = pairs_with c.args.name.now c.loop-after.texts (pairs_seen found) in
+    let key = until_key item under total whole found c.push_member.new.members.items (c.in-Ok.read.0, _)
+    c.in_ok-push_member-in-Err-read_value.ensures c.loop-after.places.items c.push.new.self.items
+    c.loop-after.rest.now c.loop-after.due c.in-Ok.read.1.now c.in_ok-push.ensures.items c.loop-after.invariant.1
+    (sym c.in-None.ensures) c.in-Ok.ensures c.loop-after.invariant.0 in
     rw (p.1, p.2) (until_fault c.push_member.new.members.items _ c.push.new.self.items total _ c.as_slice-in-Err-read_value.ensures.value _ _ c.as_slice-in-Err-read_value-2.ensures.value c.in_err-check_keys-in-Err-read_value.ensures.equal key)
 
 pub returns-in-Err-read_value : goal.returns-in-Err-read_value
 returns-in-Err-read_value c =
     let total = pairs is_known (item_at is_known c.args.levels) (suc (length c.args.bytes.now)) c.args.count [] c.args.bytes.now in
-    let key = until_key (item_at is_known c.args.levels) (item_at-under is_known c.args.levels) total (pairs_with c.args.name.now c.loop-after.texts (pairs_seen c.loop-after.found.items)) c.loop-after.found.items c.push_member.new.members.items (c.in-Ok.read.0, _) c.in_ok-push_member-in-Err-read_value.ensures
-    c.loop-after.places.items c.push.new.self.items c.loop-after.rest.now c.loop-after.due c.in-Ok.read.1.now c.in_ok-push.ensures.items c.loop-after.invariant.1 (sym c.in-None.ensures) c.in-Ok.ensures c.loop-after.invariant.0 in
+    let item = item_at is_known c.args.levels in
+    let under = item_at-under is_known c.args.levels in
+    let found = c.loop-after.found.items in
+    let whole = pairs_with c.args.name.now c.loop-after.texts (pairs_seen found) in
+    let key = until_key item under total whole found c.push_member.new.members.items (c.in-Ok.read.0, _)
+    c.in_ok-push_member-in-Err-read_value.ensures c.loop-after.places.items c.push.new.self.items
+    c.loop-after.rest.now c.loop-after.due c.in-Ok.read.1.now c.in_ok-push.ensures.items c.loop-after.invariant.1
+    (sym c.in-None.ensures) c.in-Ok.ensures c.loop-after.invariant.0 in
     let go = until_none c.push_member.new.members.items _ c.push.new.self.items total _ c.as_slice-in-Err-read_value.ensures.value c.in_ok-check_keys-in-Err-read_value.ensures.distinct key in
-    pairs_wrong_value is_known (item_at is_known c.args.levels) (item_at-under is_known c.args.levels) total
-    (pairs_with c.args.name.now c.loop-after.texts (pairs_seen c.loop-after.found.items)) (keys_of c.loop-after.found.items) c.loop-after.rest.now c.loop-after.due c.in-Err-read_value.e (view c.in-Ok.read.0) c.in-Ok.read.1.now (sym c.in-None.ensures) c.in-Ok.ensures go.1 c.in-Err-read_value.ensures.value go.0
+    pairs_wrong_value is_known item under total whole (keys_of found) c.loop-after.rest.now c.loop-after.due
+    c.in-Err-read_value.e (view c.in-Ok.read.0) c.in-Ok.read.1.now (sym c.in-None.ensures) c.in-Ok.ensures go.1
+    c.in-Err-read_value.ensures.value go.0
 
 pub loop-after-smaller : goal.loop-after-smaller
 loop-after-smaller c =
@@ -75,7 +88,9 @@ loop-after-preserved c =
           pairs_same is_known item under total _ _ _ _ c.in-Ok-read_value.read.1.now _ _
           (ap (pairs_with name texts) e ∙ apart_on name k (view value.item) found c.loop-after.texts value.texts c.is_wanted-wanted.result c.is_wanted-wanted.ensures c.in-Ok-read_value.ensures.wanted c.loop-after.invariant.2 go.1)
           keys c.one_fewer-due.ensures (pairs_on is_known item under total
-          (pairs_with name c.loop-after.texts (pairs_seen found)) (keys_of found) c.loop-after.rest.now c.loop-after.due k (whole_value (view value.item) value.texts) c.in-Ok.read.1.now c.in-Ok-read_value.read.1.now (sym c.in-None.ensures) c.in-Ok.ensures go.1 c.in-Ok-read_value.ensures.value go.0)) key,
+          (pairs_with name c.loop-after.texts (pairs_seen found)) (keys_of found) c.loop-after.rest.now c.loop-after.due
+          k (whole_value (view value.item) value.texts) c.in-Ok.read.1.now c.in-Ok-read_value.read.1.now
+          (sym c.in-None.ensures) c.in-Ok.ensures go.1 c.in-Ok-read_value.ensures.value go.0)) key,
       omega (arith, ap length pushed, length_push found p, ap length c.in_ok-push.ensures.items, length_push c.loop-after.places.items (length c.loop-after.rest.now), c.loop-after.invariant.1),
       subst (λ ps. IsThere name texts ps) (sym e) (there_on name k (view value.item) found c.loop-after.texts value.texts c.is_wanted-wanted.result c.is_wanted-wanted.ensures c.in-Ok-read_value.ensures.wanted c.loop-after.invariant.2),
     )

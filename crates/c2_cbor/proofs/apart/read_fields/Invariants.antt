@@ -1,11 +1,11 @@
 use Rattle.std.proofs.Common.{◌≡◌, suc, length, []}
 use Rattle.c2_cbor.specs.Apart.{pairs_with}
-use Rattle.c2_cbor.specs.Reading.{is_known, pairs, pairs_seen, item_at}
-use Rattle.c2_cbor.specs.Tracking.{keys_of, first_equal}
+use Rattle.c2_cbor_spec.specs.Reading.{is_known, pairs, pairs_seen, item_at}
+use Rattle.c2_cbor_spec.specs.Tracking.{keys_of, first_equal}
 use Rattle.c2_cbor.proofs.HeldApart.{IsThere}
 use Rattle.c2_cbor.proofs.Loops.{PairsGo}
 use Rattle.c2_cbor.proofs.KeyFaults.{Until}
-use Rattle.c2_cbor.proofs.Shorter.{item_at-under}
+use Rattle.c2_cbor_spec.proofs.Shorter.{item_at-under}
 use Rattle.c2_cbor.proofs.apart.read_fields.Given as goal
 
 abbrev pub invariant-loop-after : goal.invariant-loop-after

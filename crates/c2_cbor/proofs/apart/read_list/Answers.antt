@@ -1,6 +1,6 @@
 use Rattle.std.proofs.Common.{Ok, ap, ◌∙◌}
 use Rattle.std.proofs.lemmas.Result.{err_from_is_err_and}
-use Rattle.c2_cbor.specs.Reading.{is_known}
+use Rattle.c2_cbor_spec.specs.Reading.{is_known}
 use Rattle.c2_cbor.proofs.HeldApart.{texts_item}
 use Rattle.c2_cbor.proofs.Loops.{item_at-wrong}
 use Rattle.c2_cbor.proofs.apart.read_list.Goals as goal

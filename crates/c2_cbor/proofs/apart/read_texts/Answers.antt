@@ -3,10 +3,10 @@ use Rattle.std.proofs.lemmas.Result.{err_from_is_err_and}
 use Rattle.std.proofs.lemmas.List.{map_push}
 use Rattle.c2_spec.specs.Cbor.Item.{text}
 use Rattle.c2_spec.specs.Cbor.View.{view}
-use Rattle.c2_cbor.specs.Reading.{is_known, items, item_at}
-use Rattle.c2_cbor.proofs.Shorter.{under_ok, item_at-under}
+use Rattle.c2_cbor_spec.specs.Reading.{is_known, items, item_at}
+use Rattle.c2_cbor_spec.proofs.Shorter.{under_ok, item_at-under}
 use Rattle.c2_cbor.proofs.Loops.{items_on, items_wrong, items_out}
-use Rattle.c2_cbor.proofs.Views.{view-text}
+use Rattle.c2_cbor_spec.proofs.Views.{view-text}
 use Rattle.c2_cbor.proofs.apart.read_texts.Goals as goal
 
 pub returns-in-Some : goal.returns-in-Some

@@ -1,8 +1,8 @@
 use Rattle.std.proofs.Common.{suc, map, length}
 use Rattle.c2_spec.specs.Cbor.Item.{text}
-use Rattle.c2_cbor.specs.Reading.{is_known, items, item_at}
+use Rattle.c2_cbor_spec.specs.Reading.{is_known, items, item_at}
 use Rattle.c2_cbor.proofs.Loops.{ItemsGo}
-use Rattle.c2_cbor.proofs.Shorter.{item_at-under}
+use Rattle.c2_cbor_spec.proofs.Shorter.{item_at-under}
 use Rattle.c2_cbor.proofs.apart.read_texts.Given as goal
 
 abbrev pub invariant-loop-after : goal.invariant-loop-after

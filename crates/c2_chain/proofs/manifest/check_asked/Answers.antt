@@ -19,7 +19,9 @@ returns-in-Err-verdict_of-clause-panel g c =
 -- the panel was asked, and the rules from the verdict on have an answer
 pub returns-in-Ok-check_judged-clause-panel : goal.returns-in-Ok-check_judged-clause-panel
 returns-in-Ok-check_judged-clause-panel g c =
-    hears_later _ _ _ chain_heard chain_heard (AsksThese (option_to_list (question_in c.args.own.now))) (AsksThese (option_to_list c.in-Ok.q)) c.args.judges.now c.verdict_of.new.judges c.in-Ok-verdict_of.verdict _ tt (λ qs is. is ∙ ap option_to_list (sym c.in-Ok.ensures)) c.in-Ok-verdict_of.ensures.panel
+    hears_later _ _ _ chain_heard chain_heard (AsksThese (option_to_list (question_in c.args.own.now)))
+    (AsksThese (option_to_list c.in-Ok.q)) c.args.judges.now c.verdict_of.new.judges c.in-Ok-verdict_of.verdict _ tt
+    (λ qs is. is ∙ ap option_to_list (sym c.in-Ok.ensures)) c.in-Ok-verdict_of.ensures.panel
 
 -- or memory ran out at them
 pub returns-clause-panel : goal.returns-clause-panel

@@ -7,13 +7,21 @@ use Rattle.c2_check_ingredients.proofs.ingredients.check_named.Goals as goal
 -- what was found out of the child at the place has the digests of that child
 pub check_child-requires : goal.check_child-requires
 check_child-requires g c =
-    (fact_there g.H.Hashing.digest_of c.args.chain.now c.manifests.result.now c.args.i c.in-Some.place c.fact_at-fact.result c.index-manifests-place.result
-    c.if-place-i.false c.requires.inside c.manifests.ensures c.index-manifests-place.is c.fact_at-fact.ensures).digests
+    let at = c.args.store.now.at in
+    (fact_there g.H.Hashing.digest_of at.all.now c.manifests.result.now at.place c.in-Some.place c.fact_at-fact.result
+    c.index-manifests-place.result c.if-place-store.false at.inside c.manifests.ensures c.index-manifests-place.is
+    c.fact_at-fact.ensures).digests
 
 -- what fails by the child that an ingredient names fails by where the manifest with that label stands
 pub returns : goal.returns
 returns g c =
-    child_stands g.H.Hashing.digest_of c.args.own.now (assertion_box_uri c.args.own.now (option_map (λ x. x.now) c.args.name)) c.args.manifest.now c.args.sign.now c.args.chain.now c.manifests.result.now c.args.i c.in-Some.place c.args.target.now
-    c.index-manifests-place.result c.fact_at-fact.result.touched c.check_child.result c.requires.inside (sym c.in-Some.ensures) c.if-place-i.false c.manifests.ensures c.index-manifests-place.is
-    (fact_there g.H.Hashing.digest_of c.args.chain.now c.manifests.result.now c.args.i c.in-Some.place c.fact_at-fact.result c.index-manifests-place.result
-    c.if-place-i.false c.requires.inside c.manifests.ensures c.index-manifests-place.is c.fact_at-fact.ensures).touched c.check_child.ensures
+    let at = c.args.store.now.at in
+    let named = c.args.named.now in
+    child_stands g.H.Hashing.digest_of c.args.own.now
+    (assertion_box_uri c.args.own.now (option_map (λ x. x.now) c.args.name)) named.manifest.now named.sign.now at.all.now
+    c.manifests.result.now at.place c.in-Some.place named.label.now c.index-manifests-place.result
+    c.fact_at-fact.result.touched c.check_child.result at.inside (sym c.in-Some.ensures) c.if-place-store.false
+    c.manifests.ensures c.index-manifests-place.is
+    (fact_there g.H.Hashing.digest_of at.all.now c.manifests.result.now at.place c.in-Some.place c.fact_at-fact.result
+    c.index-manifests-place.result c.if-place-store.false at.inside c.manifests.ensures c.index-manifests-place.is
+    c.fact_at-fact.ensures).touched c.check_child.ensures

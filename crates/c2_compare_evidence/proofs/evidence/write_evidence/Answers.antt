@@ -26,7 +26,10 @@ pub returns-clause-wrote : goal.returns-clause-wrote
 returns-clause-wrote g c = λ p is.
     written_last c.write_later.result (g.W.Sink.written c.args.report.now) (g.W.Sink.written c.write_location.new.report) (g.W.Sink.written c.write_later.new.report)
     (opening (binder_view c.args.found.now.bound_by) ++ printed (location_view c.args.found.now.location)) (later_lines (binder_view c.args.found.now.bound_by) c.args.found.now.left.now c.args.found.now.right.now) (evidence_text p)
-    (appends_after (g.W.Sink.written c.args.report.now) (g.W.Sink.written c.write_opening.new.report) (g.W.Sink.written c.write_location.new.report) (opening (binder_view c.args.found.now.bound_by)) (printed (location_view c.args.found.now.location)) c.in-Ok.ensures.wrote.whole c.in-Ok-write_location.ensures.wrote.whole)
+    (appends_after (g.W.Sink.written c.args.report.now) (g.W.Sink.written c.write_opening.new.report)
+    (g.W.Sink.written c.write_location.new.report) (opening (binder_view c.args.found.now.bound_by))
+    (printed (location_view c.args.found.now.location)) c.in-Ok.ensures.wrote.whole
+    c.in-Ok-write_location.ensures.wrote.whole)
     c.write_later.ensures.wrote
     (found_parts c.args.found.now p is ∙ sym (append_assoc (opening (binder_view c.args.found.now.bound_by)) (printed (location_view c.args.found.now.location)) _))
 

@@ -12,7 +12,10 @@ use Rattle.c2_compare_opened.proofs.stores.compare_stores.Goals as goal
 pub returns-in-Ok-clause-compared : goal.returns-in-Ok-clause-compared
 returns-in-Ok-clause-compared g c = λ a known b known' hash said one two.
     subst (λ (x : Compared). IsComparedAs hash said a b (g.W.Sink.written c.args.report.now) (g.W.Sink.written c.settle.new.report) (Ok x)) (sym c.compared.ensures)
-    (settled_as hash said a b one.store two.store one.accepted two.accepted (λ s t one p q. c.a_first_difference_is_real.ensures.real hash said a b s t one p q) c.args.one.now.summary (g.W.Sink.written c.args.report.now) (g.W.Sink.written c.settle.new.report) one.counted c.in-Ok.settled (c.in-Ok.ensures.settled a known b known' hash said one two))
+    (settled_as hash said a b one.store two.store one.accepted two.accepted
+    (λ s t one p q. c.a_first_difference_is_real.ensures.real hash said a b s t one p q) c.args.one.now.summary
+    (g.W.Sink.written c.args.report.now) (g.W.Sink.written c.settle.new.report) one.counted c.in-Ok.settled
+    (c.in-Ok.ensures.settled a known b known' hash said one two))
 
 pub returns-in-Ok-clause-first : goal.returns-in-Ok-clause-first
 returns-in-Ok-clause-first g c = reads_then _ _ _ _ _ _ _ _ _ tt c.in-Ok.ensures.first
@@ -28,7 +31,10 @@ returns-in-Ok-clause-report g c = writes_then _ _ _ _ tt c.in-Ok.ensures.report
 -- what was written is a prefix of the text
 pub returns-in-Err-clause-compared : goal.returns-in-Err-clause-compared
 returns-in-Err-clause-compared g c = λ a known b known' hash said one two.
-    failed hash said a b one.store two.store one.accepted two.accepted (λ s t one p q. c.a_first_difference_is_real.ensures.real hash said a b s t one p q) c.in-Err.error (g.W.Sink.written c.args.report.now) (g.W.Sink.written c.settle.new.report) (c.in-Err.ensures.settled a known b known' hash said one two)
+    failed hash said a b one.store two.store one.accepted two.accepted
+    (λ s t one p q. c.a_first_difference_is_real.ensures.real hash said a b s t one p q) c.in-Err.error
+    (g.W.Sink.written c.args.report.now) (g.W.Sink.written c.settle.new.report)
+    (c.in-Err.ensures.settled a known b known' hash said one two)
 
 pub returns-in-Err-clause-first : goal.returns-in-Err-clause-first
 returns-in-Err-clause-first g c = reads_error _ _ _ _ _ _ _ _ _ (λ h. h) c.in-Err.ensures.first

@@ -7,11 +7,15 @@ use Rattle.c2_compare_sameness.proofs.same.is_given.Goals as goal
 -- this manifest has all of it
 pub returns-then-gives : goal.returns-then-gives
 returns-then-gives c =
-    given_found (slice_get c.args.first.now c.args.n) (λ (r : Reading). gives_at c.args.first.now c.args.n r c.args.second.now) (length c.args.second.now) c.loop-m.m c.in_ok-gives.gives
-    c.loop-m-test.true c.loop-m.invariant c.in_ok-gives.ensures c.if-gives.true
+    let at = c.args.left.now in
+    given_found (slice_get at.all.now at.place) (λ (r : Reading). gives_at at.all.now at.place r c.args.second.now)
+    (length c.args.second.now) c.loop-m.m c.in_ok-gives.gives c.loop-m-test.true c.loop-m.invariant
+    c.in_ok-gives.ensures c.if-gives.true
 
 -- it doesn't
 pub loop-m-preserved : goal.loop-m-preserved
 loop-m-preserved c =
-    given_passed (slice_get c.args.first.now c.args.n) (λ (r : Reading). gives_at c.args.first.now c.args.n r c.args.second.now) (length c.args.second.now) c.loop-m.m c.in_ok-gives.gives
-    c.loop-m-test.true c.loop-m.invariant c.in_ok-gives.ensures c.if-gives.false
+    let at = c.args.left.now in
+    given_passed (slice_get at.all.now at.place) (λ (r : Reading). gives_at at.all.now at.place r c.args.second.now)
+    (length c.args.second.now) c.loop-m.m c.in_ok-gives.gives c.loop-m-test.true c.loop-m.invariant
+    c.in_ok-gives.ensures c.if-gives.false

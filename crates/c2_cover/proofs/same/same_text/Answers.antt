@@ -1,4 +1,4 @@
-use Rattle.std.proofs.Common.{◌≡◌, ◌≤◌, ◌+◌, ◌-◌, ◌∙◌, ◌&&◌, ap, sym, arith, length}
+use Rattle.std.proofs.Common.{◌≡◌, ◌≤◌, ℕ, ◌+◌, ◌-◌, ◌∙◌, Bool, ◌&&◌, List, ap, sym, arith, length}
 use Rattle.std.specs.Prelude.{bytes_eq}
 use Rattle.c2_cover.specs.Covers.{text_of}
 use Rattle.c2_cover.specs.Unread.{Lies, unread}
@@ -13,11 +13,15 @@ returns-then-count-eq0-clause-same g c file known copy known2 =
     let two = before.second_stays.same_bytes ∙ known2 in
     let lies : Lies c.in_ok-mine.mine (length c.refill.new.buf) = rw c.refill.auto.buf c.in_ok-mine.ensures.filled.lies in
     let lies2 : Lies c.in_ok-theirs.theirs (length c.refill-in-pieces.new.buf) = rw c.refill-in-pieces.auto.buf c.in_ok-theirs.ensures.filled.lies in
-    let now : bytes_eq (text_of c.args.cover.now file) (text_of c.args.other.now copy) ≡ bytes_eq (unread c.in_ok-mine.mine c.refill.new.buf c.refill.new.reader file) (unread c.in_ok-theirs.theirs c.refill-in-pieces.new.buf c.refill-in-pieces.new.reader copy) =
+    let left : List ℕ = unread c.in_ok-mine.mine c.refill.new.buf c.refill.new.reader file in
+    let right : List ℕ = unread c.in_ok-theirs.theirs c.refill-in-pieces.new.buf c.refill-in-pieces.new.reader copy in
+    let now : bytes_eq (text_of c.args.cover.now file) (text_of c.args.other.now copy) ≡ bytes_eq left right =
     before.same file known copy known2
     ∙ ap (λ xs. bytes_eq xs (unread c.pieces.theirs c.pieces.right c.pieces.two copy)) (sym (c.in_ok-mine.ensures.filled.same file one))
-    ∙ ap (λ ys. bytes_eq (unread c.in_ok-mine.mine c.refill.new.buf c.refill.new.reader file) ys) (sym (c.in_ok-theirs.ensures.filled.same copy two)) in
-    ended_at c.in_ok-mine.mine c.in_ok-theirs.theirs c.refill.new.buf c.refill-in-pieces.new.buf c.refill.new.reader c.refill-in-pieces.new.reader file copy lies lies2 (sym c.min-count.ensures ∙ c.if-count-eq0.true) (λ e. c.in_ok-mine.ensures.filled.end e file one) (λ e. c.in_ok-theirs.ensures.filled.end e copy two)
+    ∙ ap (λ ys. bytes_eq left ys) (sym (c.in_ok-theirs.ensures.filled.same copy two)) in
+    ended_at c.in_ok-mine.mine c.in_ok-theirs.theirs c.refill.new.buf c.refill-in-pieces.new.buf c.refill.new.reader
+    c.refill-in-pieces.new.reader file copy lies lies2 (sym c.min-count.ensures ∙ c.if-count-eq0.true)
+    (λ e. c.in_ok-mine.ensures.filled.end e file one) (λ e. c.in_ok-theirs.ensures.filled.end e copy two)
     ∙ sym now
 
 -- where neither has an unread byte, all of both are compared
@@ -38,14 +42,24 @@ returns-then-not-same_slices-clause-same g c file known copy known2 =
     let two = before.second_stays.same_bytes ∙ known2 in
     let lies : Lies c.in_ok-mine.mine (length c.refill.new.buf) = rw c.refill.auto.buf c.in_ok-mine.ensures.filled.lies in
     let lies2 : Lies c.in_ok-theirs.theirs (length c.refill-in-pieces.new.buf) = rw c.refill-in-pieces.auto.buf c.in_ok-theirs.ensures.filled.lies in
-    let now : bytes_eq (text_of c.args.cover.now file) (text_of c.args.other.now copy) ≡ bytes_eq (unread c.in_ok-mine.mine c.refill.new.buf c.refill.new.reader file) (unread c.in_ok-theirs.theirs c.refill-in-pieces.new.buf c.refill-in-pieces.new.reader copy) =
+    let left : List ℕ = unread c.in_ok-mine.mine c.refill.new.buf c.refill.new.reader file in
+    let right : List ℕ = unread c.in_ok-theirs.theirs c.refill-in-pieces.new.buf c.refill-in-pieces.new.reader copy in
+    let now : bytes_eq (text_of c.args.cover.now file) (text_of c.args.other.now copy) ≡ bytes_eq left right =
     before.same file known copy known2
     ∙ ap (λ xs. bytes_eq xs (unread c.pieces.theirs c.pieces.right c.pieces.two copy)) (sym (c.in_ok-mine.ensures.filled.same file one))
-    ∙ ap (λ ys. bytes_eq (unread c.in_ok-mine.mine c.refill.new.buf c.refill.new.reader file) ys) (sym (c.in_ok-theirs.ensures.filled.same copy two)) in
-    let small : c.min-count.result ≤ c.in_ok-mine.mine.to - c.in_ok-mine.mine.from = omega (arith, c.min-count.ensures) in
-    let small2 : c.min-count.result ≤ c.in_ok-theirs.theirs.to - c.in_ok-theirs.theirs.from = omega (arith, c.min-count.ensures) in
-    let prefixes = compared c.in_ok-mine.mine.from c.in_ok-mine.mine.to c.in_ok-theirs.theirs.from c.in_ok-theirs.theirs.to c.min-count.result c.refill.new.buf c.refill-in-pieces.new.buf c.refill.new.reader c.refill-in-pieces.new.reader file copy lies lies2 small small2 in
-    sym (now ∙ prefixes ∙ ap (λ b. b && bytes_eq (unread (pending (c.in_ok-mine.mine.from + c.min-count.result) c.in_ok-mine.mine.to) c.refill.new.buf c.refill.new.reader file) (unread (pending (c.in_ok-theirs.theirs.from + c.min-count.result) c.in_ok-theirs.theirs.to) c.refill-in-pieces.new.buf c.refill-in-pieces.new.reader copy)) (sym c.if-not-same_slices.ensures))
+    ∙ ap (λ ys. bytes_eq left ys) (sym (c.in_ok-theirs.ensures.filled.same copy two)) in
+    let mine = c.in_ok-mine.mine in
+    let theirs = c.in_ok-theirs.theirs in
+    let n : ℕ = c.min-count.result in
+    let small : n ≤ mine.to - mine.from = omega (arith, c.min-count.ensures) in
+    let small2 : n ≤ theirs.to - theirs.from = omega (arith, c.min-count.ensures) in
+    let more : Bool =
+    bytes_eq (unread (pending (mine.from + n) mine.to) c.refill.new.buf c.refill.new.reader file)
+    (unread (pending (theirs.from + n) theirs.to) c.refill-in-pieces.new.buf c.refill-in-pieces.new.reader copy) in
+    let prefixes =
+    compared mine.from mine.to theirs.from theirs.to n c.refill.new.buf c.refill-in-pieces.new.buf c.refill.new.reader
+    c.refill-in-pieces.new.reader file copy lies lies2 small small2 in
+    sym (now ∙ prefixes ∙ ap (λ b. b && more) (sym c.if-not-same_slices.ensures))
 
 -- after equal bytes, the covered texts are equal just when what is unread of them is
 pub pieces-preserved : goal.pieces-preserved
@@ -64,8 +78,16 @@ pieces-preserved g c =
       other_size = before.other_size ∙ sym theirs.same_size;
       mine = record { ordered = omega (arith, c.min-count.ensures, mine.filled.lies.ordered); inside = omega (arith, len, mine.filled.lies.inside) };
       theirs = record { ordered = omega (arith, c.min-count.ensures, theirs.filled.lies.ordered); inside = omega (arith, len2, theirs.filled.lies.inside) };
-      first_stays = record { same_len = mine.stays.same_len ∙ before.first_stays.same_len; same_bytes = mine.stays.same_bytes ∙ before.first_stays.same_bytes; later = omega (arith, mine.stays.later, before.first_stays.later) };
-      second_stays = record { same_len = theirs.stays.same_len ∙ before.second_stays.same_len; same_bytes = theirs.stays.same_bytes ∙ before.second_stays.same_bytes; later = omega (arith, theirs.stays.later, before.second_stays.later) };
+      first_stays = record {
+        same_len = mine.stays.same_len ∙ before.first_stays.same_len;
+        same_bytes = mine.stays.same_bytes ∙ before.first_stays.same_bytes;
+        later = omega (arith, mine.stays.later, before.first_stays.later);
+      };
+      second_stays = record {
+        same_len = theirs.stays.same_len ∙ before.second_stays.same_len;
+        same_bytes = theirs.stays.same_bytes ∙ before.second_stays.same_bytes;
+        later = omega (arith, theirs.stays.later, before.second_stays.later);
+      };
       first_count = mine.cause.ok ∙ before.first_count;
       second_count = theirs.cause.ok ∙ before.second_count;
       lengths = omega (arith, before.lengths, mine.filled.left, theirs.filled.left, c.min-count.ensures, mine.filled.lies.ordered, theirs.filled.lies.ordered);
@@ -75,12 +97,22 @@ pieces-preserved g c =
           let two = before.second_stays.same_bytes ∙ known2 in
           let lies : Lies c.in_ok-mine.mine (length c.refill.new.buf) = rw c.refill.auto.buf c.in_ok-mine.ensures.filled.lies in
           let lies2 : Lies c.in_ok-theirs.theirs (length c.refill-in-pieces.new.buf) = rw c.refill-in-pieces.auto.buf c.in_ok-theirs.ensures.filled.lies in
-          let now : bytes_eq (text_of c.args.cover.now file) (text_of c.args.other.now copy) ≡ bytes_eq (unread c.in_ok-mine.mine c.refill.new.buf c.refill.new.reader file) (unread c.in_ok-theirs.theirs c.refill-in-pieces.new.buf c.refill-in-pieces.new.reader copy) =
+          let left : List ℕ = unread c.in_ok-mine.mine c.refill.new.buf c.refill.new.reader file in
+          let right : List ℕ = unread c.in_ok-theirs.theirs c.refill-in-pieces.new.buf c.refill-in-pieces.new.reader copy in
+          let now : bytes_eq (text_of c.args.cover.now file) (text_of c.args.other.now copy) ≡ bytes_eq left right =
           before.same file known copy known2
           ∙ ap (λ xs. bytes_eq xs (unread c.pieces.theirs c.pieces.right c.pieces.two copy)) (sym (c.in_ok-mine.ensures.filled.same file one))
-          ∙ ap (λ ys. bytes_eq (unread c.in_ok-mine.mine c.refill.new.buf c.refill.new.reader file) ys) (sym (c.in_ok-theirs.ensures.filled.same copy two)) in
-          let small : c.min-count.result ≤ c.in_ok-mine.mine.to - c.in_ok-mine.mine.from = omega (arith, c.min-count.ensures) in
-          let small2 : c.min-count.result ≤ c.in_ok-theirs.theirs.to - c.in_ok-theirs.theirs.from = omega (arith, c.min-count.ensures) in
-          let prefixes = compared c.in_ok-mine.mine.from c.in_ok-mine.mine.to c.in_ok-theirs.theirs.from c.in_ok-theirs.theirs.to c.min-count.result c.refill.new.buf c.refill-in-pieces.new.buf c.refill.new.reader c.refill-in-pieces.new.reader file copy lies lies2 small small2 in
-          now ∙ prefixes ∙ ap (λ b. b && bytes_eq (unread (pending (c.in_ok-mine.mine.from + c.min-count.result) c.in_ok-mine.mine.to) c.refill.new.buf c.refill.new.reader file) (unread (pending (c.in_ok-theirs.theirs.from + c.min-count.result) c.in_ok-theirs.theirs.to) c.refill-in-pieces.new.buf c.refill-in-pieces.new.reader copy)) (sym c.if-not-same_slices.ensures);
+          ∙ ap (λ ys. bytes_eq left ys) (sym (c.in_ok-theirs.ensures.filled.same copy two)) in
+          let mine = c.in_ok-mine.mine in
+          let theirs = c.in_ok-theirs.theirs in
+          let n : ℕ = c.min-count.result in
+          let small : n ≤ mine.to - mine.from = omega (arith, c.min-count.ensures) in
+          let small2 : n ≤ theirs.to - theirs.from = omega (arith, c.min-count.ensures) in
+          let more : Bool =
+          bytes_eq (unread (pending (mine.from + n) mine.to) c.refill.new.buf c.refill.new.reader file)
+          (unread (pending (theirs.from + n) theirs.to) c.refill-in-pieces.new.buf c.refill-in-pieces.new.reader copy) in
+          let prefixes =
+          compared mine.from mine.to theirs.from theirs.to n c.refill.new.buf c.refill-in-pieces.new.buf c.refill.new.reader
+          c.refill-in-pieces.new.reader file copy lies lies2 small small2 in
+          now ∙ prefixes ∙ ap (λ b. b && more) (sym c.if-not-same_slices.ensures);
     }

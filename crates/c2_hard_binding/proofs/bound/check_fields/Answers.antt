@@ -9,7 +9,10 @@ use Rattle.c2_hard_binding.proofs.bound.check_fields.Goals as goal
 -- a range isn't in order
 pub returns-in-Err-BadRange-clause-reads : goal.returns-in-Err-BadRange-clause-reads
 returns-in-Err-BadRange-clause-reads g c =
-    reads_after g.S.Source.len g.S.Source.known g.S.Source.faults c.args.source.now c.cover.new.source c.fails-in-Err-BadRange.result c.in-Err-BadRange.ensures.reads.stays (bad_range_count _ _ c.in-Err-BadRange.field-0 c.in-Err-BadRange.field-0-0 c.in-Err-BadRange.field-0-is c.in-Err-BadRange.ensures.reads.cause) c.fails-in-Err-BadRange.ensures.cause
+    reads_after g.S.Source.len g.S.Source.known g.S.Source.faults c.args.source.now c.cover.new.source
+    c.fails-in-Err-BadRange.result c.in-Err-BadRange.ensures.reads.stays
+    (bad_range_count _ _ c.in-Err-BadRange.field-0 c.in-Err-BadRange.field-0-0 c.in-Err-BadRange.field-0-is
+    c.in-Err-BadRange.ensures.reads.cause) c.fails-in-Err-BadRange.ensures.cause
 
 -- the digest is another
 pub returns-then-not-is_digest-clause-found : goal.returns-then-not-is_digest-clause-found

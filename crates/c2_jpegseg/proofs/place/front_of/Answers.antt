@@ -3,26 +3,26 @@ use Rattle.std.proofs.lemmas.List.{append-nil}
 use Rattle.std.proofs.Common.{length, drop, ◌≡◌, ◌∙◌, ◌++◌, true, false, [], sym, subst, refl, arith}
 use Rattle.c2_spec.specs.Jpeg.Segments.{MarkerFault}
 use Rattle.c2_spec.specs.Jpeg.Places.{SegmentsFault}
-use Rattle.c2_jpegseg.specs.Fronts.{IsFront}
-use Rattle.c2_jpegseg.specs.Passing.{kept_with, is_inside}
+use Rattle.c2_jpegseg_segments.specs.Fronts.{IsFront}
+use Rattle.c2_jpegseg_segments.specs.Passing.{kept_with, is_inside}
 use Rattle.c2_jpegseg.specs.Peeks.{Peeks}
-use Rattle.c2_jpegseg.specs.Segments.{segment_of}
-use Rattle.c2_jpegseg.proofs.Outside.{or_outside-map}
-use Rattle.c2_jpegseg.proofs.Unique.{begins_media}
-use Rattle.c2_jpegseg.proofs.Fronts.{extent_len}
-use Rattle.c2_jpegseg.proofs.Kept.{passes-start, passes-next, passes-refuse}
-use Rattle.c2_jpegseg.proofs.WindowLemmas.{shows_same}
+use Rattle.c2_jpegseg_segments.specs.Segments.{segment_of}
+use Rattle.c2_jpegseg_segments.proofs.Outside.{or_outside-map}
+use Rattle.c2_jpegseg_segments.proofs.Starts.{begins_media}
+use Rattle.c2_jpegseg_segments.proofs.Fronts.{extent_len}
+use Rattle.c2_jpegseg_segments.proofs.Kept.{passes-start, passes-next, passes-refuse}
+use Rattle.c2_jpegseg_segments.proofs.WindowLemmas.{shows_same}
 use Rattle.c2_jpegseg.proofs.place.front_of.Goals as goal
 
 pub segments-init : goal.segments-init
 segments-init g c = record {
-  inside = c.requires.inside;
+  inside = c.requires.start.inside;
   before = omega arith;
   stays = record { same_len = refl; same_bytes = refl; later = omega arith };
   count = refl;
   shows = c.requires.shows;
   passes = λ file known.
-      let w = c.requires.begun file known in
+      let w = c.requires.start.begun file known in
       passes-start file c.args.skip (IsFront (record { end = 2; only = true })) w.inside (begins_media file w.segments _ w.begins) (record { end = refl; only = refl });
 }
 
@@ -33,14 +33,14 @@ returns-in_err-extent-clause-fault g c =
     rw (p.1, p.2) (λ file known.
     let size : length file ≡ g.S.Source.len c.args.source.now = g.met.S.Source.known_len c.args.source.now file known in
     or_outside-map c.in_err-extent.field-0.0 (MarkerFault c.segments.at (drop c.segments.at file) c.in_err-extent.field-0.0) (SegmentsFault file c.in_err-extent.field-0.0)
-    (passes-refuse file c.args.skip c.segments.at (IsFront c.segments.front) c.in_err-extent.field-0.0 (omega (arith, size, c.requires.size, c.requires.bounded)) (before.passes file known))
-    (c.in_err-extent.ensures.next file (before.stays.same_bytes ∙ known)))
+    (passes-refuse file c.args.skip c.segments.at (IsFront c.segments.front) c.in_err-extent.field-0.0 (omega (arith, size, c.requires.start.whole, c.requires.start.bounded)) (before.passes file known))
+    (c.in_err-extent.ensures.read.next file (before.stays.same_bytes ∙ known)))
 
 pub segments-preserved-then-not-is_inside : goal.segments-preserved-then-not-is_inside
 segments-preserved-then-not-is_inside g c =
     let before = c.segments.invariant in
-    let next = rw c.in-Segment.is at c.in_ok-extent.ensures.next in
-    let by = rw c.in-Segment.is at c.in_ok-extent.ensures.inside in
+    let next = rw c.in-Segment.is at c.in_ok-extent.ensures.read.next in
+    let by = rw c.in-Segment.is at c.in_ok-extent.ensures.read.inside in
     let found = c.in_ok-extent.ensures in
     record {
       inside = by.inside;
@@ -50,7 +50,7 @@ segments-preserved-then-not-is_inside g c =
         same_bytes = found.stays.same_bytes ∙ before.stays.same_bytes;
         later = omega (arith, found.stays.later, before.stays.later);
       };
-      count = found.count ∙ before.count;
+      count = found.read.count ∙ before.count;
       shows = shows_same Peeks _ _ _ _ _ before.stays.same_len before.stays.same_bytes found.shows;
       passes = λ file known.
           let extent = next file (before.stays.same_bytes ∙ known) in
@@ -64,8 +64,8 @@ segments-preserved-then-not-is_inside g c =
 pub segments-preserved : goal.segments-preserved
 segments-preserved g c =
     let before = c.segments.invariant in
-    let next = rw c.in-Segment.is at c.in_ok-extent.ensures.next in
-    let by = rw c.in-Segment.is at c.in_ok-extent.ensures.inside in
+    let next = rw c.in-Segment.is at c.in_ok-extent.ensures.read.next in
+    let by = rw c.in-Segment.is at c.in_ok-extent.ensures.read.inside in
     let found = c.in_ok-extent.ensures in
     record {
       inside = by.inside;
@@ -75,7 +75,7 @@ segments-preserved g c =
         same_bytes = found.stays.same_bytes ∙ before.stays.same_bytes;
         later = omega (arith, found.stays.later, before.stays.later);
       };
-      count = found.count ∙ before.count;
+      count = found.read.count ∙ before.count;
       shows = shows_same Peeks _ _ _ _ _ before.stays.same_len before.stays.same_bytes found.shows;
       passes = λ file known.
           let extent = next file (before.stays.same_bytes ∙ known) in

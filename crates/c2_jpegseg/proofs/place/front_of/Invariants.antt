@@ -1,8 +1,8 @@
 use Rattle.std.proofs.Common.{◌≡◌, ◌-◌, ◌≤◌}
 use Rattle.std.specs.Option.{ForSome}
 use Rattle.c2_base.specs.Source.{StaysSource}
-use Rattle.c2_jpegseg.specs.Fronts.{IsFront}
-use Rattle.c2_jpegseg.specs.Passing.{Passes}
+use Rattle.c2_jpegseg_segments.specs.Fronts.{IsFront}
+use Rattle.c2_jpegseg_segments.specs.Passing.{Passes}
 use Rattle.c2_jpegseg.specs.Peeks.{Peeks}
 use Rattle.c2_jpegseg.proofs.place.front_of.Given as goal
 

@@ -1,11 +1,11 @@
 use Rattle.std.proofs.Common.{length, ◌≡◌, ◌∙◌, sym, subst, arith}
 use Rattle.c2_base.specs.declared.media.MediaError.TheVariants.{FileTooLarge}
 use Rattle.c2_spec.specs.Jpeg.Places.{SegmentsFault, too_large, not_media}
-use Rattle.c2_jpegseg.specs.Answers.{IsBegun}
-use Rattle.c2_jpegseg.specs.Fronts.{IsFront}
+use Rattle.c2_jpegseg_segments.specs.Findings.{IsBegun}
+use Rattle.c2_jpegseg_segments.specs.Fronts.{IsFront}
 use Rattle.c2_jpegseg.specs.Peeks.{Peeks}
-use Rattle.c2_jpegseg.proofs.Fronts.{has-place}
-use Rattle.c2_jpegseg.proofs.Kept.{walked_segments}
+use Rattle.c2_jpegseg_segments.proofs.Fronts.{has-place}
+use Rattle.c2_jpegseg_segments.proofs.Kept.{walked_segments}
 use Rattle.c2_jpegseg.proofs.place.insert_place.Goals as goal
 
 pub returns-then-size-ge-FILE_LEN_LIMIT-clause-fault : goal.returns-then-size-ge-FILE_LEN_LIMIT-clause-fault

@@ -9,7 +9,10 @@ use Rattle.c2_jumbf.proofs.children.find.Goals as goal
 
 pub loop-label-preserved : goal.loop-label-preserved
 loop-label-preserved c =
-    let road = YieldsList-from_str_split {s = c.into_iter-label-iterator.result} 0x2F c.args.path.now (lit< tt) (rw c.into_iter-label-iterator.ensures.into_iter_gives c.split-label-items.ensures.text) (rw c.into_iter-label-iterator.ensures.into_iter_gives c.split-label-items.ensures.has_more) (rw c.into_iter-label-iterator.ensures.into_iter_gives c.split-label-items.ensures.pattern) in
+    let road = YieldsList-from_str_split {s = c.into_iter-label-iterator.result} 0x2F c.args.path.now (lit< tt)
+    (rw c.into_iter-label-iterator.ensures.into_iter_gives c.split-label-items.ensures.text)
+    (rw c.into_iter-label-iterator.ensures.into_iter_gives c.split-label-items.ensures.has_more)
+    (rw c.into_iter-label-iterator.ensures.into_iter_gives c.split-label-items.ensures.pattern) in
     let turn = YieldsList-turn road c.loop-label.yielded _ c.loop-label.yielded_by _ _ c.in-Some.label c.in-Some.is c.next.ensures.steps in
     let n : length c.loop-label.yielded + 1 ≡ length (c.loop-label.yielded ++ c.in-Some.label ∷ []) = sym (length_push c.loop-label.yielded c.in-Some.label) in
     record {
@@ -21,25 +24,37 @@ loop-label-preserved c =
 
 pub returns-in-None-labelled_child-clause-none : goal.returns-in-None-labelled_child-clause-none
 returns-in-None-labelled_child-clause-none c =
-    let road = YieldsList-from_str_split {s = c.into_iter-label-iterator.result} 0x2F c.args.path.now (lit< tt) (rw c.into_iter-label-iterator.ensures.into_iter_gives c.split-label-items.ensures.text) (rw c.into_iter-label-iterator.ensures.into_iter_gives c.split-label-items.ensures.has_more) (rw c.into_iter-label-iterator.ensures.into_iter_gives c.split-label-items.ensures.pattern) in
+    let road = YieldsList-from_str_split {s = c.into_iter-label-iterator.result} 0x2F c.args.path.now (lit< tt)
+    (rw c.into_iter-label-iterator.ensures.into_iter_gives c.split-label-items.ensures.text)
+    (rw c.into_iter-label-iterator.ensures.into_iter_gives c.split-label-items.ensures.has_more)
+    (rw c.into_iter-label-iterator.ensures.into_iter_gives c.split-label-items.ensures.pattern) in
     let turn = YieldsList-turn road c.loop-label.yielded _ c.loop-label.yielded_by _ _ c.in-Some.label c.in-Some.is c.next.ensures.steps in
     walked_none c.args.tree.now c.args.start (path_labels c.args.path.now) (length c.loop-label.yielded) c.loop-label.at c.in-Some.label.now c.loop-label.invariant.walked turn c.in-None-labelled_child.ensures.none
 
 pub returns-in-None-labelled_child-clause-only : goal.returns-in-None-labelled_child-clause-only
 returns-in-None-labelled_child-clause-only c = λ i lead.
-    let road = YieldsList-from_str_split {s = c.into_iter-label-iterator.result} 0x2F c.args.path.now (lit< tt) (rw c.into_iter-label-iterator.ensures.into_iter_gives c.split-label-items.ensures.text) (rw c.into_iter-label-iterator.ensures.into_iter_gives c.split-label-items.ensures.has_more) (rw c.into_iter-label-iterator.ensures.into_iter_gives c.split-label-items.ensures.pattern) in
+    let road = YieldsList-from_str_split {s = c.into_iter-label-iterator.result} 0x2F c.args.path.now (lit< tt)
+    (rw c.into_iter-label-iterator.ensures.into_iter_gives c.split-label-items.ensures.text)
+    (rw c.into_iter-label-iterator.ensures.into_iter_gives c.split-label-items.ensures.has_more)
+    (rw c.into_iter-label-iterator.ensures.into_iter_gives c.split-label-items.ensures.pattern) in
     let turn = YieldsList-turn road c.loop-label.yielded _ c.loop-label.yielded_by _ _ c.in-Some.label c.in-Some.is c.next.ensures.steps in
     absurd (walked_none c.args.tree.now c.args.start (path_labels c.args.path.now) (length c.loop-label.yielded) c.loop-label.at c.in-Some.label.now c.loop-label.invariant.walked turn c.in-None-labelled_child.ensures.none i lead)
 
 pub returns-clause-found : goal.returns-clause-found
 returns-clause-found c =
-    let road = YieldsList-from_str_split {s = c.into_iter-label-iterator.result} 0x2F c.args.path.now (lit< tt) (rw c.into_iter-label-iterator.ensures.into_iter_gives c.split-label-items.ensures.text) (rw c.into_iter-label-iterator.ensures.into_iter_gives c.split-label-items.ensures.has_more) (rw c.into_iter-label-iterator.ensures.into_iter_gives c.split-label-items.ensures.pattern) in
+    let road = YieldsList-from_str_split {s = c.into_iter-label-iterator.result} 0x2F c.args.path.now (lit< tt)
+    (rw c.into_iter-label-iterator.ensures.into_iter_gives c.split-label-items.ensures.text)
+    (rw c.into_iter-label-iterator.ensures.into_iter_gives c.split-label-items.ensures.has_more)
+    (rw c.into_iter-label-iterator.ensures.into_iter_gives c.split-label-items.ensures.pattern) in
     let end = YieldsList-end road c.loop-label.yielded _ c.loop-label.yielded_by _ _ c.in-None.is c.next.ensures.steps in
     walked_end c.args.tree.now c.args.start (path_labels c.args.path.now) (length c.loop-label.yielded) c.loop-label.at c.loop-label.invariant.walked end.1
 
 pub returns-clause-only : goal.returns-clause-only
 returns-clause-only c =
-    let road = YieldsList-from_str_split {s = c.into_iter-label-iterator.result} 0x2F c.args.path.now (lit< tt) (rw c.into_iter-label-iterator.ensures.into_iter_gives c.split-label-items.ensures.text) (rw c.into_iter-label-iterator.ensures.into_iter_gives c.split-label-items.ensures.has_more) (rw c.into_iter-label-iterator.ensures.into_iter_gives c.split-label-items.ensures.pattern) in
+    let road = YieldsList-from_str_split {s = c.into_iter-label-iterator.result} 0x2F c.args.path.now (lit< tt)
+    (rw c.into_iter-label-iterator.ensures.into_iter_gives c.split-label-items.ensures.text)
+    (rw c.into_iter-label-iterator.ensures.into_iter_gives c.split-label-items.ensures.has_more)
+    (rw c.into_iter-label-iterator.ensures.into_iter_gives c.split-label-items.ensures.pattern) in
     let end = YieldsList-end road c.loop-label.yielded _ c.loop-label.yielded_by _ _ c.in-None.is c.next.ensures.steps in
     only_lead c.args.tree.now c.args.start (path_labels c.args.path.now) c.loop-label.at c.requires (legal_here c.tree.inside.bytes.now c.tree.inside.rows.items c.tree.inside.parsed c.args.tree.now c.tree.view_is)
     (walked_end c.args.tree.now c.args.start (path_labels c.args.path.now) (length c.loop-label.yielded) c.loop-label.at c.loop-label.invariant.walked end.1)

@@ -16,4 +16,7 @@ pub returns-then-not-is_private-clause-none : goal.returns-then-not-is_private-c
 returns-then-not-is_private-clause-none c = no_private c.args.payload.now _ _ _ _ _ _ _ (take_rest c.args.payload.now 17) c.in-Some.ensures.found c.in-Some-fixed_part.ensures.found.1 c.in-Some-fixed_part-2.ensures.found.1 c.if-not-is_private.ensures.none
 
 pub returns-clause-found : goal.returns-clause-found
-returns-clause-found c = fields_here c.args.payload.now _ _ _ _ _ c.in-Some-fixed_part.ensures.found.0 c.in-Some-fixed_part-2.ensures.found.0 c.if-not-is_private.ensures.found.0 (omega arith) (omega arith) (take_rest c.args.payload.now 17) c.in-Some.ensures.found c.in-Some-fixed_part.ensures.found.1 c.in-Some-fixed_part-2.ensures.found.1 c.if-not-is_private.ensures.found.1
+returns-clause-found c = fields_here c.args.payload.now _ _ _ _ _ c.in-Some-fixed_part.ensures.found.0
+    c.in-Some-fixed_part-2.ensures.found.0 c.if-not-is_private.ensures.found.0 (omega arith) (omega arith)
+    (take_rest c.args.payload.now 17) c.in-Some.ensures.found c.in-Some-fixed_part.ensures.found.1
+    c.in-Some-fixed_part-2.ensures.found.1 c.if-not-is_private.ensures.found.1

@@ -18,4 +18,6 @@ returns c =
     let out = is_among c.args.named.now c.args.manifest.now in
     let size : length c.contents.result.now - c.lost_len.result ≡ length (any_contents (changed (without out) b)) =
     omega (arith, changed_size (without out) b (lost out (any_boxes b)) refl (length-without out (any_boxes b)), ap length c.contents.ensures, c.lost_len.ensures) in
-    if_ok c.append_kept.result (λ h. changed_appended (without out) b (length c.contents.result.now - c.lost_len.result) c.args.out.now.items c.append_head.new.out.items c.append_front.new.out.items c.append_kept.new.out.items refl size c.in_ok-append_head.ensures c.in_ok-append_front.ensures h) c.append_kept.ensures
+    if_ok c.append_kept.result (λ h. changed_appended (without out) b (length c.contents.result.now - c.lost_len.result)
+    c.args.out.now.items c.append_head.new.out.items c.append_front.new.out.items c.append_kept.new.out.items refl size
+    c.in_ok-append_head.ensures c.in_ok-append_front.ensures h) c.append_kept.ensures

@@ -14,7 +14,10 @@ returns-in-Some-kind_code c =
     let l = c.in-Assertion.label.now in
     let uri = assertion_uri (unwrap_or o c.args.own.now) l in
     ap (λ (k : Option Code). option_or k (Some ProfileRedactionTarget)) (sym c.in-Some-kind_code.is)
-    ∙ lone_tests c.args.own.now c.args.text.now l o c.kind_code.result (sym c.parse.ensures ∙ ap (option_map uri_view) c.in-Some.is ∙ ap Some (assertion_view c.in-Some.uri c.in-Assertion.label c.in-Assertion.is)) (kind_is _ _ _ _ uri c.kind_code.result c.kind_code.ensures c.is_own.ensures c.label_kind.ensures)
+    ∙ lone_tests c.args.own.now c.args.text.now l o c.kind_code.result
+    (sym c.parse.ensures ∙ ap (option_map uri_view) c.in-Some.is
+    ∙ ap Some (assertion_view c.in-Some.uri c.in-Assertion.label c.in-Assertion.is))
+    (kind_is _ _ _ _ uri c.kind_code.result c.kind_code.ensures c.is_own.ensures c.label_kind.ensures)
 
 pub returns-in-None : goal.returns-in-None
 returns-in-None c =
@@ -22,4 +25,7 @@ returns-in-None c =
     let l = c.in-Assertion.label.now in
     let uri = assertion_uri (unwrap_or o c.args.own.now) l in
     ap (λ (k : Option Code). option_or k (Some ProfileRedactionTarget)) (sym c.in-None.is)
-    ∙ lone_tests c.args.own.now c.args.text.now l o c.kind_code.result (sym c.parse.ensures ∙ ap (option_map uri_view) c.in-Some.is ∙ ap Some (assertion_view c.in-Some.uri c.in-Assertion.label c.in-Assertion.is)) (kind_is _ _ _ _ uri c.kind_code.result c.kind_code.ensures c.is_own.ensures c.label_kind.ensures)
+    ∙ lone_tests c.args.own.now c.args.text.now l o c.kind_code.result
+    (sym c.parse.ensures ∙ ap (option_map uri_view) c.in-Some.is
+    ∙ ap Some (assertion_view c.in-Some.uri c.in-Assertion.label c.in-Assertion.is))
+    (kind_is _ _ _ _ uri c.kind_code.result c.kind_code.ensures c.is_own.ensures c.label_kind.ensures)

@@ -7,7 +7,10 @@ returns-in_default c = λ redacts h. not_there c.args.all.now redacts c.args.man
 
 pub returns-then-is_reached : goal.returns-then-is_reached
 returns-then-is_reached c = λ redacts h.
-    still_here c.args.all.now c.args.targets.now redacts c.args.manifest.now c.args.label.now c.in-Some.i c.index-targets-i.result c.has_target.result c.requires.differ c.requires.same (sym c.place_of.ensures ∙ c.in-Some.is) c.index-targets-i.is (sym c.is_reached.ensures ∙ c.if-is_reached.true) (c.has_target.ensures redacts h)
+    still_here c.args.all.now c.args.targets.now redacts c.args.manifest.now c.args.label.now c.in-Some.i
+    c.index-targets-i.result c.has_target.result c.requires.differ c.requires.same
+    (sym c.place_of.ensures ∙ c.in-Some.is) c.index-targets-i.is (sym c.is_reached.ensures ∙ c.if-is_reached.true)
+    (c.has_target.ensures redacts h)
 
 pub returns : goal.returns
 returns c = λ redacts h.

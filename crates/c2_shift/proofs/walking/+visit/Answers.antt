@@ -108,7 +108,11 @@ rows-preserved g t c =
     record {
       lie = skips_lie kind (drop 1 rest) left len skips (lie_step len rest some before.lie);
       first = c.skip_others-rest-in-rows.ensures.first;
-      stays = source_stays g.S.Source.len g.S.Source.known g.S.Source.faults c.args.source.now c.inner_boxes.new.source c.visit.new.source (source_stays g.S.Source.len g.S.Source.known g.S.Source.faults c.args.source.now c.rows.source c.inner_boxes.new.source before.stays found.reads.stays) call.reads.stays;
+      stays =
+          source_stays g.S.Source.len g.S.Source.known g.S.Source.faults c.args.source.now
+          c.inner_boxes.new.source c.visit.new.source
+          (source_stays g.S.Source.len g.S.Source.known g.S.Source.faults c.args.source.now c.rows.source
+          c.inner_boxes.new.source before.stays found.reads.stays) call.reads.stays;
       count = (c.in-Ok-visit.ensures {u = tt}).reads.quiet ∙ (c.in-Ok.ensures {u = tt}).reads.quiet ∙ before.count;
       refusals = λ file known.
           let inside : inner file r ≡ Some list = (c.in-Ok.ensures {u = tt}).found file (before.stays.same_bytes ∙ known) ∙ ap Some (sym c.as_slice.ensures.boxes) in

@@ -58,7 +58,10 @@ returns-in-Ok-Fails-clause-reads g c = reads_then g.S.Source.len g.S.Source.know
 -- the source failed, or memory ran out
 pub returns-in-Err-check_binding-clause-panel : goal.returns-in-Err-check_binding-clause-panel
 returns-in-Err-check_binding-clause-panel g c =
-    store_heard _ _ _ g.H.Hashing.digest_of c.args.store.now c.args.judges.now c.check_chain.new.judges c.in-Ok-None-check_chain.field-0 _ (sym c.in-Ok-None.field-0-is ∙ c.in-Ok-None.ensures) (no_judge _ _ c.in-Err-check_binding.error c.in-Err-check_binding.ensures.reads.cause) c.in-Ok-None-check_chain.ensures.panel
+    store_heard _ _ _ g.H.Hashing.digest_of c.args.store.now c.args.judges.now c.check_chain.new.judges
+    c.in-Ok-None-check_chain.field-0 _ (sym c.in-Ok-None.field-0-is ∙ c.in-Ok-None.ensures)
+    (no_judge _ _ c.in-Err-check_binding.error c.in-Err-check_binding.ensures.reads.cause)
+    c.in-Ok-None-check_chain.ensures.panel
 
 pub returns-in-Err-check_binding-clause-reads : goal.returns-in-Err-check_binding-clause-reads
 returns-in-Err-check_binding-clause-reads g c =

@@ -53,13 +53,20 @@ returns-in-Err-of_store-clause-panel g c = hears_early _ _ _ validate_heard (Ask
 pub returns-in-Ok-Refused-read_store-clause-answer : goal.returns-in-Ok-Refused-read_store-clause-answer
 returns-in-Ok-Refused-read_store-clause-answer g c = λ file known.
     c.a_file_answers_by_what_it_is_opened_as.ensures.answer g.H.Hashing.digest_of _ file (refused c.in-Ok-Refused-read_store.reason c.in-Ok-Refused-read_store.number) (answer.Refused c.in-Ok-Refused-read_store.reason c.in-Ok-Refused-read_store.number)
-    (opened_read file c.in-Ok-Here.media (read.Refused c.in-Ok-Refused-read_store.reason c.in-Ok-Refused-read_store.number) (subst (IsFound file) c.in-Ok-Here.field-0-is (c.in-Ok-Here.ensures.found file known)) (subst (IsRead c.in-Ok-Here.media.found) c.in-Ok-Refused-read_store.field-0-is c.in-Ok-Refused-read_store.ensures)) refl
+    (opened_read file c.in-Ok-Here.media (read.Refused c.in-Ok-Refused-read_store.reason
+    c.in-Ok-Refused-read_store.number) (subst (IsFound file) c.in-Ok-Here.field-0-is
+    (c.in-Ok-Here.ensures.found file known)) (subst (IsRead c.in-Ok-Here.media.found)
+    c.in-Ok-Refused-read_store.field-0-is c.in-Ok-Refused-read_store.ensures)) refl
 
 pub returns-in-Ok-Refused-read_store-clause-panel : goal.returns-in-Ok-Refused-read_store-clause-panel
 returns-in-Ok-Refused-read_store-clause-panel g c =
     hears_nobody _ _ _ validate_heard (AsksKnown (g.S.Source.known c.args.source.now) (FileAsks g.H.Hashing.digest_of)) c.args.judges.now _
     (λ qs asks. known_refused c.one_opening.ensures.file (g.S.Source.known c.args.source.now) g.H.Hashing.digest_of _ c.in-Ok-Refused-read_store.reason c.in-Ok-Refused-read_store.number qs
-    (λ file known. opened_read file c.in-Ok-Here.media (read.Refused c.in-Ok-Refused-read_store.reason c.in-Ok-Refused-read_store.number) (subst (IsFound file) c.in-Ok-Here.field-0-is (c.in-Ok-Here.ensures.found file known)) (subst (IsRead c.in-Ok-Here.media.found) c.in-Ok-Refused-read_store.field-0-is c.in-Ok-Refused-read_store.ensures)) asks)
+    (λ file known. opened_read file c.in-Ok-Here.media
+    (read.Refused c.in-Ok-Refused-read_store.reason c.in-Ok-Refused-read_store.number)
+    (subst (IsFound file) c.in-Ok-Here.field-0-is (c.in-Ok-Here.ensures.found file known))
+    (subst (IsRead c.in-Ok-Here.media.found) c.in-Ok-Refused-read_store.field-0-is c.in-Ok-Refused-read_store.ensures))
+    asks)
 
 -- ---- the store was checked
 
@@ -69,13 +76,20 @@ returns-in-Ok-check-clause-answer g c = λ file known.
     let found = subst (IsFound file) c.in-Ok-Here.field-0-is (c.in-Ok-Here.ensures.found file known) in
     subst (IsAnswered g.H.Hashing.digest_of said file) (sym c.answer.ensures)
     (read_answers c.one_media.ensures.read c.one_reading.ensures.manifests c.one_opening.ensures.file c.one_check.ensures.answer c.each_file_has_a_check.ensures.answer g.H.Hashing.digest_of said file c.in-Ok-Here.media.container c.in-Ok-Here.media.found.start c.in-Ok-Here.media.found.length
-    c.in-Ok-Here-read_store.tree c.in-Ok.chain.readings (answer_as c.in-Ok-check.checked) (g.met.S.Source.known_bytes c.args.source.now file known) found.container (opened_read file c.in-Ok-Here.media (read.Here c.in-Ok-Here-read_store.tree c.in-Ok-Here-read_store.store) (subst (IsFound file) c.in-Ok-Here.field-0-is (c.in-Ok-Here.ensures.found file known)) (subst (IsRead c.in-Ok-Here.media.found) c.in-Ok-Here-read_store.field-0-is c.in-Ok-Here-read_store.ensures))
+    c.in-Ok-Here-read_store.tree c.in-Ok.chain.readings (answer_as c.in-Ok-check.checked)
+    (g.met.S.Source.known_bytes c.args.source.now file known) found.container
+    (opened_read file c.in-Ok-Here.media (read.Here c.in-Ok-Here-read_store.tree c.in-Ok-Here-read_store.store)
+    (subst (IsFound file) c.in-Ok-Here.field-0-is (c.in-Ok-Here.ensures.found file known))
+    (subst (IsRead c.in-Ok-Here.media.found) c.in-Ok-Here-read_store.field-0-is c.in-Ok-Here-read_store.ensures))
     c.in-Ok.ensures.reads (λ m i b has. (c.in-Ok-check.ensures.answer file (c.in-Ok-Here.ensures.stays.same_bytes ∙ known) m i b has).answer))
 
 pub returns-in-Ok-check-clause-panel : goal.returns-in-Ok-check-clause-panel
 returns-in-Ok-check-clause-panel g c =
     hears_later _ _ _ validate_heard validate_heard (AsksKnown (g.S.Source.known c.args.source.now) (FileAsks g.H.Hashing.digest_of)) _ c.args.judges.now c.check.new.judges c.in-Ok-check.checked _ tt
-    (λ qs asks. known_asks c.one_reading.ensures.manifests c.one_opening.ensures.file (g.S.Source.known c.args.source.now) g.H.Hashing.digest_of (panel_says (map (λ j. (goal.Judge-dyn g (j.vtable, j.value)).says j.value) c.args.judges.now.items)) c.in-Ok-Here.media c.in-Ok-Here-read_store.tree c.in-Ok-Here-read_store.store c.in-Ok.chain.readings qs
+    (λ qs asks. known_asks c.one_reading.ensures.manifests c.one_opening.ensures.file
+    (g.S.Source.known c.args.source.now) g.H.Hashing.digest_of
+    (panel_says (map (λ j. (goal.Judge-dyn g (j.vtable, j.value)).says j.value) c.args.judges.now.items))
+    c.in-Ok-Here.media c.in-Ok-Here-read_store.tree c.in-Ok-Here-read_store.store c.in-Ok.chain.readings qs
     (λ file known. subst (IsFound file) c.in-Ok-Here.field-0-is (c.in-Ok-Here.ensures.found file known)) (subst (IsRead c.in-Ok-Here.media.found) c.in-Ok-Here-read_store.field-0-is c.in-Ok-Here-read_store.ensures) c.in-Ok.ensures.reads asks) c.in-Ok-check.ensures.panel
 
 -- ---- the check failed
@@ -83,5 +97,8 @@ returns-in-Ok-check-clause-panel g c =
 pub returns-clause-panel : goal.returns-clause-panel
 returns-clause-panel g c =
     hears_error _ _ _ validate_heard validate_heard (AsksKnown (g.S.Source.known c.args.source.now) (FileAsks g.H.Hashing.digest_of)) _ c.args.judges.now c.check.new.judges c.in-Err-check.error c.in-Err-check.error refl
-    (λ qs asks. known_asks c.one_reading.ensures.manifests c.one_opening.ensures.file (g.S.Source.known c.args.source.now) g.H.Hashing.digest_of (panel_says (map (λ j. (goal.Judge-dyn g (j.vtable, j.value)).says j.value) c.args.judges.now.items)) c.in-Ok-Here.media c.in-Ok-Here-read_store.tree c.in-Ok-Here-read_store.store c.in-Ok.chain.readings qs
+    (λ qs asks. known_asks c.one_reading.ensures.manifests c.one_opening.ensures.file
+    (g.S.Source.known c.args.source.now) g.H.Hashing.digest_of
+    (panel_says (map (λ j. (goal.Judge-dyn g (j.vtable, j.value)).says j.value) c.args.judges.now.items))
+    c.in-Ok-Here.media c.in-Ok-Here-read_store.tree c.in-Ok-Here-read_store.store c.in-Ok.chain.readings qs
     (λ file known. subst (IsFound file) c.in-Ok-Here.field-0-is (c.in-Ok-Here.ensures.found file known)) (subst (IsRead c.in-Ok-Here.media.found) c.in-Ok-Here-read_store.field-0-is c.in-Ok-Here-read_store.ensures) c.in-Ok.ensures.reads asks) c.in-Err-check.ensures.panel

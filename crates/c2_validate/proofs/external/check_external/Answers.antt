@@ -57,7 +57,11 @@ check-requires g c = subst (HasRootsInside (g.S.Source.len c.args.source.now)) (
 pub returns-in-Ok-check-clause-answer : goal.returns-in-Ok-check-clause-answer
 returns-in-Ok-check-clause-answer g c = λ file known.
     let said = (panel_says (map (λ j. (goal.Judge-dyn g (j.vtable, j.value)).says j.value) c.args.judges.now.items)) in
-    list_answered c.one_media.ensures.read c.one_reading.ensures.manifests c.one_opening.ensures.store g.H.Hashing.digest_of said c.args.container.now c.args.store.now file c.in-Ok-Here.tree c.in-Ok-Here.boxes c.in-Ok.chain.readings c.answer.result (le-ltb MAX_STORE_LEN (length c.args.store.now) (omega (arith, c.if-store.false))) (subst (IsReadFrom c.args.store.now) c.in-Ok-Here.field-0-is c.in-Ok-Here.ensures) c.in-Ok.ensures.reads
+    list_answered c.one_media.ensures.read c.one_reading.ensures.manifests c.one_opening.ensures.store
+    g.H.Hashing.digest_of said c.args.container.now c.args.store.now file c.in-Ok-Here.tree c.in-Ok-Here.boxes
+    c.in-Ok.chain.readings c.answer.result (le-ltb MAX_STORE_LEN (length c.args.store.now)
+    (omega (arith, c.if-store.false))) (subst (IsReadFrom c.args.store.now) c.in-Ok-Here.field-0-is
+    c.in-Ok-Here.ensures) c.in-Ok.ensures.reads
     (subst (AnswersOver g.H.Hashing.digest_of said file c.args.container.now 0 0 c.in-Ok.chain.readings) (sym c.answer.ensures)
     (over_opened g.H.Hashing.digest_of said file c.opened_external-opened.result c.args.container.now 0 0 c.in-Ok.chain.readings c.in-Ok-check.checked c.opened_external-opened.ensures.container c.opened_external-opened.ensures.start c.opened_external-opened.ensures.count
     (ap (λ (x : Chained). x.readings) c.opened_external-opened.ensures.chain) (λ m i b has. c.in-Ok-check.ensures.answer file known m i b has)))
@@ -65,7 +69,11 @@ returns-in-Ok-check-clause-answer g c = λ file known.
 pub returns-in-Ok-check-clause-panel : goal.returns-in-Ok-check-clause-panel
 returns-in-Ok-check-clause-panel g c =
     hears_later _ _ _ validate_heard validate_heard (ListAsks g.H.Hashing.digest_of c.args.store.now) (StoreAsks g.H.Hashing.digest_of c.opened_external-opened.result) c.args.judges.now c.check.new.judges c.in-Ok-check.checked _ tt
-    (λ qs asks. list_asks c.one_reading.ensures.manifests c.one_opening.ensures.store g.H.Hashing.digest_of c.args.store.now (panel_says (map (λ j. (goal.Judge-dyn g (j.vtable, j.value)).says j.value) c.args.judges.now.items)) c.in-Ok-Here.tree c.in-Ok-Here.boxes c.in-Ok.chain.readings qs (le-ltb MAX_STORE_LEN (length c.args.store.now) (omega (arith, c.if-store.false))) (subst (IsReadFrom c.args.store.now) c.in-Ok-Here.field-0-is c.in-Ok-Here.ensures) c.in-Ok.ensures.reads asks
+    (λ qs asks. list_asks c.one_reading.ensures.manifests c.one_opening.ensures.store g.H.Hashing.digest_of
+    c.args.store.now (panel_says (map (λ j. (goal.Judge-dyn g (j.vtable, j.value)).says j.value)
+    c.args.judges.now.items)) c.in-Ok-Here.tree c.in-Ok-Here.boxes c.in-Ok.chain.readings qs
+    (le-ltb MAX_STORE_LEN (length c.args.store.now) (omega (arith, c.if-store.false)))
+    (subst (IsReadFrom c.args.store.now) c.in-Ok-Here.field-0-is c.in-Ok-Here.ensures) c.in-Ok.ensures.reads asks
     ∙ ap (λ (x : Chained). check_asks g.H.Hashing.digest_of (panel_says (map (λ j. (goal.Judge-dyn g (j.vtable, j.value)).says j.value) c.args.judges.now.items)) x.readings) (sym c.opened_external-opened.ensures.chain)) c.in-Ok-check.ensures.panel
 
 -- ---- the check failed
@@ -73,5 +81,9 @@ returns-in-Ok-check-clause-panel g c =
 pub returns-clause-panel : goal.returns-clause-panel
 returns-clause-panel g c =
     hears_error _ _ _ validate_heard validate_heard (ListAsks g.H.Hashing.digest_of c.args.store.now) (StoreAsks g.H.Hashing.digest_of c.opened_external-opened.result) c.args.judges.now c.check.new.judges c.in-Err-check.error c.in-Err-check.error refl
-    (λ qs asks. list_asks c.one_reading.ensures.manifests c.one_opening.ensures.store g.H.Hashing.digest_of c.args.store.now (panel_says (map (λ j. (goal.Judge-dyn g (j.vtable, j.value)).says j.value) c.args.judges.now.items)) c.in-Ok-Here.tree c.in-Ok-Here.boxes c.in-Ok.chain.readings qs (le-ltb MAX_STORE_LEN (length c.args.store.now) (omega (arith, c.if-store.false))) (subst (IsReadFrom c.args.store.now) c.in-Ok-Here.field-0-is c.in-Ok-Here.ensures) c.in-Ok.ensures.reads asks
+    (λ qs asks. list_asks c.one_reading.ensures.manifests c.one_opening.ensures.store g.H.Hashing.digest_of
+    c.args.store.now (panel_says (map (λ j. (goal.Judge-dyn g (j.vtable, j.value)).says j.value)
+    c.args.judges.now.items)) c.in-Ok-Here.tree c.in-Ok-Here.boxes c.in-Ok.chain.readings qs
+    (le-ltb MAX_STORE_LEN (length c.args.store.now) (omega (arith, c.if-store.false)))
+    (subst (IsReadFrom c.args.store.now) c.in-Ok-Here.field-0-is c.in-Ok-Here.ensures) c.in-Ok.ensures.reads asks
     ∙ ap (λ (x : Chained). check_asks g.H.Hashing.digest_of (panel_says (map (λ j. (goal.Judge-dyn g (j.vtable, j.value)).says j.value) c.args.judges.now.items)) x.readings) (sym c.opened_external-opened.ensures.chain)) c.in-Err-check.ensures.panel

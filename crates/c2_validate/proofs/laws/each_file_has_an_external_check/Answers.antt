@@ -2,33 +2,7 @@ use Rattle.c2_validate.proofs.EachCheck.{each_external_answer, each_external_ask
 use Rattle.c2_validate.proofs.laws.each_file_has_an_external_check.Goals as goal
 
 pub returns-clause-answer : goal.returns-clause-answer
-returns-clause-answer c = each_external_answer (record {
-  located = c.each_media_file_is_located.ensures.located;
-  stored = c.each_media_file_is_located.ensures.are_bytes;
-  small = c.each_media_file_is_located.ensures.small;
-  contained = c.one_media.ensures.stored;
-  decided = c.a_test_decides_what_is_excluded.ensures;
-  tree = c.each_list_is_a_tree_or_not.ensures.some;
-  bytes = c.parts_are_bytes.ensures.bytes;
-  shorter = c.parts_are_bytes.ensures.shorter;
-  parts = c.items_are_parts.ensures.manifests;
-  claimed = c.items_are_parts.ensures.claim;
-  readings = c.each_store_is_read.ensures.manifests;
-  binding = c.each_store_is_read.ensures.binding;
-})
+returns-clause-answer c = each_external_answer c.laws_hold.ensures
 
 pub returns-clause-asks : goal.returns-clause-asks
-returns-clause-asks c = each_external_asks (record {
-  located = c.each_media_file_is_located.ensures.located;
-  stored = c.each_media_file_is_located.ensures.are_bytes;
-  small = c.each_media_file_is_located.ensures.small;
-  contained = c.one_media.ensures.stored;
-  decided = c.a_test_decides_what_is_excluded.ensures;
-  tree = c.each_list_is_a_tree_or_not.ensures.some;
-  bytes = c.parts_are_bytes.ensures.bytes;
-  shorter = c.parts_are_bytes.ensures.shorter;
-  parts = c.items_are_parts.ensures.manifests;
-  claimed = c.items_are_parts.ensures.claim;
-  readings = c.each_store_is_read.ensures.manifests;
-  binding = c.each_store_is_read.ensures.binding;
-})
+returns-clause-asks c = each_external_asks c.laws_hold.ensures

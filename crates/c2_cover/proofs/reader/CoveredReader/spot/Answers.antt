@@ -14,4 +14,8 @@ overflow_add-result c =
 -- where a range begins at the reader's position, its end comes next
 pub returns-then-first-self : goal.returns-then-first-self
 returns-then-first-self c =
-    rw (← c.self.view_is) (spot_past (reading c.self.inside.size c.self.inside.place.at c.self.inside.place.ahead.now c.self.inside.place.words.now c.self.inside.place.start c.self.inside.place.done) c.in-Some.first.now c.in-Some.others.now c.in-Some.ensures.cases.0 (sym c.if-first-self.true) c.self.invariant.1 c.self.invariant.2)
+    let place = c.self.inside.place in
+    rw (← c.self.view_is)
+    (spot_past (reading c.self.inside.size place.at place.ahead.now place.words.now place.start place.done)
+    c.in-Some.first.now c.in-Some.others.now c.in-Some.ensures.cases.0 (sym c.if-first-self.true) c.self.invariant.1
+    c.self.invariant.2)

@@ -1,5 +1,5 @@
 use Rattle.std.proofs.Common.{arith}
-use Rattle.c2_jpegseg.proofs.WindowLemmas.{shown_byte}
+use Rattle.c2_jpegseg_segments.proofs.WindowLemmas.{shown_byte}
 use Rattle.c2_jpegseg.proofs.peek.PeekBytes.byte_at.Goals as goal
 
 pub returns-clause-byte : goal.returns-clause-byte

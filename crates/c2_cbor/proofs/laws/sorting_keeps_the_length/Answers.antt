@@ -1,5 +1,0 @@
-use Rattle.c2_cbor.proofs.Lengths.{sorted_length}
-use Rattle.c2_cbor.proofs.laws.sorting_keeps_the_length.Goals as goal
-
-pub returns : goal.returns
-returns c = sorted_length

@@ -1,0 +1,5 @@
+pub mod Lengths
+pub mod EqualKeys
+pub mod Writable
+pub mod Entries
+pub mod PlainKeys

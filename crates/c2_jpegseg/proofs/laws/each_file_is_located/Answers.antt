@@ -1,6 +1,0 @@
-use Rattle.c2_jpegseg.proofs.Answers.{one_located}
-use Rattle.c2_jpegseg.proofs.EachFile.{each_located}
-use Rattle.c2_jpegseg.proofs.laws.each_file_is_located.Goals as goal
-
-pub returns : goal.returns
-returns c = record { located = each_located; once = one_located }

@@ -1,8 +1,0 @@
-use Rattle.c2_jpegseg.proofs.StoreBytes.{store-of_the_file, store-bytes}
-use Rattle.c2_jpegseg.proofs.laws.store_bytes_are_of_the_file.Goals as goal
-
-pub returns-clause-of_the_file : goal.returns-clause-of_the_file
-returns-clause-of_the_file c = store-of_the_file
-
-pub returns-clause-are_bytes : goal.returns-clause-are_bytes
-returns-clause-are_bytes c = store-bytes

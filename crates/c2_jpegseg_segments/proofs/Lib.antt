@@ -1,0 +1,20 @@
+pub mod Outside
+pub mod Markers
+pub mod PacketLemmas
+pub mod SegmentLists
+pub mod PacketRuns
+pub mod Steps
+pub mod Outcomes
+pub mod Starts
+pub mod Reading
+pub mod OneStore
+pub mod Unique
+pub mod WindowLemmas
+pub mod EachFile
+pub mod StoreBytes
+pub mod OneList
+pub mod Kept
+pub mod NumberMarks
+pub mod Fronts
+mod FreeNumbers
+pub mod EachList

@@ -1,0 +1,10 @@
+pub mod Causes
+pub mod Segments
+pub mod Packets
+pub mod Runs
+pub mod Walks
+pub mod Windows
+pub mod Findings
+pub mod Beginnings
+pub mod Passing
+pub mod Fronts

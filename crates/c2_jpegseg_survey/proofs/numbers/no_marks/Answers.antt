@@ -1,6 +1,0 @@
-use Rattle.std.proofs.Common.{refl}
-use Rattle.c2_jpegseg_survey.proofs.NumberMarks.{no-marks}
-use Rattle.c2_jpegseg_survey.proofs.numbers.no_marks.Goals as goal
-
-pub returns : goal.returns
-returns c = no-marks _ refl
